@@ -128,8 +128,8 @@ impl Left {
         self.digest.number(known);
         self.digest.number(usize::from(in_doubt));
         self.digest.number(spooled.len());
-        for record in spooled {
-            self.digest.octets(record.chars());
+        for place in 0..spooled.len() {
+            self.digest.octets(spooled.chars(place));
         }
         self.offered = self.offered.wrapping_add(offered);
         self.known = self.known.wrapping_add(known);

@@ -39,7 +39,7 @@ fn channel_of(text: &str) -> Option<(usize, usize)> {
     }
 }
 
-/// The text of the channel, where there is one, and the path of what is offered at the control
+/// The text of the channel, if there is one, and the path of what is offered at the control
 /// station.
 fn channel_and_path(text: &str) -> (Option<&str>, &str) {
     match text.split_once('=') {

@@ -37,7 +37,7 @@ pub(crate) fn prepare<R: Read, F: Files>(
     ensures { IfErr result IsPreparingError }
 {
     if repeats_standard_input(words, role) {
-        let why = "standard input is given more than once";
+        let why = "CONFIG and --offer cannot name standard input more than once";
         return Err(WrongTogether { why });
     }
     let text = read_text(alloc, words.config.as_str(), input, files)?;

@@ -86,7 +86,7 @@ fn wanted_by_terminal<'a>(settings: &StationSettings<'a>) -> Wanted<'a> {
     }
 }
 
-/// Whether peers connect to the station.
+/// Returns whether peers connect to the station.
 fn listens(place: Place<'_>) -> bool {
     match place {
         Place::Listen { .. } => true,

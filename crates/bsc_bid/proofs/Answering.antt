@@ -29,9 +29,9 @@ use Rattle.bsc_bid.specs.Bid.{IsFairTo, reply_message, answered, unless_quiet}
 use Rattle.bsc_bid.specs.OneBid.{MovesAtSender}
 use Rattle.bsc_bid.specs.Agreement.{Flight, Still, Outward, Back, IsReplyBefore, NotLanded, Agree}
 use Rattle.bsc_bid.specs.Agreement.{InBid, IsResting, Continues, reply_flight, sent_flight}
-use Rattle.bsc_bid.proofs.Choice.{choose}
+use Rattle.bsc_bid.proofs.Choice.{either_branch}
 use Rattle.bsc_bid.proofs.Readiness.{within_offered}
-use Rattle.bsc_bid.proofs.Hearing.{fits, agree_still}
+use Rattle.bsc_bid.proofs.Hearing.{count_of_block_fits, agree_still}
 use Rattle.bsc_bid.proofs.Landing.{NextLaw, Leaves, LeavesQueue, at_rest, next_keeps, at_same}
 use Rattle.bsc_bid.proofs.Landing.{accepted_keeps, delayed_keeps, other_twice, landed_keeps}
 use Rattle.std.proofs.lemmas.Option.{none-some}
@@ -43,7 +43,7 @@ refused_keeps : (s : SenderValue) (b : SentBlock) (q : QueueValue) (alternation 
     → NotLanded b q alternation last spooled (Back last) →
     Leaves q alternation last spooled (failed s q Idle (a.Send (text_of q b)))
 refused_keeps s b q alternation last spooled e i h =
-    choose (Leaves q alternation last spooled) _ _ _ (at_rest q spooled i.queue h.front, inl refl) (
+    either_branch (Leaves q alternation last spooled) _ _ _ (at_rest q spooled i.queue h.front, inl refl) (
       rw e (record {
         queue = i.queue;
         block = i.block;
@@ -132,7 +132,7 @@ in_doubt : (b : SentBlock) (q : QueueValue) (alternation : Alternation) (last : 
     (spooled : List (List ℕ)) → InBid (Unanswered b) q alternation last spooled Still
     → IsResting (InDoubt b.count) q spooled × (Still ≡ Still)
 in_doubt b q alternation last spooled i =
-    let short : b.count ≤ length (waiting q) = fits b _ i.counts in
+    let short : b.count ≤ length (waiting q) = count_of_block_fits b _ i.counts in
     let known : q.known ≤ length q.offered = i.queue.known in
     elim i.agree [
       | inl h ↦
@@ -174,7 +174,7 @@ silent_keeps : (s : SenderValue) (phase : Phase) (q : QueueValue) (alternation :
 silent_keeps s Idle q alternation last spooled e i = absurd i.agree
 silent_keeps s (InDoubt k) q alternation last spooled e i = absurd i.agree
 silent_keeps s (Held end x) q alternation last spooled e i =
-    choose (LeavesQueue q alternation last spooled) _ _ _
+    either_branch (LeavesQueue q alternation last spooled) _ _ _
     (at_rest q spooled i.queue i.agree.front, refl) (
       rw e (record {
         queue = i.queue;
@@ -192,7 +192,7 @@ silent_keeps s (Held end x) q alternation last spooled e i =
       refl,
     )
 silent_keeps s (Unanswered b) q alternation last spooled e i =
-    choose (LeavesQueue q alternation last spooled) _ _ _
+    either_branch (LeavesQueue q alternation last spooled) _ _ _
     (in_doubt b q alternation last spooled i, refl) (
       rw e (record {
         queue = i.queue;
@@ -216,19 +216,19 @@ fair_reply r Failed f = absurd f
 fair_reply r (Whole v) (inl e) = inl (ap (λ (z : Message). reply_in (Whole z)) e)
 fair_reply r (Whole v) (inr e) = absurd e
 
-goes_on : (phase : Phase) (q : QueueValue) (alternation : Alternation) (last : Reply)
+bid_continues_while_still : (phase : Phase) (q : QueueValue) (alternation : Alternation) (last : Reply)
     (spooled : List (List ℕ)) → InBid phase q alternation last spooled Still
     → Continues phase q alternation last spooled Still
-goes_on Idle q alternation last spooled i = absurd i.agree
-goes_on (InDoubt k) q alternation last spooled i = absurd i.agree
-goes_on (Held e x) q alternation last spooled i = i
-goes_on (Unanswered b) q alternation last spooled i = i
+bid_continues_while_still Idle q alternation last spooled i = absurd i.agree
+bid_continues_while_still (InDoubt k) q alternation last spooled i = absurd i.agree
+bid_continues_while_still (Held e x) q alternation last spooled i = i
+bid_continues_while_still (Unanswered b) q alternation last spooled i = i
 
 quiet_keeps : (s : SenderValue) (q : QueueValue) (alternation : Alternation) (last : Reply)
     (spooled : List (List ℕ)) → InBid s.phase q alternation last spooled Still
     → Leaves q alternation last spooled (unmoved s q)
 quiet_keeps s q alternation last spooled i =
-    (goes_on s.phase q alternation last spooled i, inl refl)
+    (bid_continues_while_still s.phase q alternation last spooled i, inl refl)
 
 -- what was on its way is lost
 pub still_on : (phase : Phase) (q : QueueValue) (alternation : Alternation) (last : Reply)
@@ -270,13 +270,13 @@ sender_keeps law s q alternation last spooled (Some r) (Some h) i f =
     ]
 
 -- a bid with something on its way goes on
-pub busy : (phase : Phase) (q : QueueValue) (alternation : Alternation) (last : Reply)
+pub in_bid_while_outward : (phase : Phase) (q : QueueValue) (alternation : Alternation) (last : Reply)
     (spooled : List (List ℕ)) (w : Message) → Continues phase q alternation last spooled (Outward w)
     → InBid phase q alternation last spooled (Outward w)
-busy Idle q alternation last spooled w h = absurd (cc h.1)
-busy (InDoubt k) q alternation last spooled w h = absurd (cc h.1)
-busy (Held e x) q alternation last spooled w h = h
-busy (Unanswered b) q alternation last spooled w h = h
+in_bid_while_outward Idle q alternation last spooled w h = absurd (cc h.1)
+in_bid_while_outward (InDoubt k) q alternation last spooled w h = absurd (cc h.1)
+in_bid_while_outward (Held e x) q alternation last spooled w h = h
+in_bid_while_outward (Unanswered b) q alternation last spooled w h = h
 
 -- a silence, whether a bid goes on or not
 pub silence_keeps : (s : SenderValue) (phase : Phase) (q : QueueValue) (alternation : Alternation)

@@ -27,8 +27,9 @@ use Rattle.bsc_bid.specs.OneBid.{CarriesBlock, SendsItsBlocks, HearsItsBlocks, E
 use Rattle.bsc_bid.specs.OneBid.{ReleaseEndsDoubt}
 use Rattle.bsc_bid.specs.EachStep.{IsEnded}
 use Rattle.bsc_bid.specs.Agreement.{Outward, InBid}
-use Rattle.bsc_bid.proofs.Hearing.{RecordsBack, block_records, senders, no_call}
-use Rattle.bsc_bid.proofs.Turning.{LawsBelow, Holds, going, reached_holds, stays_sound}
+use Rattle.bsc_bid.proofs.Hearing.{RecordsBack, block_records, outward_is_from_sender, no_call}
+use Rattle.bsc_bid.proofs.Turning.{LawsBelow, Holds, in_bid_while_sending, reached_holds}
+use Rattle.bsc_bid.proofs.Turning.{stays_sound}
 
 -- a text on its way is the unanswered block
 record IsBlock (p : Phase) (q : QueueValue) (t : TextValue) : Type 0 where
@@ -55,11 +56,11 @@ is_block law (Unanswered b) q alternation last spooled t i =
       | inr h ↦ absurd h.flight
     ]
 
-carries : LawsBelow → (c : Bid) (t : TextValue)
+text_carries_block : LawsBelow → (c : Bid) (t : TextValue)
     → InBid c.sender.phase c.queue c.receiver.alternation c.receiver.last c.spool.records
     (Outward (m.Text t))
     → CarriesBlock c t
-carries law c t i =
+text_carries_block law c t i =
     let b : IsBlock c.sender.phase c.queue t =
     is_block law.records c.sender.phase c.queue c.receiver.alternation c.receiver.last
     c.spool.records t i in
@@ -67,22 +68,22 @@ carries law c t i =
 
 pub sends_its_blocks : LawsBelow → SendsItsBlocks
 sends_its_blocks law b es c t h e =
-    carries law c t (going c (m.Text t) (ap message_for e) (reached_holds law b es c h))
+    text_carries_block law c t (in_bid_while_sending c (m.Text t) (ap message_for e) (reached_holds law b es c h))
 
 pub hears_its_blocks : LawsBelow → HearsItsBlocks
 hears_its_blocks law b es c turn t h fair e =
     let i : InBid c.sender.phase c.queue c.receiver.alternation c.receiver.last c.spool.records
     (Outward fair.sent) =
-    going c fair.sent fair.goes_on (reached_holds law b es c h) in
+    in_bid_while_sending c fair.sent fair.goes_on (reached_holds law b es c h) in
     let f : IsFairlyHeard fair.sent (Whole (m.Text t)) =
     subst (λ (o : Option Heard). IsFair fair.sent o) e fair.fair_heard in
     elim f [
-      | inl same ↦ carries law c t
+      | inl same ↦ text_carries_block law c t
           (subst (λ (w : Message). InBid c.sender.phase c.queue c.receiver.alternation
           c.receiver.last c.spool.records
           (Outward w)) (sym same) i)
       | inr short ↦ absurd (no_call fair.sent (m.Text t)
-          (senders c.sender.phase c.queue c.receiver.alternation c.receiver.last c.spool.records
+          (outward_is_from_sender c.sender.phase c.queue c.receiver.alternation c.receiver.last c.spool.records
           fair.sent i.agree) short)
     ]
 
@@ -101,13 +102,13 @@ ends_knowing law b es c h over certain =
     known_by c.sender.phase c.queue c.spool.records
     (subst (λ (x : Act). IsEnded x c.sender.phase) over k.rests) certain (stays_sound law b es c h)
 
-one_of : (n k j : ℕ) → (n ≡ k) ⊎ (n ≡ k + j) → ((n == k) || (n == (k + j))) ≡ true
-one_of n k j (inl e) = grind (arith, nat_tests)
-one_of n k j (inr e) = grind (arith, nat_tests)
+count_matches_either : (n k j : ℕ) → (n ≡ k) ⊎ (n ≡ k + j) → ((n == k) || (n == (k + j))) ≡ true
+count_matches_either n k j (inl e) = grind (arith, nat_tests)
+count_matches_either n k j (inr e) = grind (arith, nat_tests)
 
-pick : (v : Bool) (x y : ReleaseStep) → v ≡ true → (if v then x else y) ≡ x
-pick true x y e = refl
-pick false x y e = absurd (cc e)
+true_branch : (v : Bool) (x y : ReleaseStep) → v ≡ true → (if v then x else y) ≡ x
+true_branch true x y e = refl
+true_branch false x y e = absurd (cc e)
 
 -- a release with the spooled count
 pub released_by : (s : SenderValue) (q : QueueValue) (p : Phase) (n : ℕ) → is_in_doubt p ≡ true
@@ -116,7 +117,7 @@ pub released_by : (s : SenderValue) (q : QueueValue) (p : Phase) (n : ℕ) → i
 released_by s q Idle n d h = absurd (cc d)
 released_by s q (Unanswered b) n d h = absurd (cc d)
 released_by s q (Held e x) n d h = absurd (cc d)
-released_by s q (InDoubt k) n d h = pick _ _ _ (one_of n q.known k h)
+released_by s q (InDoubt k) n d h = true_branch _ _ _ (count_matches_either n q.known k h)
 
 pub release_ends_doubt : LawsBelow → ReleaseEndsDoubt
 release_ends_doubt law b es c h d =

@@ -25,8 +25,8 @@ use Rattle.bsc_bid.specs.Sender.{is_in_doubt}
 use Rattle.bsc_bid.specs.Bid.{answered, unless_quiet, receiver_in, sender_in}
 use Rattle.bsc_bid.specs.OneBid.{GivesUpUnanswered, DoubtsAtSilence}
 use Rattle.bsc_bid.specs.Agreement.{Flight, InBid}
-use Rattle.bsc_bid.proofs.Choice.{choose}
-use Rattle.bsc_bid.proofs.Turning.{LawsBelow, going, reached_holds}
+use Rattle.bsc_bid.proofs.Choice.{either_branch}
+use Rattle.bsc_bid.proofs.Turning.{LawsBelow, in_bid_while_sending, reached_holds}
 
 -- a reply that is acted on leaves no doubt, and one that is not leaves the sender as it is
 abbrev IsCertainBy : Act → SenderValue → SenderStep → Type 0
@@ -48,13 +48,13 @@ certain_accepted s q Etb x = certain_next s q (other x) (next_block q)
 
 certain_delayed : (s : SenderValue) (q : QueueValue) (e : End) (x : Alternation)
     → IsCertain s (delayed s q e x)
-certain_delayed s q e x = choose (IsCertain s) (nat_lt s.setup.waits (s.wacks + 1)) _ _ refl refl
+certain_delayed s q e x = either_branch (IsCertain s) (nat_lt s.setup.waits (s.wacks + 1)) _ _ refl refl
 
 certain_unanswered : (s : SenderValue) (q : QueueValue) (b : SentBlock) (x : Answer)
     → is_in_doubt s.phase ≡ false → IsCertain s (unanswered_step s q b x)
 certain_unanswered s q b Accepted d = certain_accepted s (with_known q b.count) b.end b.alternation
 certain_unanswered s q b Refused d =
-    choose (IsCertain s) (nat_lt s.setup.tries (s.failures + 1)) _ _ refl d
+    either_branch (IsCertain s) (nat_lt s.setup.tries (s.failures + 1)) _ _ refl d
 certain_unanswered s q b Delayed d = certain_delayed s (with_known q b.count) b.end b.alternation
 certain_unanswered s q b Interrupted d = refl
 
@@ -62,7 +62,7 @@ certain_held : (s : SenderValue) (q : QueueValue) (e : End) (y : Alternation) (x
     → is_in_doubt s.phase ≡ false → IsCertain s (held_step s q e y x)
 certain_held s q e y Accepted d = certain_accepted s q e y
 certain_held s q e y Refused d =
-    choose (IsCertain s) (nat_lt s.setup.tries (s.failures + 1)) _ _ refl d
+    either_branch (IsCertain s) (nat_lt s.setup.tries (s.failures + 1)) _ _ refl d
 certain_held s q e y Delayed d = certain_delayed s q e y
 certain_held s q e y Interrupted d = refl
 
@@ -163,7 +163,7 @@ gives_up s t a.Quiet b e c p over =
 
 pub doubts_at_silence : LawsBelow → DoubtsAtSilence
 doubts_at_silence law b es c t h fair =
-    let i = going c fair.sent fair.goes_on (reached_holds law b es c h) in
+    let i = in_bid_while_sending c fair.sent fair.goes_on (reached_holds law b es c h) in
     let d : is_in_doubt c.sender.phase ≡ false =
     certain_going c.sender.phase c.queue c.receiver.alternation c.receiver.last c.spool.records _
     i in

@@ -22,7 +22,7 @@ use Rattle.bsc_bid.specs.Sender.{delayed, unanswered_step, held_step, answered_s
 use Rattle.bsc_bid.specs.Sender.{silence_in, silence_step, begin_step}
 use Rattle.bsc_bid.specs.Ready.{IsGoing, IsAtRest, FitsAct}
 use Rattle.bsc_bid.specs.Bid.{answered, unless_quiet}
-use Rattle.bsc_bid.proofs.Choice.{choose}
+use Rattle.bsc_bid.proofs.Choice.{either_branch}
 
 abbrev pub Fits : SenderValue → SenderStep → Type 0
 Fits s t = FitsAct t.act s.phase t.sender.phase
@@ -51,11 +51,11 @@ fits_accepted s q Etb x = fits_next s q (other x) (next_block q)
 
 fits_failed : (s : SenderValue) (q : QueueValue) (left : Phase) (act : Act) → IsAtRest left
     → FitsAct act s.phase s.phase → Fits s (failed s q left act)
-fits_failed s q left act h k = choose (Fits s) (nat_lt s.setup.tries (s.failures + 1)) _ _ h k
+fits_failed s q left act h k = either_branch (Fits s) (nat_lt s.setup.tries (s.failures + 1)) _ _ h k
 
 fits_delayed : (s : SenderValue) (q : QueueValue) (e : End) (x : Alternation)
     → Fits s (delayed s q e x)
-fits_delayed s q e x = choose (Fits s) (nat_lt s.setup.waits (s.wacks + 1)) _ _ tt tt
+fits_delayed s q e x = either_branch (Fits s) (nat_lt s.setup.waits (s.wacks + 1)) _ _ tt tt
 
 fits_unanswered : (s : SenderValue) (q : QueueValue) (b : SentBlock) (x : Answer)
     → IsGoing s.phase → Fits s (unanswered_step s q b x)

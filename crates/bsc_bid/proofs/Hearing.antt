@@ -50,8 +50,8 @@ pub block_records : RecordsBack → (q : QueueValue) (b : SentBlock) → IsQueue
     → records_in (text_of q b).units ≡ take b.count (waiting q)
 block_records law q b h = law q.format.full (take b.count (waiting q)) h.format.full_from
 
-pub fits : (b : SentBlock) (n : ℕ) → CountsOn (Unanswered b) n → b.count ≤ n
-fits b n h = all_waiting b.count n b.end h
+pub count_of_block_fits : (b : SentBlock) (n : ℕ) → CountsOn (Unanswered b) n → b.count ≤ n
+count_of_block_fits b n h = all_waiting b.count n b.end h
 
 other_after : (x y : Alternation) → x ≡ other y → IsReplyAfter (ack (other x)) y
 other_after Odd Odd e = absurd (cc)
@@ -66,16 +66,16 @@ other_other Even Odd e = refl
 other_other Even Even e = absurd (cc)
 
 -- the block lands
-landed : RecordsBack → (b : SentBlock) (q : QueueValue) (alternation : Alternation) (last x : Reply)
+agreement_after_block_lands : RecordsBack → (b : SentBlock) (q : QueueValue) (alternation : Alternation) (last x : Reply)
     (spooled : List (List ℕ)) (t : TextValue) → IsQueue q → HasBlock (Unanswered b)
     → CountsOn (Unanswered b) (length (waiting q))
     → NotLanded b q alternation last spooled (Outward (m.Text t)) → IsReplyAfter x b.alternation →
     (Agree (Unanswered b) q (other alternation) x (spooled ++ records_in t.units) (Back x))
     × MovesAtReceiver
     (Unanswered b) (channel q spooled) (channel q (spooled ++ records_in t.units))
-landed law b q alternation last x spooled t queue block counts h a =
+agreement_after_block_lands law b q alternation last x spooled t queue block counts h a =
     let known : q.known ≤ length q.offered = queue.known in
-    let fit : b.count ≤ length (waiting q) = fits b _ counts in
+    let fit : b.count ≤ length (waiting q) = count_of_block_fits b _ counts in
     let there : records_in t.units ≡ take b.count (drop q.known q.offered) =
     ap (λ (u : TextValue). records_in u.units) h.flight ∙ block_records law q b queue in
     let long : length spooled ≡ q.known = ap length h.front
@@ -115,18 +115,18 @@ text_keeps : RecordsBack
 text_keeps law b q alternation last s t urgent false after queue block counts h =
     (inl (record { front = h.front; counted = h.counted; reply = tt; flight = refl }), inl refl)
 text_keeps law b q alternation last s t false true true queue block counts h =
-    landed law b q alternation last (ack (other alternation)) s.records t queue block counts h
+    agreement_after_block_lands law b q alternation last (ack (other alternation)) s.records t queue block counts h
     (other_after alternation b.alternation h.counted)
 text_keeps law b q alternation last s t false true false queue block counts h =
-    landed law b q alternation last Wack s.records t queue block counts h tt
+    agreement_after_block_lands law b q alternation last Wack s.records t queue block counts h tt
 text_keeps law b q alternation Rvi s t true true after queue block counts h = absurd h.reply
 text_keeps law b q alternation Wack s t true true after queue block counts h = absurd h.reply
 text_keeps law b q alternation Ack0 s t true true after queue block counts h =
-    landed law b q alternation Ack0 Rvi s.records t queue block counts h tt
+    agreement_after_block_lands law b q alternation Ack0 Rvi s.records t queue block counts h tt
 text_keeps law b q alternation Ack1 s t true true after queue block counts h =
-    landed law b q alternation Ack1 Rvi s.records t queue block counts h tt
+    agreement_after_block_lands law b q alternation Ack1 Rvi s.records t queue block counts h tt
 text_keeps law b q alternation Nak s t true true after queue block counts h =
-    landed law b q alternation Nak Rvi s.records t queue block counts h tt
+    agreement_after_block_lands law b q alternation Nak Rvi s.records t queue block counts h tt
 
 -- ENQ is heard before the block landed
 enq_before : (b : SentBlock) (q : QueueValue) (alternation : Alternation) (last : Reply)
@@ -251,14 +251,14 @@ flight_after last m.Enq h = tt
 flight_after last _ h = absurd h
 
 -- in a bid the sender sends only texts and ENQ
-pub senders : (phase : Phase) (q : QueueValue) (alternation : Alternation) (last : Reply)
+pub outward_is_from_sender : (phase : Phase) (q : QueueValue) (alternation : Alternation) (last : Reply)
     (spooled : List (List ℕ)) (w : Message) → Agree phase q alternation last spooled (Outward w)
     → IsSenders w
-senders Idle q alternation last spooled w h = absurd h
-senders (InDoubt k) q alternation last spooled w h = absurd h
-senders (Held e x) q alternation last spooled w h = flight_after last w h.flight
-senders (Unanswered b) q alternation last spooled w (inl h) = flight_before q b last w h.flight
-senders (Unanswered b) q alternation last spooled w (inr h) = flight_after last w h.flight
+outward_is_from_sender Idle q alternation last spooled w h = absurd h
+outward_is_from_sender (InDoubt k) q alternation last spooled w h = absurd h
+outward_is_from_sender (Held e x) q alternation last spooled w h = flight_after last w h.flight
+outward_is_from_sender (Unanswered b) q alternation last spooled w (inl h) = flight_before q b last w h.flight
+outward_is_from_sender (Unanswered b) q alternation last spooled w (inr h) = flight_after last w h.flight
 
 -- a text or ENQ is not heard as EOT
 pub no_call : (w v : Message) → IsSenders w → IsCallCutShort w v → ⊥
@@ -294,9 +294,9 @@ whole_keeps law (Held e x) q alternation last s m.Enq urgent first after queue b
 whole_keeps law (Held e x) q alternation last s (m.Text t) urgent first after queue block counts h =
     absurd h.flight
 whole_keeps law (Unanswered b) q alternation last s w urgent first after queue block counts h =
-    absurd (senders (Unanswered b) q alternation last s.records w h)
+    absurd (outward_is_from_sender (Unanswered b) q alternation last s.records w h)
 whole_keeps law (Held e x) q alternation last s w urgent first after queue block counts h =
-    absurd (senders (Held e x) q alternation last s.records w h)
+    absurd (outward_is_from_sender (Held e x) q alternation last s.records w h)
 
 -- a damaged text is heard
 spoiled_keeps : (phase : Phase) (q : QueueValue) (alternation : Alternation) (last : Reply)
@@ -327,7 +327,7 @@ heard_keeps law phase q alternation last s w (Whole v) urgent first after b (inl
     whole_keeps law phase q alternation last s v urgent first after b.queue b.block b.counts
     (subst (λ (x : Message). Agree phase q alternation last s.records (Outward x)) (sym e) b.agree)
 heard_keeps law phase q alternation last s w (Whole v) urgent first after b (inr e) =
-    absurd (no_call w v (senders phase q alternation last s.records w b.agree) e)
+    absurd (no_call w v (outward_is_from_sender phase q alternation last s.records w b.agree) e)
 
 -- the transmission of the sender is heard at the receiver, or nothing is
 pub receiver_keeps : RecordsBack

@@ -19,7 +19,7 @@ use Rattle.bsc_bid.specs.Sender.{SenderValue, text_of, sent_next, begin_step, ac
 use Rattle.bsc_bid.specs.Sender.{failed, delayed, unanswered_step, held_step, answered_step}
 use Rattle.bsc_bid.specs.Sender.{reply_step, silence_in, silence_step}
 use Rattle.bsc_bid.specs.EachStep.{StepKeeps}
-use Rattle.bsc_bid.proofs.Choice.{choose}
+use Rattle.bsc_bid.proofs.Choice.{either_branch}
 
 keeps_next : (s : SenderValue) (q : QueueValue) (x : Alternation) (n : Option Next)
     → StepKeeps s q (sent_next s q x n)
@@ -37,14 +37,14 @@ keeps_accepted s q Etb x = keeps_next s q (other x) (next_block q)
 keeps_failed : (s : SenderValue) (q : QueueValue) (left : Phase) (act : Act)
     → StepKeeps s q (failed s q left act)
 keeps_failed s q left act =
-    choose (StepKeeps s q) (nat_lt s.setup.tries (s.failures + 1)) _ _
+    either_branch (StepKeeps s q) (nat_lt s.setup.tries (s.failures + 1)) _ _
     (record { setup_is = refl; format_is = refl; offered_is = refl })
     (record { setup_is = refl; format_is = refl; offered_is = refl })
 
 keeps_delayed : (s : SenderValue) (q : QueueValue) (e : End) (x : Alternation)
     → StepKeeps s q (delayed s q e x)
 keeps_delayed s q e x =
-    choose (StepKeeps s q) (nat_lt s.setup.waits (s.wacks + 1)) _ _
+    either_branch (StepKeeps s q) (nat_lt s.setup.waits (s.wacks + 1)) _ _
     (record { setup_is = refl; format_is = refl; offered_is = refl })
     (record { setup_is = refl; format_is = refl; offered_is = refl })
 

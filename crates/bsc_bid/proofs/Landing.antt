@@ -20,9 +20,9 @@ use Rattle.bsc_bid.specs.Channel.{channel}
 use Rattle.bsc_bid.specs.OneBid.{MovesAtSender}
 use Rattle.bsc_bid.specs.Agreement.{Still, Back, IsReplyBefore, IsReplyAfter, HasLanded, InBid}
 use Rattle.bsc_bid.specs.Agreement.{IsResting, Continues, sent_flight}
-use Rattle.bsc_bid.proofs.Choice.{choose}
+use Rattle.bsc_bid.proofs.Choice.{either_branch}
 use Rattle.bsc_bid.proofs.Readiness.{counts_next, within_offered, is_queue_marked, still_waiting}
-use Rattle.bsc_bid.proofs.Hearing.{fits}
+use Rattle.bsc_bid.proofs.Hearing.{count_of_block_fits}
 
 -- what is known of the next block of a queue
 pub record NextLaw : Type 0 where
@@ -89,10 +89,10 @@ next_keeps law s q expected alternation last spooled h front some counted reply 
     )
 
 -- the sender learns which records were spooled
-learns : (q : QueueValue) (k : ℕ) (spooled : List (List ℕ)) → q.known + k ≤ length q.offered
+sender_learns_spooled : (q : QueueValue) (k : ℕ) (spooled : List (List ℕ)) → q.known + k ≤ length q.offered
     → spooled ≡ take (q.known + k) q.offered
     → MovesAtSender (channel q spooled) (channel (with_known q k) spooled)
-learns q k spooled within e =
+sender_learns_spooled q k spooled within e =
     let long : length spooled ≡ q.known + k = ap length e
     ∙ length-take-le (q.known + k) q.offered within in
     inr (ap (λ n. channel (record { format = q.format; offered = q.offered; known = n }) spooled)
@@ -111,7 +111,7 @@ at_learnt : (q : QueueValue) (k : ℕ) (alternation : Alternation) (last : Reply
 at_learnt q k alternation last spooled t within front h = (
   h.0,
   subst (λ (u : QueueValue). MovesAtSender (channel q spooled) (channel u spooled)) (sym h.1)
-      (learns q k spooled within front),
+      (sender_learns_spooled q k spooled within front),
 )
 
 -- the expected acknowledgement came, and the queue counts the block as known
@@ -133,7 +133,7 @@ pub delayed_keeps : (s : SenderValue) (q : QueueValue) (e : End)
     → AreWaiting 0 e (length (waiting q)) → alternation ≡ expected →
     LeavesQueue q alternation Wack spooled (delayed s q e expected)
 delayed_keeps s q e expected alternation spooled h front more counted =
-    choose (LeavesQueue q alternation Wack spooled) _ _ _
+    either_branch (LeavesQueue q alternation Wack spooled) _ _ _
     (at_rest q spooled h front, refl) (
       record {
         queue = h;
@@ -161,7 +161,7 @@ is_marked : (b : SentBlock) (q : QueueValue) (alternation : Alternation) (last :
     → InBid (Unanswered b) q alternation last spooled (Back last)
     → HasLanded b q alternation last spooled (Back last) → Marked b q spooled
 is_marked b q alternation last spooled i h =
-    let there : b.count ≤ length (waiting q) = fits b _ i.counts in
+    let there : b.count ≤ length (waiting q) = count_of_block_fits b _ i.counts in
     record {
       within = within_offered q b.count i.queue there;
       front = h.front;

@@ -19,7 +19,7 @@ use Rattle.bsc_bid.specs.Channel.{channel, IsSound}
 use Rattle.bsc_bid.specs.Agreement.{Flight, Still, Outward, Back, IsFlightBefore, Agree, InBid}
 use Rattle.bsc_bid.specs.Agreement.{IsResting, Continues}
 use Rattle.bsc_bid.proofs.Readiness.{within_offered}
-use Rattle.bsc_bid.proofs.Hearing.{fits}
+use Rattle.bsc_bid.proofs.Hearing.{count_of_block_fits}
 
 -- a queue with one more offered record is a queue
 abbrev pub OffersQueue : Type 0
@@ -109,13 +109,13 @@ agree_offered (Unanswered b) q r alternation last spooled f queue counts (inl h)
           h.counted;
       reply = h.reply;
       flight =
-          flight_offered b q r last f (text_offered b q r queue (fits b _ counts)) h.flight;
+          flight_offered b q r last f (text_offered b q r queue (count_of_block_fits b _ counts)) h.flight;
     })
 agree_offered (Unanswered b) q r alternation last spooled f queue counts (inr h) =
     inr (record {
       front = front_offered q r (q.known + b.count) spooled
           (within_offered q b.count queue
-          (fits b _ counts)) h.front;
+          (count_of_block_fits b _ counts)) h.front;
       counted = h.counted;
       reply = h.reply;
       flight = h.flight;

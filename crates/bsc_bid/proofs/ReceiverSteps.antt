@@ -9,7 +9,7 @@ use Rattle.bsc_block.specs.Blocks.{records_in}
 use Rattle.bsc_spool.specs.Spool.{SpoolValue}
 use Rattle.bsc_bid.specs.Receiver.{ReceiverValue, ReceiverStep, Rooms, is_interrupt, is_wack}
 use Rattle.bsc_bid.specs.Receiver.{stored_text, taken_urgently, text_step, enq_step, heard_step}
-use Rattle.bsc_bid.proofs.Choice.{choose}
+use Rattle.bsc_bid.proofs.Choice.{either_branch}
 
 -- the records are the old ones, or a whole text was heard and they are the old ones and all of its
 pub record TakesText (h : Heard) (old new : List (List ℕ)) : Type 0 where
@@ -28,13 +28,13 @@ grows_text r s t urgent rooms =
     inr (record { text = t; heard = refl; becomes = refl }) in
     let urgently : P (taken_urgently r s t rooms) =
     inr (record { text = t; heard = refl; becomes = refl }) in
-    choose P rooms.first _ _
-    (choose P urgent _ _ (choose P (is_interrupt r.last) _ _ plain urgently) plain)
+    either_branch P rooms.first _ _
+    (either_branch P urgent _ _ (either_branch P (is_interrupt r.last) _ _ plain urgently) plain)
     (inl refl)
 
 grows_enq : (r : ReceiverValue) (s : SpoolValue) (rooms : Rooms)
     → Grows (Whole m.Enq) s (enq_step r s rooms)
-grows_enq r s rooms = choose (Grows (Whole m.Enq) s) (is_wack r.last) _ _ (inl refl) (inl refl)
+grows_enq r s rooms = either_branch (Grows (Whole m.Enq) s) (is_wack r.last) _ _ (inl refl) (inl refl)
 
 pub grows_heard_step : (r : ReceiverValue) (s : SpoolValue) (h : Heard) (urgent : Bool)
     (rooms : Rooms) → Grows h s (heard_step r s h urgent rooms)
@@ -53,13 +53,13 @@ StaysSilent r step = step.reply ≡ None → step.receiver ≡ r
 pub silent_heard_step : (r : ReceiverValue) (s : SpoolValue) (h : Heard) (urgent : Bool)
     (rooms : Rooms) → StaysSilent r (heard_step r s h urgent rooms)
 silent_heard_step r s (Whole (m.Text t)) urgent rooms =
-    choose (StaysSilent r) rooms.first _ _
-    (choose (StaysSilent r) urgent _ _
-    (choose (StaysSilent r) (is_interrupt r.last) _ _ (λ e. absurd (cc)) (λ e. absurd (cc)))
+    either_branch (StaysSilent r) rooms.first _ _
+    (either_branch (StaysSilent r) urgent _ _
+    (either_branch (StaysSilent r) (is_interrupt r.last) _ _ (λ e. absurd (cc)) (λ e. absurd (cc)))
     (λ e. absurd (cc)))
     (λ e. absurd (cc))
 silent_heard_step r s (Whole m.Enq) urgent rooms =
-    choose (StaysSilent r) (is_wack r.last) _ _ (λ e. absurd (cc)) (λ e. absurd (cc))
+    either_branch (StaysSilent r) (is_wack r.last) _ _ (λ e. absurd (cc)) (λ e. absurd (cc))
 silent_heard_step r s Noise urgent rooms = λ e. refl
 silent_heard_step r s Failed urgent rooms = λ e. absurd (cc)
 silent_heard_step r s (Whole m.Eot) urgent rooms = λ e. refl

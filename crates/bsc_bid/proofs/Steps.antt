@@ -19,20 +19,20 @@ use Rattle.bsc_bid.specs.EachStep.{SenderAgrees, ReleaseAgrees, HearingAgrees, A
 use Rattle.bsc_bid.specs.EachStep.{SilenceAgrees, BeginAgrees, OfferAgrees, OfferKeepsRest}
 use Rattle.bsc_bid.specs.EachStep.{ReleaseKeepsRest, AgreementIsSound, LossAgrees}
 use Rattle.bsc_bid.specs.EachStep.{OutwardIsTextOrEnq, ReplyIsLast}
-use Rattle.bsc_bid.proofs.Hearing.{IsSenders, senders, receiver_keeps}
+use Rattle.bsc_bid.proofs.Hearing.{IsSenders, outward_is_from_sender, receiver_keeps}
 use Rattle.bsc_bid.proofs.Answering.{still_on, back_last, sender_keeps}
 use Rattle.bsc_bid.proofs.Landing.{Leaves, at_same}
 use Rattle.bsc_bid.proofs.Answering.{silence_keeps, begin_keeps}
 use Rattle.bsc_bid.proofs.Offers.{not_longer, bid_offered, resting_offered}
 use Rattle.bsc_bid.proofs.Fitting.{Fits, fits_heard, fits_silence, fits_begin}
-use Rattle.bsc_bid.proofs.Turning.{LawsBelow, ended, sound_by}
+use Rattle.bsc_bid.proofs.Turning.{LawsBelow, at_rest_after_end, sound_by}
 use Rattle.bsc_bid.proofs.Blocks.{released_by}
 
-agrees : (s : SenderValue) (q : QueueValue) (alternation : Alternation) (last : Reply)
+sender_agrees_after_step : (s : SenderValue) (q : QueueValue) (alternation : Alternation) (last : Reply)
     (spooled : List (List ℕ)) (t : SenderStep) → Leaves q alternation last spooled t → Fits s t
     → SenderAgrees q alternation last spooled t
-agrees s q alternation last spooled t h k =
-    record { continues = h.0; ended = ended s t k; moves = h.1 }
+sender_agrees_after_step s q alternation last spooled t h k =
+    record { continues = h.0; ended = at_rest_after_end s t k; moves = h.1 }
 
 pub hearing_agrees : LawsBelow → HearingAgrees
 hearing_agrees law phase q r s sent heard urgent rooms i fair =
@@ -44,20 +44,20 @@ hearing_agrees law phase q r s sent heard urgent rooms i fair =
 
 pub answering_agrees : LawsBelow → AnsweringAgrees
 answering_agrees law s q alternation last spooled reply heard i fair =
-    agrees s q alternation last spooled (answered s q reply heard)
+    sender_agrees_after_step s q alternation last spooled (answered s q reply heard)
     (sender_keeps law.next s q alternation last spooled reply heard i fair)
     (fits_heard s q reply heard)
 
 pub silence_agrees : SilenceAgrees
 silence_agrees s q alternation last spooled h =
-    agrees s q alternation last spooled (silence_in s q s.phase)
+    sender_agrees_after_step s q alternation last spooled (silence_in s q s.phase)
     (at_same q alternation last spooled (silence_in s q s.phase)
     (silence_keeps s s.phase q alternation last spooled refl h))
     (fits_silence s q)
 
 pub begin_agrees : LawsBelow → BeginAgrees
 begin_agrees law s q spooled h some =
-    agrees s q Even Ack0 spooled (begin_step s q)
+    sender_agrees_after_step s q Even Ack0 spooled (begin_step s q)
     (at_same q Even Ack0 spooled (begin_step s q)
     (begin_keeps law.next s q spooled h.queue h.sound some))
     (fits_begin s q)
@@ -110,7 +110,7 @@ text_or_enq _ h = absurd h
 
 pub outward_is_text_or_enq : OutwardIsTextOrEnq
 outward_is_text_or_enq phase q alternation last spooled sent i =
-    text_or_enq sent (senders phase q alternation last spooled sent i.agree)
+    text_or_enq sent (outward_is_from_sender phase q alternation last spooled sent i.agree)
 
 pub reply_is_last : ReplyIsLast
 reply_is_last phase q alternation last reply spooled i =

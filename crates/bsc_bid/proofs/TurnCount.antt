@@ -62,10 +62,10 @@ ComesBy a.Quiet s u = u ≡ s
 abbrev pub Comes : SenderValue → SenderStep → Type 0
 Comes s t = (t.sender.setup ≡ s.setup) × ComesBy t.act s t.sender
 
-test : (P : SenderStep → Type 0) (v : Bool) (x y : SenderStep) → (v ≡ true → P x) → (v ≡ false
+branch_by_test : (P : SenderStep → Type 0) (v : Bool) (x y : SenderStep) → (v ≡ true → P x) → (v ≡ false
     → P y) → P (if v then x else y)
-test P true x y p r = p refl
-test P false x y p r = r refl
+branch_by_test P true x y p r = p refl
+branch_by_test P false x y p r = r refl
 
 next_comes : (s : SenderValue) (q : QueueValue) (x : Alternation) (n : Option Next)
     → Comes s (sent_next s q x n)
@@ -83,7 +83,7 @@ more_waits w t k h = omega arith
 delayed_comes : (s : SenderValue) (q : QueueValue) (e : End) (x : Alternation) → IsWithin s
     → Comes s (delayed s q e x)
 delayed_comes s q e x h =
-    test (Comes s) (nat_lt s.setup.waits (s.wacks + 1)) _ _
+    branch_by_test (Comes s) (nat_lt s.setup.waits (s.wacks + 1)) _ _
     (λ _. (refl, tt)) (λ n. (
       refl,
       record {
@@ -99,7 +99,7 @@ delayed_comes s q e x h =
 failed_comes : (s : SenderValue) (q : QueueValue) (left : Phase) (act : Act) → IsWithin s
     → ((u : SenderValue) → IsNearer s u → ComesBy act s u) → Comes s (failed s q left act)
 failed_comes s q left act h f =
-    test (Comes s) (nat_lt s.setup.tries (s.failures + 1)) _ _
+    branch_by_test (Comes s) (nat_lt s.setup.tries (s.failures + 1)) _ _
     (λ _. (refl, tt)) (λ n. (
       refl,
       f _
@@ -167,12 +167,12 @@ turn_comes b t h =
     (heard_comes b.sender b.queue (receiver_in b t).reply t.answer h)
 
 -- what is left of the turns of a block
-bound : (w wl t tl : ℕ) → w ≤ wl → t ≤ tl → w * (tl + 1) + t + 1 ≤ (tl + 1) * (wl + 1)
-bound w wl t tl h k = let e : w * (tl + 1) ≤ wl * (tl + 1) = mul-le-mul_right (tl + 1) h in
+rank_within_turns_of_block : (w wl t tl : ℕ) → w ≤ wl → t ≤ tl → w * (tl + 1) + t + 1 ≤ (tl + 1) * (wl + 1)
+rank_within_turns_of_block w wl t tl h k = let e : w * (tl + 1) ≤ wl * (tl + 1) = mul-le-mul_right (tl + 1) h in
     omega (arith, e)
 
 rank_below : (s : SenderValue) → IsWithin s → rank s + 1 ≤ most_turns s.setup
-rank_below s h = bound s.wacks s.setup.waits s.failures s.setup.tries h.wacks h.failures
+rank_below s h = rank_within_turns_of_block s.wacks s.setup.waits s.failures s.setup.tries h.wacks h.failures
 
 sum_over : (n r m k : ℕ) → n ≡ 0 → r + 1 ≤ m → n + 1 + r ≤ k + m
 sum_over n r m k z h = omega arith
@@ -187,10 +187,10 @@ sum_begun n r b m h k = omega arith
 no_more : (b : Bid) (es : List BidEvent) (c : Bid) → message_for b.act ≡ None → AreEvents b es c
     → turn_count es ≡ 0
 no_more b [] c e k = refl
-no_more b (Exchange t ∷ es) c e k = absurd (over k.0)
+no_more b (Exchange t ∷ es) c e k = absurd (no_fair_turn_after_end k.0)
   where
-    over : IsFairTurn b t → ⊥
-    over f = cc (e, f.goes_on)
+    no_fair_turn_after_end : IsFairTurn b t → ⊥
+    no_fair_turn_after_end f = cc (e, f.goes_on)
 no_more b (Offering r ∷ es) c e k = no_more (after_event b (Offering r)) es c e k.1
 
 abbrev begun_by : Act → SenderValue → ℕ
@@ -230,20 +230,20 @@ count_turn M b t es c a.Quiet e n h events ih =
     sum_over (turn_count es) (rank b.sender) M (begun_in b (Exchange t ∷ es) * M)
     (no_more (after_turn b t) es c (ap message_for e) events) h
 
-count : (setup : SetupValue) (b : Bid) (es : List BidEvent) (c : Bid) → b.sender.setup ≡ setup
+turns_within_begun_blocks : (setup : SetupValue) (b : Bid) (es : List BidEvent) (c : Bid) → b.sender.setup ≡ setup
     → IsWithin b.sender → AreEvents b es c
     → turn_count es + rank b.sender ≤ begun_in b es * most_turns setup + most_turns setup
-count setup b [] c e h k =
+turns_within_begun_blocks setup b [] c e h k =
     let r : rank b.sender + 1 ≤ most_turns setup =
     subst (λ (x : SetupValue). rank b.sender + 1 ≤ most_turns x) e (rank_below b.sender h) in
     omega arith
-count setup b (Exchange t ∷ es) c e h k =
+turns_within_begun_blocks setup b (Exchange t ∷ es) c e h k =
     let r : rank b.sender + 1 ≤ most_turns setup =
     subst (λ (x : SetupValue). rank b.sender + 1 ≤ most_turns x) e (rank_below b.sender h) in
     let s : Comes b.sender (unless_quiet (sender_in b t) (sender_in b t).act) = turn_comes b t h in
     count_turn (most_turns setup) b t es c (after_turn b t).act refl s.1 r k.1
-    (λ within. count setup (after_turn b t) es c (s.0 ∙ e) within k.1)
-count setup b (Offering r ∷ es) c e h k = count setup (after_event b (Offering r)) es c e h k.1
+    (λ within. turns_within_begun_blocks setup (after_turn b t) es c (s.0 ∙ e) within k.1)
+turns_within_begun_blocks setup b (Offering r ∷ es) c e h k = turns_within_begun_blocks setup (after_event b (Offering r)) es c e h k.1
 
 -- the first block of a bid
 begin_within : LawsBelow → (s : SenderValue) (q : QueueValue) → IsQueue q
@@ -260,5 +260,5 @@ ends_soon law b es c h =
     (begin_within law h.new_bid.sender b.queue h.new_bid.queue h.new_bid.waits) in
     let n : turn_count es + rank b.sender ≤ begun_in b es * most_turns b.sender.setup
     + most_turns b.sender.setup =
-    count b.sender.setup b es c refl within h.events in
+    turns_within_begun_blocks b.sender.setup b es c refl within h.events in
     omega arith

@@ -25,10 +25,10 @@ use Rattle.bsc_bid.specs.OneBid.{channel_within, MovesInTurn, OnlyMoves, StaysRe
 use Rattle.bsc_bid.specs.OneBid.{SoundWithinTurns}
 use Rattle.bsc_bid.specs.Agreement.{Flight, Outward, InBid, Continues, reply_flight, sent_flight}
 use Rattle.bsc_bid.proofs.Readiness.{within_offered}
-use Rattle.bsc_bid.proofs.Hearing.{RecordsBack, Keeps, fits, receiver_keeps}
+use Rattle.bsc_bid.proofs.Hearing.{RecordsBack, Keeps, count_of_block_fits, receiver_keeps}
 use Rattle.bsc_bid.proofs.Answering.{sender_keeps, settled_keeps, begin_keeps}
 use Rattle.bsc_bid.proofs.Landing.{NextLaw, Leaves}
-use Rattle.bsc_bid.proofs.Answering.{busy}
+use Rattle.bsc_bid.proofs.Answering.{in_bid_while_outward}
 use Rattle.bsc_bid.proofs.Offers.{OffersQueue, continues_offered}
 use Rattle.bsc_bid.proofs.Fitting.{Fits, fits_begin, fits_heard, fits_settled}
 
@@ -51,8 +51,8 @@ ended_by a.Over old new h = h
 ended_by a.Quiet old new h = tt
 
 -- a step that ends the bid leaves the sender at rest
-pub ended : (s : SenderValue) (t : SenderStep) → Fits s t → IsEnded t.act t.sender.phase
-ended s t h = ended_by t.act s.phase t.sender.phase h
+pub at_rest_after_end : (s : SenderValue) (t : SenderStep) → Fits s t → IsEnded t.act t.sender.phase
+at_rest_after_end s t h = ended_by t.act s.phase t.sender.phase h
 
 -- a channel is sound while the ends agree
 pub sound_by : (phase : Phase) (q : QueueValue) (alternation : Alternation) (last : Reply)
@@ -74,7 +74,7 @@ sound_by (Unanswered b) q alternation last spooled f h =
           record { front = rw long x.front; known = omega arith; spooled = inl long })
       | inr x ↦
           (let long : length spooled ≡ q.known + b.count = ap length x.front ∙ length-take-le
-          (q.known + b.count) q.offered (within_offered q b.count h.queue (fits b _ h.counts)) in
+          (q.known + b.count) q.offered (within_offered q b.count h.queue (count_of_block_fits b _ h.counts)) in
           record { front = rw long x.front; known = omega arith; spooled = inr long })
     ]
 
@@ -93,26 +93,26 @@ bid_continues (Held e x) q alternation last spooled f i = i
 bid_continues (Unanswered b) q alternation last spooled f i = i
 
 -- what is sent while a bid is in progress
-outward : (x : Act) (sent : Message) → message_for x ≡ Some sent → sent_flight x ≡ Outward sent
-outward (a.Send t) sent e = cc
-outward a.Enq sent e = cc
-outward a.Over sent e = absurd (cc e)
-outward a.Quiet sent e = absurd (cc e)
+sent_message_is_outward : (x : Act) (sent : Message) → message_for x ≡ Some sent → sent_flight x ≡ Outward sent
+sent_message_is_outward (a.Send t) sent e = cc
+sent_message_is_outward a.Enq sent e = cc
+sent_message_is_outward a.Over sent e = absurd (cc e)
+sent_message_is_outward a.Quiet sent e = absurd (cc e)
 
-pub going : (b : Bid) (sent : Message) → message_for b.act ≡ Some sent → Holds b
+pub in_bid_while_sending : (b : Bid) (sent : Message) → message_for b.act ≡ Some sent → Holds b
     → InBid b.sender.phase b.queue b.receiver.alternation b.receiver.last b.spool.records
     (Outward sent)
-going b sent e h =
-    busy b.sender.phase b.queue b.receiver.alternation b.receiver.last b.spool.records sent
+in_bid_while_sending b sent e h =
+    in_bid_while_outward b.sender.phase b.queue b.receiver.alternation b.receiver.last b.spool.records sent
     (subst (λ (f : Flight). Continues b.sender.phase b.queue b.receiver.alternation b.receiver.last
     b.spool.records f)
-    (outward b.act sent e) h.ends)
+    (sent_message_is_outward b.act sent e) h.ends)
 
 pub turn_keeps : LawsBelow → (b : Bid) (t : Turn) → Holds b → IsFairTurn b t → Turned b t
 turn_keeps law b t h fair =
     let i : InBid b.sender.phase b.queue b.receiver.alternation b.receiver.last b.spool.records
     (Outward fair.sent) =
-    going b fair.sent fair.goes_on h in
+    in_bid_while_sending b fair.sent fair.goes_on h in
     let r : ReceiverStep = receiver_in b t in
     let k : Keeps b.sender.phase b.queue b.spool.records r =
     receiver_keeps law.records b.sender.phase b.queue b.receiver b.spool fair.sent t.heard t.urgent
@@ -131,7 +131,7 @@ turn_keeps law b t h fair =
       holds = record {
         ends = u.0;
         rests =
-            ended b.sender (unless_quiet s s.act)
+            at_rest_after_end b.sender (unless_quiet s s.act)
             (fits_settled b.sender s s.act refl (fits_heard b.sender b.queue r.reply t.answer));
       };
       sound =
@@ -172,7 +172,7 @@ begun_holds law b h =
           b.spool.records
           (sent_flight b.act)) (sym h.receiver) there;
       rests = subst (λ (t : SenderStep). IsEnded t.act t.sender.phase) (sym h.first)
-          (ended h.sender (begin_step h.sender b.queue) (fits_begin h.sender b.queue));
+          (at_rest_after_end h.sender (begin_step h.sender b.queue) (fits_begin h.sender b.queue));
     }
 
 pub reached_holds : LawsBelow → (b : Bid) (es : List BidEvent) (c : Bid) → Reaches b es c → Holds c

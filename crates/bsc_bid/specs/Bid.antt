@@ -49,7 +49,7 @@ answered s q (Some r) (Some h) = reply_step s q (reply_in h)
 answered s q (Some r) None = unmoved s q
 answered s q None h = unmoved s q
 
--- If the sender did nothing on the reply, a silence comes to it.
+-- If the sender did nothing on the reply, it is told of a silence.
 abbrev pub unless_quiet : SenderStep → Act → SenderStep
 unless_quiet t a.Quiet = silence_step t.sender t.queue
 unless_quiet t _ = t

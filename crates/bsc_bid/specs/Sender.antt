@@ -163,7 +163,7 @@ cut_phase (Held end alternation) = Idle
 cut_phase Idle = Idle
 cut_phase (InDoubt count) = InDoubt count
 
--- Whether there is a block of which it is not known whether it arrived.
+-- Whether a block may have arrived or not, and the sender no longer asks.
 abbrev pub is_in_doubt : Phase → Bool
 is_in_doubt (InDoubt count) = true
 is_in_doubt _ = false

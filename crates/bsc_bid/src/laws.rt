@@ -49,7 +49,7 @@ pub fn one_bid()
 /// steps are:
 ///
 /// - the receiver hears what the sender sent, or nothing; the sender hears the reply, or nothing;
-/// - a silence comes to the sender, a bid begins, a record is offered, or a doubt is released;
+/// - the sender is told of a silence, a bid begins, a record is offered, or a doubt is released;
 /// - what was on its way is lost.
 ///
 /// In addition, a sender whose bid is over is at rest, a sender that stays quiet stays in its

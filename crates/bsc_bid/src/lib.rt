@@ -5,8 +5,8 @@
 //! kinds of station share: their settings, the addresses of a terminal, and the trait of a station
 //! of the line.
 //!
-//! Alternating acknowledgements, NAK, WACK, RVI, ENQ, time-outs, polling and selection are those of
-//! GA27-3004. The limits, the urgent flag by which RVI is sent, several selection addresses to a
+//! The replies, ENQ, time-outs, polling and selection are those of GA27-3004. The limits, the
+//! urgent flag by which a receiver interrupts the sender, several selection addresses of one
 //! terminal, doubt and its release, and the laws of a bid are this project's own.
 #![tactic(auto)]
 

@@ -2,3 +2,5 @@ pub mod Fronts
 pub mod Taking
 pub mod Cutting
 pub mod HeldRecords
+pub mod Pieces
+pub mod Waiting

@@ -1,3 +1,4 @@
 pub mod Format
 pub mod Records
+pub mod Pieces
 pub mod Blocks

@@ -3,7 +3,7 @@
 use Rattle.std.specs.Prelude.{ℕ, ◌≤◌, nat_lt, not, if◌then◌else◌, List, length, position, IsTrue}
 use Rattle.std.specs.Prelude.{Option, Some, None, Result, Ok, Err}
 use Rattle.std.specs.List.{AllByRecursion}
-use Rattle.bsc_octet.specs.Octet.{is_record_char}
+use Rattle.bsc_frame.specs.Octet.{is_record_char}
 use Rattle.bsc_block.specs.declared.record.RecordError.{RecordError}
 use Rattle.bsc_block.specs.declared.record.RecordError.TheVariants.{TooLong, NotText}
 use Rattle.bsc_frame.specs.declared.limits.TheConstants.{MAX_CHARS}

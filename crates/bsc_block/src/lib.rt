@@ -11,8 +11,10 @@ pub mod laws;
 pub mod limits;
 mod packing;
 mod record;
+mod records;
 
 pub use block::{Block, unpack};
 pub use format::{Format, FormatError};
 pub use packing::{build, pack};
 pub use record::{Record, RecordError};
+pub use records::Records;

@@ -1,10 +1,10 @@
 //! The record: what a line carries from one end to the other.
 ghost use Rattle.std.specs.Prelude.{◌≡◌, ◌≤◌, IfOk, length, not, position};
-ghost use Rattle.bsc_octet.specs.Octet.{is_record_char as is_record_code};
+ghost use Rattle.bsc_frame.specs.Octet.{is_record_char as is_record_code};
 
 use arrayvec::ArrayVec;
+use bsc_frame::is_record_char;
 use bsc_frame::limits::MAX_CHARS;
-use bsc_octet::is_record_char;
 use std::marker::Model;
 use thiserror::Error;
 

@@ -78,21 +78,21 @@ failed_answered stream =
       short = λ heard. absurd (heard refl);
     }
 
-pub answered : (old new : Option (List ℕ)) (result : Result Bool CarrierError) (octets : List ℕ)
+pub answered_after_read : (old new : Option (List ℕ)) (result : Result Bool CarrierError) (octets : List ℕ)
     → ReadsRecord old result octets new → IsAnswered result old
-answered None new result octets read = record { whole = tt; ended = tt; wrong = tt; short = tt }
-answered (Some stream) new (Ok false) octets read = ended_answered stream read.0
-answered (Some stream) new (Err Device) octets read = failed_answered stream
-answered (Some stream) new (Err Unequal) octets read = absurd read
-answered (Some stream) None (Ok true) octets read = absurd read.1
-answered (Some stream) (Some rest) (Ok true) octets read =
+answered_after_read None new result octets read = record { whole = tt; ended = tt; wrong = tt; short = tt }
+answered_after_read (Some stream) new (Ok false) octets read = ended_answered stream read.0
+answered_after_read (Some stream) new (Err Device) octets read = failed_answered stream
+answered_after_read (Some stream) new (Err Unequal) octets read = absurd read
+answered_after_read (Some stream) None (Ok true) octets read = absurd read.1
+answered_after_read (Some stream) (Some rest) (Ok true) octets read =
     whole_answered stream (octets, rest, read.0, read.1)
-answered (Some stream) None (Err Length) octets (front, wrong, given) = absurd given
-answered (Some stream) (Some rest) (Err Length) octets (front, wrong, given) =
+answered_after_read (Some stream) None (Err Length) octets (front, wrong, given) = absurd given
+answered_after_read (Some stream) (Some rest) (Err Length) octets (front, wrong, given) =
     wrong_answered stream
     (subst HasWrongLength (sym given) (has_wrong_length_append front rest wrong.0))
-answered (Some stream) None (Err Short) octets ((front, short, given), end) = absurd given
-answered (Some stream) (Some rest) (Err Short) octets ((front, short, given), end) =
+answered_after_read (Some stream) None (Err Short) octets ((front, short, given), end) = absurd given
+answered_after_read (Some stream) (Some rest) (Err Short) octets ((front, short, given), end) =
     short_answered stream
     (subst EndsWithin (sym (given ∙ ap (λ l. front ++ l) end ∙ append-nil front)) short)
 

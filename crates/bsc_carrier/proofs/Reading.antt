@@ -1,23 +1,26 @@
--- Reads that ask for no more octets than are wanted, and feed the assembler all that they get.
+-- Reads that ask for no more octets than are missing of a record.
 use Rattle.std.proofs.Common.{◌≡◌, ℕ, ◌+◌, ◌-◌, ◌<◌, ◌≤◌, Bool, true, false, List, []}
 use Rattle.std.proofs.Common.{◌∷◌, ◌++◌, length, take, drop, Ok}
 use Rattle.std.proofs.Common.{inl, inr, Option, Some, None, Err, refl, sym, ap, ◌∙◌, subst, take-append-drop}
 use Rattle.std.proofs.Common.{arith, length-append}
-use Rattle.std.proofs.lemmas.List.{take-append-le, length-take-le}
+use Rattle.std.proofs.lemmas.List.{length-take-le, take-take}
+use Rattle.std.proofs.lemmas.Slice.{take-put_mid}
 use Rattle.std.proofs.lemmas.Bool.{cases_lt, false≢true}
-use Rattle.std.proofs.Math.Seq.{take-length}
+use Rattle.std.proofs.Math.Seq.{take-append-add}
 use Rattle.std.proofs.KnownBytes.{Consumes-trans}
 use Rattle.std.specs.Prelude.{IsTrue}
+use borrow.Rule.Slice.PartMut.{put_mid}
 use Rattle.std.specs.Io.KnownBytes.{Consumes, Keeps, IsAtEnd}
-use Rattle.bsc_carrier.specs.Record.{IsWrongLength, IsCarried, socket_record}
-use Rattle.bsc_carrier.specs.Front.{IsPartial, HasWrongLength}
+use Rattle.bsc_carrier.specs.Record.{IsLength, IsWrongLength, IsCarried, socket_record}
+use Rattle.bsc_carrier.specs.Front.{stated_length, IsPartial, HasWrongLength}
 use Rattle.bsc_carrier.specs.KnownOctets.{ReadsRecord}
-use Rattle.bsc_carrier.specs.Assembler.{AssemblerValue, wanted_after, Fed}
+use Rattle.bsc_carrier.specs.Assembler.{wanted_after, IsWhole}
 use Rattle.bsc_carrier.specs.declared.limits.TheConstants.{MAX_RECORD_OCTETS}
 use Rattle.bsc_carrier.specs.declared.error.CarrierError.{CarrierError}
 use Rattle.bsc_carrier.specs.declared.error.CarrierError.TheVariants.{Length, Short, Device}
 use Rattle.bsc_carrier.specs.declared.error.CarrierError.TheVariants.{Unequal}
-use Rattle.bsc_carrier.proofs.Fronts.{not_wrong_and_right, has_wrong_length_append}
+use Rattle.bsc_carrier.proofs.Fronts.{not_wrong_and_right}
+use Rattle.bsc_carrier.proofs.Gathering.{is_whole_record}
 use Rattle.bsc_carrier.proofs.Wanted.{stated_length_append, wanted_after_short, wanted_after_right}
 
 -- At least one octet is wanted until the record is complete.
@@ -28,6 +31,17 @@ wanted_some begun partial =
       | inr two ↦
           let right = partial two in
           omega (arith, wanted_after_right begun two right.0, right.1)
+    ]
+
+-- What is missing of a record fits in a buffer for the longest one.
+pub missing_fits : (begun : List ℕ) → IsPartial begun → length begun + wanted_after begun
+    ≤ MAX_RECORD_OCTETS
+missing_fits begun partial =
+    elim (cases_lt (length begun) 2) [
+      | inl short ↦ omega (arith, wanted_after_short begun short, short)
+      | inr two ↦
+          let right = partial two in
+          omega (arith, wanted_after_right begun two right.0, right.1, right.0.1)
     ]
 
 -- Less than a record is shorter than the longest record.
@@ -64,27 +78,35 @@ pub record ReadsWanted (a mid b : Option (List ℕ)) (begun piece : List ℕ) : 
   pub read : Consumes mid b piece
   pub fits : length piece ≤ wanted_after begun
 
--- A read into a buffer that is no longer than what is wanted.
-pub reads_front : (a mid b : Option (List ℕ)) (begun buffer rest : List ℕ) (count : ℕ)
+-- A read to a buffer that is no longer than what is missing.
+pub reads_missing : (a mid b : Option (List ℕ)) (begun buffer : List ℕ) (count : ℕ)
     → IsPartial begun → Consumes a mid begun → Consumes mid b (take count buffer)
     → count ≤ length buffer → length buffer ≤ wanted_after begun
-    → ReadsWanted a mid b begun (take count (buffer ++ rest))
-reads_front a mid b begun buffer rest count partial before read within fits =
-    let same = take-append-le count buffer rest within in
+    → ReadsWanted a mid b begun (take count buffer)
+reads_missing a mid b begun buffer count partial before read within fits =
     record {
       partial = partial;
       before = before;
-      read = subst (Consumes mid b) (sym same) read;
-      fits = omega (arith, ap length same, length-take-le count buffer within);
+      read = read;
+      fits = omega (arith, fits, length-take-le count buffer within);
     }
+
+-- What has arrived after a read to the place after it.
+pub arrived_after_read : (arrived count width : ℕ) (old buffer : List ℕ) → arrived ≤ length old
+    → count ≤ length buffer → take (arrived + count) (put_mid arrived width old buffer)
+    ≡ take arrived old ++ take count buffer
+arrived_after_read arrived count width old buffer there within =
+    let long : length (take arrived old) ≡ arrived = length-take-le arrived old there in
+    sym (take-take (arrived + count) (arrived + length buffer) _ (omega (arith, within)))
+    ∙ ap (take (arrived + count))
+    (take-put_mid arrived width old buffer (arrived + length buffer) refl there)
+    ∙ ap (λ n. take (n + count) (take arrived old ++ buffer)) (sym long)
+    ∙ take-append-add (take arrived old) buffer count
 
 module _ {a mid b : Option (List ℕ)} {begun piece : List ℕ}
     (reads : ReadsWanted a mid b begun piece) where
-  both : Consumes a b (begun ++ piece)
+  pub both : Consumes a b (begun ++ piece)
   both = Consumes-trans a mid b begun piece reads.before reads.read
-
-  all_read : (new : List ℕ) → new ≡ begun ++ piece → Consumes a b new
-  all_read new is = subst (Consumes a b) (sym is) both
 
   -- A wrong length is complete with the second octet.
   wrong_at_second : HasWrongLength (begun ++ piece) → length (begun ++ piece) ≡ 2
@@ -101,50 +123,41 @@ module _ {a mid b : Option (List ℕ)} {begun piece : List ℕ}
             (stated_length_append begun piece two) wrong.1) (reads.partial two).0)
       ]
 
--- After a wrong length exactly that length was read.
-pub wrong_read : (a mid b : Option (List ℕ)) (old new : AssemblerValue) (piece : List ℕ)
-    (e : CarrierError) → ReadsWanted a mid b old.begun piece → Fed old piece (Err e) new
-    → ReadsRecord a (Err e) new.complete b
-wrong_read a mid b old new piece Length reads fed =
-    let stream = old.begun ++ piece in
-    let wrong : HasWrongLength stream =
-    subst HasWrongLength (take-append-drop 2 stream)
-    (has_wrong_length_append (take 2 stream) (drop 2 stream)
-    (subst HasWrongLength fed.1 fed.0)) in
-    (stream, (wrong, wrong_at_second reads wrong), all_read reads stream refl)
-wrong_read a mid b old new piece Short reads fed = absurd fed
-wrong_read a mid b old new piece Device reads fed = absurd fed
-wrong_read a mid b old new piece Unequal reads fed = absurd fed
+  -- No more than a record was read.
+  no_more_than_a_record : 2 ≤ length (begun ++ piece) → IsLength (stated_length (begun ++ piece))
+      → length (begun ++ piece) ≤ 2 + stated_length (begun ++ piece)
+  no_more_than_a_record two right =
+      elim (cases_lt (length begun) 2) [
+        | inl short ↦ omega (
+          arith,
+          wanted_after_short begun short,
+          length-append begun piece,
+          reads.fits,
+        )
+        | inr enough ↦
+            let before = reads.partial enough in
+            omega (
+              arith,
+              stated_length_append begun piece enough,
+              wanted_after_right begun enough before.0,
+              before.1,
+              length-append begun piece,
+              reads.fits,
+            )
+      ]
 
--- When a record is complete, exactly its octets were read.
-pub whole_read : (a mid b : Option (List ℕ)) (old new : AssemblerValue) (piece : List ℕ) (taken : ℕ)
-    (is_whole : Bool) → ReadsWanted a mid b old.begun piece → is_whole ≡ true
-    → Fed old piece (Ok (taken, is_whole)) new → taken ≡ length piece
-    → IsCarried new.complete × Consumes a b (socket_record new.complete)
-whole_read a mid b old new piece taken is_whole reads whole fed all =
-    let (within, carried, is, none) = subst (λ w. Fed old piece (Ok (taken, w)) new) whole fed in
-    let same : take taken piece ≡ piece = ap (λ n. take n piece) all ∙ take-length piece in (
-      carried,
-      subst (Consumes a b) (ap (λ l. old.begun ++ l) (sym same) ∙ is) (both reads),
-    )
+  -- After a wrong length exactly that length was read.
+  pub wrong_read : (e : CarrierError) (octets : List ℕ) → IsWhole (begun ++ piece) (Err e)
+      → ReadsRecord a (Err e) octets b
+  wrong_read Length octets wrong =
+      (begun ++ piece, (wrong, wrong_at_second wrong), both)
+  wrong_read Short octets wrong = absurd wrong
+  wrong_read Device octets wrong = absurd wrong
+  wrong_read Unequal octets wrong = absurd wrong
 
--- While no record is complete, what was read is what has begun.
-pub more_read : (a mid b : Option (List ℕ)) (old new : AssemblerValue) (piece : List ℕ) (taken : ℕ)
-    (is_whole : Bool) → ReadsWanted a mid b old.begun piece → is_whole ≡ false
-    → Fed old piece (Ok (taken, is_whole)) new
-    → IsPartial new.begun × Consumes a b new.begun
-more_read a mid b old new piece taken is_whole reads more fed =
-    let (all, partial, is, same) = subst (λ w. Fed old piece (Ok (taken, w)) new) more fed in
-    (partial, all_read reads new.begun is)
-
--- Each read that completes no record brings it closer to the longest record.
-pub less_to_read : (old new : AssemblerValue) (piece : List ℕ) (taken : ℕ) (is_whole : Bool)
-    → IsPartial old.begun → 1 ≤ length piece → is_whole ≡ false
-    → Fed old piece (Ok (taken, is_whole)) new
-    → MAX_RECORD_OCTETS - length new.begun < MAX_RECORD_OCTETS - length old.begun
-less_to_read old new piece taken is_whole partial some more fed =
-    let (all, after, is, same) = subst (λ w. Fed old piece (Ok (taken, w)) new) more fed in
-    let fits = partial_fits old.begun partial in
-    let long : length new.begun ≡ length old.begun + length piece = ap length is
-    ∙ length-append old.begun piece in
-    omega (arith, fits, long, some)
+  -- When a record is complete, exactly its octets were read.
+  pub whole_read : IsWhole (begun ++ piece) (Ok true) → IsCarried (drop 2 (begun ++ piece))
+      × Consumes a b (socket_record (drop 2 (begun ++ piece)))
+  whole_read whole =
+      let is = is_whole_record (begun ++ piece) whole (no_more_than_a_record whole.0 whole.1) in
+      (is.0, subst (Consumes a b) is.1 both)

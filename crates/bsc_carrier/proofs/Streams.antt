@@ -22,9 +22,9 @@ one_record a b x y carried_a carried_b same =
       sym (drop-append_seam a x) ∙ ap₂ drop lengths later ∙ drop-append_seam b y,
     )
 
-begins : (octets more rest : List ℕ) → IsCarried octets
+record_begins_stream : (octets more rest : List ℕ) → IsCarried octets
     → BeginsRecord ((socket_record octets ++ more) ++ rest)
-begins octets more rest carried =
+record_begins_stream octets more rest carried =
     (octets, more ++ rest, carried, append_assoc (socket_record octets) more rest)
 
 pub one_splitting : (stream : List ℕ) (records others : List (List ℕ)) (rest other : List ℕ)
@@ -33,11 +33,11 @@ one_splitting stream [] [] rest other p q = (refl, sym p.whole ∙ q.whole)
 one_splitting stream [] (b ∷ others) rest other p q =
     absurd
     (p.rest_begins_none (subst BeginsRecord (sym q.whole ∙ p.whole)
-    (begins b (flat_map socket_record others) other q.carried.0)))
+    (record_begins_stream b (flat_map socket_record others) other q.carried.0)))
 one_splitting stream (a ∷ records) [] rest other p q =
     absurd
     (q.rest_begins_none (subst BeginsRecord (sym p.whole ∙ q.whole)
-    (begins a (flat_map socket_record records) rest p.carried.0)))
+    (record_begins_stream a (flat_map socket_record records) rest p.carried.0)))
 one_splitting stream (a ∷ records) (b ∷ others) rest other p q =
     let same = sym (append_assoc (socket_record a) (flat_map socket_record records) rest)
     ∙ sym p.whole ∙ q.whole ∙ append_assoc (socket_record b) (flat_map socket_record others)

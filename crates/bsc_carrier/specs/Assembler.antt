@@ -1,7 +1,8 @@
 -- What an assembler holds, and what one piece of the stream does to it.
+use Rattle.std.specs.Int.{w16, to_be_bytes}
 use Rattle.std.specs.Prelude.{◌≡◌, ℕ, ◌+◌, ◌-◌, ◌≤◌, ◌⊎◌, Bool, true, false, ◌&&◌, nat_lt, nat_le}
 use Rattle.std.specs.Prelude.{if◌then◌else◌, List, [], ◌++◌, length, take, drop, Result, Ok, Err}
-use Rattle.bsc_carrier.specs.Record.{IsCarried, socket_record}
+use Rattle.bsc_carrier.specs.Record.{IsLength, IsCarried, socket_record}
 use Rattle.bsc_carrier.specs.Front.{stated_length, IsPartial, HasWrongLength}
 use Rattle.bsc_carrier.specs.declared.limits.TheConstants.{MAX_RECORD}
 use Rattle.bsc_carrier.specs.declared.error.CarrierError.{CarrierError}
@@ -25,6 +26,19 @@ wanted_after begun =
     else (if nat_le 1 (stated_length begun) && nat_le (stated_length begun) MAX_RECORD
     then 2 + stated_length begun - length begun
     else 0)
+
+-- Whether these octets from the beginning of a record reach its end, or state a wrong length.
+abbrev pub IsWhole : List ℕ → Result Bool CarrierError → Type 0
+-- The first two octets spell a length that a record may have, and at least as many octets follow.
+IsWhole begun (Ok true) =
+    (2 ≤ length begun) × IsLength (stated_length begun)
+    × (to_be_bytes w16 (stated_length begun) ≡ take 2 begun)
+    × (2 + stated_length begun ≤ length begun)
+IsWhole begun (Ok false) = IsPartial begun
+IsWhole begun (Err Length) = HasWrongLength begun
+IsWhole begun (Err Short) = ⊥
+IsWhole begun (Err Device) = ⊥
+IsWhole begun (Err Unequal) = ⊥
 
 -- What has begun grows by the octets that were taken of the piece. They complete the record, or
 -- they are the whole piece and complete nothing, or there is a wrong length.

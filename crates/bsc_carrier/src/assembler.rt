@@ -5,35 +5,35 @@ ghost use Rattle.std.specs.Prelude.{MatchBool, IfOk, IsErrOf};
 ghost use Rattle.std.specs.Int.{to_be_bytes, w16};
 ghost use Rattle.bsc_carrier.specs.Record.{IsLength, IsWrongLength};
 ghost use Rattle.bsc_carrier.specs.Front.{stated_length, HasWrongLength};
-ghost use Rattle.bsc_carrier.specs.Assembler.{wanted_after, IsBegun, Gathers, Fed};
+ghost use Rattle.bsc_carrier.specs.Assembler.{wanted_after, IsBegun, IsWhole, Gathers, Fed};
 
-use crate::error::{CarrierError, Octets};
+use crate::error::CarrierError;
 use crate::limits::{MAX_RECORD, MAX_RECORD_OCTETS};
-use arrayvec::ArrayVec;
+use crate::two_buffers::TwoBuffers;
 use std::marker::Model;
 
-/// The octets of a record, including the two octets of its length.
-pub(crate) type RecordOctets = ArrayVec<u8, MAX_RECORD_OCTETS>;
+/// Two records, each including the two octets of its length.
+type TwoRecords = TwoBuffers<MAX_RECORD_OCTETS>;
 
 /// Assembles records from the pieces of a stream.
 #[derive(Drop)]
 pub struct Assembler {
-    // The octets that have arrived since the last complete record.
-    begun: RecordOctets,
-    // The octets that the last complete record carried.
-    complete: Octets,
+    // The octets that have arrived since the last complete record, and that record.
+    records: TwoRecords,
 }
 
 impl Model for Assembler {
-    ghost use Rattle.bsc_carrier.specs.Assembler.{AssemblerValue};
+    ghost use Rattle.std.specs.Prelude.{drop};
+    ghost use Rattle.bsc_carrier.specs.Assembler.{AssemblerValue, IsBegun};
 
     ghost Value = { AssemblerValue };
 
-    ghost use Rattle.bsc_carrier.specs.Assembler.{IsBegun};
+    ghost view = { λ a. record {
+      begun = a.records.begun;
+      complete = drop 2 a.records.complete;
+    } };
 
-    ghost view = { λ a. record { begun = a.begun.items; complete = a.complete.items } };
-
-    ghost invariant = { λ a. IsBegun a.begun.items };
+    ghost invariant = { λ a. IsBegun a.records.begun };
 }
 
 /// Returns whether a record may have this length.
@@ -56,7 +56,7 @@ fn length_at_front(begun: &[u8]) -> usize
 
 /// Returns the number of octets missing to the end of the length, or once that is there to the end
 /// of the record; 0 after a wrong length.
-fn missing(begun: &[u8]) -> usize
+pub(crate) fn missing(begun: &[u8]) -> usize
     ensures { result ≡ wanted_after begun.now }
 {
     if begun.len() < 2 {
@@ -70,37 +70,45 @@ fn missing(begun: &[u8]) -> usize
     }
 }
 
-/// Appends as many octets of the piece as are missing, or all of the piece if it has fewer. Returns
-/// their number.
-fn gather(begun: &mut RecordOctets, piece: &[u8]) -> usize
-    ensures count { result ≡ min (wanted_after begun.old.items) (length piece.now) }
-    ensures items { begun.new.items ≡ begun.old.items ++ take result piece.now }
+/// Returns whether these octets from the beginning of a record reach its end. Fails with `Length`
+/// if they state a wrong length.
+pub(crate) fn is_whole(begun: &[u8]) -> Result<bool, CarrierError>
+    ensures { IsWhole begun.now result }
 {
-    let count = missing(begun).min(piece.len());
-    begun.try_extend_from_slice(&piece[..count]).unwrap();
-    count
-}
-
-/// Takes octets of the piece up to the end of the record that has begun. Returns their number, and
-/// whether they complete the record.
-fn advance(begun: &mut RecordOctets, piece: &[u8]) -> Result<(usize, bool), CarrierError>
-    requires { IsBegun begun.old.items }
-    ensures { Gathers begun.old.items piece.now result begun.new.items }
-{
-    let head = gather(begun, piece);
-    let body = gather(begun, &piece[head..]);
-    let taken = head + body;
     if begun.len() < 2 {
-        return Ok((taken, false));
+        return Ok(false);
     }
     let length = length_at_front(begun);
     if !is_length(length) {
         return Err(CarrierError::Length);
     }
-    if begun.len() < 2 + length {
-        return Ok((taken, false));
-    }
-    Ok((taken, true))
+    Ok(2 + length <= begun.len())
+}
+
+/// Appends as many octets of the piece as are missing, or all of the piece if it has fewer. Returns
+/// their number.
+fn gather(records: &mut TwoRecords, piece: &[u8]) -> usize
+    requires { length records.old.begun + wanted_after records.old.begun ≤ MAX_RECORD_OCTETS }
+    ensures count { result ≡ min (wanted_after records.old.begun) (length piece.now) }
+    ensures begun { records.new.begun ≡ records.old.begun ++ take result piece.now }
+    ensures complete { records.new.complete ≡ records.old.complete }
+{
+    let count = missing(records.begun()).min(piece.len());
+    records.append(&piece[..count]);
+    count
+}
+
+/// Takes octets of the piece up to the end of the record that has begun. Returns their number, and
+/// whether they complete the record.
+fn advance(records: &mut TwoRecords, piece: &[u8]) -> Result<(usize, bool), CarrierError>
+    requires { IsBegun records.old.begun }
+    ensures gathers { Gathers records.old.begun piece.now result records.new.begun }
+    ensures complete { records.new.complete ≡ records.old.complete }
+{
+    let head = gather(records, piece);
+    let body = gather(records, &piece[head..]);
+    let is_whole = is_whole(records.begun())?;
+    Ok((head + body, is_whole))
 }
 
 impl Assembler {
@@ -110,8 +118,7 @@ impl Assembler {
         ensures complete { result.complete ≡ [] }
     {
         Assembler {
-            begun: RecordOctets::new(),
-            complete: Octets::new(),
+            records: TwoBuffers::new(),
         }
     }
 
@@ -130,13 +137,9 @@ impl Assembler {
         ensures wanted { length piece.now ≤ wanted_after self.old.begun
             → IfOk result (λ r. r.0 ≡ length piece.now) }
     {
-        let (taken, is_complete) = advance(&mut self.begun, piece)?;
+        let (taken, is_complete) = advance(&mut self.records, piece)?;
         if is_complete {
-            self.complete.clear();
-            self.complete
-                .try_extend_from_slice(&self.begun[2..])
-                .unwrap();
-            self.begun.clear();
+            self.records.turn();
         }
         Ok((taken, is_complete))
     }
@@ -145,14 +148,15 @@ impl Assembler {
     pub fn octets(&self) -> &[u8]
         ensures { result.now ≡ self.now.complete }
     {
-        self.complete.as_slice()
+        let record = self.records.complete();
+        &record[record.len().min(2)..]
     }
 
     /// Returns whether no record has begun; false after a wrong length.
     pub fn between(&self) -> bool
         ensures { IsTrue result ↔ (self.now.begun ≡ []) }
     {
-        self.begun.is_empty()
+        self.records.begun().is_empty()
     }
 
     /// Returns the length up to which a piece is taken whole: 2 between records, 1 after the first
@@ -161,6 +165,6 @@ impl Assembler {
     pub fn wanted(&self) -> usize
         ensures { result ≡ wanted_after self.now.begun }
     {
-        missing(&self.begun)
+        missing(self.records.begun())
     }
 }

@@ -14,8 +14,10 @@ mod error;
 pub mod laws;
 pub mod limits;
 mod record;
+mod two_buffers;
 
 pub use assembler::Assembler;
 pub use cable::Cable;
 pub use error::{CarrierError, Octets};
 pub use record::{read_record, write_record};
+pub use two_buffers::TwoBuffers;

@@ -6,9 +6,10 @@ ghost use Rattle.bsc_carrier.specs.Record.{socket_record, IsCarried};
 ghost use Rattle.bsc_carrier.specs.Front.{BeginsRecord, EndsWithin, HasWrongLength};
 ghost use Rattle.bsc_carrier.specs.KnownOctets.{AppendsPart, ReadsRecord, IsExactly};
 
-use crate::assembler::{Assembler, RecordOctets};
+use crate::assembler::{is_whole, missing};
 use crate::error::{CarrierError, Octets};
-use crate::limits::MAX_RECORD;
+use crate::limits::MAX_RECORD_OCTETS;
+use arrayvec::ArrayVec;
 use std::io::{Read, Write};
 
 /// Writes all of the octets. Fails with `Device` at the first write that fails or takes no octets.
@@ -39,7 +40,7 @@ pub fn write_record<W: Write>(writer: &mut W, octets: &[u8]) -> Result<(), Carri
         (AppendsPart (W.contents writer.old) (W.contents writer.new) (socket_record octets.now)) }
     ensures err { IfErr result (λ e. e ≡ CarrierError.Device) }
 {
-    let mut record = RecordOctets::new();
+    let mut record = ArrayVec::<u8, MAX_RECORD_OCTETS>::new();
     record
         .try_extend_from_slice(&(octets.len() as u16).to_be_bytes())
         .unwrap();
@@ -47,28 +48,31 @@ pub fn write_record<W: Write>(writer: &mut W, octets: &[u8]) -> Result<(), Carri
     write_whole(writer, &record)
 }
 
-/// Reads into the assembler until a record is complete. A read asks for at most as many octets as
-/// the assembler wants.
-fn assemble<R: Read>(reader: &mut R, assembler: &mut Assembler) -> Result<bool, CarrierError>
-    requires { assembler.old.begun ≡ [] }
-    ensures { ReadsRecord (R.remaining reader.old) result assembler.new.complete
+/// Reads until a record is complete, and then puts its octets in `octets`.
+fn assemble<R: Read>(reader: &mut R, octets: &mut Octets) -> Result<bool, CarrierError>
+    ensures read { ReadsRecord (R.remaining reader.old) result octets.new.items
         (R.remaining reader.new) }
+    ensures kept { result ≢ Ok true → octets.new.items ≡ octets.old.items }
 {
-    let mut piece = [0u8; MAX_RECORD];
+    let mut record = [0u8; MAX_RECORD_OCTETS];
+    let mut arrived = 0;
     'reads: loop {
-        let wanted = assembler.wanted();
-        let count = match reader.read(&mut piece[..wanted]) {
+        let end = arrived + missing(&record[..arrived]);
+        let count = match reader.read(&mut record[arrived..end]) {
             Ok(count) => count,
             Err(_) => return Err(CarrierError::Device),
         };
         if count == 0 {
-            if assembler.between() {
+            if arrived == 0 {
                 return Ok(false);
             }
             return Err(CarrierError::Short);
         }
-        let (_, is_complete) = assembler.feed(&piece[..count])?;
-        if is_complete {
+        arrived += count;
+        let begun = &record[..arrived];
+        if is_whole(begun)? {
+            octets.clear();
+            octets.try_extend_from_slice(&begun[2..]).unwrap();
             return Ok(true);
         }
     }
@@ -94,11 +98,5 @@ pub fn read_record<R: Read>(reader: &mut R, octets: &mut Octets) -> Result<bool,
     ensures short { IsExactly result (result ≡ Err CarrierError.Short) EndsWithin
         (R.remaining reader.old) }
 {
-    let mut assembler = Assembler::new();
-    let is_whole = assemble(reader, &mut assembler)?;
-    if is_whole {
-        octets.clear();
-        octets.try_extend_from_slice(assembler.octets()).unwrap();
-    }
-    Ok(is_whole)
+    assemble(reader, octets)
 }

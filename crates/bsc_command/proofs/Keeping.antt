@@ -10,7 +10,8 @@ use Rattle.bsc_input.specs.Hexadecimal.{octets_of}
 use Rattle.bsc_print.specs.Names.{Prints, name_line, unit_lines}
 use Rattle.bsc_run.specs.Printed.{report_of}
 use Rattle.bsc_naming.specs.Lines.{PrintsInput}
-use Rattle.bsc_running.specs.Running.{HasRun, IsRunDone}
+use Rattle.bsc_run.specs.Crossing.{streams_of}
+use Rattle.bsc_running.specs.Running.{TextPaths, HasRun, IsRunDone}
 use Rattle.bsc_words.specs.CommandLine.{asked_of}
 use Rattle.bsc_command.specs.Program.{IsDone, IsObeyed}
 
@@ -40,10 +41,10 @@ name_kept None a b c p k = absurd p
 name_kept (Some octets) a b c p k = prints_kept name_line octets a b c p k
 
 module _ {S : Type 0} (contents remaining : S → Option (List ℕ)) where
-  has_run_kept : (config script : Text) (input a b c : Option (List ℕ))
-      → HasRun contents remaining config script input a b → Keeps b c
-      → HasRun contents remaining config script input a c
-  has_run_kept config script input a b c p k =
+  has_run_kept : (paths : TextPaths) (a b c : Option (List ℕ))
+      → HasRun (streams_of contents remaining) paths a b → Keeps b c
+      → HasRun (streams_of contents remaining) paths a c
+  has_run_kept paths a b c p k =
       let runs = p.ran.runs in
       record {
         config = p.config;
@@ -67,16 +68,16 @@ module _ {S : Type 0} (contents remaining : S → Option (List ℕ)) where
         };
       }
 
-  run_kept : (check : Bool) (config script : Text) (input a b c : Option (List ℕ))
-      → IsRunDone contents remaining check config script input a b → Keeps b c
-      → IsRunDone contents remaining check config script input a c
-  run_kept true config script input a b c p k = record {
+  run_kept : (check : Bool) (paths : TextPaths) (a b c : Option (List ℕ))
+      → IsRunDone (streams_of contents remaining) check paths a b → Keeps b c
+      → IsRunDone (streams_of contents remaining) check paths a c
+  run_kept true paths a b c p k = record {
     config = p.config;
     steps = p.steps;
     read = p.read;
     nothing = Keeps-trans a b c p.nothing k;
   }
-  run_kept false config script input a b c p k = has_run_kept config script input a b c p k
+  run_kept false paths a b c p k = has_run_kept paths a b c p k
 
   done_kept : (asked : AskedValue) (input a b c : Option (List ℕ))
       → IsDone contents remaining asked input a b → Keeps b c
@@ -86,7 +87,8 @@ module _ {S : Type 0} (contents remaining : S → Option (List ℕ)) where
   done_kept (name text) input a b c p k = name_kept (octets_of text) a b c p k
   done_kept show None a b c p k = p
   done_kept show (Some octets) a b c p k = input_kept unit_lines octets a b c p k
-  done_kept (run config script check) input a b c p k = run_kept check config script input a b c p k
+  done_kept (run config script check) input a b c p k =
+      run_kept check (record { config = config; script = script; input = input }) a b c p k
   done_kept (station words) input a b c p k = p
 
   pub obeyed_kept : (words : List Text) (input a b c : Option (List ℕ))

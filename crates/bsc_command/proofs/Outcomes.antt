@@ -9,9 +9,9 @@ and_then (Ok v) f p = f v p
 and_then (Err fault) f p = p
 
 -- the promise for successful work
-pub done : {F P : Type 0} (outcome : Result (Unit {0}) F) → outcome ≡ Ok tt → OnOk outcome P → P
-done (Ok x) e p = p
-done (Err fault) e p = absurd (cc)
+pub promise_of_success : {F P : Type 0} (outcome : Result (Unit {0}) F) → outcome ≡ Ok tt → OnOk outcome P → P
+promise_of_success (Ok x) e p = p
+promise_of_success (Err fault) e p = absurd (cc)
 
 -- the reported fault is that of printing or that of the work: for available arguments the fault of
 -- their work, otherwise the fault in place of them

@@ -6,6 +6,7 @@ use Rattle.bsc_asked.specs.Asked.{AskedValue, names, name, show, run, station}
 use Rattle.bsc_input.specs.Hexadecimal.{octets_of}
 use Rattle.bsc_print.specs.Names.{Prints, name_line, unit_lines}
 use Rattle.bsc_naming.specs.Lines.{PrintsInput, StopsAt}
+use Rattle.bsc_run.specs.Crossing.{streams_of}
 use Rattle.bsc_running.specs.Running.{IsRunDone}
 use Rattle.bsc_words.specs.CommandLine.{IsHelp, asked_of, faults_at}
 use Rattle.bsc_command.specs.declared.fault.Fault.{Fault}
@@ -22,7 +23,8 @@ module _ {S : Type 0} (contents remaining : S → Option (List ℕ)) where
       IsSomeAnd (octets_of text) (λ octets. Prints name_line octets old new)
   IsDone show input old new = IfSome input (λ octets. PrintsInput unit_lines octets old new)
   IsDone (run config script check) input old new =
-      IsRunDone contents remaining check config script input old new
+      IsRunDone (streams_of contents remaining) check
+      (record { config = config; script = script; input = input }) old new
   IsDone (station words) input old new = Unit {0}
 
 -- The work stopped at the line with this number.

@@ -8,7 +8,7 @@ use bsc_input::{InputError, TextError};
 use bsc_naming::NamingError;
 use bsc_run::RunError;
 use bsc_running::RunningError;
-use bsc_words::wrong_words;
+use bsc_words::{Shown, wrong_words};
 use clap::error::ErrorKind;
 use std::alloc::{AllocError, Global};
 use thiserror::Error;
@@ -93,12 +93,12 @@ impl From<clap::Error> for Fault {
     }
 }
 
-/// Returns the fault for wrong arguments, with this reason.
-fn words_fault(alloc: Global, kind: ErrorKind, why: &str) -> Fault
+/// Returns the fault for wrong arguments, with this reason and the usage of a command.
+fn words_fault(alloc: Global, shown: Shown, kind: ErrorKind, why: &str) -> Fault
     requires { kind ≢ ErrorKind.OutOfMemory }
     ensures { IsUsageOf kind result }
 {
-    Fault::from(wrong_words(alloc, kind, why))
+    Fault::from(wrong_words(alloc, shown, kind, why))
 }
 
 /// Returns the fault for a failed run. Wrong arguments are wrong usage.
@@ -108,7 +108,7 @@ pub(crate) fn running_fault(alloc: Global, error: RunningError) -> Fault
     match error {
         RunningError::BothStandardInput => {
             let why = "CONFIG and SCRIPT cannot both be standard input";
-            words_fault(alloc, ErrorKind::ArgumentConflict, why)
+            words_fault(alloc, Shown::Run, ErrorKind::ArgumentConflict, why)
         }
         error => Fault::Running { error },
     }
@@ -119,9 +119,11 @@ pub(crate) fn attending_fault(alloc: Global, error: AttendingError) -> Fault
     ensures { IsAttendingFault error result }
 {
     match error {
-        AttendingError::WrongValue { why } => words_fault(alloc, ErrorKind::InvalidValue, why),
+        AttendingError::WrongValue { why } => {
+            words_fault(alloc, Shown::Station, ErrorKind::InvalidValue, why)
+        }
         AttendingError::WrongTogether { why } => {
-            words_fault(alloc, ErrorKind::ArgumentConflict, why)
+            words_fault(alloc, Shown::Station, ErrorKind::ArgumentConflict, why)
         }
         error => Fault::Attending { error },
     }
@@ -132,7 +134,8 @@ pub(crate) fn attending_fault(alloc: Global, error: AttendingError) -> Fault
 pub fn not_text(alloc: Global) -> Fault
     ensures { IsUsageOf ErrorKind.InvalidValue result }
 {
-    words_fault(alloc, ErrorKind::InvalidValue, "a word is not UTF-8")
+    let why = "a word is not UTF-8";
+    words_fault(alloc, Shown::Program, ErrorKind::InvalidValue, why)
 }
 
 /// Returns the exit status of the program: 2 for wrong usage; 3 if the line refused an event of a

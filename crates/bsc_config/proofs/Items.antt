@@ -9,17 +9,17 @@ use Rattle.toml.proofs.Views.{items_view-drop}
 use Rattle.bsc_config.specs.Values.{read_each}
 
 -- the values from an index on are the value at it and the values after it
-pub next_item : (vs : List Value) (i : ℕ) (v : Value) → i < length vs → v ≡ get_or vs i v
+pub items_from_index : (vs : List Value) (i : ℕ) (v : Value) → i < length vs → v ≡ get_or vs i v
     → items_view (drop i vs) ≡ item (view v) (items_view (drop (i + 1) vs))
-next_item vs i v below is = items_view-drop vs i v below
+items_from_index vs i v below is = items_view-drop vs i v below
     ∙ ap (λ x. item (view x) (items_view (drop (i + 1) vs))) (sym is)
 
 -- the readings before, extended by one more reading
-after_one : {V : Type 0} (done : List V) (x : V) (o : Option (List V))
+readings_after_one_more : {V : Type 0} (done : List V) (x : V) (o : Option (List V))
     → option_map (λ xs. done ++ xs) (option_map (λ xs. x ∷ xs) o)
     ≡ option_map (λ xs. (done ++ x ∷ []) ++ xs) o
-after_one done x None = refl
-after_one done x (Some xs) = ap Some (sym (append_assoc done (x ∷ []) xs))
+readings_after_one_more done x None = refl
+readings_after_one_more done x (Some xs) = ap Some (sym (append_assoc done (x ∷ []) xs))
 
 pub read_each_next : {V : Type 0} (read : Data → Option V) (vs : List Value) (done : List V) (i : ℕ)
     (v : Value) (x : V) → i < length vs → v ≡ get_or vs i v → read (view v) ≡ Some x
@@ -27,10 +27,10 @@ pub read_each_next : {V : Type 0} (read : Data → Option V) (vs : List Value) (
     ≡ option_map (λ xs. (done ++ x ∷ []) ++ xs) (read_each read (items_view (drop (i + 1) vs)))
 read_each_next read vs done i v x below is reads =
     let rest = read_each read (items_view (drop (i + 1) vs)) in
-    ap (λ items. option_map (λ xs. done ++ xs) (read_each read items)) (next_item vs i v below is)
+    ap (λ items. option_map (λ xs. done ++ xs) (read_each read items)) (items_from_index vs i v below is)
     ∙ ap (λ o. option_map (λ xs. done ++ xs)
     (option_and_then (λ value. option_map (λ values. value ∷ values) rest) o)) reads
-    ∙ after_one done x rest
+    ∙ readings_after_one_more done x rest
 
 -- a value that cannot be read makes the whole list unreadable
 pub read_each_stop : {V : Type 0} (read : Data → Option V) (vs : List Value) (done : List V) (i : ℕ)
@@ -38,6 +38,6 @@ pub read_each_stop : {V : Type 0} (read : Data → Option V) (vs : List Value) (
     → option_map (λ xs. done ++ xs) (read_each read (items_view (drop i vs))) ≡ None
 read_each_stop read vs done i v below is reads =
     let rest = read_each read (items_view (drop (i + 1) vs)) in
-    ap (λ items. option_map (λ xs. done ++ xs) (read_each read items)) (next_item vs i v below is)
+    ap (λ items. option_map (λ xs. done ++ xs) (read_each read items)) (items_from_index vs i v below is)
     ∙ ap (λ o. option_map (λ xs. done ++ xs)
     (option_and_then (λ value. option_map (λ values. value ∷ values) rest) o)) reads

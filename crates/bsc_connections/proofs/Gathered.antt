@@ -8,7 +8,8 @@ use Rattle.std.specs.List.{concat}
 use Rattle.bsc_frame.specs.declared.limits.TheConstants.{MAX_HEARD}
 use Rattle.bsc_frame.specs.Spells.{IsNoise}
 use Rattle.bsc_connections.specs.declared.limits.TheConstants.{KEPT, MOST_WITHOUT_GAP}
-use Rattle.bsc_connections.specs.Framings.{GapsValue, GathersAll, ArriveBetweenGaps, IsHeardOf, EndsAll}
+use Rattle.bsc_connections.specs.Framings.{GapsValue, GathersAll, ArriveBetweenGaps, IsHeardOf}
+use Rattle.bsc_connections.specs.Framings.{EndsAll}
 
 -- To take the first n elements of a list before appending to it does not change the first n
 -- elements of the whole.
@@ -23,73 +24,78 @@ take_of_front n xs ys =
           ∙ take_all n (take n xs) (omega (arith, front)) ∙ sym (take-append-le n xs ys below)
     ]
 
-begun_of_all : (all : List ℕ) (old new : GapsValue) (pieces : List (List ℕ)) → old.begun
+begun_after_pieces : (all : List ℕ) (old new : GapsValue) (pieces : List (List ℕ)) → old.begun
     ≡ take KEPT all → GathersAll old pieces new → new.begun ≡ take KEPT (all ++ concat pieces)
-begun_of_all all old new [] begun fed = ap (λ (v : GapsValue). v.begun) fed ∙ begun
+begun_after_pieces all old new [] begun fed = ap (λ (v : GapsValue). v.begun) fed ∙ begun
     ∙ ap (take KEPT) (sym (append-nil all))
-begun_of_all all old new (piece ∷ pieces) begun (mid, gathers, rest) =
+begun_after_pieces all old new (piece ∷ pieces) begun (mid, gathers, rest) =
     let here : mid.begun ≡ take KEPT (all ++ piece) =
     ap (λ (v : GapsValue). v.begun) gathers.3
     ∙ ap (λ (front : List ℕ). take KEPT (front ++ piece)) begun
     ∙ take_of_front KEPT all piece in
-    begun_of_all (all ++ piece) mid new pieces here rest
+    begun_after_pieces (all ++ piece) mid new pieces here rest
     ∙ ap (take KEPT) (append_assoc all piece (concat pieces))
 
-pub counted_all : (old new : GapsValue) (pieces : List (List ℕ)) → GathersAll old pieces new
+pub count_after_pieces : (old new : GapsValue) (pieces : List (List ℕ)) → GathersAll old pieces new
     → new.arrived ≡ old.arrived + length (concat pieces)
-counted_all old new [] fed = let same : new.arrived ≡ old.arrived =
+count_after_pieces old new [] fed = let same : new.arrived ≡ old.arrived =
     ap (λ (v : GapsValue). v.arrived) fed in omega (arith, same)
-counted_all old new (piece ∷ pieces) (mid, gathers, rest) =
+count_after_pieces old new (piece ∷ pieces) (mid, gathers, rest) =
     let here : mid.arrived ≡ old.arrived + length piece =
     ap (λ (v : GapsValue). v.arrived) gathers.3 in
-    omega (arith, here, counted_all mid new pieces rest, length-append piece (concat pieces))
+    omega (arith, here, count_after_pieces mid new pieces rest, length-append piece (concat pieces))
 
-pub bounded_all : (old new : GapsValue) (pieces : List (List ℕ)) → old.arrived ≤ MOST_WITHOUT_GAP
+pub count_stays_bounded : (old new : GapsValue) (pieces : List (List ℕ))
+    → old.arrived ≤ MOST_WITHOUT_GAP
     → GathersAll old pieces new → old.arrived + length (concat pieces) ≤ MOST_WITHOUT_GAP
-bounded_all old new [] bound fed = omega (arith, bound)
-bounded_all old new (piece ∷ pieces) bound (mid, gathers, rest) =
+count_stays_bounded old new [] bound fed = omega (arith, bound)
+count_stays_bounded old new (piece ∷ pieces) bound (mid, gathers, rest) =
     let here : mid.arrived ≡ old.arrived + length piece =
     ap (λ (v : GapsValue). v.arrived) gathers.3 in
-    let later = bounded_all mid new pieces (omega (arith, here, gathers.2)) rest in
+    let later = count_stays_bounded mid new pieces (omega (arith, here, gathers.2)) rest in
     omega (arith, here, later, length-append piece (concat pieces))
 
-kept_complete : (old new : GapsValue) (pieces : List (List ℕ)) → GathersAll old pieces new
+complete_kept_by_pieces : (old new : GapsValue) (pieces : List (List ℕ)) → GathersAll old pieces new
     → new.complete ≡ old.complete
-kept_complete old new [] fed = ap (λ (v : GapsValue). v.complete) fed
-kept_complete old new (piece ∷ pieces) (mid, gathers, rest) =
-    kept_complete mid new pieces rest ∙ ap (λ (v : GapsValue). v.complete) gathers.3
+complete_kept_by_pieces old new [] fed = ap (λ (v : GapsValue). v.complete) fed
+complete_kept_by_pieces old new (piece ∷ pieces) (mid, gathers, rest) =
+    complete_kept_by_pieces mid new pieces rest ∙ ap (λ (v : GapsValue). v.complete) gathers.3
 
-begun_of_pieces : (old held : GapsValue) (pieces : List (List ℕ)) → old.begun ≡ []
+begun_after_pieces_from_nothing : (old held : GapsValue) (pieces : List (List ℕ)) → old.begun ≡ []
     → GathersAll old pieces held → held.begun ≡ take KEPT (concat pieces)
-begun_of_pieces old held pieces none fed = begun_of_all [] old held pieces none fed
+begun_after_pieces_from_nothing old held pieces none fed = begun_after_pieces [] old held pieces
+    none fed
 
-is_noise : (octets : List ℕ) → MAX_HEARD < length octets → IsNoise octets
-is_noise octets many =
+too_long_is_noise : (octets : List ℕ) → MAX_HEARD < length octets → IsNoise octets
+too_long_is_noise octets many =
     (λ m spelled. omega (arith, many, spelled.small), λ failed. omega (arith, many, failed.small))
 
-is_heard : (pieces : List (List ℕ)) (complete : List ℕ) → complete ≡ take KEPT (concat pieces)
+heard_of_complete : (pieces : List (List ℕ)) (complete : List ℕ)
+    → complete ≡ take KEPT (concat pieces)
     → IsHeardOf pieces complete
-is_heard pieces complete first = record {
+heard_of_complete pieces complete first = record {
   first = first;
   all = λ few. first ∙ take_all KEPT (concat pieces) (omega (arith, few));
   noise =
-      λ many. is_noise complete (let long : length complete ≡ KEPT = ap length first
+      λ many. too_long_is_noise complete (let long : length complete ≡ KEPT = ap length first
       ∙ length-take-le KEPT (concat pieces) (omega (arith, many)) in omega (arith, long));
 }
 
-take_none : (octets : List ℕ) → take KEPT octets ≡ [] → octets ≡ []
-take_none [] none = refl
-take_none (x ∷ octets) none = let clash : x ∷ take MAX_HEARD octets ≡ [] = none in absurd cc
+nothing_taken_of_nothing : (octets : List ℕ) → take KEPT octets ≡ [] → octets ≡ []
+nothing_taken_of_nothing [] none = refl
+nothing_taken_of_nothing (x ∷ octets) none = let clash : x ∷ take MAX_HEARD octets ≡ [] = none in
+    absurd cc
 
-pub ends_all : (old new : GapsValue) (pieces : List (List ℕ)) (ended : Bool)
+pub gap_ends_all_pieces : (old new : GapsValue) (pieces : List (List ℕ)) (ended : Bool)
     → ArriveBetweenGaps old pieces ended new → EndsAll old pieces ended new
-ends_all old new pieces true a =
-    let begun = begun_of_pieces old a.held pieces a.nothing_begun a.arrive in (
+gap_ends_all_pieces old new pieces true a =
+    let begun = begun_after_pieces_from_nothing old a.held pieces a.nothing_begun a.arrive in (
       λ none. a.gap.0 (begun ∙ ap (take KEPT) none),
-      is_heard pieces new.complete (ap (λ (v : GapsValue). v.complete) a.gap.1 ∙ begun),
+      heard_of_complete pieces new.complete (ap (λ (v : GapsValue). v.complete) a.gap.1 ∙ begun),
     )
-ends_all old new pieces false a =
-    let begun = begun_of_pieces old a.held pieces a.nothing_begun a.arrive in (
-      take_none (concat pieces) (sym begun ∙ a.gap.0),
-      ap (λ (v : GapsValue). v.complete) a.gap.1 ∙ kept_complete old a.held pieces a.arrive,
+gap_ends_all_pieces old new pieces false a =
+    let begun = begun_after_pieces_from_nothing old a.held pieces a.nothing_begun a.arrive in (
+      nothing_taken_of_nothing (concat pieces) (sym begun ∙ a.gap.0),
+      ap (λ (v : GapsValue). v.complete) a.gap.1 ∙ complete_kept_by_pieces old a.held pieces
+          a.arrive,
     )

@@ -4,9 +4,10 @@ use Rattle.std.proofs.Common.{arith}
 use Rattle.std.proofs.lemmas.List.{take_min}
 use Rattle.std.proofs.Math.Seq.{take-append-add}
 
-pub kept_of_both : (n : ℕ) (held piece : List ℕ) → length held ≤ n → take n (held ++ piece) ≡ held
+pub take_of_appended : (n : ℕ) (held piece : List ℕ) → length held ≤ n
+    → take n (held ++ piece) ≡ held
     ++ take (min (n - length held) (length piece)) piece
-kept_of_both n held piece fits =
+take_of_appended n held piece fits =
     let split : n ≡ length held + (n - length held) = omega (arith, fits) in
     ap (λ (k : ℕ). take k (held ++ piece)) split
     ∙ take-append-add held piece (n - length held)

@@ -14,9 +14,9 @@ use Rattle.bsc_connections.specs.Histories.{WasHeard, heard_in}
 -- ---- places of a list
 
 -- A change at another place leaves this place as it was.
-pub kept_at : {C : Type 0} (xs : List C) (at place : ℕ) (y c : C) → (at ≢ place)
+pub other_place_unchanged : {C : Type 0} (xs : List C) (at place : ℕ) (y c : C) → (at ≢ place)
     → slice_get (slice_set xs at y) place ≡ Some c → slice_get xs place ≡ Some c
-kept_at xs at place y c other is =
+other_place_unchanged xs at place y c other is =
     let there : place < length xs =
     subst (λ (n : ℕ). place < n) (length-set xs at y)
     (slice_get_within (slice_set xs at y) place c is) in
@@ -26,9 +26,9 @@ kept_at xs at place y c other is =
     ∙ get_or_from_slice_get (slice_set xs at y) place c c is)
 
 -- The place of a change has what was put there.
-pub put_at : {C : Type 0} (xs : List C) (at place : ℕ) (y c : C) → at ≡ place
+pub changed_place_has_new : {C : Type 0} (xs : List C) (at place : ℕ) (y c : C) → at ≡ place
     → slice_get (slice_set xs at y) place ≡ Some c → y ≡ c
-put_at xs at place y c same is =
+changed_place_has_new xs at place y c same is =
     let there : place < length xs =
     subst (λ (n : ℕ). place < n) (length-set xs at y)
     (slice_get_within (slice_set xs at y) place c is) in
@@ -37,9 +37,9 @@ put_at xs at place y c same is =
     ∙ ap (λ (n : ℕ). get_or (slice_set xs at y) n c) same
     ∙ get_or_from_slice_get (slice_set xs at y) place c c is
 
-pub zipped_at : {C : Type 0} (Q : C → C → Type 0) (xs ys : List C) (place : ℕ) (y : C)
+pub related_at_place : {C : Type 0} (Q : C → C → Type 0) (xs ys : List C) (place : ℕ) (y : C)
     → AllZip Q xs ys → slice_get ys place ≡ Some y → (x : C) × (slice_get xs place ≡ Some x) × Q x y
-zipped_at Q xs ys place y all is =
+related_at_place Q xs ys place y all is =
     let there : place < length xs =
     subst (λ (n : ℕ). place < n) (AllZip-long Q xs ys all) (slice_get_within ys place y is) in (
       get_or xs place y,
@@ -48,19 +48,23 @@ zipped_at Q xs ys place y all is =
           (AllZip-get_or Q xs ys place y y all there),
     )
 
-by_test : (b : Bool) (at place : ℕ) → nat_eq at place ≡ b → (at ≡ place) ⊎ (nat_eq at place ≡ false)
-by_test true at place is = inl (eqb-true at place is)
-by_test false at place is = inr is
+same_place_by_test : (b : Bool) (at place : ℕ) → nat_eq at place ≡ b
+    → (at ≡ place) ⊎ (nat_eq at place ≡ false)
+same_place_by_test true at place is = inl (eqb-true at place is)
+same_place_by_test false at place is = inr is
 
-pub same_place : (at place : ℕ) → (at ≡ place) ⊎ (nat_eq at place ≡ false)
-same_place at place = by_test (nat_eq at place) at place refl
+pub same_or_other_place : (at place : ℕ) → (at ≡ place) ⊎ (nat_eq at place ≡ false)
+same_or_other_place at place = same_place_by_test (nat_eq at place) at place refl
 
 -- ---- transmissions of a history
 
-pub heard_here : (at place : ℕ) (octets : List ℕ) → at ≡ place → heard_in place (WasHeard at octets)
+pub heard_at_same_place : (at place : ℕ) (octets : List ℕ) → at ≡ place
+    → heard_in place (WasHeard at octets)
     ≡ octets ∷ []
-heard_here at place octets same = ap (λ (b : Bool). cond b (octets ∷ []) []) (eq-eqb at place same)
+heard_at_same_place at place octets same = ap (λ (b : Bool). cond b (octets ∷ []) []) (eq-eqb at
+    place same)
 
-pub heard_elsewhere : (at place : ℕ) (octets : List ℕ) → nat_eq at place ≡ false
+pub nothing_heard_at_other_place : (at place : ℕ) (octets : List ℕ) → nat_eq at place ≡ false
     → heard_in place (WasHeard at octets) ≡ []
-heard_elsewhere at place octets other = ap (λ (b : Bool). cond b (octets ∷ []) []) other
+nothing_heard_at_other_place at place octets other = ap (λ (b : Bool). cond b (octets ∷ []) [])
+    other

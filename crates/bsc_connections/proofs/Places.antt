@@ -11,13 +11,14 @@ IsPassed {S} R old new k =
     × ((i : ℕ) (d : S) → k ≤ i → get_or new i d ≡ get_or old i d)
 
 module _ {S : Type 0} (R : S → S → Type 0) where
-  pub none_passed : (old : List S) → IsPassed R old old 0
-  none_passed old = (λ i d below. absurd (omega (arith, below)), λ i d beyond. refl)
+  pub passed_at_start : (old : List S) → IsPassed R old old 0
+  passed_at_start old = (λ i d below. absurd (omega (arith, below)), λ i d beyond. refl)
 
   -- The relation extends by the element at place k.
-  pub one_passed : (old new : List S) (k : ℕ) (e y : S) → length new ≡ length old → k < length old
+  pub passed_with_one_more : (old new : List S) (k : ℕ) (e y : S) → length new ≡ length old
+      → k < length old
       → R (get_or new k e) y → IsPassed R old new k → IsPassed R old (slice_set new k y) (k + 1)
-  one_passed old new k e y long there step (passed, rest) =
+  passed_with_one_more old new k e y long there step (passed, rest) =
       let inside : k < length new = subst (λ (n : ℕ). k < n) (sym long) there in (
         λ i d below.
             let before : get_or new k e ≡ get_or old k d = get_or_default new k e d inside

@@ -8,7 +8,6 @@ use Rattle.std.proofs.lemmas.List.Concat.{flat_map-append}
 use Rattle.std.specs.List.{flat_map}
 use Rattle.std.specs.Io.KnownBytes.{Appends, Consumes, Keeps}
 use Rattle.bsc_frame.specs.declared.message.Message.{Message}
-use Rattle.bsc_frame.specs.declared.message.Heard.{Heard}
 use Rattle.bsc_frame.specs.Wire.{wire}
 use Rattle.bsc_carrier.specs.declared.error.CarrierError.{CarrierError}
 use Rattle.bsc_connections.specs.declared.awaited.Awaited.{Awaited}
@@ -16,60 +15,84 @@ use Rattle.bsc_connections.specs.declared.awaited.Awaited.TheVariants.{Octets, N
 use Rattle.bsc_connections.specs.declared.awaited.Wait.{Wait}
 use Rattle.bsc_connections.specs.declared.awaited.LiveError.{LiveError}
 use Rattle.bsc_connections.specs.declared.connection.Taken.{Taken}
-use Rattle.bsc_connections.specs.declared.connection.Taken.TheVariants.{Nothing, Interrupted, Part, Whole}
+use Rattle.bsc_connections.specs.declared.connection.Taken.TheVariants.{Nothing, Interrupted, Part}
+use Rattle.bsc_connections.specs.declared.connection.Taken.TheVariants.{Whole}
 use Rattle.bsc_connections.specs.declared.connection.Taken.TheVariants.{Closed}
+use Rattle.bsc_bid.specs.declared.station.Station as station_of
+use Rattle.bsc_connections.specs.Parts.{ConnectionParts, SessionParts}
 use Rattle.bsc_connections.specs.Connections.{ConnectionValue, Takes, TakesOpen, Sends}
-use Rattle.bsc_connections.specs.Histories.{Happening, WasHeard, WasSilent, HasJoined, sent_where_some}
+use Rattle.bsc_connections.specs.Histories.{Happening, WasHeard, WasSilent, HasJoined}
+use Rattle.bsc_connections.specs.Histories.{sent_where_some}
 use Rattle.bsc_connections.specs.Histories.{heard_in, heard_at, sent_in, all_sent, IsNoJoining}
 use Rattle.bsc_connections.specs.Histories.{NobodyJoins}
 use Rattle.bsc_connections.specs.Attending.{SendsAll, IsTakenAt, ReadsAt, TimesOut, Joins, Does}
 use Rattle.bsc_connections.specs.Attending.{ended, goes_on, first_closed, first_awaiting}
+use Rattle.bsc_connections.specs.Attending.{Session, session_of}
 use Rattle.bsc_connections.specs.Streams.{Carries, CarriedAt, CarriesFromStart, CarriesSinceJoining}
 use Rattle.bsc_connections.specs.Streams.{CarriesHistory}
-use Rattle.bsc_connections.proofs.OnePlace.{kept_at, put_at, zipped_at, same_place, heard_here}
-use Rattle.bsc_connections.proofs.OnePlace.{heard_elsewhere}
+use Rattle.bsc_connections.proofs.OnePlace.{other_place_unchanged, changed_place_has_new}
+use Rattle.bsc_connections.proofs.OnePlace.{related_at_place, same_or_other_place}
+use Rattle.bsc_connections.proofs.OnePlace.{heard_at_same_place}
+use Rattle.bsc_connections.proofs.OnePlace.{nothing_heard_at_other_place}
 use Rattle.bsc_carrier.specs.Cable.{ChangesAt}
-use Rattle.bsc_octet.proofs.Elements.{all_append}
+use Rattle.bsc_frame.proofs.Elements.{all_append}
 
-module _ {R W F : Type 0} (remaining : R → Option (List ℕ)) (contents : W → Option (List ℕ))
-    (framed : List ℕ → List ℕ)
-    (feeds : F → List ℕ → Result (ℕ × Bool) CarrierError → F → Type 0)
+-- What is heard of the octets that are given fits what a framing does with them.
+pub record Fits {F : Type 0} (feeds : F → List ℕ → Result (ℕ × Bool) CarrierError → F → Type 0)
     (ends : F → Bool → F → Type 0) (last : F → List ℕ)
+    (gives : F → List ℕ → List (List ℕ) → F → Type 0) : Type 0 where
+  pub nothing : (f : F) → gives f [] [] f
+  pub both : (a b c : F) (g k : List ℕ) (h t : List (List ℕ)) → gives a g h b → gives b k t c
+      → gives a (g ++ k) (h ++ t) c
+  pub part : (a b : F) (piece : List ℕ) → feeds a piece (Ok (length piece, false)) b
+      → gives a piece [] b
+  pub whole : (a b : F) (piece : List ℕ) → feeds a piece (Ok (length piece, true)) b
+      → gives a piece (last b ∷ []) b
+  pub gap : (a b : F) → ends a true b → gives a [] (last b ∷ []) b
+
+module _ {R W F : Type 0} (parts : ConnectionParts R W F)
     (gives : F → List ℕ → List (List ℕ) → F → Type 0)
-    (gives_nothing : (f : F) → gives f [] [] f)
-    (gives_both : (a b c : F) (g k : List ℕ) (h t : List (List ℕ)) → gives a g h b → gives b k t c
-    → gives a (g ++ k) (h ++ t) c)
-    (gives_part : (a b : F) (piece : List ℕ) → feeds a piece (Ok (length piece, false)) b
-    → gives a piece [] b)
-    (gives_whole : (a b : F) (piece : List ℕ) → feeds a piece (Ok (length piece, true)) b
-    → gives a piece (last b ∷ []) b)
-    (gives_gap : (a b : F) → ends a true b → gives a [] (last b ∷ []) b) where
+    (fits : Fits parts.framing.feeds parts.framing.ends parts.framing.last gives) where
   abbrev C : Type 0
   C = ConnectionValue R W F
 
   abbrev Conveys : List (List ℕ) → List (List ℕ) → C → C → Type 0
-  Conveys heard sent old new = Carries remaining contents framed gives heard sent old new
+  Conveys heard sent old new = Carries parts gives (record { heard = heard; sent = sent }) old new
 
   abbrev Came : ℕ → List (List ℕ) → List (List ℕ) → List C → C → Type 0
   Came place heard sent before now =
-      CarriedAt remaining contents framed gives place heard sent before now
+      CarriedAt parts gives place (record { heard = heard; sent = sent }) before now
+
+  abbrev last : F → List ℕ
+  last framing = parts.framing.last framing
+
+  abbrev framed : List ℕ → List ℕ
+  framed octets = parts.framing.framed octets
+
+  abbrev remaining : R → Option (List ℕ)
+  remaining reader = parts.reader.remaining reader
+
+  abbrev contents : W → Option (List ℕ)
+  contents writer = parts.writer.contents writer
 
   -- ---- one connection
 
-  same_ends : (r s : R) (w v : W) → ◌≡◌ {A = Option (R × W)} (Some (r, w)) (Some (s, v)) → (r ≡ s)
+  same_directions_of_same_ends : (r s : R) (w v : W) → ◌≡◌ {A = Option (R × W)} (Some (r, w)) (Some
+      (s, v)) → (r ≡ s)
       × (w ≡ v)
-  same_ends r s w v is = (
+  same_directions_of_same_ends r s w v is = (
     ap (λ (o : Option (R × W)). elim o [ None ↦ r | Some both ↦ both.0 ]) is,
     ap (λ (o : Option (R × W)). elim o [ None ↦ w | Some both ↦ both.1 ]) is,
   )
 
-  open_ends : (o : Option (R × W)) → o ≢ None → (r : R) × (w : W) × (o ≡ Some (r, w))
-  open_ends None is_up = absurd (is_up refl)
-  open_ends (Some (r, w)) is_up = (r, w, refl)
+  directions_of_open_connection : (o : Option (R × W)) → o ≢ None
+      → (r : R) × (w : W) × (o ≡ Some (r, w))
+  directions_of_open_connection None is_up = absurd (is_up refl)
+  directions_of_open_connection (Some (r, w)) is_up = (r, w, refl)
 
   carries_nothing : (c : C) → c.ends ≢ None → Conveys [] [] c c
   carries_nothing c is_up =
-      let (r, w, is) = open_ends c.ends is_up in
+      let (r, w, is) = directions_of_open_connection c.ends is_up in
       record {
         reader_before = r;
         reader_now = r;
@@ -79,15 +102,15 @@ module _ {R W F : Type 0} (remaining : R → Option (List ℕ)) (contents : W �
         is_open = is;
         given = [];
         read = Consumes-nil (remaining r);
-        heard_of = gives_nothing c.framing;
+        heard_of = fits.nothing c.framing;
         written = Appends-nil (contents w);
       }
 
-  carries_both : (h s k t : List (List ℕ)) (a b c : C) → Conveys h s a b → Conveys k t b c
+  carries_in_turn : (h s k t : List (List ℕ)) (a b c : C) → Conveys h s a b → Conveys k t b c
       → Conveys (h ++ k) (s ++ t) a c
-  carries_both h s k t a b c p q =
+  carries_in_turn h s k t a b c p q =
       let (reader, writer) =
-      same_ends p.reader_now q.reader_before p.writer_now q.writer_before
+      same_directions_of_same_ends p.reader_now q.reader_before p.writer_now q.writer_before
       (sym p.is_open ∙ q.was_open) in
       let read : Consumes (remaining p.reader_now) (remaining q.reader_now) q.given =
       subst (λ (r : R). Consumes (remaining r) (remaining q.reader_now) q.given) (sym reader)
@@ -107,7 +130,7 @@ module _ {R W F : Type 0} (remaining : R → Option (List ℕ)) (contents : W �
             Consumes-trans (remaining p.reader_before) (remaining p.reader_now)
             (remaining q.reader_now) p.given q.given p.read read;
         heard_of =
-            gives_both a.framing b.framing c.framing p.given q.given h k p.heard_of q.heard_of;
+            fits.both a.framing b.framing c.framing p.given q.given h k p.heard_of q.heard_of;
         written =
             subst (λ (l : List ℕ). Appends (contents p.writer_before) (contents q.writer_now) l)
             (sym (flat_map-append framed s t))
@@ -116,10 +139,10 @@ module _ {R W F : Type 0} (remaining : R → Option (List ℕ)) (contents : W �
       }
 
   gives_same : (a b : F) → b ≡ a → gives a [] [] b
-  gives_same a b same = subst (λ (f : F). gives a [] [] f) (sym same) (gives_nothing a)
+  gives_same a b same = subst (λ (f : F). gives a [] [] f) (sym same) (fits.nothing a)
 
   -- A transmission that is sent.
-  carries_sent : (octets : List ℕ) (a b : C) → b.ends ≢ None → Sends contents framed octets a b
+  carries_sent : (octets : List ℕ) (a b : C) → b.ends ≢ None → Sends parts octets a b
       → Conveys [] (octets ∷ []) a b
   carries_sent octets a b is_up (inl (closed, same)) =
       absurd (is_up (ap (λ (c : C). c.ends) same ∙ closed))
@@ -141,10 +164,10 @@ module _ {R W F : Type 0} (remaining : R → Option (List ℕ)) (contents : W �
       }
 
   -- A transmission that a gap ends.
-  carries_gap : (a b : C) → b.ends ≢ None → b.ends ≡ a.ends → ends a.framing true b.framing
-      → Conveys (last b.framing ∷ []) [] a b
+  carries_gap : (a b : C) → b.ends ≢ None → b.ends ≡ a.ends
+      → parts.framing.ends a.framing true b.framing → Conveys (last b.framing ∷ []) [] a b
   carries_gap a b is_up same ends_it =
-      let (r, w, is) = open_ends b.ends is_up in
+      let (r, w, is) = directions_of_open_connection b.ends is_up in
       record {
         reader_before = r;
         reader_now = r;
@@ -154,7 +177,7 @@ module _ {R W F : Type 0} (remaining : R → Option (List ℕ)) (contents : W �
         is_open = is;
         given = [];
         read = Consumes-nil (remaining r);
-        heard_of = gives_gap a.framing b.framing ends_it;
+        heard_of = fits.gap a.framing b.framing ends_it;
         written = Appends-nil (contents w);
       }
 
@@ -165,11 +188,11 @@ module _ {R W F : Type 0} (remaining : R → Option (List ℕ)) (contents : W �
   Consumes-kept_nil (Some x) None kept = absurd kept
   Consumes-kept_nil (Some x) (Some y) kept = sym kept
 
-  carries_taken : (taken : Taken) (a b : C) (t : TakesOpen remaining feeds taken a b)
+  carries_given_of_read : (taken : Taken) (a b : C) (t : TakesOpen parts taken a b)
       (given : List ℕ) (heard : List (List ℕ))
       → Consumes (remaining t.before) (remaining t.after) given
       → gives a.framing given heard b.framing → Conveys heard [] a b
-  carries_taken taken a b t given heard read heard_of =
+  carries_given_of_read taken a b t given heard read heard_of =
       record {
         reader_before = t.before;
         reader_now = t.after;
@@ -188,86 +211,94 @@ module _ {R W F : Type 0} (remaining : R → Option (List ℕ)) (contents : W �
   heard_by Whole c = last c.framing ∷ []
   heard_by _ c = []
 
-  carries_read : (taken : Taken) (a b : C) → b.ends ≢ None → Takes remaining feeds a taken b
+  carries_read : (taken : Taken) (a b : C) → b.ends ≢ None → Takes parts a taken b
       → Conveys (heard_by taken b) [] a b
   carries_read Nothing a b is_up (inl (closed, same)) =
       absurd (is_up (ap (λ (c : C). c.ends) same ∙ closed))
   carries_read Nothing a b is_up (inr t) =
-      carries_taken Nothing a b t [] []
+      carries_given_of_read Nothing a b t [] []
       (Consumes-kept_nil (remaining t.before) (remaining t.after) t.reads.0)
       (gives_same a.framing b.framing t.reads.1)
   carries_read Interrupted a b is_up t =
-      carries_taken Interrupted a b t [] []
+      carries_given_of_read Interrupted a b t [] []
       (Consumes-kept_nil (remaining t.before) (remaining t.after) t.reads.0)
       (gives_same a.framing b.framing t.reads.1)
   carries_read (Closed why) a b is_up closed = absurd (is_up closed)
   carries_read Part a b is_up t =
       let (piece, read, fed) = t.reads in
-      carries_taken Part a b t piece [] read (gives_part a.framing b.framing piece fed)
+      carries_given_of_read Part a b t piece [] read (fits.part a.framing b.framing piece fed)
   carries_read Whole a b is_up t =
       let (piece, read, fed) = t.reads in
-      carries_taken Whole a b t piece (last b.framing ∷ []) read
-      (gives_whole a.framing b.framing piece fed)
+      carries_given_of_read Whole a b t piece (last b.framing ∷ []) read
+      (fits.whole a.framing b.framing piece fed)
 
-  was_up : (heard sent : List (List ℕ)) (a b : C) → Conveys heard sent a b → a.ends ≢ None
-  was_up heard sent a b p none =
+  was_open_if_carried : (heard sent : List (List ℕ)) (a b : C) → Conveys heard sent a b
+      → a.ends ≢ None
+  was_open_if_carried heard sent a b p none =
       let clash : ◌≡◌ {A = Option (R × W)} (Some (p.reader_before, p.writer_before)) None =
       sym p.was_open ∙ none in absurd cc
 
   -- ---- the connection at one place
 
-  came_kept : (place : ℕ) (before after : List C) (b : C) → after ≡ before → slice_get after place
+  came_nothing_if_unchanged : (place : ℕ) (before after : List C) (b : C) → after ≡ before
+      → slice_get after place
       ≡ Some b → b.ends ≢ None → Came place [] [] before b
-  came_kept place before after b same is is_up =
+  came_nothing_if_unchanged place before after b same is is_up =
       (b, subst (λ (cs : List C). slice_get cs place ≡ Some b) same is, carries_nothing b is_up)
 
-  came_both : (place : ℕ) (h s k t : List (List ℕ)) (before between : List C) (b : C)
+  came_in_turn : (place : ℕ) (h s k t : List (List ℕ)) (before between : List C) (b : C)
       → ((m : C) → slice_get between place ≡ Some m → m.ends ≢ None → Came place h s before m)
       → Came place k t between b → Came place (h ++ k) (s ++ t) before b
-  came_both place h s k t before between b first (m, at, later) =
-      let (a, was, sooner) = first m at (was_up k t m b later) in
-      (a, was, carries_both h s k t a m b sooner later)
+  came_in_turn place h s k t before between b first (m, at, later) =
+      let (a, was, sooner) = first m at (was_open_if_carried k t m b later) in
+      (a, was, carries_in_turn h s k t a m b sooner later)
 
-  changed_at : (at place : ℕ) (P : C → C → Type 0) (before after : List C) (b : C)
+  place_after_change : (at place : ℕ) (P : C → C → Type 0) (before after : List C) (b : C)
       → ChangesAt at P before after → slice_get after place ≡ Some b
       → ((at ≡ place) × ((a : C) × (slice_get before place ≡ Some a) × P a b))
       ⊎ ((nat_eq at place ≡ false) × (slice_get before place ≡ Some b))
-  changed_at at place P before after b (x, y, was, new, changed) is =
+  place_after_change at place P before after b (x, y, was, new, changed) is =
       let put : slice_get (slice_set before at y) place ≡ Some b =
       subst (λ (cs : List C). slice_get cs place ≡ Some b) new is in
-      elim (same_place at place) [
+      elim (same_or_other_place at place) [
         | inl same ↦
             inl (
               same,
               (
                 x,
                 subst (λ (n : ℕ). slice_get before n ≡ Some x) same was,
-                subst (λ (c : C). P x c) (put_at before at place y b same put) changed,
+                subst (λ (c : C). P x c) (changed_place_has_new before at place y b same put)
+                    changed,
               ),
             )
-        | inr other ↦ inr (other, kept_at before at place y b (eqb-false at place other) put)
+        | inr other ↦ inr (
+          other,
+          other_place_unchanged before at place y b (eqb-false at place
+              other) put,
+        )
       ]
 
   came_sent : (sent : Option Message) (place : ℕ) (before after : List C) (b : C)
-      → SendsAll contents framed sent before after → slice_get after place ≡ Some b → b.ends ≢ None
+      → SendsAll parts sent before after → slice_get after place ≡ Some b → b.ends ≢ None
       → Came place (heard_at place (sent_where_some sent)) (all_sent (sent_where_some sent)) before
       b
-  came_sent None place before after b same is is_up = came_kept place before after b same is is_up
+  came_sent None place before after b same is is_up = came_nothing_if_unchanged place before after b
+      same is is_up
   came_sent (Some m) place before after b all is is_up =
       let (a, was, sends) =
-      zipped_at (Sends contents framed (wire m)) before after place b all is in
+      related_at_place (Sends parts (wire m)) before after place b all is in
       (a, was, carries_sent (wire m) a b is_up sends)
 
   -- A read that ends no transmission.
-  came_part : (taken : Taken) → ((c : C) → heard_by taken c ≡ [])
+  came_nothing_by_part : (taken : Taken) → ((c : C) → heard_by taken c ≡ [])
       → (at place : ℕ) (before after : List C) (b : C)
-      → IsTakenAt remaining feeds at before taken after
+      → IsTakenAt parts at before taken after
       → slice_get after place ≡ Some b → b.ends ≢ None → Came place [] [] before b
-  came_part taken quiet at place before after b (inr (nowhere, nothing, same)) is is_up =
-      came_kept place before after b same is is_up
-  came_part taken quiet at place before after b (inl changes) is is_up =
+  came_nothing_by_part taken quiet at place before after b (inr (nowhere, nothing, same)) is is_up =
+      came_nothing_if_unchanged place before after b same is is_up
+  came_nothing_by_part taken quiet at place before after b (inl changes) is is_up =
       elim
-      (changed_at at place (λ b a. Takes remaining feeds b taken a) before after b changes is) [
+      (place_after_change at place (λ b a. Takes parts b taken a) before after b changes is) [
         | inl (same, (a, was, takes)) ↦ (
           a,
           was,
@@ -278,21 +309,21 @@ module _ {R W F : Type 0} (remaining : R → Option (List ℕ)) (contents : W �
       ]
 
   -- A change at one place that ends a transmission.
-  came_heard : (at place : ℕ) (P : C → C → Type 0)
+  came_heard_by_change : (at place : ℕ) (P : C → C → Type 0)
       → ((x y : C) → y.ends ≢ None → P x y → Conveys (last y.framing ∷ []) [] x y)
       → (before after : List C) (heard b : C)
       → ChangesAt at P before after → slice_get after at ≡ Some heard → slice_get after place
       ≡ Some b → b.ends ≢ None
       → Came place (heard_in place (WasHeard at (last heard.framing))) [] before b
-  came_heard at place P conveys before after heard b changes there is is_up =
-      elim (changed_at at place P before after b changes is) [
+  came_heard_by_change at place P conveys before after heard b changes there is is_up =
+      elim (place_after_change at place P before after b changes is) [
         | inl (same, (a, was, changed)) ↦
             let one : Some heard ≡ Some b = sym there ∙ ap (λ (n : ℕ). slice_get after n) same
             ∙ is in
             let it : heard ≡ b = ap (λ (o : Option C). elim o [ None ↦ b | Some c ↦ c ]) one in
             let list : last b.framing ∷ [] ≡ heard_in place (WasHeard at (last heard.framing)) =
             ap (λ (c : C). last c.framing ∷ []) (sym it)
-            ∙ sym (heard_here at place (last heard.framing) same) in (
+            ∙ sym (heard_at_same_place at place (last heard.framing) same) in (
               a,
               was,
               subst (λ (h : List (List ℕ)). Conveys h [] a b) list
@@ -302,36 +333,43 @@ module _ {R W F : Type 0} (remaining : R → Option (List ℕ)) (contents : W �
           b,
           was,
           subst (λ (h : List (List ℕ)). Conveys h [] b b)
-              (sym (heard_elsewhere at place (last heard.framing) other))
+              (sym (nothing_heard_at_other_place at place (last heard.framing) other))
               (carries_nothing b is_up),
         )
       ]
 
   -- A read that ends a transmission.
-  came_whole : (at place : ℕ) (before after : List C) (heard b : C)
-      → IsTakenAt remaining feeds at before Whole after
+  came_heard_by_read : (at place : ℕ) (before after : List C) (heard b : C)
+      → IsTakenAt parts at before Whole after
       → slice_get after at ≡ Some heard → slice_get after place ≡ Some b → b.ends ≢ None
       → Came place (heard_in place (WasHeard at (last heard.framing))) [] before b
-  came_whole at place before after heard b (inr (nowhere, nothing, same)) there is is_up =
+  came_heard_by_read at place before after heard b (inr (nowhere, nothing, same)) there is is_up =
       let clash : Whole ≡ Nothing = nothing in absurd cc
-  came_whole at place before after heard b (inl changes) there is is_up =
-      came_heard at place (λ b a. Takes remaining feeds b Whole a)
+  came_heard_by_read at place before after heard b (inl changes) there is is_up =
+      came_heard_by_change at place (λ b a. Takes parts b Whole a)
       (λ x y y_up takes. carries_read Whole x y y_up takes) before after heard b changes there
       is is_up
 
   -- What was carried for a history was carried for an equal one.
-  came_so : (place : ℕ) (before : List C) (b : C) (happened told : List Happening) → happened ≡ told
+  came_for_equal_history : (place : ℕ) (before : List C) (b : C) (happened told : List Happening)
+      → happened ≡ told
       → Came place (heard_at place told) (all_sent told) before b
       → Came place (heard_at place happened) (all_sent happened) before b
-  came_so place before b happened told is came =
+  came_for_equal_history place before b happened told is came =
       subst (λ (hs : List Happening). Came place (heard_at place hs) (all_sent hs) before b)
       (sym is) came
 
   -- ---- one step after another
-  module _ {S T : Type 0} (hears : S → Heard → S → Option Message → Type 0)
-      (acts : S → S → Option Message → Type 0)
-      (starts : F → Type 0) (awaits : F → Bool)
-      (waits : T → Wait → Result Awaited LiveError → T → Type 0) where
+  module _ {S : Type 0} (station : station_of.Ghosts S) where
+    abbrev session : SessionParts S R W F
+    session = record { station = station; connection = parts }
+
+    abbrev Now : Type 0
+    Now = Session S C
+
+    abbrev starts : F → Type 0
+    starts framing = parts.framing.starts framing
+
     -- What a step did at this place: nobody joined there, or the peer that joined has the
     -- connection.
     abbrev Went : ℕ → List C → List Happening → C → Type 0
@@ -340,115 +378,147 @@ module _ {R W F : Type 0} (remaining : R → Option (List ℕ)) (contents : W �
         before b)
         ⊎ ((happened ≡ HasJoined place ∷ []) × starts b.framing)
 
-    went_quiet : (place : ℕ) (before : List C) (happened : List Happening) (b : C) → happened ≡ []
+    went_if_nothing_happened : (place : ℕ) (before : List C) (happened : List Happening) (b : C)
+        → happened ≡ []
         → Came place [] [] before b → Went place before happened b
-    went_quiet place before happened b none came =
-        inl (subst (NobodyJoins place) (sym none) tt, came_so place before b happened [] none came)
-
-    nobody_sent : (place : ℕ) (sent : Option Message) → NobodyJoins place (sent_where_some sent)
-    nobody_sent place None = tt
-    nobody_sent place (Some m) = (tt, tt)
-
-    went_reads : (taken : Taken) (at place : ℕ) (old new : S) (before after : List C)
-        (happened : List Happening) (b : C)
-        → ReadsAt hears acts remaining contents starts feeds ends awaits last framed at taken old
-        new before after happened
-        → slice_get after place ≡ Some b → b.ends ≢ None → Went place before happened b
-    went_reads Whole at place old new before after happened b (between, taken, h) is is_up =
+    went_if_nothing_happened place before happened b none came =
         inl (
-          subst (NobodyJoins place) (sym h.happens) (tt, nobody_sent place h.sent),
-          came_so place before b happened (WasHeard at (last h.connection.framing)
-              ∷ sent_where_some h.sent) h.happens
-              (came_both place (heard_in place (WasHeard at (last h.connection.framing))) []
-              (heard_at place (sent_where_some h.sent)) (all_sent (sent_where_some h.sent))
-              before between b
-              (λ m there m_up. came_whole at place before between h.connection m taken h.at there
-              m_up)
-              (came_sent h.sent place between after b h.sends is is_up)),
+          subst (NobodyJoins place) (sym none) tt,
+          came_for_equal_history place before b happened
+              [] none came,
         )
-    went_reads Nothing at place old new before after happened b (taken, same, none) is is_up =
-        went_quiet place before happened b none
-        (came_part Nothing (λ c. refl) at place before after b taken is is_up)
-    went_reads Interrupted at place old new before after happened b (taken, same, none) is is_up =
-        went_quiet place before happened b none
-        (came_part Interrupted (λ c. refl) at place before after b taken is is_up)
-    went_reads Part at place old new before after happened b (taken, same, none) is is_up =
-        went_quiet place before happened b none
-        (came_part Part (λ c. refl) at place before after b taken is is_up)
-    went_reads (Closed why) at place old new before after happened b (taken, same, none) is is_up =
-        went_quiet place before happened b none
-        (came_part (Closed why) (λ c. refl) at place before after b taken is is_up)
 
-    went_joins : (free : Option ℕ) (place : ℕ) (before after : List C) (happened : List Happening)
-        (b : C)
-        → Joins hears acts remaining contents starts feeds ends awaits last framed free before after
-        happened
+    nobody_joins_by_sending : (place : ℕ) (sent : Option Message)
+        → NobodyJoins place (sent_where_some sent)
+    nobody_joins_by_sending place None = tt
+    nobody_joins_by_sending place (Some m) = (tt, tt)
+
+    went_by_read : (taken : Taken) (at place : ℕ) (old : Now) (happened : List Happening)
+        (new : Now) (b : C)
+        → ReadsAt session at taken old happened new
+        → slice_get new.connections place ≡ Some b → b.ends ≢ None
+        → Went place old.connections happened b
+    went_by_read Whole at place old happened new b (between, taken, h) is is_up =
+        inl (
+          subst (NobodyJoins place) (sym h.happens) (tt, nobody_joins_by_sending place h.sent),
+          came_for_equal_history place old.connections b happened (WasHeard at (last
+              h.connection.framing)
+              ∷ sent_where_some h.sent) h.happens
+              (came_in_turn place (heard_in place (WasHeard at (last h.connection.framing))) []
+              (heard_at place (sent_where_some h.sent)) (all_sent (sent_where_some h.sent))
+              old.connections between b
+              (λ m there m_up. came_heard_by_read at place old.connections between h.connection m
+              taken
+              h.at there m_up)
+              (came_sent h.sent place between new.connections b h.sends is is_up)),
+        )
+    went_by_read Nothing at place old happened new b (taken, same, none) is is_up =
+        went_if_nothing_happened place old.connections happened b none
+        (came_nothing_by_part Nothing (λ c. refl) at place old.connections new.connections b taken
+        is is_up)
+    went_by_read Interrupted at place old happened new b (taken, same, none) is is_up =
+        went_if_nothing_happened place old.connections happened b none
+        (came_nothing_by_part Interrupted (λ c. refl) at place old.connections new.connections b
+        taken is
+        is_up)
+    went_by_read Part at place old happened new b (taken, same, none) is is_up =
+        went_if_nothing_happened place old.connections happened b none
+        (came_nothing_by_part Part (λ c. refl) at place old.connections new.connections b taken is
+        is_up)
+    went_by_read (Closed why) at place old happened new b (taken, same, none) is is_up =
+        went_if_nothing_happened place old.connections happened b none
+        (came_nothing_by_part (Closed why) (λ c. refl) at place old.connections new.connections b
+        taken is
+        is_up)
+
+    went_by_joining : (free : Option ℕ) (place : ℕ) (before : List C)
+        (happened : List Happening) (after : List C) (b : C)
+        → Joins session free before happened after
         → slice_get after place ≡ Some b → b.ends ≢ None → Went place before happened b
-    went_joins None place before after happened b (same, none) is is_up =
-        went_quiet place before happened b none (came_kept place before after b same is is_up)
-    went_joins (Some at) place before after happened b (inl (same, none)) is is_up =
-        went_quiet place before happened b none (came_kept place before after b same is is_up)
-    went_joins (Some at) place before after happened b (inr (changes, joined)) is is_up =
-        elim (changed_at at place (λ b a. (a.ends ≢ None) × starts a.framing) before after b changes
+    went_by_joining None place before happened after b (same, none) is is_up =
+        went_if_nothing_happened place before happened b none (came_nothing_if_unchanged place
+        before after b same is is_up)
+    went_by_joining (Some at) place before happened after b (inl (same, none)) is is_up =
+        went_if_nothing_happened place before happened b none (came_nothing_if_unchanged place
+        before after b same is is_up)
+    went_by_joining (Some at) place before happened after b (inr (changes, joined)) is is_up =
+        elim (place_after_change at place (λ b a. (a.ends ≢ None) × starts a.framing) before after b
+        changes
         is) [
           | inl (same, (a, was, (up, fresh))) ↦ inr
               (joined ∙ ap (λ (n : ℕ). HasJoined n ∷ []) same, fresh)
           | inr (other, was) ↦
               inl (
                 subst (NobodyJoins place) (sym joined) (eqb-false at place other, tt),
-                came_so place before b happened (HasJoined at ∷ []) joined
+                came_for_equal_history place before b happened (HasJoined at ∷ []) joined
                     (b, was, carries_nothing b is_up),
               )
         ]
 
-    went_times : (awaiting : Option ℕ) (place : ℕ) (old new : S) (before after : List C)
-        (happened : List Happening) (b : C)
-        → TimesOut hears acts remaining contents starts feeds ends awaits last framed awaiting old
-        new before after happened
-        → slice_get after place ≡ Some b → b.ends ≢ None → Went place before happened b
-    went_times None place old new before after happened b silent is is_up =
+    went_by_time_out : (awaiting : Option ℕ) (place : ℕ) (old : Now) (happened : List Happening)
+        (new : Now) (b : C)
+        → TimesOut session awaiting old happened new
+        → slice_get new.connections place ≡ Some b → b.ends ≢ None
+        → Went place old.connections happened b
+    went_by_time_out None place old happened new b silent is is_up =
         inl (
-          subst (NobodyJoins place) (sym silent.happens) (tt, nobody_sent place silent.sent),
-          came_so place before b happened (WasSilent ∷ sent_where_some silent.sent) silent.happens
-              (came_sent silent.sent place before after b silent.sends is is_up),
+          subst (NobodyJoins place) (sym silent.happens) (
+            tt,
+            nobody_joins_by_sending place
+                silent.sent,
+          ),
+          came_for_equal_history place old.connections b happened (WasSilent ∷ sent_where_some
+              silent.sent)
+              silent.happens
+              (came_sent silent.sent place old.connections new.connections b silent.sends is is_up),
         )
-    went_times (Some at) place old new before after happened b h is is_up =
+    went_by_time_out (Some at) place old happened new b h is is_up =
         inl (
-          subst (NobodyJoins place) (sym h.heard.happens) (tt, nobody_sent place h.heard.sent),
-          came_so place before b happened (WasHeard at (last h.heard.connection.framing)
+          subst (NobodyJoins place) (sym h.heard.happens) (
+            tt,
+            nobody_joins_by_sending place
+                h.heard.sent,
+          ),
+          came_for_equal_history place old.connections b happened (WasHeard at (last
+              h.heard.connection.framing)
               ∷ sent_where_some h.heard.sent) h.heard.happens
-              (came_both place (heard_in place (WasHeard at (last h.heard.connection.framing))) []
+              (came_in_turn place (heard_in place (WasHeard at (last h.heard.connection.framing)))
+              []
               (heard_at place (sent_where_some h.heard.sent))
-              (all_sent (sent_where_some h.heard.sent)) before h.between b
-              (λ m there m_up. came_heard at place
-              (λ b a. (a.ends ≡ b.ends) × ends b.framing true a.framing)
-              (λ x y y_up ended. carries_gap x y y_up ended.0 ended.1) before h.between
+              (all_sent (sent_where_some h.heard.sent)) old.connections h.between b
+              (λ m there m_up. came_heard_by_change at place
+              (λ b a. (a.ends ≡ b.ends) × parts.framing.ends b.framing true a.framing)
+              (λ x y y_up ended. carries_gap x y y_up ended.0 ended.1) old.connections h.between
               h.heard.connection m h.ended h.heard.at there m_up)
-              (came_sent h.heard.sent place h.between after b h.heard.sends is is_up)),
+              (came_sent h.heard.sent place h.between new.connections b h.heard.sends is is_up)),
         )
 
-    went_does : (awaited : Awaited) (place : ℕ) (old new : S) (before after : List C)
-        (happened : List Happening) (b : C)
-        → Does hears acts remaining contents starts feeds ends awaits last framed awaited old new
-        before after happened
-        → slice_get after place ≡ Some b → b.ends ≢ None → Went place before happened b
-    went_does (Octets at) place old new before after happened b (taken, reads) is is_up =
-        went_reads taken at place old new before after happened b reads is is_up
-    went_does Newcomer place old new before after happened b (same, joins) is is_up =
-        went_joins (first_closed before) place before after happened b joins is is_up
-    went_does TimeOut place old new before after happened b times is is_up =
-        went_times (first_awaiting awaits before) place old new before after happened b times is
-        is_up
+    went_by_event : (awaited : Awaited) (place : ℕ) (old : Now) (happened : List Happening)
+        (new : Now) (b : C)
+        → Does session awaited old happened new
+        → slice_get new.connections place ≡ Some b → b.ends ≢ None
+        → Went place old.connections happened b
+    went_by_event (Octets at) place old happened new b (taken, reads) is is_up =
+        went_by_read taken at place old happened new b reads is is_up
+    went_by_event Newcomer place old happened new b (same, joins) is is_up =
+        went_by_joining (first_closed old.connections) place old.connections happened
+        new.connections
+        b joins is is_up
+    went_by_event TimeOut place old happened new b times is is_up =
+        went_by_time_out (first_awaiting parts.framing.awaits old.connections) place old happened
+        new b
+        times is is_up
 
     -- A step, followed by what was carried after it.
-    went_first : (place : ℕ) (before between : List C) (happened history : List Happening) (now : C)
+    carries_with_step_first : (place : ℕ) (before between : List C) (happened history : List
+        Happening) (now : C)
         → ((m : C) → slice_get between place ≡ Some m → m.ends ≢ None
         → Went place before happened m)
-        → CarriesFromStart remaining contents framed gives place history between now
-        ⊎ CarriesSinceJoining remaining contents framed gives starts place history now
-        → CarriesFromStart remaining contents framed gives place (happened ++ history) before now
-        ⊎ CarriesSinceJoining remaining contents framed gives starts place (happened ++ history) now
-    went_first place before between happened history now first (inr since) =
+        → CarriesFromStart parts gives place history between now
+        ⊎ CarriesSinceJoining parts gives place history now
+        → CarriesFromStart parts gives place (happened ++ history) before now
+        ⊎ CarriesSinceJoining parts gives place (happened ++ history) now
+    carries_with_step_first place before between happened history now first (inr since) =
         inr (record {
           sooner = happened ++ since.sooner;
           later = since.later;
@@ -459,8 +529,16 @@ module _ {R W F : Type 0} (remaining : R → Option (List ℕ)) (contents : W �
           nothing_arrived = since.nothing_arrived;
           carries = since.carries;
         })
-    went_first place before between happened history now first (inl (nobody, (m, there, later))) =
-        elim (first m there (was_up (heard_at place history) (all_sent history) m now later)) [
+    carries_with_step_first place before between happened history now first (inl (
+      nobody,
+      (
+        m,
+        there,
+        later,
+      ),
+    )) =
+        elim (first m there (was_open_if_carried (heard_at place history) (all_sent history) m now
+        later)) [
           | inr (joined, none) ↦
               inr (record {
                 sooner = [];
@@ -473,7 +551,7 @@ module _ {R W F : Type 0} (remaining : R → Option (List ℕ)) (contents : W �
               })
           | inl (none, (a, was, sooner)) ↦
               let both =
-              carries_both (heard_at place happened) (all_sent happened)
+              carries_in_turn (heard_at place happened) (all_sent happened)
               (heard_at place history) (all_sent history) a m now sooner later in
               inl (
                 all_append (IsNoJoining place) happened history none nobody,
@@ -489,13 +567,23 @@ module _ {R W F : Type 0} (remaining : R → Option (List ℕ)) (contents : W �
               )
         ]
 
-    pub carries_history : CarriesHistory gives hears acts remaining contents starts feeds ends
-        awaits last framed waits
-    carries_history old new [] place now (ended station connections) is is_up =
-        inl (tt, came_kept place old.connections new.connections now connections is is_up)
-    carries_history old new whole place now
-        (goes_on {mid = mid} {happened = happened} {history = history} step rest) is is_up =
-        went_first place old.connections mid.connections happened history now
-        (λ m there m_up. went_does step.awaited place old.station mid.station old.connections
-        mid.connections happened m step.does there m_up)
-        (carries_history mid new history place now rest is is_up)
+pub carries_history : {S R W F T : Type 0} (parts : SessionParts S R W F)
+    (gives : F → List ℕ → List (List ℕ) → F → Type 0)
+    (fits : Fits parts.connection.framing.feeds parts.connection.framing.ends
+    parts.connection.framing.last gives)
+    (waits : T → Wait → Result Awaited LiveError → T → Type 0) → CarriesHistory parts gives waits
+carries_history parts gives fits waits old new [] place now (ended station connections) is is_up =
+    inl (
+      tt,
+      came_nothing_if_unchanged parts.connection gives fits place old.connections new.connections
+          now connections is
+          is_up,
+    )
+carries_history parts gives fits waits old new whole place now
+    (goes_on {mid = mid} {happened = happened} {history = history} step rest) is is_up =
+    carries_with_step_first parts.connection gives fits parts.station place old.connections
+    mid.connections
+    happened history now
+    (λ m there m_up. went_by_event parts.connection gives fits parts.station step.awaited place
+    (session_of old) happened (session_of mid) m step.does there m_up)
+    (carries_history parts gives fits waits mid new history place now rest is is_up)

@@ -16,7 +16,8 @@ use Rattle.bsc_connections.specs.declared.limits.TheConstants.{KEPT}
 use Rattle.bsc_connections.specs.Framings.{GapsValue, Gathers, EndsAtGap}
 use Rattle.bsc_connections.specs.Streams.{begun_of, GivesRecords, GivesByGaps}
 use Rattle.bsc_connections.proofs.Gathered.{take_of_front}
-use Rattle.bsc_octet.proofs.Elements.{all_append}
+use Rattle.bsc_connections.proofs.Sessions.{Fits}
+use Rattle.bsc_frame.proofs.Elements.{all_append}
 
 -- The framing of socket records: what a feed does, what a gap does, and the last transmission.
 abbrev pub record_feeds : SocketRecords → List ℕ → Result (ℕ × Bool) CarrierError → SocketRecords
@@ -29,10 +30,10 @@ record_ends old does_end new = (does_end ≡ false) × (new ≡ old)
 abbrev pub record_last : SocketRecords → List ℕ
 record_last records = records.assembler.complete
 
-pub records_nothing : (f : SocketRecords) → GivesRecords f [] [] f
+records_nothing : (f : SocketRecords) → GivesRecords f [] [] f
 records_nothing f = record { records = append-nil (begun_of f); carried = tt; rest = λ none. none }
 
-pub records_both : (a b c : SocketRecords) (g k : List ℕ) (h t : List (List ℕ))
+records_both : (a b c : SocketRecords) (g k : List ℕ) (h t : List (List ℕ))
     → GivesRecords a g h b → GivesRecords b k t c → GivesRecords a (g ++ k) (h ++ t) c
 records_both a b c g k h t p q = record {
   records = sym (append_assoc (begun_of a) g k)
@@ -45,7 +46,7 @@ records_both a b c g k h t p q = record {
   rest = λ none. q.rest (p.rest none);
 }
 
-pub records_part : (a b : SocketRecords) (piece : List ℕ)
+records_part : (a b : SocketRecords) (piece : List ℕ)
     → record_feeds a piece (Ok (length piece, false)) b → GivesRecords a piece [] b
 records_part a b piece fed = record {
   records = sym fed.2;
@@ -53,7 +54,7 @@ records_part a b piece fed = record {
   rest = λ none whole. not_whole_and_partial (begun_of b) whole fed.1;
 }
 
-pub records_whole : (a b : SocketRecords) (piece : List ℕ)
+records_whole : (a b : SocketRecords) (piece : List ℕ)
     → record_feeds a piece (Ok (length piece, true)) b → GivesRecords a piece (record_last b ∷ []) b
 records_whole a b piece fed =
     let none_begun : begun_of b ≡ [] = fed.3 in
@@ -72,13 +73,22 @@ records_whole a b piece fed =
           is_partial_nil;
     }
 
-pub records_gap : (a b : SocketRecords) → record_ends a true b
+records_gap : (a b : SocketRecords) → record_ends a true b
     → GivesRecords a [] (record_last b ∷ []) b
 records_gap a b (ends, same) = let clash : true ≡ false = ends in absurd cc
 
+pub records_fit : Fits record_feeds record_ends record_last GivesRecords
+records_fit = record {
+  nothing = records_nothing;
+  both = records_both;
+  part = records_part;
+  whole = records_whole;
+  gap = records_gap;
+}
+
 -- ---- gaps
 
-pub gaps_nothing : (f : GapsValue) → GivesByGaps f [] [] f
+gaps_nothing : (f : GapsValue) → GivesByGaps f [] [] f
 gaps_nothing f = λ sooner begun. record {
   between = [];
   later = sooner;
@@ -88,7 +98,7 @@ gaps_nothing f = λ sooner begun. record {
   kept_of = begun;
 }
 
-pub gaps_both : (a b c : GapsValue) (g k : List ℕ) (h t : List (List ℕ)) → GivesByGaps a g h b
+gaps_both : (a b c : GapsValue) (g k : List ℕ) (h t : List (List ℕ)) → GivesByGaps a g h b
     → GivesByGaps b k t c → GivesByGaps a (g ++ k) (h ++ t) c
 gaps_both a b c g k h t p q = λ sooner begun.
     let front = p sooner begun in
@@ -108,7 +118,7 @@ gaps_both a b c g k h t p q = λ sooner begun.
       kept_of = back.kept_of;
     }
 
-pub gaps_part : (a b : GapsValue) (piece : List ℕ) → Gathers a piece (Ok (length piece, false)) b
+gaps_part : (a b : GapsValue) (piece : List ℕ) → Gathers a piece (Ok (length piece, false)) b
     → GivesByGaps a piece [] b
 gaps_part a b piece fed = λ sooner begun. record {
   between = [];
@@ -120,11 +130,11 @@ gaps_part a b piece fed = λ sooner begun. record {
       ∙ ap (λ (front : List ℕ). take KEPT (front ++ piece)) begun ∙ take_of_front KEPT sooner piece;
 }
 
-pub gaps_whole : (a b : GapsValue) (piece : List ℕ) → Gathers a piece (Ok (length piece, true)) b
+gaps_whole : (a b : GapsValue) (piece : List ℕ) → Gathers a piece (Ok (length piece, true)) b
     → GivesByGaps a piece (b.complete ∷ []) b
 gaps_whole a b piece fed = let clash : true ≡ false = fed.1 in absurd cc
 
-pub gaps_gap : (a b : GapsValue) → EndsAtGap a true b → GivesByGaps a [] (b.complete ∷ []) b
+gaps_gap : (a b : GapsValue) → EndsAtGap a true b → GivesByGaps a [] (b.complete ∷ []) b
 gaps_gap a b (some, is) = λ sooner begun. record {
   between = sooner ∷ [];
   later = [];
@@ -132,4 +142,13 @@ gaps_gap a b (some, is) = λ sooner begun. record {
   some = (λ none. some (begun ∙ ap (take KEPT) none), tt);
   first = ap (λ (v : GapsValue). v.complete ∷ []) is ∙ ap (λ (l : List ℕ). l ∷ []) begun;
   kept_of = ap (λ (v : GapsValue). v.begun) is;
+}
+
+pub gaps_fit : Fits Gathers EndsAtGap (λ (gaps : GapsValue). gaps.complete) GivesByGaps
+gaps_fit = record {
+  nothing = gaps_nothing;
+  both = gaps_both;
+  part = gaps_part;
+  whole = gaps_whole;
+  gap = gaps_gap;
 }

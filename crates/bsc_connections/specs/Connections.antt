@@ -1,12 +1,14 @@
 -- What a read and a transmission do to one connection.
 use Rattle.std.specs.Prelude.{⊤, ◌≡◌, ◌⊎◌, ℕ, Bool, true, false, List, length, Option, None, Some}
-use Rattle.std.specs.Prelude.{Result, Ok}
+use Rattle.std.specs.Prelude.{Ok}
 use Rattle.std.specs.Io.KnownBytes.{Appends, Consumes, Keeps}
-use Rattle.bsc_carrier.specs.declared.error.CarrierError.{CarrierError}
+use Rattle.std.specs.declared.io.Read as read
 use Rattle.bsc_connections.specs.declared.connection.Taken.{Taken}
 use Rattle.bsc_connections.specs.declared.connection.Taken.TheVariants.{Nothing, Interrupted, Part}
 use Rattle.bsc_connections.specs.declared.connection.Taken.TheVariants.{Whole}
 use Rattle.bsc_connections.specs.declared.connection.Taken.TheVariants.{Closed}
+use Rattle.bsc_connections.specs.declared.framing.Framing as framing_of
+use Rattle.bsc_connections.specs.Parts.{ConnectionParts}
 
 -- The two directions of a connection while it is open, and its framing.
 pub record ConnectionValue (R W F : Type 0) : Type 0 where
@@ -30,59 +32,67 @@ GivesNoOctets Part = ⊥
 GivesNoOctets Whole = ⊥
 GivesNoOctets _ = ⊤
 
--- What a reader has left to give, and what feeding a piece does.
-module _ {R F : Type 0} (remaining : R → Option (List ℕ))
-    (feeds : F → List ℕ → Result (ℕ × Bool) CarrierError → F → Type 0) where
+-- A reader, and the framing that is fed what it gives.
+pub record Input (R F : Type 0) : Type 0 where
+  pub reader : R
+  pub framing : F
+
+-- The reader of a connection and its framing, by what is known of them.
+module _ {R F : Type 0} (reading : read.Ghosts R) (framing : framing_of.Ghosts F) where
   -- Nothing was read.
-  abbrev pub ReadsNothing : R → F → R → F → Type 0
-  ReadsNothing before held after holds = Keeps (remaining before) (remaining after) × (holds ≡ held)
+  abbrev pub ReadsNothing : Input R F → Input R F → Type 0
+  ReadsNothing old new =
+      Keeps (reading.remaining old.reader) (reading.remaining new.reader)
+      × (new.framing ≡ old.framing)
 
   -- A piece was read and fed. The flag says whether it ended a transmission.
-  abbrev pub ReadsPiece : Bool → R → F → R → F → Type 0
-  ReadsPiece whole before held after holds =
-      (piece : List ℕ) × Consumes (remaining before) (remaining after) piece
-      × feeds held piece (Ok (length piece, whole)) holds
+  abbrev pub ReadsPiece : Bool → Input R F → Input R F → Type 0
+  ReadsPiece whole old new =
+      (piece : List ℕ)
+      × Consumes (reading.remaining old.reader) (reading.remaining new.reader) piece
+      × framing.feeds old.framing piece (Ok (length piece, whole)) new.framing
 
   -- What one read does to the reader and the framing; nothing is said of a read that closes.
-  abbrev pub Reads : Taken → R → F → R → F → Type 0
-  Reads Nothing before held after holds = ReadsNothing before held after holds
-  Reads Interrupted before held after holds = ReadsNothing before held after holds
-  Reads Part before held after holds = ReadsPiece false before held after holds
-  Reads Whole before held after holds = ReadsPiece true before held after holds
-  Reads (Closed why) before held after holds = ⊤
+  abbrev pub Reads : Taken → Input R F → Input R F → Type 0
+  Reads Nothing old new = ReadsNothing old new
+  Reads Interrupted old new = ReadsNothing old new
+  Reads Part old new = ReadsPiece false old new
+  Reads Whole old new = ReadsPiece true old new
+  Reads (Closed why) old new = ⊤
 
+module _ {R W F : Type 0} (parts : ConnectionParts R W F) where
   -- A read of a connection that was open before it and is open after it.
-  pub record TakesOpen {W : Type 0} (taken : Taken) (old new : ConnectionValue R W F) : Type 0 where
+  pub record TakesOpen (taken : Taken) (old new : ConnectionValue R W F) : Type 0 where
     pub before : R
     pub after : R
     pub writer : W
     pub was_open : old.ends ≡ Some (before, writer)
     pub stays_open : new.ends ≡ Some (after, writer)
-    pub reads : Reads taken before old.framing after new.framing
+    pub reads : Reads parts.reader parts.framing taken
+        (record { reader = before; framing = old.framing })
+        (record { reader = after; framing = new.framing })
 
   -- A read of a connection. A connection that is closed gives nothing, but a read may report that
   -- it is closed.
-  abbrev pub Takes : {W : Type 0} → ConnectionValue R W F → Taken → ConnectionValue R W F → Type 0
+  abbrev pub Takes : ConnectionValue R W F → Taken → ConnectionValue R W F → Type 0
   Takes old (Closed why) new = new.ends ≡ None
   Takes old Nothing new = ((old.ends ≡ None) × (new ≡ old)) ⊎ TakesOpen Nothing old new
   Takes old taken new = TakesOpen taken old new
 
-module _ {R W F : Type 0} where
-  -- What a writer holds, and the octets that carry a transmission on a connection.
-  module _ (contents : W → Option (List ℕ)) (framed : List ℕ → List ℕ) where
-    -- The octets that carry the transmission were written, and the connection stays open.
-    pub record Writes (octets : List ℕ) (old new : ConnectionValue R W F) : Type 0 where
-      pub reader : R
-      pub before : W
-      pub after : W
-      pub was_open : old.ends ≡ Some (reader, before)
-      pub stays_open : new.ends ≡ Some (reader, after)
-      pub written : Appends (contents before) (contents after) (framed octets)
-      pub held : new.framing ≡ old.framing
+  -- The octets that carry the transmission were written, and the connection stays open.
+  pub record Writes (octets : List ℕ) (old new : ConnectionValue R W F) : Type 0 where
+    pub reader : R
+    pub before : W
+    pub after : W
+    pub was_open : old.ends ≡ Some (reader, before)
+    pub stays_open : new.ends ≡ Some (reader, after)
+    pub written : Appends (parts.writer.contents before) (parts.writer.contents after)
+        (parts.framing.framed octets)
+    pub held : new.framing ≡ old.framing
 
-    -- A transmission is sent on a connection. Nothing happens if it is closed; if it is open the
-    -- transmission is written, or a write fails and the connection is closed.
-    abbrev pub Sends : List ℕ → ConnectionValue R W F → ConnectionValue R W F → Type 0
-    Sends octets old new =
-        ((old.ends ≡ None) × (new ≡ old))
-        ⊎ (Writes octets old new ⊎ ((new.ends ≡ None) × (new.framing ≡ old.framing)))
+  -- A transmission is sent on a connection. Nothing happens if it is closed; if it is open the
+  -- transmission is written, or a write fails and the connection is closed.
+  abbrev pub Sends : List ℕ → ConnectionValue R W F → ConnectionValue R W F → Type 0
+  Sends octets old new =
+      ((old.ends ≡ None) × (new ≡ old))
+      ⊎ (Writes octets old new ⊎ ((new.ends ≡ None) × (new.framing ≡ old.framing)))

@@ -1,4 +1,5 @@
 pub mod Framings
+pub mod Parts
 pub mod Connections
 pub mod Histories
 pub mod Attending

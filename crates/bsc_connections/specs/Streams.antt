@@ -1,18 +1,16 @@
 -- What the streams of one connection carry in a session.
-use Rattle.std.specs.Prelude.{◌≡◌, ◌≢◌, ◌⊎◌, ℕ, Bool, List, [], ◌∷◌, ◌++◌, map, take, Option, None}
+use Rattle.std.specs.Prelude.{◌≡◌, ◌≢◌, ◌⊎◌, ℕ, List, [], ◌∷◌, ◌++◌, map, take, None}
 use Rattle.std.specs.Prelude.{Some, Result, slice_get}
 use Rattle.std.specs.List.{AllByRecursion, concat, flat_map}
 use Rattle.std.specs.Io.KnownBytes.{Appends, Consumes}
-use Rattle.bsc_frame.specs.declared.message.Message.{Message}
-use Rattle.bsc_frame.specs.declared.message.Heard.{Heard}
 use Rattle.bsc_carrier.specs.Front.{BeginsRecord}
 use Rattle.bsc_carrier.specs.Record.{IsCarried, socket_record}
 use Rattle.bsc_carrier.specs.Stream.{Splits}
-use Rattle.bsc_carrier.specs.declared.error.CarrierError.{CarrierError}
 use Rattle.bsc_connections.specs.declared.awaited.Awaited.{Awaited}
 use Rattle.bsc_connections.specs.declared.awaited.Wait.{Wait}
 use Rattle.bsc_connections.specs.declared.awaited.LiveError.{LiveError}
 use Rattle.bsc_connections.specs.declared.socket_records.SocketRecords.{SocketRecords}
+use Rattle.bsc_connections.specs.Parts.{ConnectionParts, SessionParts}
 use Rattle.bsc_connections.specs.Connections.{ConnectionValue}
 use Rattle.bsc_connections.specs.declared.limits.TheConstants.{KEPT}
 use Rattle.bsc_connections.specs.Framings.{GapsValue}
@@ -48,71 +46,72 @@ abbrev pub GivesByGaps : GapsValue → List ℕ → List (List ℕ) → GapsValu
 GivesByGaps old given heard new =
     (sooner : List ℕ) → old.begun ≡ take KEPT sooner → CutsAtGaps (sooner ++ given) heard new.begun
 
--- A connection was open and is open. Its reader gave some octets, from which these transmissions
--- were heard. The octets that carry the transmissions that were sent were written to its writer,
--- each once and in order.
-pub record Carries {R W F : Type 0} (remaining : R → Option (List ℕ))
-    (contents : W → Option (List ℕ)) (framed : List ℕ → List ℕ)
-    (gives : F → List ℕ → List (List ℕ) → F → Type 0)
-    (heard sent : List (List ℕ)) (old new : ConnectionValue R W F) : Type 0 where
-  pub reader_before : R
-  pub reader_now : R
-  pub writer_before : W
-  pub writer_now : W
-  pub was_open : old.ends ≡ Some (reader_before, writer_before)
-  pub is_open : new.ends ≡ Some (reader_now, writer_now)
-  pub given : List ℕ
-  pub read : Consumes (remaining reader_before) (remaining reader_now) given
-  pub heard_of : gives old.framing given heard new.framing
-  pub written : Appends (contents writer_before) (contents writer_now) (flat_map framed sent)
+-- The transmissions that a connection carried: those that were heard from it, and those that were
+-- sent on it.
+pub record Carried : Type 0 where
+  pub heard : List (List ℕ)
+  pub sent : List (List ℕ)
 
-module _ {R W F : Type 0} (remaining : R → Option (List ℕ)) (contents : W → Option (List ℕ))
-    (framed : List ℕ → List ℕ) (gives : F → List ℕ → List (List ℕ) → F → Type 0) where
+-- All that a history has of one place: what was heard there, and all that was sent.
+abbrev pub carried_at : ℕ → List Happening → Carried
+carried_at place history = record { heard = heard_at place history; sent = all_sent history }
+
+module _ {R W F : Type 0} (parts : ConnectionParts R W F)
+    (gives : F → List ℕ → List (List ℕ) → F → Type 0) where
+  -- A connection was open and is open. Its reader gave some octets, from which these transmissions
+  -- were heard. The octets that carry the transmissions that were sent were written to its writer,
+  -- each once and in order.
+  pub record Carries (carried : Carried) (old new : ConnectionValue R W F) : Type 0 where
+    pub reader_before : R
+    pub reader_now : R
+    pub writer_before : W
+    pub writer_now : W
+    pub was_open : old.ends ≡ Some (reader_before, writer_before)
+    pub is_open : new.ends ≡ Some (reader_now, writer_now)
+    pub given : List ℕ
+    pub read : Consumes (parts.reader.remaining reader_before) (parts.reader.remaining reader_now)
+        given
+    pub heard_of : gives old.framing given carried.heard new.framing
+    pub written : Appends (parts.writer.contents writer_before) (parts.writer.contents writer_now)
+        (flat_map parts.framing.framed carried.sent)
+
   -- The connection at this place was open, and carried these transmissions.
-  abbrev pub CarriedAt : ℕ → List (List ℕ) → List (List ℕ) → List (ConnectionValue R W F)
-      → ConnectionValue R W F → Type 0
-  CarriedAt place heard sent before now =
-      (was : ConnectionValue R W F) × (slice_get before place ≡ Some was)
-      × Carries remaining contents framed gives heard sent was now
+  abbrev pub CarriedAt : ℕ → Carried → List (ConnectionValue R W F) → ConnectionValue R W F
+      → Type 0
+  CarriedAt place carried before now =
+      (was : ConnectionValue R W F) × (slice_get before place ≡ Some was) × Carries carried was now
 
   -- Nobody joined at this place: the connection was open from the start, and its streams carried
   -- everything the history has of it.
   abbrev pub CarriesFromStart : ℕ → List Happening → List (ConnectionValue R W F)
       → ConnectionValue R W F → Type 0
   CarriesFromStart place history before now =
-      NobodyJoins place history
-      × CarriedAt place (heard_at place history) (all_sent history) before now
+      NobodyJoins place history × CarriedAt place (carried_at place history) before now
 
   -- A peer joined at this place, and none after it. Nothing had arrived from it then, and the
   -- streams of its connection carried everything the history has of it since.
-  pub record CarriesSinceJoining (starts : F → Type 0) (place : ℕ) (history : List Happening)
+  pub record CarriesSinceJoining (place : ℕ) (history : List Happening)
       (now : ConnectionValue R W F) : Type 0 where
     pub sooner : List Happening
     pub later : List Happening
     pub is : history ≡ sooner ++ HasJoined place ∷ later
     pub last : NobodyJoins place later
     pub joined : ConnectionValue R W F
-    pub nothing_arrived : starts joined.framing
-    pub carries : Carries remaining contents framed gives (heard_at place later) (all_sent later)
-        joined now
+    pub nothing_arrived : parts.framing.starts joined.framing
+    pub carries : Carries (carried_at place later) joined now
 
 -- In every session, the streams of a connection that is open at its end carried everything the
 -- history has of it and nothing else: what was heard at its place, and all that was sent.
-abbrev pub CarriesHistory : {S R W F T : Type 0} → (F → List ℕ → List (List ℕ) → F → Type 0)
-    → (S → Heard → S → Option Message → Type 0)
-    → (S → S → Option Message → Type 0) → (R → Option (List ℕ)) → (W → Option (List ℕ))
-    → (F → Type 0) → (F → List ℕ → Result (ℕ × Bool) CarrierError → F → Type 0)
-    → (F → Bool → F → Type 0) → (F → Bool) → (F → List ℕ) → (List ℕ → List ℕ)
+abbrev pub CarriesHistory : {S R W F T : Type 0} → SessionParts S R W F
+    → (F → List ℕ → List (List ℕ) → F → Type 0)
     → (T → Wait → Result Awaited LiveError → T → Type 0) → Type 0
-CarriesHistory {S} {R} {W} {F} {T} gives hears acts remaining contents starts feeds ends awaits last
-    framed waits =
+CarriesHistory {S} {R} {W} {F} {T} parts gives waits =
     (old new : Attended S (ConnectionValue R W F) T) (history : List Happening)
     (place : ℕ) (now : ConnectionValue R W F)
-    → Attends hears acts remaining contents starts feeds ends awaits last framed waits old history
-    new
+    → Attends parts waits old history new
     → slice_get new.connections place ≡ Some now → now.ends ≢ None
-    → CarriesFromStart remaining contents framed gives place history old.connections now
-    ⊎ CarriesSinceJoining remaining contents framed gives starts place history now
+    → CarriesFromStart parts.connection gives place history old.connections now
+    ⊎ CarriesSinceJoining parts.connection gives place history now
 
 -- If no whole record had begun before, the octets split into the records of what was heard and what
 -- has begun now. A stream splits in only one way, so what was heard is all that the octets contain.

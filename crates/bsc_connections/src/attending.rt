@@ -3,6 +3,7 @@
 ghost use Rattle.std.specs.Prelude.{◌≡◌, ◌<◌, length, List, true, false, is_none, IfSome, IfOk};
 ghost use Rattle.std.specs.Prelude.{OnOk};
 ghost use Rattle.std.specs.List.{AllZip};
+ghost use Rattle.bsc_connections.specs.Parts.{connection_parts, session_parts};
 ghost use Rattle.bsc_connections.specs.Connections.{Sends};
 ghost use Rattle.bsc_connections.specs.Histories.{Happening};
 ghost use Rattle.bsc_connections.specs.Attending.{Attends, StepsOrFails, Does, HearsLast, IsSilent};
@@ -32,8 +33,7 @@ pub fn attend<
     monitor: &mut M,
 ) -> Result<(), LiveError>
     ensures attends { (history : List Happening)
-        × Attends S.hears S.acts R.remaining W.contents F.starts F.feeds F.ends F.awaits F.last
-        F.framed T.waits
+        × Attends (session_parts S.Station R.Read W.Write F.Framing) T.waits
         (record { station = station.old; connections = connections.old; waiter = waiter.old })
         history
         (record { station = station.new; connections = connections.new; waiter = waiter.new }) }
@@ -61,8 +61,7 @@ fn step<
     waiter: &mut T,
     monitor: &mut M,
 ) -> Result<bool, LiveError>
-    ensures steps { StepsOrFails S.hears S.acts R.remaining W.contents F.starts F.feeds F.ends
-        F.awaits F.last F.framed T.waits
+    ensures steps { StepsOrFails (session_parts S.Station R.Read W.Write F.Framing) T.waits
         (record { station = station.old; connections = connections.old; waiter = waiter.old })
         result
         (record { station = station.new; connections = connections.new; waiter = waiter.new }) }
@@ -113,7 +112,8 @@ fn send_all<R: Read + Drop, W: Write + Drop, F: Framing + Drop>(
     connections: &mut [Connection<R, W, F>],
     octets: &[u8],
 )
-    ensures { AllZip (Sends W.contents F.framed octets.now) connections.old connections.new }
+    ensures { AllZip (Sends (connection_parts R.Read W.Write F.Framing) octets.now)
+        connections.old connections.new }
 {
     'connections: for connection in connections.iter_mut() {
         connection.send(octets);
@@ -130,8 +130,9 @@ fn hear_at<S: Station, R: Read + Drop, W: Write + Drop, F: Framing + Drop>(
 ) -> bool
     requires { place < length connections.old }
     ensures hears { (happened : List Happening)
-        × HearsLast W.contents F.framed S.hears F.last place station.old station.new
-        connections.old connections.new happened }
+        × HearsLast (session_parts S.Station R.Read W.Write F.Framing)
+        place (record { station = station.old; connections = connections.old }) happened
+        (record { station = station.new; connections = connections.new }) }
     ensures count { length connections.new ≡ length connections.old }
 {
     let is_sent = station.hear(connections[place].octets(), wire);
@@ -157,9 +158,10 @@ fn read_at<
     monitor: &mut M,
 ) -> Result<bool, LiveError>
     ensures does { (happened : List Happening)
-        × Does S.hears S.acts R.remaining W.contents F.starts F.feeds F.ends F.awaits F.last
-        F.framed (Awaited.Octets connection) station.old station.new
-        connections.old connections.new happened }
+        × Does (session_parts S.Station R.Read W.Write F.Framing)
+        (Awaited.Octets connection)
+        (record { station = station.old; connections = connections.old }) happened
+        (record { station = station.new; connections = connections.new }) }
     ensures ended { IfOk result (λ goes_on. goes_on ≡ false → M.has_ended monitor.new ≡ true) }
 {
     match take_at(connections, connection) {
@@ -182,7 +184,8 @@ fn take_at<R: Read + Drop, W: Write + Drop, F: Framing + Drop>(
     connections: &mut [Connection<R, W, F>],
     place: usize,
 ) -> Taken
-    ensures { IsTakenAt R.remaining F.feeds place connections.old result connections.new }
+    ensures { IsTakenAt (connection_parts R.Read W.Write F.Framing) place
+        connections.old result connections.new }
 {
     if place >= connections.len() {
         return Taken::Nothing;
@@ -200,8 +203,9 @@ fn answer_at<S: Station, R: Read + Drop, W: Write + Drop, F: Framing + Drop, M: 
 ) -> Result<bool, LiveError>
     requires { connection < length connections.old }
     ensures hears { (happened : List Happening)
-        × HearsLast W.contents F.framed S.hears F.last connection station.old station.new
-        connections.old connections.new happened }
+        × HearsLast (session_parts S.Station R.Read W.Write F.Framing)
+        connection (record { station = station.old; connections = connections.old }) happened
+        (record { station = station.new; connections = connections.new }) }
     ensures ended { IfOk result (λ goes_on. goes_on ≡ false → M.has_ended monitor.new ≡ true) }
 {
     let mut wire = Wire::new();
@@ -235,8 +239,9 @@ fn time_out<S: Station, R: Read + Drop, W: Write + Drop, F: Framing + Drop, M: M
     monitor: &mut M,
 ) -> Result<bool, LiveError>
     ensures does { (happened : List Happening)
-        × Does S.hears S.acts R.remaining W.contents F.starts F.feeds F.ends F.awaits F.last
-        F.framed Awaited.TimeOut station.old station.new connections.old connections.new happened }
+        × Does (session_parts S.Station R.Read W.Write F.Framing)
+        Awaited.TimeOut (record { station = station.old; connections = connections.old }) happened
+        (record { station = station.new; connections = connections.new }) }
     ensures ended { IfOk result (λ goes_on. goes_on ≡ false → M.has_ended monitor.new ≡ true) }
 {
     match first_awaiting(connections) {
@@ -257,8 +262,9 @@ fn tell_silence<S: Station, R: Read + Drop, W: Write + Drop, F: Framing + Drop>(
     wire: &mut Wire,
 ) -> bool
     ensures { (happened : List Happening)
-        × IsSilent W.contents F.framed S.acts station.old station.new
-        connections.old connections.new happened }
+        × IsSilent (session_parts S.Station R.Read W.Write F.Framing)
+        (record { station = station.old; connections = connections.old }) happened
+        (record { station = station.new; connections = connections.new }) }
 {
     let is_sent = station.silence(wire);
     if is_sent {
@@ -274,8 +280,9 @@ fn silence<S: Station, R: Read + Drop, W: Write + Drop, F: Framing + Drop, M: Mo
     monitor: &mut M,
 ) -> Result<bool, LiveError>
     ensures silent { (happened : List Happening)
-        × IsSilent W.contents F.framed S.acts station.old station.new
-        connections.old connections.new happened }
+        × IsSilent (session_parts S.Station R.Read W.Write F.Framing)
+        (record { station = station.old; connections = connections.old }) happened
+        (record { station = station.new; connections = connections.new }) }
     ensures ended { IfOk result (λ goes_on. goes_on ≡ false → M.has_ended monitor.new ≡ true) }
 {
     let mut wire = Wire::new();
@@ -314,8 +321,9 @@ fn join<
     monitor: &mut M,
 ) -> Result<bool, LiveError>
     ensures does { (happened : List Happening)
-        × Does S.hears S.acts R.remaining W.contents F.starts F.feeds F.ends F.awaits F.last
-        F.framed Awaited.Newcomer station.old station.new connections.old connections.new happened }
+        × Does (session_parts S.Station R.Read W.Write F.Framing)
+        Awaited.Newcomer (record { station = station.old; connections = connections.old }) happened
+        (record { station = station.new; connections = connections.new }) }
     ensures ended { IfOk result (λ goes_on. goes_on ≡ false → M.has_ended monitor.new ≡ true) }
 {
     let Some(connection) = first_closed(connections) else {

@@ -1,6 +1,7 @@
 //! One connection of a station.
 
-ghost use Rattle.std.specs.Prelude.{◌≡◌, ◌≤◌, None, Some, not, is_none, length};
+ghost use Rattle.std.specs.Prelude.{◌≡◌, None, Some, not, is_none};
+ghost use Rattle.bsc_connections.specs.Parts.{connection_parts};
 ghost use Rattle.bsc_connections.specs.Connections.{Takes, Sends, Reads, IsClosed};
 ghost use Rattle.bsc_connections.specs.Connections.{IsClosedOrNothing};
 ghost use Rattle.bsc_connections.specs.Connections.{GivesNoOctets};
@@ -44,6 +45,9 @@ pub struct Connection<R, W, F> {
 
     /// Whether a write failed that no read has reported yet.
     is_untold: bool,
+
+    /// The octets of the last read.
+    read: [u8; MAX_READ],
 }
 
 impl<R, W, F> Model for Connection<R, W, F> {
@@ -64,6 +68,7 @@ impl<R: Read + Drop, W: Write + Drop, F: Framing + Drop> Connection<R, W, F> {
             ends: Some((reader, writer)),
             framing: F::new(),
             is_untold: false,
+            read: [0; MAX_READ],
         }
     }
 
@@ -99,14 +104,12 @@ impl<R: Read + Drop, W: Write + Drop, F: Framing + Drop> Connection<R, W, F> {
 
     /// Reads once, at most as many octets as the framing wants.
     pub(crate) fn take(&mut self) -> Taken
-        ensures { Takes R.remaining F.feeds self.old result self.new }
+        ensures { Takes (connection_parts R.Read W.Write F.Framing) self.old result self.new }
     {
-        let mut room = [0u8; MAX_READ];
-        let wanted = self.framing.wanted().min(MAX_READ);
         let Some((reader, _)) = &mut self.ends else {
             return self.take_closed();
         };
-        let taken = read_into(reader, &mut self.framing, &mut room[..wanted]);
+        let taken = read_into(reader, &mut self.framing, self.read.as_mut_slice());
         if let Taken::Closed { .. } = taken {
             self.ends = None;
         }
@@ -132,7 +135,8 @@ impl<R: Read + Drop, W: Write + Drop, F: Framing + Drop> Connection<R, W, F> {
     /// Sends a transmission if the connection is open. A write that fails closes the connection;
     /// the next read reports it.
     pub(crate) fn send(&mut self, octets: &[u8])
-        ensures { Sends W.contents F.framed octets.now self.old self.new }
+        ensures { Sends (connection_parts R.Read W.Write F.Framing) octets.now self.old
+            self.new }
     {
         let Some((_, writer)) = &mut self.ends else {
             return;
@@ -144,12 +148,15 @@ impl<R: Read + Drop, W: Write + Drop, F: Framing + Drop> Connection<R, W, F> {
     }
 }
 
-/// Reads once, at most as many octets as there is room for, and feeds them to the framing.
+/// Reads once, at most as many octets as the framing wants and there is room for, and feeds them to
+/// the framing.
 fn read_into<R: Read, F: Framing>(reader: &mut R, framing: &mut F, room: &mut [u8]) -> Taken
-    requires { length room.old ≤ F.room framing.old }
-    ensures { Reads R.remaining F.feeds result reader.old framing.old reader.new framing.new }
+    ensures { Reads R.Read F.Framing result
+        (record { reader = reader.old; framing = framing.old })
+        (record { reader = reader.new; framing = framing.new }) }
 {
-    match reader.read(room) {
+    let wanted = framing.wanted().min(room.len());
+    match reader.read(&mut room[..wanted]) {
         Ok(0) => ended(framing),
         Ok(count) => match framing.feed(&room[..count]) {
             Ok((_, true)) => Taken::Whole,

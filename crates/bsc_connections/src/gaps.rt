@@ -2,8 +2,7 @@
 
 use crate::Framing;
 use crate::limits::{KEPT, MAX_READ, MOST_WITHOUT_GAP};
-use arrayvec::ArrayVec;
-use bsc_carrier::CarrierError;
+use bsc_carrier::{CarrierError, TwoBuffers};
 use std::io::Write;
 use std::marker::Model;
 
@@ -13,12 +12,11 @@ use std::marker::Model;
 /// gap.
 #[derive(Drop)]
 pub struct Gaps {
-    /// The octets that arrived since the last gap, at most the first 2,049.
-    begun: ArrayVec<u8, KEPT>,
+    /// The octets that arrived since the last gap, and those of the last transmission that a gap
+    /// ended, at most the first 2,049 of each.
+    octets: TwoBuffers<KEPT>,
     /// The number of octets that arrived since the last gap.
     arrived: usize,
-    /// The octets of the last transmission that a gap ended, at most the first 2,049.
-    complete: ArrayVec<u8, KEPT>,
 }
 
 impl Model for Gaps {
@@ -29,9 +27,9 @@ impl Model for Gaps {
     ghost Value = { GapsValue };
 
     ghost view = { λ g. record {
-      begun = g.begun.items;
+      begun = g.octets.begun;
       arrived = g.arrived;
-      complete = g.complete.items;
+      complete = g.octets.complete;
     } };
 
     ghost invariant = { λ g. g.arrived ≤ MOST_WITHOUT_GAP };
@@ -58,9 +56,8 @@ impl Framing for Gaps {
 
     fn new() -> Gaps {
         Gaps {
-            begun: ArrayVec::new(),
+            octets: TwoBuffers::new(),
             arrived: 0,
-            complete: ArrayVec::new(),
         }
     }
 
@@ -68,30 +65,28 @@ impl Framing for Gaps {
         MAX_READ
     }
 
-    #[tactic(auto, using(crate::proofs::Kept::kept_of_both))]
+    #[tactic(auto, using(crate::proofs::Kept::take_of_appended))]
     fn feed(&mut self, piece: &[u8]) -> Result<(usize, bool), CarrierError> {
         if piece.len() > MOST_WITHOUT_GAP - self.arrived {
             return Err(CarrierError::Length);
         }
-        let kept = (KEPT - self.begun.len()).min(piece.len());
-        self.begun.try_extend_from_slice(&piece[..kept]).unwrap();
+        let kept = (KEPT - self.octets.begun().len()).min(piece.len());
+        self.octets.append(&piece[..kept]);
         self.arrived += piece.len();
         Ok((piece.len(), false))
     }
 
     fn gap(&mut self) -> bool {
-        if self.begun.is_empty() {
+        if self.octets.begun().is_empty() {
             return false;
         }
-        self.complete.clear();
-        self.complete.try_extend_from_slice(&self.begun).unwrap();
-        self.begun.clear();
+        self.octets.turn();
         self.arrived = 0;
         true
     }
 
     fn awaits_gap(&self) -> bool {
-        !self.begun.is_empty()
+        !self.octets.begun().is_empty()
     }
 
     /// Returns false: a transmission that has begun ends when the input ends.
@@ -100,7 +95,7 @@ impl Framing for Gaps {
     }
 
     fn octets(&self) -> &[u8] {
-        self.complete.as_slice()
+        self.octets.complete()
     }
 
     fn write<W: Write>(writer: &mut W, octets: &[u8]) -> Result<(), CarrierError> {

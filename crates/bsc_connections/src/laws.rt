@@ -4,6 +4,7 @@
 ghost use Rattle.std.specs.Prelude.{◌≡◌, ℕ, ◌+◌, ◌≤◌, Bool, true, [], List, length};
 ghost use Rattle.std.specs.List.{concat};
 ghost use Rattle.bsc_connections.specs.Framings.{GapsValue, GathersAll, ArriveBetweenGaps, EndsAll};
+ghost use Rattle.bsc_connections.specs.Parts.{session_parts};
 ghost use Rattle.bsc_connections.specs.Silences.{TellsEachSilence};
 ghost use Rattle.bsc_connections.specs.declared.socket_records.SocketRecords.{SocketRecords as RecordsValue};
 ghost use Rattle.bsc_connections.specs.Streams.{CarriesHistory, GivesRecords, GivesByGaps};
@@ -39,10 +40,9 @@ pub fn gaps()
 /// its input, in order; a record that has begun is kept over time-outs; and one record of each
 /// transmission that was sent was written to its output, in order.
 pub fn streams<S: Station, R: Read + Drop, W: Write + Drop, T: Waiter<R, W>>()
-    ensures history { CarriesHistory GivesRecords S.hears S.acts R.remaining W.contents
-        ⟦<SocketRecords as Framing>⟧.starts ⟦<SocketRecords as Framing>⟧.feeds
-        ⟦<SocketRecords as Framing>⟧.ends ⟦<SocketRecords as Framing>⟧.awaits
-        ⟦<SocketRecords as Framing>⟧.last ⟦<SocketRecords as Framing>⟧.framed T.waits }
+    ensures history { CarriesHistory
+        (session_parts S.Station R.Read W.Write ⟦<SocketRecords as Framing>⟧)
+        GivesRecords T.waits }
     ensures records { (old new : RecordsValue) (given : List ℕ) (heard : List (List ℕ))
         → SplitsAll old given heard new }
 {}
@@ -53,15 +53,12 @@ pub fn streams<S: Station, R: Read + Drop, W: Write + Drop, T: Waiter<R, W>>()
 /// first 2,049 of each; and the octets of each transmission that was sent were written to its
 /// output, in order.
 pub fn streams_by_gaps<S: Station, R: Read + Drop, W: Write + Drop, T: Waiter<R, W>>()
-    ensures { CarriesHistory GivesByGaps S.hears S.acts R.remaining W.contents
-        ⟦<Gaps as Framing>⟧.starts ⟦<Gaps as Framing>⟧.feeds ⟦<Gaps as Framing>⟧.ends
-        ⟦<Gaps as Framing>⟧.awaits ⟦<Gaps as Framing>⟧.last ⟦<Gaps as Framing>⟧.framed
-        T.waits }
+    ensures { CarriesHistory (session_parts S.Station R.Read W.Write ⟦<Gaps as Framing>⟧)
+        GivesByGaps T.waits }
 {}
 
 /// A step of a session has one silence if the time passed while no transmission had begun that a
 /// gap would end, and none otherwise. In that state a wait is for a time-out.
 pub fn silences<S: Station, R: Read + Drop, W: Write + Drop, F: Framing + Drop, T: Waiter<R, W>>()
-    ensures { TellsEachSilence S.hears S.acts R.remaining W.contents F.starts F.feeds F.ends
-        F.awaits F.last F.framed T.waits }
+    ensures { TellsEachSilence (session_parts S.Station R.Read W.Write F.Framing) T.waits }
 {}

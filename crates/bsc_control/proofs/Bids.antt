@@ -17,10 +17,13 @@ use Rattle.bsc_control.specs.Kept.{outbound_of, phase_of, HasSettings, Keeps, Is
 use Rattle.bsc_control.specs.Peer.{OutboundValue, PeerValue, no_outbound, no_peer, outbound_at}
 use Rattle.bsc_control.specs.Peer.{with_outbound, outbound_after, is_selectable}
 use Rattle.bsc_control.specs.Table.{act_step, bid_step, next_call_step}
-use Rattle.bsc_control.proofs.Calls.{IsCalm, KeepsSpools, HasShape, shape, places, same_places, current_there}
+use Rattle.bsc_control.proofs.Calls.{IsWithoutBid, KeepsSpools, HasShape, shape_of_entries, places}
+use Rattle.bsc_control.proofs.Calls.{places_of_same_list, current_within_peers}
 use Rattle.bsc_control.proofs.Calls.{keeps_spools_next_call_step, next_is_called}
-use Rattle.bsc_control.proofs.PeerLists.{same_at, same_map, holds_at}
-use Rattle.bsc_control.proofs.Replacing.{replaced, same_of, same_lengths, settings_replaced}
+use Rattle.bsc_control.proofs.PeerLists.{value_kept_by_set, map_kept_by_set, holds_after_set}
+use Rattle.bsc_control.proofs.Replacing.{replaced, unchanged_by_replacement}
+use Rattle.bsc_control.proofs.Replacing.{outbounds_kept_by_replacement}
+use Rattle.bsc_control.proofs.Replacing.{settings_replaced}
 use Rattle.bsc_control.proofs.SenderSteps.{LeavesPhase, KeepsAndLeaves}
 
 -- the station once the sender to a selection address of the present terminal and its queue are
@@ -34,10 +37,10 @@ pub record OutboundKeeps (old new : OutboundValue) : Type 0 where
   pub format : new.queue.format ≡ old.queue.format
   pub offered : new.queue.offered ≡ old.queue.offered
 
-pub same_spools : (c : ControlValue) (s : ℕ) (o : OutboundValue) (t : ℕ)
+pub spools_kept_by_step : (c : ControlValue) (s : ℕ) (o : OutboundValue) (t : ℕ)
     → (peer_at (stepped c s o) t).spool ≡ (peer_at c t).spool
-same_spools c s o t =
-    same_at (λ (p : PeerValue). p.spool) c.peers (current c) t (with_outbound (peer c) s o) no_peer
+spools_kept_by_step c s o t =
+    value_kept_by_set (λ (p : PeerValue). p.spool) c.peers (current c) t (with_outbound (peer c) s o) no_peer
     refl
 
 pub keeps_stepped : (c : ControlValue) (s : ℕ) (o : OutboundValue)
@@ -47,11 +50,11 @@ keeps_stepped c s o k =
       setup = refl;
       poll_list = refl;
       terminals =
-          same_map (λ (p : PeerValue). p.terminal) c.peers (current c) (with_outbound (peer c) s o)
+          map_kept_by_set (λ (p : PeerValue). p.terminal) c.peers (current c) (with_outbound (peer c) s o)
           no_peer refl;
       peers = length-set c.peers (current c) (with_outbound (peer c) s o);
-      outbounds = same_lengths c (current c) s o;
-      offered = same_of (λ (x : OutboundValue). x.queue.offered) c (current c) s o k.offered;
+      outbounds = outbounds_kept_by_replacement c (current c) s o;
+      offered = unchanged_by_replacement (λ (x : OutboundValue). x.queue.offered) c (current c) s o k.offered;
     }
 
 settings_stepped : (c : ControlValue) (s : ℕ) (o : OutboundValue)
@@ -76,9 +79,9 @@ phases_stepped : (P : ℕ → ℕ → Phase → Type 0) (c : ControlValue) (s : 
     → ((t k : ℕ) → ((t ≡ current c) × (k ≡ s) → ⊥) → P t k (phase_of c t k))
     → (t k : ℕ) → P t k (phase_of (stepped c s o) t k)
 phases_stepped P c s o within there new others t k =
-    holds_at (λ (j : ℕ) (p : PeerValue). (i : ℕ) → P j i (outbound_at p i).sender.phase) c.peers
+    holds_after_set (λ (j : ℕ) (p : PeerValue). (i : ℕ) → P j i (outbound_at p i).sender.phase) c.peers
     (current c) (with_outbound (peer c) s o) no_peer
-    (holds_at (λ (i : ℕ) (x : OutboundValue). P (current c) i x.sender.phase) (peer c).outbounds s o
+    (holds_after_set (λ (i : ℕ) (x : OutboundValue). P (current c) i x.sender.phase) (peer c).outbounds s o
     no_outbound new (λ le. absurd (omega (arith, le, there)))
     (λ i ne. others (current c) i (λ e. ne e.1)))
     (λ le. absurd (omega (arith, le, within)))
@@ -93,14 +96,14 @@ pub record OthersRest (c : ControlValue) (s : ℕ) : Type 0 where
   pub settings : (t k : ℕ) → k < length (peer_at c t).outbounds → HasSettings c (outbound_of c t k)
 
 -- the sender ended its bid
-pub calm_stepped : (c : ControlValue) (s : ℕ) (o : OutboundValue) → OthersRest c s
+pub without_bid_stepped : (c : ControlValue) (s : ℕ) (o : OutboundValue) → OthersRest c s
     → OutboundKeeps (outbound_of c (current c) s) o → IsAtRest o.sender.phase
-    → IsCalm (stepped c s o)
-calm_stepped c s o h keeps rests =
+    → IsWithoutBid (stepped c s o)
+without_bid_stepped c s o h keeps rests =
     record {
       rests =
           phases_stepped (λ (t k : ℕ) (phase : Phase). IsAtRest phase) c s o
-          (current_there c (places c h.entries)) h.there rests h.rests;
+          (current_within_peers c (places c h.entries)) h.there rests h.rests;
       settings = settings_stepped c s o keeps h.settings;
     }
 
@@ -109,7 +112,7 @@ pub keeps_spools_goes_on : (c : ControlValue) (s : ℕ) (o : OutboundValue) → 
     → OutboundKeeps (outbound_of c (current c) s) o → IsGoing o.sender.phase
     → KeepsSpools c (record (stepped c s o) { task = Sending s })
 keeps_spools_goes_on c s o h keeps goes =
-    let within = current_there c (places c h.entries) in
+    let within = current_within_peers c (places c h.entries) in
     let kept : Keeps c (stepped c s o) = keeps_stepped c s o keeps in
     record {
       keeps =
@@ -126,7 +129,7 @@ keeps_spools_goes_on c s o h keeps goes =
             suits =
                 record {
                   there =
-                      subst (λ (n : ℕ). s < n) (sym (same_lengths c (current c) s o (current c)))
+                      subst (λ (n : ℕ). s < n) (sym (outbounds_kept_by_replacement c (current c) s o (current c)))
                       h.there;
                   going =
                       subst (λ (x : OutboundValue). IsGoing x.sender.phase)
@@ -145,7 +148,7 @@ keeps_spools_goes_on c s o h keeps goes =
                 settings_stepped c s o keeps h.settings t k there in
                 record { setup = was.setup; format = was.format };
           };
-      spools = same_spools c s o;
+      spools = spools_kept_by_step c s o;
     }
 
 pub keeps_spools_after : (a b c : ControlValue) → Keeps a b
@@ -178,8 +181,8 @@ keeps_spools_perform_step c s o a.Enq after h keeps phase quiet =
     keeps_spools_goes_on c s o h keeps phase
 keeps_spools_perform_step c s o a.Over after h keeps phase quiet =
     keeps_spools_after c (stepped c s o) (act_step (stepped c s o) s a.Over after).control
-    (keeps_stepped c s o keeps) (same_spools c s o)
-    (keeps_spools_next_call_step (stepped c s o) after (calm_stepped c s o h keeps phase))
+    (keeps_stepped c s o keeps) (spools_kept_by_step c s o)
+    (keeps_spools_next_call_step (stepped c s o) after (without_bid_stepped c s o h keeps phase))
 keeps_spools_perform_step c s o a.Quiet after h keeps phase quiet =
     subst (λ (task : Task). KeepsSpools c (record (stepped c s o) { task = task }))
     (sym (quiet refl)) (keeps_spools_goes_on c s o h keeps phase)
@@ -202,21 +205,21 @@ shape_stepped c s o h =
     let lengths : length (stepped c s o).peers ≡ length c.peers =
     length-set c.peers (current c) (with_outbound (peer c) s o) in
     record {
-      places = same_places c (stepped c s o) refl refl lengths h.places;
+      places = places_of_same_list c (stepped c s o) refl refl lengths h.places;
       lengths =
           λ t within.
-          same_lengths c (current c) s o t ∙ h.lengths t (subst (λ (n : ℕ). t < n) lengths within)
-          ∙ sym (same_at (λ (p : PeerValue). length p.terminal.selects) c.peers (current c) t
+          outbounds_kept_by_replacement c (current c) s o t ∙ h.lengths t (subst (λ (n : ℕ). t < n) lengths within)
+          ∙ sym (value_kept_by_set (λ (p : PeerValue). length p.terminal.selects) c.peers (current c) t
           (with_outbound (peer c) s o) no_peer refl);
     }
 
 -- a bid to selection address s changes nothing that the next call depends on
-next_stepped : (c : ControlValue) (s : ℕ) (o : OutboundValue) (after : After)
+next_call_kept_by_step : (c : ControlValue) (s : ℕ) (o : OutboundValue) (after : After)
     → (after ≡ Selection s) ⊎ (after ≡ Interruption) → next_call (stepped c s o) after
     ≡ next_call c after
-next_stepped c s o after (inl e) =
+next_call_kept_by_step c s o after (inl e) =
     let above : drop (s + 1) (peer (stepped c s o)).outbounds ≡ drop (s + 1) (peer c).outbounds =
-    same_at (λ (p : PeerValue). drop (s + 1) p.outbounds) c.peers (current c) (current c)
+    value_kept_by_set (λ (p : PeerValue). drop (s + 1) p.outbounds) c.peers (current c) (current c)
     (with_outbound (peer c) s o) no_peer
     (drop-set-lt (s + 1) (peer c).outbounds s o (omega arith)) in
     let same : next_call (stepped c s o) (Selection s) ≡ next_call c (Selection s) =
@@ -226,7 +229,7 @@ next_stepped c s o after (inl e) =
           way_at (s + 1) (position is_selectable os);
     }) above in
     subst (λ (x : After). next_call (stepped c s o) x ≡ next_call c x) (sym e) same
-next_stepped c s o after (inr e) =
+next_call_kept_by_step c s o after (inr e) =
     subst (λ (x : After). next_call (stepped c s o) x ≡ next_call c x) (sym e) refl
 
 -- a call after a bid is the next one
@@ -240,9 +243,9 @@ calls_perform_step c s o (a.Send text) after address h keeps phase which sent = 
 calls_perform_step c s o a.Enq after address h keeps phase which sent = absurd (cc)
 calls_perform_step c s o a.Over after address h keeps phase which sent =
     subst (λ (call : Call). IsCalled (next_call_step (stepped c s o) after).control call address)
-    (next_stepped c s o after which)
-    (next_is_called (stepped c s o) after address (shape_stepped c s o (shape c h.entries))
-    (calm_stepped c s o h keeps phase) sent)
+    (next_call_kept_by_step c s o after which)
+    (next_is_called (stepped c s o) after address (shape_stepped c s o (shape_of_entries c h.entries))
+    (without_bid_stepped c s o h keeps phase) sent)
 calls_perform_step c s o a.Quiet after address h keeps phase which sent = absurd (cc)
 
 pub calls_bid_step : (c : ControlValue) (s : ℕ) (step : SenderStep) (after : After)

@@ -30,10 +30,10 @@ use Rattle.bsc_control.specs.Peer.{OutboundValue, PeerValue, no_outbound, no_pee
 use Rattle.bsc_control.specs.Peer.{is_selectable}
 use Rattle.bsc_control.specs.Table.{poll_call_step, selection_call_step, select_address}
 use Rattle.bsc_control.specs.Table.{way_call_step, next_call_step}
-use Rattle.bsc_control.proofs.PeerLists.{same_at, same_map, value_at}
+use Rattle.bsc_control.proofs.PeerLists.{value_kept_by_set, map_kept_by_set, value_at_set_place}
 
 -- no bid is in progress
-pub record IsCalm (c : ControlValue) : Type 0 where
+pub record IsWithoutBid (c : ControlValue) : Type 0 where
   pub rests : (t s : ℕ) → IsAtRest (phase_of c t s)
   pub settings : (t s : ℕ) → s < length (peer_at c t).outbounds → HasSettings c (outbound_of c t s)
 
@@ -53,10 +53,10 @@ pub record IsSamePeer (c : ControlValue) (t : ℕ) (p : PeerValue) : Type 0 wher
   pub terminal : p.terminal ≡ (peer_at c t).terminal
   pub outbounds : p.outbounds ≡ (peer_at c t).outbounds
 
-pub same_outbounds : (c : ControlValue) (t : ℕ) (p : PeerValue) → IsSamePeer c t p → (j : ℕ)
+pub outbounds_of_same_peer : (c : ControlValue) (t : ℕ) (p : PeerValue) → IsSamePeer c t p → (j : ℕ)
     → (get_or (set c.peers t p) j no_peer).outbounds ≡ (peer_at c j).outbounds
-same_outbounds c t p same j =
-    same_at (λ (x : PeerValue). x.outbounds) c.peers t j p no_peer same.outbounds
+outbounds_of_same_peer c t p same j =
+    value_kept_by_set (λ (x : PeerValue). x.outbounds) c.peers t j p no_peer same.outbounds
 
 pub keeps_moved : (c : ControlValue) (t : ℕ) (p : PeerValue) (place : ℕ) (task : Task)
     (failures wacks : ℕ) → IsSamePeer c t p → Keeps c (moved c t p place task failures wacks)
@@ -64,12 +64,12 @@ keeps_moved c t p place task failures wacks same =
     record {
       setup = refl;
       poll_list = refl;
-      terminals = same_map (λ (x : PeerValue). x.terminal) c.peers t p no_peer same.terminal;
+      terminals = map_kept_by_set (λ (x : PeerValue). x.terminal) c.peers t p no_peer same.terminal;
       peers = length-set c.peers t p;
-      outbounds = λ j. ap length (same_outbounds c t p same j);
+      outbounds = λ j. ap length (outbounds_of_same_peer c t p same j);
       offered =
           λ j s. ap (λ (os : List OutboundValue). (get_or os s no_outbound).queue.offered)
-          (same_outbounds c t p same j);
+          (outbounds_of_same_peer c t p same j);
     }
 
 pub rests_moved : (c : ControlValue) (t : ℕ) (p : PeerValue) → IsSamePeer c t p → (j s : ℕ)
@@ -77,7 +77,7 @@ pub rests_moved : (c : ControlValue) (t : ℕ) (p : PeerValue) → IsSamePeer c 
     → IsAtRest (get_or (get_or (set c.peers t p) j no_peer).outbounds s no_outbound).sender.phase
 rests_moved c t p same j s h =
     subst (λ (os : List OutboundValue). IsAtRest (get_or os s no_outbound).sender.phase)
-    (sym (same_outbounds c t p same j)) h
+    (sym (outbounds_of_same_peer c t p same j)) h
 
 pub settings_moved : (c : ControlValue) (t : ℕ) (p : PeerValue) (place : ℕ) (task : Task)
     (failures wacks : ℕ) → IsSamePeer c t p
@@ -86,7 +86,7 @@ pub settings_moved : (c : ControlValue) (t : ℕ) (p : PeerValue) (place : ℕ) 
     → HasSettings (moved c t p place task failures wacks)
     (outbound_of (moved c t p place task failures wacks) j s)
 settings_moved c t p place task failures wacks same h j s there =
-    let e = same_outbounds c t p same j in
+    let e = outbounds_of_same_peer c t p same j in
     let k : HasSettings c (outbound_of c j s) =
     h j s (subst (λ (os : List OutboundValue). s < length os) e there) in
     record {
@@ -96,9 +96,9 @@ settings_moved c t p place task failures wacks same h j s there =
     }
 
 -- a polling address is called
-pub keeps_spools_poll_call_step : (c : ControlValue) (place failures : ℕ) → IsCalm c
+pub keeps_spools_poll_call_step : (c : ControlValue) (place failures : ℕ) → IsWithoutBid c
     → KeepsSpools c (poll_call_step c place failures).control
-keeps_spools_poll_call_step c place failures calm =
+keeps_spools_poll_call_step c place failures without_bid =
     let t : ℕ = terminal_of_entry c place in
     let p : PeerValue = record (peer_at c t) { receiver = new_receiver true } in
     let same : IsSamePeer c t p = record { terminal = refl; outbounds = refl } in
@@ -106,17 +106,17 @@ keeps_spools_poll_call_step c place failures calm =
       keeps = keeps_moved c t p place (Polling Nothing) failures 0 same;
       orderly =
           record {
-            suits = value_at (λ (x : PeerValue). x.receiver) c.peers t p no_peer refl;
-            rests = λ j s unused. rests_moved c t p same j s (calm.rests j s);
-            settings = settings_moved c t p place (Polling Nothing) failures 0 same calm.settings;
+            suits = value_at_set_place (λ (x : PeerValue). x.receiver) c.peers t p no_peer refl;
+            rests = λ j s unused. rests_moved c t p same j s (without_bid.rests j s);
+            settings = settings_moved c t p place (Polling Nothing) failures 0 same without_bid.settings;
           };
-      spools = λ j. same_at (λ (x : PeerValue). x.spool) c.peers t j p no_peer refl;
+      spools = λ j. value_kept_by_set (λ (x : PeerValue). x.spool) c.peers t j p no_peer refl;
     }
 
 -- IsSelected depends only on the sending sides
-selected_in : (p q : PeerValue) (s : ℕ) → q.outbounds ≡ p.outbounds → IsSelected p s
+selected_by_outbounds : (p q : PeerValue) (s : ℕ) → q.outbounds ≡ p.outbounds → IsSelected p s
     → IsSelected q s
-selected_in p q s e h =
+selected_by_outbounds p q s e h =
     record {
       there = subst (λ (os : List OutboundValue). s < length os) (sym e) h.there;
       idle =
@@ -128,10 +128,10 @@ selected_in p q s e h =
     }
 
 -- a selection address for which records wait is called
-pub keeps_spools_selection_call_step : (c : ControlValue) (place s : ℕ) → IsCalm c
+pub keeps_spools_selection_call_step : (c : ControlValue) (place s : ℕ) → IsWithoutBid c
     → IsSelected (peer_at c (terminal_of_entry c place)) s
     → KeepsSpools c (selection_call_step c place s).control
-keeps_spools_selection_call_step c place s calm selected =
+keeps_spools_selection_call_step c place s without_bid selected =
     let t : ℕ = terminal_of_entry c place in
     let p : PeerValue = record (peer_at c t) { urgent = false } in
     let same : IsSamePeer c t p = record { terminal = refl; outbounds = refl } in
@@ -140,23 +140,23 @@ keeps_spools_selection_call_step c place s calm selected =
       orderly =
           record {
             suits =
-                selected_in (peer_at c t) (get_or (set c.peers t p) t no_peer) s
-                (same_outbounds c t p same t) selected;
-            rests = λ j k unused. rests_moved c t p same j k (calm.rests j k);
-            settings = settings_moved c t p place (Selecting s false) 0 0 same calm.settings;
+                selected_by_outbounds (peer_at c t) (get_or (set c.peers t p) t no_peer) s
+                (outbounds_of_same_peer c t p same t) selected;
+            rests = λ j k unused. rests_moved c t p same j k (without_bid.rests j k);
+            settings = settings_moved c t p place (Selecting s false) 0 0 same without_bid.settings;
           };
-      spools = λ j. same_at (λ (x : PeerValue). x.spool) c.peers t j p no_peer refl;
+      spools = λ j. value_kept_by_set (λ (x : PeerValue). x.spool) c.peers t j p no_peer refl;
     }
 
 -- an address is selected only if records wait for it without doubt
-some_wait : (n : ℕ) → not (nat_eq n 0) ≡ true → 1 ≤ n
-some_wait zero h = absurd (cc)
-some_wait (suc n) h = omega arith
+some_wait_if_selectable : (n : ℕ) → not (nat_eq n 0) ≡ true → 1 ≤ n
+some_wait_if_selectable zero h = absurd (cc)
+some_wait_if_selectable (suc n) h = omega arith
 
 idle_selectable : (o : OutboundValue) (phase : Phase) → IsAtRest phase
     → (if is_in_doubt phase then false else not (nat_eq (length (waiting o.queue)) 0)) ≡ true
     → (phase ≡ Idle) × (1 ≤ length (waiting o.queue))
-idle_selectable o Idle rests h = (refl, some_wait (length (waiting o.queue)) h)
+idle_selectable o Idle rests h = (refl, some_wait_if_selectable (length (waiting o.queue)) h)
 idle_selectable o (InDoubt count) rests h = absurd (cc)
 idle_selectable o (Unanswered b) rests h = absurd rests
 idle_selectable o (Held end alternation) rests h = absurd rests
@@ -188,47 +188,47 @@ selected_way p from s (Some i) rests e h =
     subst (λ (k : ℕ). IsSelected p k) at (selected_place p from i rests e)
 
 -- a call by a way that is the polling address or an address for which records wait
-keeps_spools_way_call_step : (c : ControlValue) (place : ℕ) (way : Way) → IsCalm c
+keeps_spools_way_call_step : (c : ControlValue) (place : ℕ) (way : Way) → IsWithoutBid c
     → ((s : ℕ) → way ≡ ToTerminal s → IsSelected (peer_at c (terminal_of_entry c place)) s)
     → KeepsSpools c (way_call_step c place way).control
-keeps_spools_way_call_step c place FromTerminal calm selected =
-    keeps_spools_poll_call_step c place 0 calm
-keeps_spools_way_call_step c place (ToTerminal s) calm selected =
-    keeps_spools_selection_call_step c place s calm (selected s refl)
+keeps_spools_way_call_step c place FromTerminal without_bid selected =
+    keeps_spools_poll_call_step c place 0 without_bid
+keeps_spools_way_call_step c place (ToTerminal s) without_bid selected =
+    keeps_spools_selection_call_step c place s without_bid (selected s refl)
 
-selected_from : (c : ControlValue) (t from : ℕ) → IsCalm c → (s : ℕ) → way_from (peer_at c t) from
+selected_from : (c : ControlValue) (t from : ℕ) → IsWithoutBid c → (s : ℕ) → way_from (peer_at c t) from
     ≡ ToTerminal s → IsSelected (peer_at c t) s
-selected_from c t from calm s h =
+selected_from c t from without_bid s h =
     selected_way (peer_at c t) from s (position is_selectable (drop from (peer_at c t).outbounds))
-    (calm.rests t) refl h
+    (without_bid.rests t) refl h
 
 -- whatever the next call comes after, its way is the polling address or an address for which
 -- records wait
-pub next_selected : (c : ControlValue) (after : After) → IsCalm c → (s : ℕ)
+pub next_call_is_selectable : (c : ControlValue) (after : After) → IsWithoutBid c → (s : ℕ)
     → (next_call c after).way ≡ ToTerminal s
     → IsSelected (peer_at c (terminal_of_entry c (next_call c after).place)) s
-next_selected c Start calm s h = selected_from c (current c) 0 calm s h
-next_selected c (Selection k) calm s h = selected_from c (current c) (k + 1) calm s h
-next_selected c Interruption calm s h = absurd (cc)
-next_selected c (Poll true) calm s h = selected_from c (current c) 0 calm s h
-next_selected c (Poll false) calm s h =
-    selected_from c (terminal_of_entry c (next_place c)) 0 calm s h
+next_call_is_selectable c Start without_bid s h = selected_from c (current c) 0 without_bid s h
+next_call_is_selectable c (Selection k) without_bid s h = selected_from c (current c) (k + 1) without_bid s h
+next_call_is_selectable c Interruption without_bid s h = absurd (cc)
+next_call_is_selectable c (Poll true) without_bid s h = selected_from c (current c) 0 without_bid s h
+next_call_is_selectable c (Poll false) without_bid s h =
+    selected_from c (terminal_of_entry c (next_place c)) 0 without_bid s h
 
-pub keeps_spools_next_call_step : (c : ControlValue) (after : After) → IsCalm c
+pub keeps_spools_next_call_step : (c : ControlValue) (after : After) → IsWithoutBid c
     → KeepsSpools c (next_call_step c after).control
-keeps_spools_next_call_step c after calm =
-    keeps_spools_way_call_step c (next_call c after).place (next_call c after).way calm
-    (next_selected c after calm)
+keeps_spools_next_call_step c after without_bid =
+    keeps_spools_way_call_step c (next_call c after).place (next_call c after).way without_bid
+    (next_call_is_selectable c after without_bid)
 
 -- the next place is a place in the poll list
 pub next_place_within : (c : ControlValue) → c.place < length c.poll_list → next_place c
     < length c.poll_list
-next_place_within c within = by_test (nat_eq (c.place + 1) (length c.poll_list)) refl
+next_place_within c within = next_place_in_poll_list (nat_eq (c.place + 1) (length c.poll_list)) refl
   where
-    by_test : (b : Bool) → nat_eq (c.place + 1) (length c.poll_list) ≡ b
+    next_place_in_poll_list : (b : Bool) → nat_eq (c.place + 1) (length c.poll_list) ≡ b
         → (if b then 0 else c.place + 1) < length c.poll_list
-    by_test true e = omega (arith, within)
-    by_test false e = let differ : c.place + 1 ≢ length c.poll_list =
+    next_place_in_poll_list true e = omega (arith, within)
+    next_place_in_poll_list false e = let differ : c.place + 1 ≢ length c.poll_list =
         eqb-false (c.place + 1) (length c.poll_list) e in omega (arith, within, differ)
 
 -- the place of the next call is a place in the poll list
@@ -249,9 +249,9 @@ pub places : (c : ControlValue) → HasEntries c → HasPlaces c
 places c h = record { place = h.place; entries = h.entries }
 
 -- only the poll list, the place and the number of terminals matter
-pub same_places : (c d : ControlValue) → d.poll_list ≡ c.poll_list → d.place ≡ c.place
+pub places_of_same_list : (c d : ControlValue) → d.poll_list ≡ c.poll_list → d.place ≡ c.place
     → length d.peers ≡ length c.peers → HasPlaces c → HasPlaces d
-same_places c d list place count h =
+places_of_same_list c d list place count h =
     record {
       place = rw (list, place) h.place;
       entries =
@@ -260,22 +260,22 @@ same_places c d list place count h =
     }
 
 -- the terminal of the present entry exists
-pub current_there : (c : ControlValue) → HasPlaces c → current c < length c.peers
-current_there c h = h.entries c.place 0 h.place
+pub current_within_peers : (c : ControlValue) → HasPlaces c → current c < length c.peers
+current_within_peers c h = h.entries c.place 0 h.place
 
 -- the terminal of the next call exists
-pub next_there : (c : ControlValue) (after : After) → HasPlaces c
+pub next_call_within_peers : (c : ControlValue) (after : After) → HasPlaces c
     → terminal_of_entry c (next_call c after).place < length c.peers
-next_there c after h = h.entries (next_call c after).place 0 (next_call_within c after h.place)
+next_call_within_peers c after h = h.entries (next_call c after).place 0 (next_call_within c after h.place)
 
-pub terminal_there : (c : ControlValue) (t : ℕ) → t < length c.peers → slice_get (terminals c) t
+pub terminal_of_peer : (c : ControlValue) (t : ℕ) → t < length c.peers → slice_get (terminals c) t
     ≡ Some (peer_at c t).terminal
-terminal_there c t within = slice_get-map (λ (x : PeerValue). x.terminal) c.peers t
+terminal_of_peer c t within = slice_get-map (λ (x : PeerValue). x.terminal) c.peers t
     ∙ ap (option_map (λ (x : PeerValue). x.terminal)) (slice_get-get_or c.peers t no_peer within)
 
-pub selects_there : (t : TerminalValue) (s : ℕ) → s < length t.selects → slice_get t.selects s
+pub select_address_at : (t : TerminalValue) (s : ℕ) → s < length t.selects → slice_get t.selects s
     ≡ Some (select_address t s)
-selects_there t s within = slice_get-get_or t.selects s t.poll within
+select_address_at t s within = slice_get-get_or t.selects s t.poll within
 
 -- each entry names a terminal, and each selection address of a terminal has its sending side
 pub record HasShape (c : ControlValue) : Type 0 where
@@ -283,8 +283,8 @@ pub record HasShape (c : ControlValue) : Type 0 where
   pub lengths : (t : ℕ) → t < length c.peers → length (peer_at c t).outbounds
       ≡ length (peer_at c t).terminal.selects
 
-pub shape : (c : ControlValue) → HasEntries c → HasShape c
-shape c h =
+pub shape_of_entries : (c : ControlValue) → HasEntries c → HasShape c
+shape_of_entries c h =
     record {
       places = places c h;
       lengths =
@@ -292,12 +292,12 @@ shape c h =
     }
 
 -- a call is sent to the address that it names
-pub calls_it : (c : ControlValue) (place : ℕ) (way : Way) (address : List ℕ) → HasShape c → place
+pub call_names_address : (c : ControlValue) (place : ℕ) (way : Way) (address : List ℕ) → HasShape c → place
     < length c.poll_list
     → ((s : ℕ) → way ≡ ToTerminal s → IsSelected (peer_at c (terminal_of_entry c place)) s)
     → (way_call_step c place way).sent ≡ Some (m.Call address)
     → IsCalled (way_call_step c place way).control (record { place = place; way = way }) address
-calls_it c place FromTerminal address shaped within selected sent =
+call_names_address c place FromTerminal address shaped within selected sent =
     let t : ℕ = terminal_of_entry c place in
     let p : PeerValue = record (peer_at c t) { receiver = new_receiver true } in
     record {
@@ -306,15 +306,15 @@ calls_it c place FromTerminal address shaped within selected sent =
           record {
             terminal = (peer_at c t).terminal;
             there =
-                rw (same_map (λ (x : PeerValue). x.terminal) c.peers t p no_peer refl)
-                (terminal_there c t (shaped.places.entries place 0 within));
+                rw (map_kept_by_set (λ (x : PeerValue). x.terminal) c.peers t p no_peer refl)
+                (terminal_of_peer c t (shaped.places.entries place 0 within));
             its_own = cc;
           };
       task = refl;
       failures = refl;
       wacks = refl;
     }
-calls_it c place (ToTerminal s) address shaped within selected sent =
+call_names_address c place (ToTerminal s) address shaped within selected sent =
     let t : ℕ = terminal_of_entry c place in
     let p : PeerValue = record (peer_at c t) { urgent = false } in
     let outbound : s < length (peer_at c t).outbounds = (selected s refl).there in
@@ -322,15 +322,15 @@ calls_it c place (ToTerminal s) address shaped within selected sent =
     subst (λ (n : ℕ). s < n) (shaped.lengths t (shaped.places.entries place 0 within)) outbound in
     let own : slice_get (peer_at c t).terminal.selects s
     ≡ Some (select_address (peer_at c t).terminal s) =
-    selects_there (peer_at c t).terminal s select in
+    select_address_at (peer_at c t).terminal s select in
     record {
       place = refl;
       called =
           record {
             terminal = (peer_at c t).terminal;
             there =
-                rw (same_map (λ (x : PeerValue). x.terminal) c.peers t p no_peer refl)
-                (terminal_there c t (shaped.places.entries place 0 within));
+                rw (map_kept_by_set (λ (x : PeerValue). x.terminal) c.peers t p no_peer refl)
+                (terminal_of_peer c t (shaped.places.entries place 0 within));
             its_own = cc;
           };
       task = refl;
@@ -339,9 +339,9 @@ calls_it c place (ToTerminal s) address shaped within selected sent =
     }
 
 -- the next call is sent to the address that it names
-pub next_is_called : (c : ControlValue) (after : After) (address : List ℕ) → HasShape c → IsCalm c
+pub next_is_called : (c : ControlValue) (after : After) (address : List ℕ) → HasShape c → IsWithoutBid c
     → (next_call_step c after).sent ≡ Some (m.Call address)
     → IsCalled (next_call_step c after).control (next_call c after) address
-next_is_called c after address shaped calm sent =
-    calls_it c (next_call c after).place (next_call c after).way address shaped
-    (next_call_within c after shaped.places.place) (next_selected c after calm) sent
+next_is_called c after address shaped without_bid sent =
+    call_names_address c (next_call c after).place (next_call c after).way address shaped
+    (next_call_within c after shaped.places.place) (next_call_is_selectable c after without_bid) sent

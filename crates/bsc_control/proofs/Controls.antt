@@ -24,9 +24,9 @@ use Rattle.bsc_control.specs.Table.{Hears, ActsOnSilence}
 use Rattle.bsc_directory.specs.Ways.{IsSelection, select_of}
 use Rattle.bsc_control.proofs.Noise.{noise_changes_nothing}
 use Rattle.bsc_control.proofs.Entries.{peer_with_outbound, entries_with_peer}
-use Rattle.bsc_control.proofs.PeerLists.{same_map}
+use Rattle.bsc_control.proofs.PeerLists.{map_kept_by_set}
 use Rattle.bsc_control.proofs.Replacing.{replaced, Follows, orderly_replaced, orderly_flags}
-use Rattle.bsc_bid.proofs.Choice.{choose}
+use Rattle.bsc_bid.proofs.Choice.{either_branch}
 use Rattle.bsc_control.proofs.Steps.{HearingKeeps, SilenceKeeps, hearing_keeps, silence_keeps}
 
 -- the settings, the poll list and the addresses stay
@@ -35,9 +35,9 @@ pub record KeepsSetup (old new : ControlValue) : Type 0 where
   pub terminals : terminals new ≡ terminals old
   pub peers : length new.peers ≡ length old.peers
 
-pub still_control : (old new : ControlValue) → IsControl old → KeepsSetup old new → HasEntries new
+pub control_kept_by_setup : (old new : ControlValue) → IsControl old → KeepsSetup old new → HasEntries new
     → IsOrderly new → IsControl new
-still_control old new h keeps entries orderly =
+control_kept_by_setup old new h keeps entries orderly =
     record {
       some = subst (λ (n : ℕ). 1 ≤ n) (sym keeps.peers) h.some;
       few = subst (λ (n : ℕ). n ≤ MAX_TERMINALS) (sym keeps.peers) h.few;
@@ -57,7 +57,7 @@ after_hearing_is old h new sent is entries heard =
     let well : HearingKeeps old h (record { control = new; sent = sent }) =
     hearing_keeps old h new sent is.entries is.orderly heard in
     record {
-      control = still_control old new is (setup_kept old new well.keeps) entries well.orderly;
+      control = control_kept_by_setup old new is (setup_kept old new well.keeps) entries well.orderly;
       keeps = well.keeps;
       calls = well.calls;
       spools = well.spools;
@@ -73,7 +73,7 @@ after_silence_is old new sent is entries row =
     let well : SilenceKeeps old (record { control = new; sent = sent }) =
     silence_keeps old new sent is.entries is.orderly row in
     record {
-      control = still_control old new is (setup_kept old new well.keeps) entries well.orderly;
+      control = control_kept_by_setup old new is (setup_kept old new well.keeps) entries well.orderly;
       keeps = well.keeps;
       calls = well.calls;
       spools = well.spools;
@@ -85,7 +85,7 @@ keeps_setup_with_peer c t p same =
     record {
       poll_list = refl;
       terminals =
-          same_map (λ (x : PeerValue). x.terminal) c.peers t p no_peer same;
+          map_kept_by_set (λ (x : PeerValue). x.terminal) c.peers t p no_peer same;
       peers =
           length-set c.peers t p;
     }
@@ -96,13 +96,13 @@ control_replaced : (c : ControlValue) (t s : ℕ) (o : OutboundValue) → IsCont
     ≡ (outbound_of c t s).sender.setup → o.queue.format ≡ (outbound_of c t s).queue.format
     → Follows (outbound_of c t s) o → HasEntries (replaced c t s o) → IsControl (replaced c t s o)
 control_replaced c t s o h within there setup format follows entries =
-    still_control c (replaced c t s o) h
+    control_kept_by_setup c (replaced c t s o) h
     (keeps_setup_with_peer c t (with_outbound (peer_at c t) s o) refl) entries
     (orderly_replaced c t s o within there setup format follows h.orderly)
 
-more_wait : (q : QueueValue) (r : List ℕ) → 1 ≤ length (waiting q) → 1
+waiting_kept_by_offer : (q : QueueValue) (r : List ℕ) → 1 ≤ length (waiting q) → 1
     ≤ length (drop q.known (q.offered ++ r ∷ []))
-more_wait q r h =
+waiting_kept_by_offer q r h =
     omega (
       arith,
       h,
@@ -117,8 +117,8 @@ pub record KeepsOutbound (o x : OutboundValue) : Type 0 where
   pub format : x.queue.format ≡ o.queue.format
   pub follows : Follows o x
 
-unchanged : (o : OutboundValue) → KeepsOutbound o o
-unchanged o =
+outbound_keeps_itself : (o : OutboundValue) → KeepsOutbound o o
+outbound_keeps_itself o =
     record {
       setup = refl;
       format = refl;
@@ -138,7 +138,7 @@ keeps_outbound_offered o r =
             goes = λ x. x;
             idle = λ x. x;
             some =
-                λ e x. more_wait o.queue r x;
+                λ e x. waiting_kept_by_offer o.queue r x;
           };
     }
 
@@ -146,7 +146,7 @@ pub keeps_outbound_offer : {E : Type 0} (answer : Result (Unit {0}) E) (o x : Ou
     (r : List ℕ) → OnOk answer (x ≡ offered o r) → OnErr answer (x ≡ o) → KeepsOutbound o x
 keeps_outbound_offer (Ok u) o x r ok err =
     subst (KeepsOutbound o) (sym ok) (keeps_outbound_offered o r)
-keeps_outbound_offer (Err e) o x r ok err = subst (KeepsOutbound o) (sym err) (unchanged o)
+keeps_outbound_offer (Err e) o x r ok err = subst (KeepsOutbound o) (sym err) (outbound_keeps_itself o)
 
 -- a release changes only a sending side in doubt
 abbrev pub after_release : ReleaseStep → OutboundValue
@@ -154,11 +154,11 @@ after_release step = record { sender = step.sender; queue = step.queue }
 
 keeps_release_in : (o : OutboundValue) (phase : Phase) (count : ℕ) → o.sender.phase ≡ phase
     → KeepsOutbound o (after_release (release_in o.sender o.queue phase count))
-keeps_release_in o Idle count e = unchanged o
-keeps_release_in o (Unanswered b) count e = unchanged o
-keeps_release_in o (Held end alternation) count e = unchanged o
+keeps_release_in o Idle count e = outbound_keeps_itself o
+keeps_release_in o (Unanswered b) count e = outbound_keeps_itself o
+keeps_release_in o (Held end alternation) count e = outbound_keeps_itself o
 keeps_release_in o (InDoubt k) count e =
-    choose (λ (x : ReleaseStep). KeepsOutbound o (after_release x))
+    either_branch (λ (x : ReleaseStep). KeepsOutbound o (after_release x))
     ((count == o.queue.known) || (count == (o.queue.known + k))) _ _
     (record {
       setup = refl;
@@ -171,7 +171,7 @@ keeps_release_in o (InDoubt k) count e =
             some = λ idle x. absurd (cc);
           };
     })
-    (unchanged o)
+    (outbound_keeps_itself o)
 
 pub keeps_outbound_release : (o x : OutboundValue) (count : ℕ) → x ≡ outbound_released o count
     → KeepsOutbound o x
@@ -198,7 +198,7 @@ stays_set_urgent c t h within =
     }) h.entries in
     record {
       control =
-          still_control c (with_peer c t p) h keeps entries
+          control_kept_by_setup c (with_peer c t p) h keeps entries
           (orderly_flags c t p refl refl h.orderly);
       same = keeps.terminals;
     }
@@ -218,6 +218,6 @@ stays_replaced c t s x h within there ready keeps =
       same = (keeps_setup_with_peer c t p refl).terminals;
     }
 
-pub selection_there : (way : Way) (n : ℕ) → IsSelection way n → select_of way < n
-selection_there FromTerminal n h = absurd h
-selection_there (ToTerminal s) n h = h
+pub selection_within_outbounds : (way : Way) (n : ℕ) → IsSelection way n → select_of way < n
+selection_within_outbounds FromTerminal n h = absurd h
+selection_within_outbounds (ToTerminal s) n h = h

@@ -16,12 +16,12 @@ use Rattle.bsc_control.specs.Peer.{outbound_at, new_outbound}
 use Rattle.bsc_directory.specs.Refusals.{IsTerminalCount, AreEntries}
 
 -- what holds of all elements and of the default holds at each place
-holds_or : {X : Type 0} (P : X → Type 0) (xs : List X) (d : X) → All P xs → P d → (k : ℕ)
+holds_of_all_and_default : {X : Type 0} (P : X → Type 0) (xs : List X) (d : X) → All P xs → P d → (k : ℕ)
     → P (get_or xs k d)
-holds_or P [] d all none k = none
-holds_or P (x ∷ xs) d all none zero = all 0 d (omega arith)
-holds_or P (x ∷ xs) d all none (suc k) =
-    holds_or P xs d (λ i e within. all (suc i) e (omega arith)) none k
+holds_of_all_and_default P [] d all none k = none
+holds_of_all_and_default P (x ∷ xs) d all none zero = all 0 d (omega arith)
+holds_of_all_and_default P (x ∷ xs) d all none (suc k) =
+    holds_of_all_and_default P xs d (λ i e within. all (suc i) e (omega arith)) none k
 
 -- what holds of an element holds at each place of a list of its copies
 holds_of_copies : {X : Type 0} (P : X → Type 0) (n : ℕ) (x d : X) → P x → (k : ℕ) → k
@@ -35,7 +35,7 @@ holds_of_new : (P : OutboundValue → Type 0) (setup : SetupValue) (c : ControlV
     → All (λ (p : PeerValue). IsNewPeer setup p.terminal p) c.peers → P (new_outbound setup)
     → (t s : ℕ) → s < length (peer_at c t).outbounds → P (outbound_at (peer_at c t) s)
 holds_of_new P setup c all new t =
-    holds_or (λ (p : PeerValue). (s : ℕ) → s < length p.outbounds → P (outbound_at p s)) c.peers
+    holds_of_all_and_default (λ (p : PeerValue). (s : ℕ) → s < length p.outbounds → P (outbound_at p s)) c.peers
     no_peer
     (λ i e within s there.
     let p : PeerValue = get_or c.peers i e in
@@ -48,12 +48,12 @@ holds_of_new P setup c all new t =
     t
 
 -- a place is in a list or past its end
-rests_at : (os : List OutboundValue) (s : ℕ)
+rests_within_or_past_end : (os : List OutboundValue) (s : ℕ)
     → (s < length os → IsAtRest (get_or os s no_outbound).sender.phase)
     → IsAtRest (get_or os s no_outbound).sender.phase
-rests_at [] s h = tt
-rests_at (o ∷ os) zero h = h (omega arith)
-rests_at (o ∷ os) (suc s) h = rests_at os s (λ within. h (omega (arith, within)))
+rests_within_or_past_end [] s h = tt
+rests_within_or_past_end (o ∷ os) zero h = h (omega arith)
+rests_within_or_past_end (o ∷ os) (suc s) h = rests_within_or_past_end os s (λ within. h (omega (arith, within)))
 
 short_list : (n : ℕ) → (MAX_ENTRIES < n → MAX_ENTRIES < MAX_ENTRIES) → n ≤ MAX_ENTRIES
 short_list n h = grind (arith, h)
@@ -78,7 +78,7 @@ new_control setup ts list c number distinct right entries new =
           record {
             suits = subst (λ (task : Task). SuitsTask task (peer c)) (sym new.task) tt;
             rests =
-                λ t s unused. rests_at (peer_at c t).outbounds s
+                λ t s unused. rests_within_or_past_end (peer_at c t).outbounds s
                 (holds_of_new (λ (o : OutboundValue). IsAtRest o.sender.phase) setup c new.peers
                 tt t s);
             settings =

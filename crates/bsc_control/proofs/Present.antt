@@ -20,7 +20,7 @@ use Rattle.bsc_control.specs.Peer.{OutboundValue, PeerValue, IsPeer, outbound_at
 use Rattle.bsc_control.specs.Peer.{no_outbound, outbound_after, is_selectable}
 use Rattle.bsc_control.specs.Table.{poll_call_step, selection_call_step, select_address}
 use Rattle.bsc_control.specs.Table.{next_call_step, silence_in, repeated, performed, bid_step}
-use Rattle.bsc_control.proofs.Calls.{selects_there}
+use Rattle.bsc_control.proofs.Calls.{select_address_at}
 use Rattle.bsc_control.proofs.Reached.{IsPeerReached, IsReached}
 
 -- a selection address of the peer is one of its terminal
@@ -32,7 +32,7 @@ select_reached c d t e s p reached same there is =
     there
 
 -- the polling address of the entry is called
-pub polled : (c d : ControlValue) (t place failures : ℕ) (p : PeerValue) (receiver : ReceiverValue)
+pub polling_address_is_called : (c d : ControlValue) (t place failures : ℕ) (p : PeerValue) (receiver : ReceiverValue)
     (address : List ℕ) → IsPeerReached c d t p → t ≡ terminal_of_entry c place → receiver
     ≡ new_receiver true → address ≡ p.terminal.poll
     → record {
@@ -45,11 +45,11 @@ pub polled : (c d : ControlValue) (t place failures : ℕ) (p : PeerValue) (rece
       };
       sent = Some (m.Call address);
     } ≡ poll_call_step c place failures
-polled c d t place failures p receiver address reached entry new is =
+polling_address_is_called c d t place failures p receiver address reached entry new is =
     cc (reached.station, reached.peer, entry, new, is)
 
 -- a selection address of the entry is called
-pub selected : (c d : ControlValue) (t place s : ℕ) (p : PeerValue) (address : List ℕ)
+pub selection_address_is_called : (c d : ControlValue) (t place s : ℕ) (p : PeerValue) (address : List ℕ)
     → IsPeerReached c d t p → t ≡ terminal_of_entry c place → s < length p.terminal.selects
     → slice_get p.terminal.selects s ≡ Some address
     → record {
@@ -62,23 +62,23 @@ pub selected : (c d : ControlValue) (t place s : ℕ) (p : PeerValue) (address :
       };
       sent = Some (m.Call address);
     } ≡ selection_call_step c place s
-selected c d t place s p address reached entry there is =
-    cc (reached.station, reached.peer, entry, is, selects_there p.terminal s there)
+selection_address_is_called c d t place s p address reached entry there is =
+    cc (reached.station, reached.peer, entry, is, select_address_at p.terminal s there)
 
 -- after as many failures as there are tries, the limit is passed
-over : (n k : ℕ) → n ≤ k → nat_lt n (k + 1) ≡ true
-over n k most = grind (arith, nat_tests)
+over_limit_after_tries : (n k : ℕ) → n ≤ k → nat_lt n (k + 1) ≡ true
+over_limit_after_tries n k most = grind (arith, nat_tests)
 
 not_over : (n k : ℕ) → k < n → nat_lt n (k + 1) ≡ false
 not_over n k less = grind (arith, nat_tests)
 
 -- the call after the last try
-pub given_up : (c : ControlValue) (tries failures s : ℕ) (enquired : Bool) → tries ≡ c.setup.tries
+pub next_call_after_last_try : (c : ControlValue) (tries failures s : ℕ) (enquired : Bool) → tries ≡ c.setup.tries
     → failures ≡ c.failures → tries ≤ failures
     → next_call_step c (Selection s) ≡ silence_in c (Selecting s enquired)
-given_up c tries failures s enquired tries_is failures_is most =
+next_call_after_last_try c tries failures s enquired tries_is failures_is most =
     let test : nat_lt c.setup.tries (c.failures + 1) ≡ true =
-    over c.setup.tries c.failures (rw (← tries_is, ← failures_is) most) in
+    over_limit_after_tries c.setup.tries c.failures (rw (← tries_is, ← failures_is) most) in
     sym (ap (λ b. if b then next_call_step c (Selection s)
     else answer_step (record c { failures = c.failures + 1 }) (repeated c s enquired)) test)
 
@@ -105,24 +105,24 @@ pub call_again : (c d : ControlValue) (t s : ℕ) (p : PeerValue) (enquired : Bo
 call_again c d t s p enquired address reached entry not_enquired there is =
     let own : p ≡ peer c = reached.peer ∙ ap (peer_at c) entry in
     let same : address ≡ select_address p.terminal s =
-    cc (is, selects_there p.terminal s there) in
+    cc (is, select_address_at p.terminal s there) in
     ap m.Call (same ∙ ap (λ (x : PeerValue). select_address x.terminal s) own)
     ∙ ap (repeated c s) (sym not_enquired)
 
-found_there : (p : PeerValue) (from s : ℕ) (found : Option ℕ)
+found_select_within_outbounds : (p : PeerValue) (from s : ℕ) (found : Option ℕ)
     → position is_selectable (drop from p.outbounds) ≡ found → ToTerminal s ≡ way_at from found
     → s < length p.outbounds
-found_there p from s None e is = absurd (cc)
-found_there p from s (Some i) e is =
+found_select_within_outbounds p from s None e is = absurd (cc)
+found_select_within_outbounds p from s (Some i) e is =
     let at : from + i ≡ s = cc in
     let there = position-Some is_selectable (drop from p.outbounds) i no_outbound e in
     omega (arith, at, there.0, length-drop from p.outbounds)
 
 -- a way to the terminal leads to one of its selection addresses
-pub way_there : (p : PeerValue) (from s : ℕ) → ToTerminal s ≡ way_from p from
+pub way_within_outbounds : (p : PeerValue) (from s : ℕ) → ToTerminal s ≡ way_from p from
     → s < length p.outbounds
-way_there p from s is =
-    found_there p from s (position is_selectable (drop from p.outbounds)) refl is
+way_within_outbounds p from s is =
+    found_select_within_outbounds p from s (position is_selectable (drop from p.outbounds)) refl is
 
 -- a step of the sender to this address, and what is done after it
 pub step_made : (c d : ControlValue) (t s : ℕ) (p : PeerValue) (o x : OutboundValue)

@@ -6,7 +6,8 @@ use Rattle.std.specs.Result.{OnOk, OnErr}
 use Rattle.bsc_control.specs.Control.{ControlValue, peer_at, with_peer}
 use Rattle.bsc_control.specs.Kept.{IsControl, outbound_of}
 use Rattle.bsc_control.specs.Peer.{OutboundValue, PeerValue, IsOutbound, no_outbound, no_peer}
-use Rattle.bsc_control.specs.Peer.{outbound_at, with_outbound, outbound_released, offered, offered_to}
+use Rattle.bsc_control.specs.Peer.{outbound_at, with_outbound, outbound_released, offered}
+use Rattle.bsc_control.specs.Peer.{offered_to}
 use Rattle.bsc_control.proofs.Controls.{KeepsOutbound, StaysControl, stays_set_urgent}
 use Rattle.bsc_control.proofs.Controls.{stays_replaced}
 use Rattle.bsc_control.proofs.Replacing.{replaced}
@@ -79,8 +80,8 @@ stays_reached {c} {d} {t} {s} {p} {o} {x} h reached ready keeps =
     (stays_replaced c t s x h reached.reached.within reached.there ready kept)
 
 -- replacing a sending side by itself changes nothing
-same_replaced : (c : ControlValue) (t s : ℕ) → replaced c t s (outbound_of c t s) ≡ c
-same_replaced c t s =
+replaced_by_itself : (c : ControlValue) (t s : ℕ) → replaced c t s (outbound_of c t s) ≡ c
+replaced_by_itself c t s =
     ap (λ os. with_peer c t (record (peer_at c t) { outbounds = os }))
     (set-get_or (peer_at c t).outbounds s no_outbound)
     ∙ ap (λ ps. record c { peers = ps }) (set-get_or c.peers t no_peer)
@@ -92,7 +93,7 @@ pub unchanged_reached : {E : Type 0} {c d : ControlValue} {t s : ℕ} {p : PeerV
 unchanged_reached (Ok u) x reached err = err
 unchanged_reached {E} {c} {d} {t} {s} {p} {o} (Err e) x reached err =
     replaced_is c d t s p x reached.reached ∙ ap (replaced c t s) (err ∙ reached.outbound)
-    ∙ same_replaced c t s
+    ∙ replaced_by_itself c t s
 
 -- what the contracts of the methods say of the result, if the fields e are the station's
 pub urgent_left : (c d e : ControlValue) (t : ℕ) (p : PeerValue) → IsPeerReached c d t p → c ≡ e

@@ -17,16 +17,16 @@ use Rattle.bsc_control.specs.Table.{replied_after}
 use Rattle.bsc_control.proofs.Reached.{IsPeerReached}
 
 -- whatever the receiver hears, it makes the receiver's step
-receives : (c : ControlValue) (h : Heard) (replied : Replied) (rooms : Rooms)
+receiver_step_on_any_heard : (c : ControlValue) (h : Heard) (replied : Replied) (rooms : Rooms)
     → IsReceived (Polling replied) h → polling_step c replied h rooms ≡ receive_step c replied
     (heard_step (peer c).receiver (peer c).spool h (peer c).urgent rooms)
-receives c (Whole m.Eot) replied rooms received = absurd received
-receives c Noise replied rooms received = refl
-receives c Failed replied rooms received = refl
-receives c (Whole (m.Call x)) replied rooms received = refl
-receives c (Whole m.Enq) replied rooms received = refl
-receives c (Whole (m.Reply r)) replied rooms received = refl
-receives c (Whole (m.Text x)) replied rooms received = refl
+receiver_step_on_any_heard c (Whole m.Eot) replied rooms received = absurd received
+receiver_step_on_any_heard c Noise replied rooms received = refl
+receiver_step_on_any_heard c Failed replied rooms received = refl
+receiver_step_on_any_heard c (Whole (m.Call x)) replied rooms received = refl
+receiver_step_on_any_heard c (Whole m.Enq) replied rooms received = refl
+receiver_step_on_any_heard c (Whole (m.Reply r)) replied rooms received = refl
+receiver_step_on_any_heard c (Whole (m.Text x)) replied rooms received = refl
 
 -- the station d with this peer, which replied
 abbrev pub with_reply : ControlValue → ℕ → PeerValue → Replied → ControlValue
@@ -65,7 +65,7 @@ received_row c d t old new h before after reply sent reached present step replie
     ∙ ap (λ (p : PeerValue). heard_step p.receiver p.spool h p.urgent
     (rooms_left h new.receiver.last new.spool)) own
     ∙ ap (heard_step (peer c).receiver (peer c).spool h (peer c).urgent) (sym rooms))
-    ∙ sym (receives c h before (rooms_after c h (with_reply d t new after)) received)
+    ∙ sym (receiver_step_on_any_heard c h before (rooms_after c h (with_reply d t new after)) received)
 
 pub received_room : (c d : ControlValue) (t : ℕ) (old new : PeerValue) (h : Heard)
     (after : Replied) (reply : Option Reply) → IsPeerReached c d t old → t ≡ current c

@@ -12,24 +12,24 @@ use Rattle.bsc_control.specs.Control.{ControlValue, peer_at, peer, current, with
 use Rattle.bsc_control.specs.Kept.{SuitsTask, outbound_of, HasSettings, IsOrderly}
 use Rattle.bsc_control.specs.Peer.{OutboundValue, PeerValue, no_outbound, no_peer, outbound_at}
 use Rattle.bsc_control.specs.Peer.{with_outbound}
-use Rattle.bsc_control.proofs.PeerLists.{same_at, holds_at}
+use Rattle.bsc_control.proofs.PeerLists.{value_kept_by_set, holds_after_set}
 
 -- the station once the sender to a selection address of a terminal and its queue are replaced
 abbrev pub replaced : ControlValue → ℕ → ℕ → OutboundValue → ControlValue
 replaced c t s o = with_peer c t (with_outbound (peer_at c t) s o)
 
 -- a function of the sending sides that stays at the replaced one stays everywhere
-pub same_of : {B : Type 0} (f : OutboundValue → B) (c : ControlValue) (t s : ℕ) (o : OutboundValue)
+pub unchanged_by_replacement : {B : Type 0} (f : OutboundValue → B) (c : ControlValue) (t s : ℕ) (o : OutboundValue)
     → f o ≡ f (outbound_of c t s) → (j k : ℕ) → f (outbound_of (replaced c t s o) j k)
     ≡ f (outbound_of c j k)
-same_of f c t s o same j k =
-    same_at (λ (p : PeerValue). f (outbound_at p k)) c.peers t j (with_outbound (peer_at c t) s o)
-    no_peer (same_at f (peer_at c t).outbounds s k o no_outbound same)
+unchanged_by_replacement f c t s o same j k =
+    value_kept_by_set (λ (p : PeerValue). f (outbound_at p k)) c.peers t j (with_outbound (peer_at c t) s o)
+    no_peer (value_kept_by_set f (peer_at c t).outbounds s k o no_outbound same)
 
-pub same_lengths : (c : ControlValue) (t s : ℕ) (o : OutboundValue) (j : ℕ)
+pub outbounds_kept_by_replacement : (c : ControlValue) (t s : ℕ) (o : OutboundValue) (j : ℕ)
     → length (peer_at (replaced c t s o) j).outbounds ≡ length (peer_at c j).outbounds
-same_lengths c t s o j =
-    same_at (λ (p : PeerValue). length p.outbounds) c.peers t j (with_outbound (peer_at c t) s o)
+outbounds_kept_by_replacement c t s o j =
+    value_kept_by_set (λ (p : PeerValue). length p.outbounds) c.peers t j (with_outbound (peer_at c t) s o)
     no_peer (length-set (peer_at c t).outbounds s o)
 
 pub settings_replaced : (c : ControlValue) (t s : ℕ) (o : OutboundValue) → o.sender.setup
@@ -39,10 +39,10 @@ pub settings_replaced : (c : ControlValue) (t s : ℕ) (o : OutboundValue) → o
     → HasSettings (replaced c t s o) (outbound_of (replaced c t s o) j k)
 settings_replaced c t s o setup format h j k there =
     let was : HasSettings c (outbound_of c j k) =
-    h j k (subst (λ (n : ℕ). k < n) (same_lengths c t s o j) there) in
+    h j k (subst (λ (n : ℕ). k < n) (outbounds_kept_by_replacement c t s o j) there) in
     record {
-      setup = same_of (λ (x : OutboundValue). x.sender.setup) c t s o setup j k ∙ was.setup;
-      format = same_of (λ (x : OutboundValue). x.queue.format) c t s o format j k ∙ was.format;
+      setup = unchanged_by_replacement (λ (x : OutboundValue). x.sender.setup) c t s o setup j k ∙ was.setup;
+      format = unchanged_by_replacement (λ (x : OutboundValue). x.queue.format) c t s o format j k ∙ was.format;
     }
 
 -- a task finds in the new sending side what it found in the old one
@@ -52,20 +52,20 @@ pub record Follows (o x : OutboundValue) : Type 0 where
   pub idle : o.sender.phase ≡ Idle → x.sender.phase ≡ Idle
   pub some : o.sender.phase ≡ Idle → 1 ≤ length (waiting o.queue) → 1 ≤ length (waiting x.queue)
 
-follows_same : (o : OutboundValue) → Follows o o
-follows_same o = record { rests = λ h. h; goes = λ h. h; idle = λ h. h; some = λ e h. h }
+outbound_follows_itself : (o : OutboundValue) → Follows o o
+outbound_follows_itself o = record { rests = λ h. h; goes = λ h. h; idle = λ h. h; some = λ e h. h }
 
 follows_everywhere : (c : ControlValue) (t s : ℕ) (o : OutboundValue) → t < length c.peers → s
     < length (peer_at c t).outbounds → Follows (outbound_of c t s) o
     → (j k : ℕ) → Follows (outbound_of c j k) (outbound_of (replaced c t s o) j k)
 follows_everywhere c t s o within there follows j k =
-    holds_at (λ (i : ℕ) (p : PeerValue). (n : ℕ) → Follows (outbound_of c i n) (outbound_at p n))
+    holds_after_set (λ (i : ℕ) (p : PeerValue). (n : ℕ) → Follows (outbound_of c i n) (outbound_at p n))
     c.peers t (with_outbound (peer_at c t) s o) no_peer
-    (holds_at (λ (n : ℕ) (x : OutboundValue). Follows (outbound_of c t n) x) (peer_at c t).outbounds
+    (holds_after_set (λ (n : ℕ) (x : OutboundValue). Follows (outbound_of c t n) x) (peer_at c t).outbounds
     s o no_outbound follows (λ le. absurd (omega (arith, le, there)))
-    (λ n ne. follows_same (outbound_of c t n)))
+    (λ n ne. outbound_follows_itself (outbound_of c t n)))
     (λ le. absurd (omega (arith, le, within)))
-    (λ i ne n. follows_same (outbound_of c i n))
+    (λ i ne n. outbound_follows_itself (outbound_of c i n))
     j k
 
 suits_following : (task : Task) (p q : PeerValue) → q.receiver ≡ p.receiver → length q.outbounds
@@ -98,9 +98,9 @@ orderly_replaced c t s o within there setup format follows h =
     record {
       suits =
           suits_following c.task (peer c) (peer (replaced c t s o))
-          (same_at (λ (p : PeerValue). p.receiver) c.peers t (current c)
+          (value_kept_by_set (λ (p : PeerValue). p.receiver) c.peers t (current c)
           (with_outbound (peer_at c t) s o) no_peer refl)
-          (same_lengths c t s o (current c))
+          (outbounds_kept_by_replacement c t s o (current c))
           (all (current c))
           h.suits;
       rests = λ j k unused. (all j k).rests (h.rests j k unused);
@@ -112,14 +112,14 @@ pub orderly_flags : (c : ControlValue) (t : ℕ) (p : PeerValue) → p.receiver 
     → p.outbounds ≡ (peer_at c t).outbounds → IsOrderly c → IsOrderly (with_peer c t p)
 orderly_flags c t p receiver outbounds h =
     let same =
-    λ (j : ℕ). same_at (λ (x : PeerValue). x.outbounds) c.peers t j p no_peer outbounds in
+    λ (j : ℕ). value_kept_by_set (λ (x : PeerValue). x.outbounds) c.peers t j p no_peer outbounds in
     let follows =
     λ (j k : ℕ). subst (λ (os : List OutboundValue). Follows (outbound_of c j k)
-    (get_or os k no_outbound)) (sym (same j)) (follows_same (outbound_of c j k)) in
+    (get_or os k no_outbound)) (sym (same j)) (outbound_follows_itself (outbound_of c j k)) in
     record {
       suits =
           suits_following c.task (peer c) (peer (with_peer c t p))
-          (same_at (λ (x : PeerValue). x.receiver) c.peers t (current c) p no_peer receiver)
+          (value_kept_by_set (λ (x : PeerValue). x.receiver) c.peers t (current c) p no_peer receiver)
           (ap length (same (current c)))
           (follows (current c))
           h.suits;

@@ -35,29 +35,29 @@ step_keeps s q step k phase =
     record { setup = k.setup_is; format = k.format_is; offered = k.offered_is; phase = phase }
 
 -- what a step leaves while a bid is in progress
-leaves : (act : Act) (old new : Phase) → IsGoing old → FitsAct act old new → LeavesPhase act new
-leaves (a.Send text) old new goes fits = fits
-leaves a.Enq old new goes fits = fits
-leaves a.Over old new goes fits = fits
-leaves a.Quiet old new goes fits = subst IsGoing (sym fits) goes
+phase_left_by_step : (act : Act) (old new : Phase) → IsGoing old → FitsAct act old new → LeavesPhase act new
+phase_left_by_step (a.Send text) old new goes fits = fits
+phase_left_by_step a.Enq old new goes fits = fits
+phase_left_by_step a.Over old new goes fits = fits
+phase_left_by_step a.Quiet old new goes fits = subst IsGoing (sym fits) goes
 
-begins : (s : SenderValue) (q : QueueValue) (x : Alternation) (next : Option Next)
+phase_after_next_block : (s : SenderValue) (q : QueueValue) (x : Alternation) (next : Option Next)
     → LeavesPhase (sent_next s q x next).act (sent_next s q x next).sender.phase
-begins s q x None = tt
-begins s q x (Some next) = tt
+phase_after_next_block s q x None = tt
+phase_after_next_block s q x (Some next) = tt
 
 pub keeps_begin_step : (s : SenderValue) (q : QueueValue) → KeepsAndLeaves s q (begin_step s q)
 keeps_begin_step s q =
-    step_keeps s q (begin_step s q) (keeps_begin s q) (begins s q Odd (next_block q))
+    step_keeps s q (begin_step s q) (keeps_begin s q) (phase_after_next_block s q Odd (next_block q))
 
 pub keeps_reply_step : (s : SenderValue) (q : QueueValue) (r : Option Reply) → IsGoing s.phase
     → KeepsAndLeaves s q (reply_step s q r)
 keeps_reply_step s q r goes =
     step_keeps s q (reply_step s q r) (keeps_reply s q r)
-    (leaves (reply_step s q r).act s.phase (reply_step s q r).sender.phase goes (fits_reply s q r))
+    (phase_left_by_step (reply_step s q r).act s.phase (reply_step s q r).sender.phase goes (fits_reply s q r))
 
 pub keeps_silence_step : (s : SenderValue) (q : QueueValue) → IsGoing s.phase
     → KeepsAndLeaves s q (silence_step s q)
 keeps_silence_step s q goes =
     step_keeps s q (silence_step s q) (keeps_silence s q)
-    (leaves (silence_step s q).act s.phase (silence_step s q).sender.phase goes (fits_silence s q))
+    (phase_left_by_step (silence_step s q).act s.phase (silence_step s q).sender.phase goes (fits_silence s q))

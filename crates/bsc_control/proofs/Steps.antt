@@ -31,13 +31,15 @@ use Rattle.bsc_control.specs.Table.{selecting_step, receive_step, replied_after,
 use Rattle.bsc_control.specs.Table.{polling_step, task_step, repeated, silence_in, rooms_after}
 use Rattle.bsc_control.specs.Table.{Hears, ActsOnSilence, select_address}
 use Rattle.bsc_control.proofs.Bids.{OthersRest, keeps_spools_bid_step, calls_bid_step}
-use Rattle.bsc_control.proofs.Calls.{IsCalm, KeepsSpools, IsSamePeer, shape, places, current_there}
+use Rattle.bsc_control.proofs.Calls.{IsWithoutBid, KeepsSpools, IsSamePeer, shape_of_entries}
+use Rattle.bsc_control.proofs.Calls.{places}
+use Rattle.bsc_control.proofs.Calls.{current_within_peers}
 use Rattle.bsc_control.proofs.Calls.{keeps_moved, rests_moved, settings_moved}
 use Rattle.bsc_control.proofs.Calls.{keeps_spools_poll_call_step, keeps_spools_next_call_step}
-use Rattle.bsc_control.proofs.Calls.{next_is_called, terminal_there, selects_there}
-use Rattle.bsc_control.proofs.PeerLists.{same_map, value_at, holds_at}
+use Rattle.bsc_control.proofs.Calls.{next_is_called, terminal_of_peer, select_address_at}
+use Rattle.bsc_control.proofs.PeerLists.{map_kept_by_set, value_at_set_place, holds_after_set}
 use Rattle.bsc_bid.proofs.ReceiverSteps.{TakesText, Grows, grows_heard_step, silent_heard_step}
-use Rattle.bsc_bid.proofs.Choice.{choose}
+use Rattle.bsc_bid.proofs.Choice.{either_branch}
 use Rattle.bsc_control.proofs.SenderSteps.{KeepsAndLeaves, keeps_begin_step}
 use Rattle.bsc_control.proofs.SenderSteps.{keeps_reply_step, keeps_silence_step}
 use Rattle.bsc_bid.proofs.Fitting.{begin_not_quiet}
@@ -60,8 +62,8 @@ pub record SilenceKeeps (old : ControlValue) (step : ControlStep) : Type 0 where
       → IsCalled step.control (next_call old (after_silence old.task)) address
       ⊎ IsRepeated old step.control address
 
-keeps_same : (c : ControlValue) → Keeps c c
-keeps_same c =
+control_keeps_itself : (c : ControlValue) → Keeps c c
+control_keeps_itself c =
     record {
       setup = refl;
       poll_list = refl;
@@ -72,14 +74,14 @@ keeps_same c =
     }
 
 -- while the station selects or polls, no bid is in progress
-calm_while : (c : ControlValue) → IsOrderly c → ((s : ℕ) → c.task ≡ Sending s → ⊥) → IsCalm c
-calm_while c h idle =
+without_bid_while : (c : ControlValue) → IsOrderly c → ((s : ℕ) → c.task ≡ Sending s → ⊥) → IsWithoutBid c
+without_bid_while c h idle =
     record { rests = λ t s. h.rests t s (λ used. idle s used.1); settings = h.settings }
 
 -- while it sends, only that bid is in progress
-others_rest : (c : ControlValue) (s : ℕ) → HasEntries c → IsOrderly c → c.task ≡ Sending s → s
+others_rest_while_sending : (c : ControlValue) (s : ℕ) → HasEntries c → IsOrderly c → c.task ≡ Sending s → s
     < length (peer c).outbounds → OthersRest c s
-others_rest c s entries h e there =
+others_rest_while_sending c s entries h e there =
     record {
       entries = entries;
       there = there;
@@ -87,21 +89,21 @@ others_rest c s entries h e there =
       settings = h.settings;
     }
 
-all_rest : (c : ControlValue) (s : ℕ) → HasEntries c → IsCalm c → s < length (peer c).outbounds
+others_rest_without_bid : (c : ControlValue) (s : ℕ) → HasEntries c → IsWithoutBid c → s < length (peer c).outbounds
     → OthersRest c s
-all_rest c s entries calm there =
+others_rest_without_bid c s entries without_bid there =
     record {
       entries = entries;
       there = there;
-      rests = λ t k other. calm.rests t k;
+      rests = λ t k other. without_bid.rests t k;
       settings =
-          calm.settings;
+          without_bid.settings;
     }
 
 hears_quiet : (c : ControlValue) (h : Heard) → IsOrderly c → HearingKeeps c h (quiet_step c)
 hears_quiet c h o =
     record {
-      keeps = keeps_same c;
+      keeps = control_keeps_itself c;
       orderly = o;
       spools = λ t. inl refl;
       calls =
@@ -109,11 +111,11 @@ hears_quiet c h o =
     }
 
 -- the next call is made
-hears_next : (c : ControlValue) (h : Heard) (after : After) → HasEntries c → IsCalm c
+next_call_after_hearing : (c : ControlValue) (h : Heard) (after : After) → HasEntries c → IsWithoutBid c
     → after_hearing c.task h ≡ after → HearingKeeps c h (next_call_step c after)
-hears_next c h after entries calm e =
+next_call_after_hearing c h after entries without_bid e =
     let f : KeepsSpools c (next_call_step c after).control =
-    keeps_spools_next_call_step c after calm in
+    keeps_spools_next_call_step c after without_bid in
     record {
       keeps = f.keeps;
       orderly = f.orderly;
@@ -121,14 +123,14 @@ hears_next c h after entries calm e =
       calls =
           λ address sent. subst (λ (x : After). IsCalled (next_call_step c after).control
           (next_call c x) address) (sym e)
-          (next_is_called c after address (shape c entries) calm sent);
+          (next_is_called c after address (shape_of_entries c entries) without_bid sent);
     }
 
-silent_next : (c : ControlValue) (after : After) → HasEntries c → IsCalm c → after_silence c.task
+next_call_after_silence : (c : ControlValue) (after : After) → HasEntries c → IsWithoutBid c → after_silence c.task
     ≡ after → SilenceKeeps c (next_call_step c after)
-silent_next c after entries calm e =
+next_call_after_silence c after entries without_bid e =
     let f : KeepsSpools c (next_call_step c after).control =
-    keeps_spools_next_call_step c after calm in
+    keeps_spools_next_call_step c after without_bid in
     record {
       keeps = f.keeps;
       orderly = f.orderly;
@@ -136,7 +138,7 @@ silent_next c after entries calm e =
       calls =
           λ address sent. inl
           (subst (λ (x : After). IsCalled (next_call_step c after).control (next_call c x)
-          address) (sym e) (next_is_called c after address (shape c entries) calm sent));
+          address) (sym e) (next_is_called c after address (shape_of_entries c entries) without_bid sent));
     }
 
 -- a step of the sender, and the act that it leads to
@@ -160,19 +162,19 @@ hears_bid_step c h s step after others keeps quiet which e =
 
 -- a selection is answered
 hears_selecting : (c : ControlValue) (h : Heard) (s : ℕ) (r : Option Reply) → HasEntries c
-    → IsOrderly c → IsCalm c → IsSelected (peer c) s → after_hearing c.task h ≡ Selection s
+    → IsOrderly c → IsWithoutBid c → IsSelected (peer c) s → after_hearing c.task h ≡ Selection s
     → HearingKeeps c h (selecting_step c s r)
-hears_selecting c h s (Some Ack0) entries o calm selected e =
+hears_selecting c h s (Some Ack0) entries o without_bid selected e =
     let k = outbound_of c (current c) s in
     hears_bid_step c h s (begin_step k.sender k.queue) (Selection s)
-    (all_rest c s entries calm selected.there) (keeps_begin_step k.sender k.queue)
+    (others_rest_without_bid c s entries without_bid selected.there) (keeps_begin_step k.sender k.queue)
     (λ q. absurd (begin_not_quiet k.sender k.queue q)) (inl refl) e
-hears_selecting c h s (Some Nak) entries o calm selected e =
-    hears_next c h (Selection s) entries calm e
-hears_selecting c h s (Some Wack) entries o calm selected e =
-    choose (HearingKeeps c h) (nat_lt c.setup.waits (c.wacks + 1)) (next_call_step c (Selection s))
+hears_selecting c h s (Some Nak) entries o without_bid selected e =
+    next_call_after_hearing c h (Selection s) entries without_bid e
+hears_selecting c h s (Some Wack) entries o without_bid selected e =
+    either_branch (HearingKeeps c h) (nat_lt c.setup.waits (c.wacks + 1)) (next_call_step c (Selection s))
     (answer_step (record c { task = Selecting s true; failures = 0; wacks = c.wacks + 1 }) m.Enq)
-    (hears_next c h (Selection s) entries calm e)
+    (next_call_after_hearing c h (Selection s) entries without_bid e)
     (record {
       keeps =
           record {
@@ -187,20 +189,20 @@ hears_selecting c h s (Some Wack) entries o calm selected e =
       orderly =
           record {
             suits = selected;
-            rests = λ t k unused. calm.rests t k;
+            rests = λ t k unused. without_bid.rests t k;
             settings =
                 λ t k there. record {
-                  setup = (calm.settings t k there).setup;
+                  setup = (without_bid.settings t k there).setup;
                   format =
-                      (calm.settings t k there).format;
+                      (without_bid.settings t k there).format;
                 };
           };
       spools = λ t. inl refl;
       calls = λ address sent. absurd (cc);
     })
-hears_selecting c h s (Some Ack1) entries o calm selected e = hears_quiet c h o
-hears_selecting c h s (Some Rvi) entries o calm selected e = hears_quiet c h o
-hears_selecting c h s None entries o calm selected e = hears_quiet c h o
+hears_selecting c h s (Some Ack1) entries o without_bid selected e = hears_quiet c h o
+hears_selecting c h s (Some Rvi) entries o without_bid selected e = hears_quiet c h o
+hears_selecting c h s None entries o without_bid selected e = hears_quiet c h o
 
 which_after_bid : (s : ℕ) (r : Option Reply) → (after_bid s r ≡ Selection s)
     ⊎ (after_bid s r ≡ Interruption)
@@ -212,41 +214,41 @@ which_after_bid s (Some Wack) = inl refl
 which_after_bid s None = inl refl
 
 -- no reply is a call
-no_call : (r : Option Reply) (address : List ℕ) → option_map m.Reply r ≡ Some (m.Call address)
+reply_is_no_call : (r : Option Reply) (address : List ℕ) → option_map m.Reply r ≡ Some (m.Call address)
     → ⊥
-no_call None address e = cc
-no_call (Some r) address e = cc
+reply_is_no_call None address e = cc
+reply_is_no_call (Some r) address e = cc
 
 -- while nothing was replied in a poll, the receiver is as new
-suits_after : (c : ControlValue) (p : PeerValue) (replied : Replied) (r : Option Reply)
+task_suits_after_reply : (c : ControlValue) (p : PeerValue) (replied : Replied) (r : Option Reply)
     → (r ≡ None → p.receiver ≡ (peer c).receiver) → SuitsTask (Polling replied) (peer c)
     → SuitsTask (Polling (replied_after replied r))
     (get_or (set c.peers (current c) p) (current c) no_peer)
-suits_after c p Nothing None same suits =
+task_suits_after_reply c p Nothing None same suits =
     let is : p.receiver ≡ new_receiver true = same refl ∙ suits in
-    value_at (λ (x : PeerValue). x.receiver) c.peers (current c) p no_peer (sym is) ∙ is
-suits_after c p Uninterrupted None same suits = tt
-suits_after c p Interrupted None same suits = tt
-suits_after c p Nothing (Some Ack0) same suits = tt
-suits_after c p Nothing (Some Ack1) same suits = tt
-suits_after c p Nothing (Some Nak) same suits = tt
-suits_after c p Nothing (Some Wack) same suits = tt
-suits_after c p Nothing (Some Rvi) same suits = tt
-suits_after c p Uninterrupted (Some Ack0) same suits = tt
-suits_after c p Uninterrupted (Some Ack1) same suits = tt
-suits_after c p Uninterrupted (Some Nak) same suits = tt
-suits_after c p Uninterrupted (Some Wack) same suits = tt
-suits_after c p Uninterrupted (Some Rvi) same suits = tt
-suits_after c p Interrupted (Some Ack0) same suits = tt
-suits_after c p Interrupted (Some Ack1) same suits = tt
-suits_after c p Interrupted (Some Nak) same suits = tt
-suits_after c p Interrupted (Some Wack) same suits = tt
-suits_after c p Interrupted (Some Rvi) same suits = tt
+    value_at_set_place (λ (x : PeerValue). x.receiver) c.peers (current c) p no_peer (sym is) ∙ is
+task_suits_after_reply c p Uninterrupted None same suits = tt
+task_suits_after_reply c p Interrupted None same suits = tt
+task_suits_after_reply c p Nothing (Some Ack0) same suits = tt
+task_suits_after_reply c p Nothing (Some Ack1) same suits = tt
+task_suits_after_reply c p Nothing (Some Nak) same suits = tt
+task_suits_after_reply c p Nothing (Some Wack) same suits = tt
+task_suits_after_reply c p Nothing (Some Rvi) same suits = tt
+task_suits_after_reply c p Uninterrupted (Some Ack0) same suits = tt
+task_suits_after_reply c p Uninterrupted (Some Ack1) same suits = tt
+task_suits_after_reply c p Uninterrupted (Some Nak) same suits = tt
+task_suits_after_reply c p Uninterrupted (Some Wack) same suits = tt
+task_suits_after_reply c p Uninterrupted (Some Rvi) same suits = tt
+task_suits_after_reply c p Interrupted (Some Ack0) same suits = tt
+task_suits_after_reply c p Interrupted (Some Ack1) same suits = tt
+task_suits_after_reply c p Interrupted (Some Nak) same suits = tt
+task_suits_after_reply c p Interrupted (Some Wack) same suits = tt
+task_suits_after_reply c p Interrupted (Some Rvi) same suits = tt
 
-stores : (c : ControlValue) (h : Heard) (replied : Replied) (old new : List (List ℕ)) → c.task
+text_grows_spool : (c : ControlValue) (h : Heard) (replied : Replied) (old new : List (List ℕ)) → c.task
     ≡ Polling replied → (new ≡ old) ⊎ TakesText h old new → GrowsByText c h (current c) old new
-stores c h replied old new e (inl same) = inl same
-stores c h replied old new e (inr x) =
+text_grows_spool c h replied old new e (inl same) = inl same
+text_grows_spool c h replied old new e (inr x) =
     inr (record {
       text = x.text;
       heard = x.heard;
@@ -258,11 +260,11 @@ stores c h replied old new e (inr x) =
 
 -- the receiver replies
 hears_receiving_step : (c : ControlValue) (h : Heard) (replied : Replied) (step : ReceiverStep)
-    → HasEntries c → IsOrderly c → IsCalm c → c.task ≡ Polling replied
+    → HasEntries c → IsOrderly c → IsWithoutBid c → c.task ≡ Polling replied
     → SuitsTask (Polling replied) (peer c)
     → Grows h (peer c).spool step → (step.reply ≡ None → step.receiver ≡ (peer c).receiver)
     → HearingKeeps c h (receive_step c replied step)
-hears_receiving_step c h replied step entries o calm e suits grows silent =
+hears_receiving_step c h replied step entries o without_bid e suits grows silent =
     let t : ℕ = current c in
     let p : PeerValue =
     record (peer c) {
@@ -277,48 +279,48 @@ hears_receiving_step c h replied step entries o calm e suits grows silent =
       keeps = keeps_moved c t p c.place task c.failures c.wacks same;
       orderly =
           record {
-            suits = suits_after c p replied step.reply silent suits;
-            rests = λ j k unused. rests_moved c t p same j k (calm.rests j k);
-            settings = settings_moved c t p c.place task c.failures c.wacks same calm.settings;
+            suits = task_suits_after_reply c p replied step.reply silent suits;
+            rests = λ j k unused. rests_moved c t p same j k (without_bid.rests j k);
+            settings = settings_moved c t p c.place task c.failures c.wacks same without_bid.settings;
           };
       spools =
-          holds_at (λ (j : ℕ) (x : PeerValue). GrowsByText c h j (peer_at c j).spool.records
+          holds_after_set (λ (j : ℕ) (x : PeerValue). GrowsByText c h j (peer_at c j).spool.records
           x.spool.records) c.peers t p no_peer
-          (stores c h replied (peer c).spool.records step.spool.records e grows)
-          (λ le. absurd (omega (arith, le, current_there c (places c entries))))
+          (text_grows_spool c h replied (peer c).spool.records step.spool.records e grows)
+          (λ le. absurd (omega (arith, le, current_within_peers c (places c entries))))
           (λ j ne. inl refl);
-      calls = λ address sent. absurd (no_call step.reply address sent);
+      calls = λ address sent. absurd (reply_is_no_call step.reply address sent);
     }
 
 hears_heard : (c : ControlValue) (h : Heard) (replied : Replied) (rooms : Rooms) → HasEntries c
-    → IsOrderly c → IsCalm c → c.task ≡ Polling replied → SuitsTask (Polling replied) (peer c)
+    → IsOrderly c → IsWithoutBid c → c.task ≡ Polling replied → SuitsTask (Polling replied) (peer c)
     → HearingKeeps c h (receive_step c replied
     (heard_step (peer c).receiver (peer c).spool h (peer c).urgent rooms))
-hears_heard c h replied rooms entries o calm e suits =
+hears_heard c h replied rooms entries o without_bid e suits =
     hears_receiving_step c h replied (heard_step (peer c).receiver (peer c).spool h (peer c).urgent
-    rooms) entries o calm e suits
+    rooms) entries o without_bid e suits
     (grows_heard_step (peer c).receiver (peer c).spool h (peer c).urgent rooms)
     (silent_heard_step (peer c).receiver (peer c).spool h (peer c).urgent rooms)
 
 -- a poll is answered
 hears_polling : (c : ControlValue) (h : Heard) (replied : Replied) (rooms : Rooms) → HasEntries c
-    → IsOrderly c → IsCalm c → c.task ≡ Polling replied → SuitsTask (Polling replied) (peer c)
+    → IsOrderly c → IsWithoutBid c → c.task ≡ Polling replied → SuitsTask (Polling replied) (peer c)
     → HearingKeeps c h (polling_step c replied h rooms)
-hears_polling c (Whole m.Eot) replied rooms entries o calm e suits =
-    hears_next c (Whole m.Eot) (Poll (is_interrupted replied)) entries calm
+hears_polling c (Whole m.Eot) replied rooms entries o without_bid e suits =
+    next_call_after_hearing c (Whole m.Eot) (Poll (is_interrupted replied)) entries without_bid
     (ap (λ (task : Task). after_hearing task (Whole m.Eot)) e)
-hears_polling c Noise replied rooms entries o calm e suits =
-    hears_heard c Noise replied rooms entries o calm e suits
-hears_polling c Failed replied rooms entries o calm e suits =
-    hears_heard c Failed replied rooms entries o calm e suits
-hears_polling c (Whole (m.Call x)) replied rooms entries o calm e suits =
-    hears_heard c (Whole (m.Call x)) replied rooms entries o calm e suits
-hears_polling c (Whole m.Enq) replied rooms entries o calm e suits =
-    hears_heard c (Whole m.Enq) replied rooms entries o calm e suits
-hears_polling c (Whole (m.Reply r)) replied rooms entries o calm e suits =
-    hears_heard c (Whole (m.Reply r)) replied rooms entries o calm e suits
-hears_polling c (Whole (m.Text x)) replied rooms entries o calm e suits =
-    hears_heard c (Whole (m.Text x)) replied rooms entries o calm e suits
+hears_polling c Noise replied rooms entries o without_bid e suits =
+    hears_heard c Noise replied rooms entries o without_bid e suits
+hears_polling c Failed replied rooms entries o without_bid e suits =
+    hears_heard c Failed replied rooms entries o without_bid e suits
+hears_polling c (Whole (m.Call x)) replied rooms entries o without_bid e suits =
+    hears_heard c (Whole (m.Call x)) replied rooms entries o without_bid e suits
+hears_polling c (Whole m.Enq) replied rooms entries o without_bid e suits =
+    hears_heard c (Whole m.Enq) replied rooms entries o without_bid e suits
+hears_polling c (Whole (m.Reply r)) replied rooms entries o without_bid e suits =
+    hears_heard c (Whole (m.Reply r)) replied rooms entries o without_bid e suits
+hears_polling c (Whole (m.Text x)) replied rooms entries o without_bid e suits =
+    hears_heard c (Whole (m.Text x)) replied rooms entries o without_bid e suits
 
 hears_task : (c : ControlValue) (task : Task) (h : Heard) (rooms : Rooms) → HasEntries c
     → IsOrderly c → c.task ≡ task → HearingKeeps c h (task_step c task h rooms)
@@ -326,17 +328,17 @@ hears_task c AtRest h rooms entries o e = hears_quiet c h o
 hears_task c (Selecting s enquired) h rooms entries o e =
     let selected : IsSelected (peer c) s =
     subst (λ (task : Task). SuitsTask task (peer c)) e o.suits in
-    hears_selecting c h s (reply_in h) entries o (calm_while c o (λ k used. absurd (cc)))
+    hears_selecting c h s (reply_in h) entries o (without_bid_while c o (λ k used. absurd (cc)))
     selected (ap (λ (task : Task). after_hearing task h) e)
 hears_task c (Sending s) h rooms entries o e =
     let bid : IsInBid (peer c) s = subst (λ (task : Task). SuitsTask task (peer c)) e o.suits in
     let k = outbound_of c (current c) s in
     hears_bid_step c h s (reply_step k.sender k.queue (reply_in h)) (after_bid s (reply_in h))
-    (others_rest c s entries o e bid.there)
+    (others_rest_while_sending c s entries o e bid.there)
     (keeps_reply_step k.sender k.queue (reply_in h) bid.going) (λ q. e)
     (which_after_bid s (reply_in h)) (ap (λ (task : Task). after_hearing task h) e)
 hears_task c (Polling replied) h rooms entries o e =
-    hears_polling c h replied rooms entries o (calm_while c o (λ k used. absurd (cc))) e
+    hears_polling c h replied rooms entries o (without_bid_while c o (λ k used. absurd (cc))) e
     (subst (λ (task : Task). SuitsTask task (peer c)) e o.suits)
 
 -- what hearing a transmission keeps, by the table
@@ -348,21 +350,21 @@ hearing_keeps old h new sent entries o heard =
     (hears_task old old.task h (rooms_after old h new) entries o refl)
 
 -- a selection is called again, or ENQ is sent again
-repeats : (c : ControlValue) (s : ℕ) (enquired : Bool) (address : List ℕ) → HasEntries c → c.task
+selection_or_enq_repeated : (c : ControlValue) (s : ℕ) (enquired : Bool) (address : List ℕ) → HasEntries c → c.task
     ≡ Selecting s enquired → IsSelected (peer c) s → repeated c s enquired ≡ m.Call address
     → IsRepeated c (record c { failures = c.failures + 1 }) address
-repeats c s true address entries e selected sent = absurd (cc)
-repeats c s false address entries e selected sent =
-    let within = current_there c (places c entries) in
+selection_or_enq_repeated c s true address entries e selected sent = absurd (cc)
+selection_or_enq_repeated c s false address entries e selected sent =
+    let within = current_within_peers c (places c entries) in
     let select : s < length (peer c).terminal.selects =
     subst (λ (n : ℕ). s < n) (entries.peers (current c) no_peer within).outbounds
     selected.there in
     let own : slice_get (peer c).terminal.selects s ≡ Some (select_address (peer c).terminal s) =
-    selects_there (peer c).terminal s select in
+    select_address_at (peer c).terminal s select in
     let called : IsAddressOf (terminals c) (current c) (ToTerminal s) address =
     record {
       terminal = (peer c).terminal;
-      there = terminal_there c (current c) within;
+      there = terminal_of_peer c (current c) within;
       its_own =
           cc;
     } in
@@ -388,20 +390,20 @@ repeats_poll c address entries e sent =
           record {
             terminal = (peer c).terminal;
             there =
-                rw (same_map (λ (x : PeerValue). x.terminal) c.peers t p no_peer refl)
-                (terminal_there c t (current_there c (places c entries)));
+                rw (map_kept_by_set (λ (x : PeerValue). x.terminal) c.peers t p no_peer refl)
+                (terminal_of_peer c t (current_within_peers c (places c entries)));
             its_own = cc;
           };
       failures = refl;
     }
 
 silent_selecting : (c : ControlValue) (s : ℕ) (enquired : Bool) → HasEntries c → IsOrderly c
-    → IsCalm c → c.task ≡ Selecting s enquired → IsSelected (peer c) s
+    → IsWithoutBid c → c.task ≡ Selecting s enquired → IsSelected (peer c) s
     → SilenceKeeps c (silence_in c (Selecting s enquired))
-silent_selecting c s enquired entries o calm e selected =
-    choose (SilenceKeeps c) (nat_lt c.setup.tries (c.failures + 1)) (next_call_step c (Selection s))
+silent_selecting c s enquired entries o without_bid e selected =
+    either_branch (SilenceKeeps c) (nat_lt c.setup.tries (c.failures + 1)) (next_call_step c (Selection s))
     (answer_step (record c { failures = c.failures + 1 }) (repeated c s enquired))
-    (silent_next c (Selection s) entries calm (ap after_silence e))
+    (next_call_after_silence c (Selection s) entries without_bid (ap after_silence e))
     (record {
       keeps =
           record {
@@ -416,29 +418,29 @@ silent_selecting c s enquired entries o calm e selected =
       orderly =
           record {
             suits = o.suits;
-            rests = λ t k unused. calm.rests t k;
+            rests = λ t k unused. without_bid.rests t k;
             settings =
                 λ t k there. record {
-                  setup = (calm.settings t k there).setup;
+                  setup = (without_bid.settings t k there).setup;
                   format =
-                      (calm.settings t k there).format;
+                      (without_bid.settings t k there).format;
                 };
           };
       spools = λ t. refl;
-      calls = λ address sent. inr (repeats c s enquired address entries e selected cc);
+      calls = λ address sent. inr (selection_or_enq_repeated c s enquired address entries e selected cc);
     })
 
 silent_task : (c : ControlValue) (task : Task) → HasEntries c → IsOrderly c → c.task ≡ task
     → SilenceKeeps c (silence_in c task)
 silent_task c AtRest entries o e =
-    silent_next c Start entries (calm_while c o (λ k used. absurd (cc))) (ap after_silence e)
+    next_call_after_silence c Start entries (without_bid_while c o (λ k used. absurd (cc))) (ap after_silence e)
 silent_task c (Selecting s enquired) entries o e =
-    silent_selecting c s enquired entries o (calm_while c o (λ k used. absurd (cc))) e
+    silent_selecting c s enquired entries o (without_bid_while c o (λ k used. absurd (cc))) e
     (subst (λ (task : Task). SuitsTask task (peer c)) e o.suits)
 silent_task c (Sending s) entries o e =
     let bid : IsInBid (peer c) s = subst (λ (task : Task). SuitsTask task (peer c)) e o.suits in
     let k = outbound_of c (current c) s in
-    let others = others_rest c s entries o e bid.there in
+    let others = others_rest_while_sending c s entries o e bid.there in
     let step = silence_step k.sender k.queue in
     let keeps = keeps_silence_step k.sender k.queue bid.going in
     let f : KeepsSpools c (bid_step c s step (Selection s)).control =
@@ -453,12 +455,12 @@ silent_task c (Sending s) entries o e =
           (calls_bid_step c s step (Selection s) address others keeps (inl refl) sent));
     }
 silent_task c (Polling Nothing) entries o e =
-    let calm = calm_while c o (λ k used. absurd (cc)) in
+    let without_bid = without_bid_while c o (λ k used. absurd (cc)) in
     let f : KeepsSpools c (poll_call_step c c.place (c.failures + 1)).control =
-    keeps_spools_poll_call_step c c.place (c.failures + 1) calm in
-    choose (SilenceKeeps c) (nat_lt c.setup.tries (c.failures + 1)) (next_call_step c (Poll false))
+    keeps_spools_poll_call_step c c.place (c.failures + 1) without_bid in
+    either_branch (SilenceKeeps c) (nat_lt c.setup.tries (c.failures + 1)) (next_call_step c (Poll false))
     (poll_call_step c c.place (c.failures + 1))
-    (silent_next c (Poll false) entries calm (ap after_silence e))
+    (next_call_after_silence c (Poll false) entries without_bid (ap after_silence e))
     (record {
       keeps = f.keeps;
       orderly = f.orderly;
@@ -467,9 +469,9 @@ silent_task c (Polling Nothing) entries o e =
           λ address sent. inr (repeats_poll c address entries e sent);
     })
 silent_task c (Polling Uninterrupted) entries o e =
-    silent_next c (Poll false) entries (calm_while c o (λ k used. absurd (cc))) (ap after_silence e)
+    next_call_after_silence c (Poll false) entries (without_bid_while c o (λ k used. absurd (cc))) (ap after_silence e)
 silent_task c (Polling Interrupted) entries o e =
-    silent_next c (Poll true) entries (calm_while c o (λ k used. absurd (cc))) (ap after_silence e)
+    next_call_after_silence c (Poll true) entries (without_bid_while c o (λ k used. absurd (cc))) (ap after_silence e)
 
 -- what a silence keeps, by the table
 pub silence_keeps : (old new : ControlValue) (sent : Option Message) → HasEntries old

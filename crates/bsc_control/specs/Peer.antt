@@ -79,7 +79,7 @@ new_outbound setup =
 -- nothing to send, nothing received, and the urgent flag down
 pub record IsNewPeer (setup : SetupValue) (terminal : TerminalValue) (p : PeerValue) : Type 0 where
   pub terminal_given : p.terminal ≡ terminal
-  pub calm : p.urgent ≡ false
+  pub not_urgent : p.urgent ≡ false
   pub receiver : p.receiver ≡ new_receiver true
   pub nothing_spooled : p.spool.records ≡ []
   pub no_delays : p.spool.delays ≡ 0

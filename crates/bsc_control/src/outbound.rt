@@ -40,6 +40,8 @@ impl<A: Allocator> Model for Outbound<A> {
 impl<A: Allocator> Outbound<A> {
     /// Returns a sending side without records and without a bid. It allocates nothing.
     pub(crate) fn new(alloc: A, setup: Setup) -> Self
+    where
+        A: Copy,
         ensures value { result ≡ new_outbound setup }
         ensures outbound { IsOutbound result }
     {

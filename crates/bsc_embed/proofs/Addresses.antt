@@ -9,8 +9,8 @@ use Rattle.bsc_embed.specs.Contents.{address_in}
 use Rattle.bsc_embed.specs.declared.content.Content.{Content}
 use Rattle.bsc_frame.specs.declared.limits.TheConstants.{MAX_ADDRESS}
 
-fits : (n : ℕ) → n ≤ MAX_ADDRESS → nat_le n MAX_ADDRESS ≡ true
-fits n h = grind (arith, nat_tests)
+length_test_of_address : (n : ℕ) → n ≤ MAX_ADDRESS → nat_le n MAX_ADDRESS ≡ true
+length_test_of_address n h = grind (arith, nat_tests)
 
 -- The codes at the front and their number hold the address.
 pub address_put : (c : Content) (a : List ℕ) → IsAddress a
@@ -18,5 +18,5 @@ pub address_put : (c : Content) (a : List ℕ) → IsAddress a
     ≡ Some a
 unfolding address_in
 address_put c a h =
-    rw (take-append_seam a (drop (length a) c.address), fits (length a) h.most, address_read a h)
+    rw (take-append_seam a (drop (length a) c.address), length_test_of_address (length a) h.most, address_read a h)
     refl

@@ -22,9 +22,9 @@ not_noise : (k : Kind) (c : Content) (x : Message) → message_as k c ≡ Some x
 not_noise k c x s e = let r : message_as kind.Noise c ≡ Some x = rw e at s in cc
 
 -- The kind and the content tell what was heard.
-pub tells : (octets : List ℕ) (h : Heard) (k : Kind) (old new : Content) → IsHeard octets h
+pub kind_tells_heard : (octets : List ℕ) (h : Heard) (k : Kind) (old new : Content) → IsHeard octets h
     → StandsFor h k new → KeepsRestOfHeard h old new → Tells octets k old new
-tells octets (Whole x) k old new w s n = record {
+kind_tells_heard octets (Whole x) k old new w s n = record {
   whole = λ m. (
     λ q. let r : Some x ≡ Some m = sym s ∙ q in let same : x ≡ m = cc in
         (w.whole m).0 (ap Whole same),
@@ -37,7 +37,7 @@ tells octets (Whole x) k old new w s n = record {
       subst (λ z. KeepsRest z old new) same n;
   unspelled = λ e. absurd (e x ((w.whole x).0 refl));
 }
-tells octets Failed k old new w s n = record {
+kind_tells_heard octets Failed k old new w s n = record {
   whole =
       λ m. (
         λ q. let r : message_as kind.Failed new ≡ Some m = rw s at q in cc,
@@ -49,7 +49,7 @@ tells octets Failed k old new w s n = record {
   kept = λ m q. let r : Failed ≡ Whole m = (w.whole m).1 q in cc;
   unspelled = λ e. n;
 }
-tells octets Noise k old new w s n = record {
+kind_tells_heard octets Noise k old new w s n = record {
   whole =
       λ m. (
         λ q. let r : message_as kind.Noise new ≡ Some m = rw s at q in cc,

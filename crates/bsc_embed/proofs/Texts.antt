@@ -66,12 +66,12 @@ units_are [] us e =
     rw k tt
 units_are (s ∷ ss) us e = units_step s (unit_in s) (units_in ss) us refl e (units_are ss)
 
-within : (n : ℕ) → 0 < n → n ≤ MAX_UNITS → (nat_le 1 n && nat_le n MAX_UNITS) ≡ true
-within n l m = grind (arith, nat_tests)
+unit_count_test_passes : (n : ℕ) → 0 < n → n ≤ MAX_UNITS → (nat_le 1 n && nat_le n MAX_UNITS) ≡ true
+unit_count_test_passes n l m = grind (arith, nat_tests)
 
-outside : (n : ℕ) → (n ≡ 0) ⊎ (MAX_UNITS < n) → (nat_le 1 n && nat_le n MAX_UNITS) ≡ false
-outside n (inl e) = rw e refl
-outside n (inr l) = let t : nat_le n MAX_UNITS ≡ false = grind (arith, nat_tests) in
+unit_count_test_fails : (n : ℕ) → (n ≡ 0) ⊎ (MAX_UNITS < n) → (nat_le 1 n && nat_le n MAX_UNITS) ≡ false
+unit_count_test_fails n (inl e) = rw e refl
+unit_count_test_fails n (inr l) = let t : nat_le n MAX_UNITS ≡ false = grind (arith, nat_tests) in
     rw t (and_false (nat_le 1 n))
   where
     and_false : (b : Bool) → (b && false) ≡ false
@@ -84,18 +84,18 @@ pub text_here : (c : Content) (t : TextValue) → 0 < c.count → c.count ≤ MA
     → units_in (take c.count c.units) ≡ Some t.units
     → text_in c ≡ Some t
 unfolding text_in
-text_here c t l m h k = rw (within c.count l m, h, k) refl
+text_here c t l m h k = rw (unit_count_test_passes c.count l m, h, k) refl
 
 -- No text: the count is 0 or too large.
 pub text_not_counted : (c : Content) → (c.count ≡ 0) ⊎ (MAX_UNITS < c.count) → text_in c ≡ None
 unfolding text_in
-text_not_counted c h = rw (outside c.count h) refl
+text_not_counted c h = rw (unit_count_test_fails c.count h) refl
 
 -- No text: the end is wrong.
 pub text_not_ended : (c : Content) → 0 < c.count → c.count ≤ MAX_UNITS → end_at c.end ≡ None
     → text_in c ≡ None
 unfolding text_in
-text_not_ended c l m h = rw (within c.count l m, h) refl
+text_not_ended c l m h = rw (unit_count_test_passes c.count l m, h) refl
 
 -- No text: one of the units is wrong.
 pub text_not_unit : (c : Content) (e : End) (i : ℕ) (d : StoredUnit) → 0 < c.count → c.count
@@ -107,7 +107,7 @@ text_not_unit c e i d l m h j n k =
     let at : unit_in (get_or (take c.count c.units) i d) ≡ None =
     rw (get_or-take c.count c.units i d j) k in
     rw (
-      within c.count l m,
+      unit_count_test_passes c.count l m,
       h,
       units_none (take c.count c.units) i d
           (omega (arith, length-take c.count c.units)) at,

@@ -6,7 +6,7 @@ use mir.Val.{bool_byte}
 use Rattle.std.specs.List.{AllByRecursion, list_all}
 use Rattle.std.proofs.Math.Seq.{take-append_seam}
 use Rattle.std.proofs.lemmas.Bool.Decides.{nat_tests}
-use Rattle.bsc_octet.specs.Octet.{is_record_char}
+use Rattle.bsc_frame.specs.Octet.{is_record_char}
 use Rattle.bsc_frame.specs.Texts.{TextUnit, IsUnit}
 use Rattle.bsc_embed.specs.Contents.{unit_in}
 use Rattle.bsc_embed.specs.declared.content.StoredUnit.{StoredUnit}

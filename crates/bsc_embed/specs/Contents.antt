@@ -3,7 +3,7 @@ use Rattle.std.specs.Prelude.{ℕ, ◌==◌, ◌&&◌, nat_le, nat_lt, if◌then
 use Rattle.std.specs.Prelude.{Option, Some, None, option_map, option_and_then}
 use Rattle.std.specs.List.{list_all}
 use Rattle.std.specs.Result.{result_ok}
-use Rattle.bsc_octet.specs.Octet.{is_record_char}
+use Rattle.bsc_frame.specs.Octet.{is_record_char}
 use Rattle.bsc_frame.specs.Texts.{TextUnit, TextValue}
 use Rattle.bsc_frame.specs.Message.{read_address}
 use Rattle.bsc_frame.specs.declared.text.End.{End}

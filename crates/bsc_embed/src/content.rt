@@ -1,16 +1,15 @@
 //! The content of a call or a text, in storage of fixed size that C declares.
 ghost use Rattle.std.specs.Prelude.{◌≡◌, Some, option_map, drop};
 ghost use Rattle.std.specs.List.{list_all};
-ghost use Rattle.bsc_octet.specs.Octet.{is_record_char as is_record_code};
+ghost use Rattle.bsc_frame.specs.Octet.{is_record_char as is_record_code};
 ghost use Rattle.bsc_frame.specs.Units.{text_unit};
 ghost use Rattle.bsc_frame.specs.Texts.{IsUnit};
 ghost use Rattle.bsc_embed.specs.Contents.{unit_in, end_at, text_in, address_in};
 ghost use Rattle.bsc_embed.specs.Decoded.{KeepsRestOfCall, KeepsRestOfText};
 
+use bsc_frame::controls::{ETB_CODE, ETX_CODE};
 use bsc_frame::limits::{MAX_ADDRESS, MAX_CHARS, MAX_UNITS};
-use bsc_frame::octets::{ETB_CODE, ETX_CODE};
-use bsc_frame::{Address, End, Text, Unit};
-use bsc_octet::is_record_char;
+use bsc_frame::{Address, End, Text, Unit, is_record_char};
 
 /// A unit of a text: `struct bsc_unit` of `bsc.h`. C may put any octet into any field.
 #[repr(C)]

@@ -5,7 +5,8 @@ use Rattle.std.proofs.Common.{[], ◌∷◌, ◌++◌, length, take, drop, repli
 use Rattle.std.proofs.Common.{position}
 use Rattle.std.proofs.Math.Seq.{take-append_seam}
 use Rattle.std.proofs.lemmas.List.{drop-replicate}
-use Rattle.bsc_frame.specs.Addresses.{is_address_code, IsAddress, HoldsAddress}
+use Rattle.bsc_frame.specs.Addresses.{IsAddress, HoldsAddress}
+use Rattle.bsc_octet.specs.Octet.{is_address_code}
 use Rattle.bsc_frame.specs.declared.limits.TheConstants.{MAX_ADDRESS}
 use Rattle.bsc_octet.proofs.Elements.{none_fails}
 

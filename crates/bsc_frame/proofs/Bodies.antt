@@ -3,12 +3,13 @@ use Rattle.std.proofs.Common.{◌≡◌, ℕ, ◌<◌, ◌≤◌, Bool, true, fa
 use Rattle.std.proofs.Common.{[], length, nat_lt}
 use Rattle.std.proofs.lemmas.Bool.Decides.{nat_tests}
 use Rattle.std.proofs.Common.{arith}
-use Rattle.bsc_frame.specs.Reading.{skip, is_pad_octet, is_octet, trimmed, begins, control, heard}
+use Rattle.bsc_frame.specs.Reading.{skip, is_octet, trimmed, begins, control, heard}
+use Rattle.bsc_octet.specs.Octet.{is_pad_octet}
 use Rattle.bsc_frame.specs.Reading.{heard_body}
 use Rattle.bsc_frame.specs.declared.message.Heard.TheVariants.{Noise}
 use Rattle.bsc_frame.specs.declared.limits.TheConstants.{MAX_HEARD}
-use Rattle.bsc_frame.specs.declared.octets.TheConstants.{SYN}
-use Rattle.bsc_frame.proofs.Fronts.{skip_none, within}
+use Rattle.bsc_octet.specs.declared.controls.TheConstants.{SYN}
+use Rattle.bsc_frame.proofs.Fronts.{skip_none, not_over_max_heard}
 
 -- the empty body is noise
 empty_is_noise : heard_body [] ≡ Noise
@@ -45,7 +46,7 @@ pub heard_after_syn : (s rest body : List ℕ) (syn : Bool) → length s ≤ MAX
     → body ≡ trimmed (skip (is_octet SYN) rest) → heard s ≡ heard_body body
 unfolding heard
 heard_after_syn s rest body syn l e b t c =
-    rw (within (length s) l, ← e, ← b, t) (ap heard_body (sym c))
+    rw (not_over_max_heard (length s) l, ← e, ← b, t) (ap heard_body (sym c))
 
 -- the cases without a body
 pub ruleset empty_body = (heard_too_many, heard_no_front)

@@ -1,16 +1,16 @@
 -- Each octet of a body has odd parity, except the PAD of a call.
-use Rattle.std.proofs.Common.{◌∙◌, inl, inr, ℕ, false, refl, arith, List, [], ◌∷◌, ◌++◌, map, IsTrue}
+use Rattle.std.proofs.Common.{◌∙◌, inl, inr, ℕ, false, refl, arith, List, [], ◌∷◌, ◌++◌, map}
+use Rattle.std.proofs.Common.{IsTrue}
 use Rattle.std.specs.List.{AllByRecursion}
 use Rattle.std.specs.Int.Count.{ones}
-use Rattle.bsc_octet.specs.Octet.{IsOdd, odd_octet}
+use Rattle.bsc_octet.specs.Octet.{IsOdd, odd_octet, is_address_code}
 use Rattle.bsc_octet.proofs.OddOctets.{is_odd_odd_octet}
-use Rattle.bsc_frame.specs.Addresses.{is_address_code}
 use Rattle.bsc_frame.specs.Spells.{AreAll, IsBody, IsCall}
 use Rattle.bsc_frame.specs.TurnedBits.{IsBodyOctet}
 use Rattle.bsc_frame.specs.declared.message.Message.{Message}
 use Rattle.bsc_frame.specs.declared.message.Message.TheVariants.{Eot, Call, Enq, Reply, Text}
-use Rattle.bsc_frame.specs.declared.octets.TheConstants.{DLE, ENQ, EOT, NAK, PAD, STX, SYN}
-use Rattle.bsc_frame.proofs.ControlSequences.{plain}
+use Rattle.bsc_octet.specs.declared.controls.TheConstants.{DLE, ENQ, EOT, NAK, PAD, STX, SYN}
+use Rattle.bsc_frame.proofs.ControlSequences.{plain_address_code}
 use Rattle.bsc_frame.proofs.OddTexts.{units_odd, fill_odd}
 use Rattle.bsc_frame.proofs.Replies.{reply_form}
 use Rattle.bsc_octet.proofs.Elements.{all_append}
@@ -41,7 +41,7 @@ stx_odd = is_odd_odd_octet STX (omega arith)
 pub address_odd : (a : List ℕ) → AllByRecursion (λ c. IsTrue (is_address_code c)) a
     → AllByRecursion IsOdd (map odd_octet a)
 address_odd [] h = tt
-address_odd (c ∷ a) h = let k = plain c h.0 in
+address_odd (c ∷ a) h = let k = plain_address_code c h.0 in
     (is_odd_odd_octet c (omega (arith, k.high)), address_odd a h.1)
 
 -- the octets of a call after its EOT and PAD have odd parity

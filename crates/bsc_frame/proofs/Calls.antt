@@ -8,14 +8,14 @@ use Rattle.std.proofs.Common.{Option, Some, None, Result, Ok, Err, option_and_th
 use Rattle.std.specs.List.{AllByRecursion}
 use Rattle.std.proofs.lemmas.Bool.{eqb-true, eqb-false}
 use Rattle.std.proofs.lemmas.List.{take_more_set, drop-set-lt, drop-replicate}
-use Rattle.bsc_octet.specs.Octet.{code_of}
-use Rattle.bsc_frame.specs.Addresses.{is_address_code, IsAddress}
+use Rattle.bsc_octet.specs.Octet.{code_of, is_address_code}
+use Rattle.bsc_frame.specs.Addresses.{IsAddress}
 use Rattle.bsc_frame.specs.Message.{read_address}
 use Rattle.bsc_frame.specs.Reading.{called, call_of, call_to}
 use Rattle.bsc_frame.specs.declared.address.AddressError.{AddressError}
 use Rattle.bsc_frame.specs.declared.limits.TheConstants.{MAX_ADDRESS}
 use Rattle.bsc_frame.specs.declared.message.Message.TheVariants.{Call}
-use Rattle.bsc_frame.specs.declared.octets.TheConstants.{ENQ}
+use Rattle.bsc_octet.specs.declared.controls.TheConstants.{ENQ}
 use Rattle.bsc_frame.proofs.ControlSequences.{address_read, address_reads}
 use Rattle.bsc_frame.proofs.ReadingSteps.{Reads, with_codes, called_end, called_early, called_full}
 use Rattle.bsc_frame.proofs.ReadingSteps.{called_wrong}
@@ -42,9 +42,9 @@ front_is b i s c h =
     record { some = omega (arith, long); most = omega (arith, long, c.within); each = c.codes }
 
 -- the codes that are read up to ENQ decide the message
-message : (s : List ℕ) (o : Option (List ℕ)) → o ≡ called MAX_ADDRESS s
+call_of_codes_up_to_enq : (s : List ℕ) (o : Option (List ℕ)) → o ≡ called MAX_ADDRESS s
     → option_and_then (λ codes. call_to (read_address codes)) o ≡ call_of s
-message s o e = ap (option_and_then (λ codes. call_to (read_address codes))) e
+call_of_codes_up_to_enq s o e = ap (option_and_then (λ codes. call_to (read_address codes))) e
 
 -- an ENQ at the end, after codes, ends the call
 pub call_ends : (b : List ℕ) (i : ℕ) (s : List ℕ) → Called b i s → i < length s → get_or s i 0
@@ -52,13 +52,13 @@ pub call_ends : (b : List ℕ) (i : ℕ) (s : List ℕ) → Called b i s → i <
     → 0 < i → i + 1 ≡ length s → Some (Call (take i b)) ≡ call_of s
 call_ends b i s c l e some last =
     sym (ap call_to (address_read (take i b) (front_is b i s c some)))
-    ∙ message s (Some (take i b)) (called_end (take i b) i s c.reads l e last)
+    ∙ call_of_codes_up_to_enq s (Some (take i b)) (called_end (take i b) i s c.reads l e last)
 
 -- an ENQ before the end is no call
 pub call_early : (b : List ℕ) (i : ℕ) (s : List ℕ) → Called b i s → i < length s → get_or s i 0
     ≡ ENQ
     → (i + 1 ≡ length s → ⊥) → None ≡ call_of s
-call_early b i s c l e more = message s None (called_early (take i b) i s c.reads l e more)
+call_early b i s c l e more = call_of_codes_up_to_enq s None (called_early (take i b) i s c.reads l e more)
 
 -- an ENQ before any code is no call
 pub call_empty : (b : List ℕ) (i : ℕ) (s : List ℕ) (last : Bool) → (i + 1 == length s) ≡ last
@@ -66,7 +66,7 @@ pub call_empty : (b : List ℕ) (i : ℕ) (s : List ℕ) (last : Bool) → (i + 
     → i < length s → get_or s i 0 ≡ ENQ → i ≡ 0 → None ≡ call_of s
 call_empty b i s true t c l e none =
     let nothing : [] ≡ take i b = rw none refl in
-    message s (Some []) (ap Some nothing
+    call_of_codes_up_to_enq s (Some []) (ap Some nothing
     ∙ called_end (take i b) i s c.reads l e (eqb-true (i + 1) (length s) t))
 call_empty b i s false t c l e none = call_early b i s c l e (eqb-false (i + 1) (length s) t)
 
@@ -75,19 +75,19 @@ pub call_full : (b : List ℕ) (i : ℕ) (s : List ℕ) → Called b i s → i <
     → (get_or s i 0 ≡ ENQ → ⊥)
     → i ≡ MAX_ADDRESS → None ≡ call_of s
 call_full b i s c l e full =
-    message s None (called_full (take i b) i s c.reads l e (called_front_length b i s c ∙ full))
+    call_of_codes_up_to_enq s None (called_full (take i b) i s c.reads l e (called_front_length b i s c ∙ full))
 
 -- an octet of even parity is in no address
 pub call_wrong : (b : List ℕ) (i : ℕ) (s : List ℕ) → Called b i s → i < length s
     → (get_or s i 0 ≡ ENQ → ⊥)
     → (i ≡ MAX_ADDRESS → ⊥) → code_of (get_or s i 0) ≡ None → None ≡ call_of s
 call_wrong b i s c l e less k =
-    message s None (called_wrong (take i b) i s c.reads l e
+    call_of_codes_up_to_enq s None (called_wrong (take i b) i s c.reads l e
     (omega (arith, called_front_length b i s c, c.within)) k)
 
 -- octets without ENQ are no call
 pub call_none : (b : List ℕ) (i : ℕ) (s : List ℕ) → Called b i s → length s ≤ i → None ≡ call_of s
-call_none b i s c l = message s None (called_none (take i b) i s c.reads l)
+call_none b i s c l = call_of_codes_up_to_enq s None (called_none (take i b) i s c.reads l)
 
 -- ---- a code that may not stand in an address
 
@@ -127,7 +127,7 @@ pub call_wrong_code : (b : List ℕ) (i : ℕ) (s : List ℕ) (k : ℕ) → Call
     → (get_or s i 0 ≡ ENQ → ⊥) → (i ≡ MAX_ADDRESS → ⊥) → code_of (get_or s i 0) ≡ Some k
     → is_address_code k ≡ false → None ≡ call_of s
 call_wrong_code b i s k c l e less h wrong =
-    sym (with_wrong (take i b) k _ wrong) ∙ message s _ (code_more b i s k c l e less h).rest
+    sym (with_wrong (take i b) k _ wrong) ∙ call_of_codes_up_to_enq s _ (code_more b i s k c l e less h).rest
 
 -- if the code may stand in an address, the loop goes on
 pub call_goes_on : (b : List ℕ) (i : ℕ) (s : List ℕ) (k : ℕ) → Called b i s → i < length s

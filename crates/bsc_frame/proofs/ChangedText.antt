@@ -14,14 +14,15 @@ use Rattle.bsc_frame.specs.declared.message.Message.{Message}
 use Rattle.bsc_frame.specs.declared.message.Message.TheVariants.{Text}
 use Rattle.bsc_frame.proofs.TextUnits.{units_at_read, wire_units}
 use Rattle.bsc_frame.proofs.OddTexts.{units_odd}
-use Rattle.bsc_frame.proofs.Places.{around, parted, all_here, all_after}
-use Rattle.bsc_frame.proofs.Insides.{Inside, inside, after_first}
+use Rattle.bsc_frame.proofs.Places.{split_at_place, in_first_or_second_list, all_here, all_after}
+use Rattle.bsc_frame.proofs.Insides.{Inside, inside_after_syns, after_first}
 use Rattle.bsc_frame.proofs.LongerTexts.{no_longer_units}
-use Rattle.bsc_frame.proofs.DamagedText.{heads, tails, text_body, some_after}
+use Rattle.bsc_frame.proofs.DamagedText.{equal_lists_equal_heads, equal_lists_equal_tails}
+use Rattle.bsc_frame.proofs.DamagedText.{text_body, some_after}
 use Rattle.bsc_frame.proofs.DamagedCall.{pad_even}
 use Rattle.bsc_frame.proofs.ChangedUnits.{changed_units}
 use Rattle.bsc_frame.specs.declared.limits.TheConstants.{MAX_UNITS}
-use Rattle.bsc_frame.specs.declared.octets.TheConstants.{PAD, STX, SYN}
+use Rattle.bsc_octet.specs.declared.controls.TheConstants.{PAD, STX, SYN}
 
 -- octets with odd parity and the PAD after them can be split in only one way
 same_fronts : (xs ys p q : List ℕ) → AllByRecursion IsOdd xs → AllByRecursion IsOdd ys
@@ -30,11 +31,11 @@ same_fronts : (xs ys p q : List ℕ) → AllByRecursion IsOdd xs → AllByRecurs
 same_fronts [] [] p q h k a b e = refl
 same_fronts [] (y ∷ ys) [] q h k a b e = absurd (omega (arith, ap length e))
 same_fronts [] (y ∷ ys) (z ∷ p) q h k a b e =
-    absurd (pad_even (subst IsOdd (sym (heads e) ∙ a.0) k.0))
+    absurd (pad_even (subst IsOdd (sym (equal_lists_equal_heads e) ∙ a.0) k.0))
 same_fronts (x ∷ xs) [] p [] h k a b e = absurd (omega (arith, ap length e))
-same_fronts (x ∷ xs) [] p (z ∷ q) h k a b e = absurd (pad_even (subst IsOdd (heads e ∙ b.0) h.0))
+same_fronts (x ∷ xs) [] p (z ∷ q) h k a b e = absurd (pad_even (subst IsOdd (equal_lists_equal_heads e ∙ b.0) h.0))
 same_fronts (x ∷ xs) (y ∷ ys) p q h k a b e =
-    ap (λ z. z ∷ xs) (heads e) ∙ ap (λ z. y ∷ z) (same_fronts xs ys p q h.1 k.1 a b (tails e))
+    ap (λ z. z ∷ xs) (equal_lists_equal_heads e) ∙ ap (λ z. y ∷ z) (same_fronts xs ys p q h.1 k.1 a b (equal_lists_equal_tails e))
 
 -- no transmission has a text with one octet after its STX replaced in this way
 changed_text : (t : TextValue) (n : Message) (before : List ℕ) (old : ℕ) (after : List ℕ) (new : ℕ)
@@ -52,11 +53,11 @@ changed_text t n before old after new h o whole i =
     units_odd false t.units t.end (units_wire t.units t.end) sent h.each in
     let body_odd : AllByRecursion IsOdd b.body =
     units_odd false s.0.units s.0.end b.body s.1 s.2.each in
-    elim (parted b.body b.trail before new after (sym b.whole)) [
+    elim (in_first_or_second_list b.body b.trail before new after (sym b.whole)) [
       | inr q ↦ pad_even
           (subst IsOdd (all_here (λ x. x ≡ PAD) q.more new after
           (subst (AreAll PAD) q.rest b.are_trail)) o.odd)
-      | inl q ↦ elim (parted (units_wire t.units t.end) (PAD ∷ []) before old after whole) [
+      | inl q ↦ elim (in_first_or_second_list (units_wire t.units t.end) (PAD ∷ []) before old after whole) [
         | inl p ↦
             let sent_after : AllByRecursion IsOdd p.more =
             (all_after IsOdd before (old ∷ p.more)
@@ -93,8 +94,8 @@ other_octet_lost t n zero new h u l o k = omega arith
 other_octet_lost t n (suc zero) new h u l o k = omega arith
 other_octet_lost t n (suc (suc zero)) new h u l o k = omega arith
 other_octet_lost t n (suc (suc (suc place))) new h u l o k =
-    let r = around (units_wire t.units t.end ++ PAD ∷ []) place (omega arith) in
+    let r = split_at_place (units_wire t.units t.end ++ PAD ∷ []) place (omega arith) in
     let i =
-    inside (SYN ∷ SYN ∷ []) (STX ∷ r.before ++ new ∷ r.after) n (refl, (refl, tt)) (λ e. cc)
+    inside_after_syns (SYN ∷ SYN ∷ []) (STX ∷ r.before ++ new ∷ r.after) n (refl, (refl, tt)) (λ e. cc)
     refl (rw (r.changed new) at k) in
     changed_text t n r.before r.here r.after new h (rw r.is_here at o) r.whole i

@@ -6,12 +6,13 @@ use Rattle.std.proofs.Common.{append_assoc, append-nil, length-append}
 use Rattle.std.specs.List.{AllByRecursion}
 use Rattle.std.specs.Int.Count.{ones}
 use Rattle.std.proofs.lemmas.List.{map-append}
-use Rattle.bsc_octet.specs.Octet.{odd_octet, longitudinal_sum, code_of}
+use Rattle.bsc_octet.specs.Octet.{odd_octet, longitudinal_sum, code_of, code_in}
 use Rattle.bsc_octet.proofs.OddOctets.{odd_of_low, odd_octet_low, code_of_odd, code_of_odd_octet}
 use Rattle.bsc_octet.proofs.Sums.{longitudinal_sum_lt}
 use Rattle.bsc_frame.specs.Texts.{TextUnit, IsUnit}
 use Rattle.bsc_frame.specs.Units.{unit_codes, unit_wire, units_wire, ending}
-use Rattle.bsc_frame.specs.Reading.{low_bits, is_ending_code, is_ending_octet, after_check, unit_at}
+use Rattle.bsc_frame.specs.Reading.{is_ending_code, is_ending_octet, unit_at}
+use Rattle.bsc_octet.specs.Check.{after_check}
 use Rattle.bsc_frame.specs.Reading.{units_at}
 use Rattle.bsc_frame.specs.TurnedBits.{IsOtherOctet}
 use Rattle.bsc_frame.specs.declared.text.End.{End}
@@ -22,10 +23,10 @@ use Rattle.bsc_frame.proofs.Units.{unit_at_read, run_unit, length_unit_codes}
 use Rattle.bsc_frame.proofs.TextUnits.{ending_is}
 use Rattle.bsc_frame.proofs.TextUnits.{filled_plain}
 use Rattle.bsc_frame.proofs.UnitSteps.{units_stop}
-use Rattle.bsc_frame.proofs.Places.{parted}
+use Rattle.bsc_frame.proofs.Places.{in_first_or_second_list}
 use Rattle.bsc_frame.proofs.SumChanges.{one_changed}
 use Rattle.bsc_frame.specs.declared.limits.TheConstants.{MAX_UNIT_CODES}
-use Rattle.bsc_frame.specs.declared.octets.TheConstants.{SYN, US_CODE}
+use Rattle.bsc_octet.specs.declared.controls.TheConstants.{SYN, US_CODE}
 
 -- ---- the codes of a unit with one of them changed
 
@@ -59,11 +60,11 @@ after_check_wrong : (codes : List ℕ) (k : ℕ) (rest : List ℕ)
 after_check_wrong codes k rest h = rw (test_false (odd_octet (longitudinal_sum codes)) k h) refl
 
 -- codes whose check is wrong are no unit
-unchecked : (after_us : Bool) (codes : List ℕ) (k : ℕ) (rest : List ℕ) → IsRun codes
+no_unit_of_wrong_check : (after_us : Bool) (codes : List ℕ) (k : ℕ) (rest : List ℕ) → IsRun codes
     → length codes ≤ MAX_UNIT_CODES → (odd_octet (longitudinal_sum codes) ≡ k → ⊥)
     → unit_at after_us (map odd_octet codes ++ k ∷ rest) ≡ None
 unfolding unit_at
-unchecked after_us codes k rest r l h =
+no_unit_of_wrong_check after_us codes k rest r l h =
     rw (
       gathered_read MAX_UNIT_CODES codes (map odd_octet codes) (k ∷ rest) (filled_plain codes) r
           l,
@@ -80,7 +81,7 @@ changed_code : (after_us : Bool) (front : List ℕ) (c d : ℕ) (back rest : Lis
 changed_code after_us front c d back rest r l differs was o e =
     let codes : List ℕ = front ++ d ∷ back in
     let sent : List ℕ = front ++ c ∷ back in
-    unchecked after_us codes (odd_octet (longitudinal_sum sent)) rest
+    no_unit_of_wrong_check after_us codes (odd_octet (longitudinal_sum sent)) rest
     (run_changed front c d back was o e r)
     (omega (arith, l, length-append front (c ∷ back), length-append front (d ∷ back)))
     (λ same. differs (one_changed front d c back o.code (run_member front c back r).code
@@ -100,12 +101,12 @@ record Mapped (codes before : List ℕ) (o : ℕ) (after : List ℕ) : Type 0 wh
   after_is : map odd_octet back ≡ after
 
 -- each octet of a list of codes stands for one of them
-mapped : (codes before : List ℕ) (o : ℕ) (after : List ℕ) → map odd_octet codes ≡ before ++ o
+mapped_of_octets : (codes before : List ℕ) (o : ℕ) (after : List ℕ) → map odd_octet codes ≡ before ++ o
     ∷ after
     → Mapped codes before o after
-mapped [] [] o after e = absurd (omega (arith, ap length e))
-mapped [] (x ∷ before) o after e = absurd (omega (arith, ap length e))
-mapped (c ∷ codes) [] o after e =
+mapped_of_octets [] [] o after e = absurd (omega (arith, ap length e))
+mapped_of_octets [] (x ∷ before) o after e = absurd (omega (arith, ap length e))
+mapped_of_octets (c ∷ codes) [] o after e =
     let head : odd_octet c ≡ o = cc in
     let tail : map odd_octet codes ≡ after = cc in
     record {
@@ -117,10 +118,10 @@ mapped (c ∷ codes) [] o after e =
       octet_is = head;
       after_is = tail;
     }
-mapped (c ∷ codes) (x ∷ before) o after e =
+mapped_of_octets (c ∷ codes) (x ∷ before) o after e =
     let head : odd_octet c ≡ x = cc in
     let tail : map odd_octet codes ≡ before ++ o ∷ after = cc in
-    let m = mapped codes before o after tail in
+    let m = mapped_of_octets codes before o after tail in
     record {
       front = c ∷ m.front;
       code = m.code;
@@ -163,7 +164,7 @@ new_code old new h =
 old_no_end : (c old : ℕ) → c < 128 → odd_octet c ≡ old → is_ending_octet old ≡ false
     → is_ending_code c ≡ false
 old_no_end c old l e h =
-    let carried : code_of (odd_octet c) ≡ Some (low_bits (odd_octet c)) =
+    let carried : code_of (odd_octet c) ≡ Some (code_in (odd_octet c)) =
     code_of_odd_octet c l ∙ ap Some (sym (odd_octet_low c l)) in
     ap is_ending_code (sym (odd_octet_low c l)) ∙ ending_same (odd_octet c) carried
     ∙ ap is_ending_octet e ∙ h
@@ -171,8 +172,8 @@ old_no_end c old l e h =
 -- ---- a unit
 
 -- a unit within its limits has few enough codes to be read
-fits : (u : TextUnit) (e : ℕ) → IsUnit u → length (unit_codes u e) ≤ MAX_UNIT_CODES
-fits u e h = omega (arith, h.most, length_unit_codes u e)
+unit_codes_within_limit : (u : TextUnit) (e : ℕ) → IsUnit u → length (unit_codes u e) ≤ MAX_UNIT_CODES
+unit_codes_within_limit u e h = omega (arith, h.most, length_unit_codes u e)
 
 -- a change in the octets of the codes of a unit leaves no unit
 in_codes : (after_us : Bool) (u : TextUnit) (e : ℕ) (before : List ℕ) (old new : ℕ)
@@ -182,11 +183,11 @@ in_codes : (after_us : Bool) (u : TextUnit) (e : ℕ) (before : List ℕ) (old n
     → unit_at after_us (before ++ new ∷ (after ++ odd_octet (longitudinal_sum (unit_codes u e))
     ∷ rest)) ≡ None
 in_codes after_us u e before old new after rest h k o w =
-    let m = mapped (unit_codes u e) before old after w in
+    let m = mapped_of_octets (unit_codes u e) before old after w in
     let n = new_code old new o in
     let run : IsRun (m.front ++ m.code ∷ m.back) = subst IsRun m.whole (run_unit u e h k) in
     let short : length (m.front ++ m.code ∷ m.back) ≤ MAX_UNIT_CODES =
-    subst (λ z. length z ≤ MAX_UNIT_CODES) m.whole (fits u e h) in
+    subst (λ z. length z ≤ MAX_UNIT_CODES) m.whole (unit_codes_within_limit u e h) in
     let differs : n.code ≢ m.code =
     λ same. o.differs (sym n.carries ∙ ap odd_octet same ∙ m.octet_is) in
     let was : is_ending_code m.code ≡ false =
@@ -212,7 +213,7 @@ in_check : (after_us : Bool) (u : TextUnit) (e : ℕ) (new : ℕ) (rest : List �
     → is_ending_code e ≡ true → new ≢ odd_octet (longitudinal_sum (unit_codes u e))
     → unit_at after_us (map odd_octet (unit_codes u e) ++ new ∷ rest) ≡ None
 in_check after_us u e new rest h k differs =
-    unchecked after_us (unit_codes u e) new rest (run_unit u e h k) (fits u e h)
+    no_unit_of_wrong_check after_us (unit_codes u e) new rest (run_unit u e h k) (unit_codes_within_limit u e h)
     (λ same. differs (sym same))
 
 -- a list of one element has nothing before or after it
@@ -229,7 +230,7 @@ in_unit : (after_us : Bool) (u : TextUnit) (e : ℕ) (before : List ℕ) (old ne
     → unit_wire u e ≡ before ++ old ∷ after → unit_at after_us (before ++ new ∷ (after ++ rest))
     ≡ None
 in_unit after_us u e before old new after rest h k o w =
-    elim (parted (map odd_octet (unit_codes u e))
+    elim (in_first_or_second_list (map odd_octet (unit_codes u e))
     (odd_octet (longitudinal_sum (unit_codes u e)) ∷ []) before old after w) [
       | inl p ↦
           let check : List ℕ = odd_octet (longitudinal_sum (unit_codes u e)) ∷ [] in
@@ -286,7 +287,7 @@ changed_units zero after_us us end before old new after h o w = refl
 changed_units (suc n) after_us [] end before old new after h o w =
     absurd (omega (arith, ap length w, length-append before (old ∷ after)))
 changed_units (suc n) after_us (u ∷ us) end before old new after h o w =
-    elim (parted (unit_wire u (ending us end)) (units_wire us end) before old after w) [
+    elim (in_first_or_second_list (unit_wire u (ending us end)) (units_wire us end) before old after w) [
       | inl p ↦
           units_stop (suc n) after_us (before ++ new ∷ after)
           (ap (λ z. unit_at after_us (before ++ new ∷ z)) p.rest

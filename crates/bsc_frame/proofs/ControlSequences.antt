@@ -11,9 +11,9 @@ use Rattle.std.specs.List.{AllByRecursion, position_or_len}
 use Rattle.std.specs.Str.{bytes_eq}
 use Rattle.std.proofs.lemmas.Bool.{eqb-true, eqb-false}
 use Rattle.std.proofs.lemmas.Bool.Decides.{nat_tests}
-use Rattle.bsc_octet.specs.Octet.{odd_octet, code_of}
+use Rattle.bsc_octet.specs.Octet.{odd_octet, code_of, is_address_code}
 use Rattle.bsc_octet.proofs.OddOctets.{odd_cases, code_of_some, code_of_odd_octet}
-use Rattle.bsc_frame.specs.Addresses.{IsAddress, is_address_code}
+use Rattle.bsc_frame.specs.Addresses.{IsAddress}
 use Rattle.bsc_frame.specs.Message.{read_address, first_wrong}
 use Rattle.bsc_frame.specs.Spells.{AreAll, IsCall, IsBody}
 use Rattle.bsc_frame.specs.Reading.{skip, is_octet, begins, called, at_end, with_code, call}
@@ -24,11 +24,13 @@ use Rattle.bsc_frame.specs.declared.address.AddressError.{AddressError}
 use Rattle.bsc_frame.specs.declared.message.Message.{Message}
 use Rattle.bsc_frame.specs.declared.message.Message.TheVariants.{Eot, Call, Enq, Reply, Text}
 use Rattle.bsc_frame.proofs.Addresses.{is_address}
-use Rattle.bsc_frame.proofs.ReadingSteps.{test_false, has_room, chosen, equal}
+use Rattle.bsc_frame.proofs.ReadingSteps.{test_false, has_room, branch_of_test}
+use Rattle.bsc_frame.proofs.ReadingSteps.{equal_octets_are_same}
 use Rattle.bsc_frame.proofs.Replies.{reply_read, reply_reads}
-use Rattle.bsc_frame.proofs.Fronts.{parts, skip_pass, skip_none, pass_are, are_pass}
+use Rattle.bsc_frame.proofs.Fronts.{front_and_rest_of_list, skip_pass, skip_none, pass_are}
+use Rattle.bsc_frame.proofs.Fronts.{are_pass}
 use Rattle.bsc_frame.specs.declared.limits.TheConstants.{MAX_ADDRESS}
-use Rattle.bsc_frame.specs.declared.octets.TheConstants.{ENQ, EOT, PAD, SYN}
+use Rattle.bsc_octet.specs.declared.controls.TheConstants.{ENQ, EOT, PAD, SYN}
 
 -- ---- the codes of a call
 
@@ -43,8 +45,8 @@ plain_from c true e h = record { low = grind (arith, nat_tests); high = grind (a
 plain_from c false e h = cc
 
 -- a code of an address is plain
-pub plain : (c : ℕ) → IsTrue (is_address_code c) → IsPlain c
-plain c h = plain_from c (nat_le 33 c) refl h
+pub plain_address_code : (c : ℕ) → IsTrue (is_address_code c) → IsPlain c
+plain_address_code c h = plain_from c (nat_le 33 c) refl h
 
 -- the octet of a plain code is no ENQ, SYN or PAD
 pub plain_odd : (c o : ℕ) → IsPlain c → (o ≡ ENQ) ⊎ ((o ≡ SYN) ⊎ (o ≡ PAD)) → (odd_octet c == o)
@@ -69,7 +71,7 @@ pub called_wire : (room : ℕ) (a : List ℕ) → length a ≤ room
 unfolding called
 called_wire room [] h p = refl
 called_wire room (c ∷ a) h p =
-    let k : IsPlain c = plain c p.0 in
+    let k : IsPlain c = plain_address_code c p.0 in
     let no : (odd_octet c == ENQ) ≡ false = plain_odd c ENQ k (inl refl) in
     let some : (room == 0) ≡ false = test_false room 0 (has_room (length a) room h) in
     let code : code_of (odd_octet c) ≡ Some c = code_of_odd_octet c (omega (arith, k.high)) in
@@ -78,18 +80,18 @@ called_wire room (c ∷ a) h p =
     rw (no, some, code, rest) refl
 
 -- if no octet is left, no code is read
-ended : (s codes : List ℕ) → at_end s ≡ Some codes → (s ≡ []) × (codes ≡ [])
-ended [] codes e = (refl, cc)
-ended (x ∷ s) codes e = cc
+no_code_at_end : (s codes : List ℕ) → at_end s ≡ Some codes → (s ≡ []) × (codes ≡ [])
+no_code_at_end [] codes e = (refl, cc)
+no_code_at_end (x ∷ s) codes e = cc
 
 -- one octet more: the codes that are read up to an ENQ are those that the octets carry
-coded : (x : ℕ) (s codes : List ℕ) (room : ℕ) (o : Option ℕ) (r : Option (List ℕ)) → code_of x ≡ o
+codes_before_enq_with_one_more : (x : ℕ) (s codes : List ℕ) (room : ℕ) (o : Option ℕ) (r : Option (List ℕ)) → code_of x ≡ o
     → called room s ≡ r
     → ((cs : List ℕ) → called room s ≡ Some cs → s ≡ map odd_octet cs ++ ENQ ∷ [])
     → with_code o r ≡ Some codes → x ∷ s ≡ map odd_octet codes ++ ENQ ∷ []
-coded x s codes room None r k q f e = cc
-coded x s codes room (Some c) None k q f e = cc
-coded x s codes room (Some c) (Some cs) k q f e =
+codes_before_enq_with_one_more x s codes room None r k q f e = cc
+codes_before_enq_with_one_more x s codes room (Some c) None k q f e = cc
+codes_before_enq_with_one_more x s codes room (Some c) (Some cs) k q f e =
     let same : codes ≡ c ∷ cs = cc in
     let head : odd_octet c ≡ x = (code_of_some x c k).1 in
     rw (same, head) (ap (λ t. x ∷ t) (f cs q))
@@ -100,13 +102,13 @@ called_step : (room : ℕ) (x : ℕ) (s codes : List ℕ)
     → cond (x == ENQ) (at_end s) (cond (room == 0) None
     (with_code (code_of x) (called (room - 1) s))) ≡ Some codes
     → x ∷ s ≡ map odd_octet codes ++ ENQ ∷ []
-called_step room x s codes f e = elim (chosen (x == ENQ) _ _ _ e) [
+called_step room x s codes f e = elim (branch_of_test (x == ENQ) _ _ _ e) [
   | inl h ↦
-      let k = ended s codes h.1 in
+      let k = no_code_at_end s codes h.1 in
       rw (k.0, k.1, eqb-true x ENQ h.0) refl
-  | inr h ↦ elim (chosen (room == 0) _ _ _ h.1) [
+  | inr h ↦ elim (branch_of_test (room == 0) _ _ _ h.1) [
     | inl q ↦ cc
-    | inr q ↦ coded x s codes (room - 1) (code_of x) (called (room - 1) s) refl refl f q.1
+    | inr q ↦ codes_before_enq_with_one_more x s codes (room - 1) (code_of x) (called (room - 1) s) refl refl f q.1
   ]
 ]
 
@@ -120,18 +122,18 @@ called_reads room (x ∷ s) codes e = called_step room x s codes (called_reads (
 -- ---- the address
 
 -- codes without a wrong one are the address
-scanned : (o : Option ℕ) (codes a : List ℕ) → first_wrong o codes ≡ Ok a → (o ≡ None) × (codes ≡ a)
-scanned None codes a e = (refl, cc)
-scanned (Some k) codes a e = cc
+address_without_wrong_code : (o : Option ℕ) (codes a : List ℕ) → first_wrong o codes ≡ Ok a → (o ≡ None) × (codes ≡ a)
+address_without_wrong_code None codes a e = (refl, cc)
+address_without_wrong_code (Some k) codes a e = cc
 
 -- codes that are read as an address are it, within its limits
 pub address_reads : (codes a : List ℕ) → read_address codes ≡ Ok a → (codes ≡ a) × IsAddress a
-address_reads codes a e = elim (chosen (length codes == 0) _ _ _ e) [
+address_reads codes a e = elim (branch_of_test (length codes == 0) _ _ _ e) [
   | inl h ↦ cc
-  | inr h ↦ elim (chosen (nat_lt MAX_ADDRESS (length codes)) _ _ _ h.1) [
+  | inr h ↦ elim (branch_of_test (nat_lt MAX_ADDRESS (length codes)) _ _ _ h.1) [
     | inl q ↦ cc
     | inr q ↦
-        let k = scanned (position (λ c. not (is_address_code c)) codes) codes a q.1 in (
+        let k = address_without_wrong_code (position (λ c. not (is_address_code c)) codes) codes a q.1 in (
           k.1,
           subst IsAddress k.1 (is_address codes (eqb-false (length codes) 0 h.0)
               (grind (arith, nat_tests)) k.0),
@@ -185,8 +187,8 @@ pub call_reads : (rest : List ℕ) (m : Message) → call rest ≡ Some m
     → (a : List ℕ) × (m ≡ Call a) × IsCall a (EOT ∷ rest)
 unfolding call
 call_reads rest m e =
-    let p = parts (is_octet PAD) rest in
-    let q = parts (is_octet SYN) (skip (is_octet PAD) rest) in
+    let p = front_and_rest_of_list (is_octet PAD) rest in
+    let q = front_and_rest_of_list (is_octet SYN) (skip (is_octet PAD) rest) in
     let u = called_to (called MAX_ADDRESS (skip (is_octet SYN) (skip (is_octet PAD) rest))) m e in
     let v = to_call (read_address u.0) m u.2 in
     let w = address_reads u.0 v.0 v.1 in
@@ -212,7 +214,7 @@ call_reads rest m e =
 begins_address : (o : ℕ) (a : List ℕ) → (o ≡ SYN) ⊎ (o ≡ PAD) → IsAddress a
     → begins (is_octet o) (map odd_octet a ++ ENQ ∷ []) ≡ false
 begins_address o [] h p = absurd (omega (arith, p.some))
-begins_address o (c ∷ a) h p = plain_odd c o (plain c p.each.0) (inr h)
+begins_address o (c ∷ a) h p = plain_odd c o (plain_address_code c p.each.0) (inr h)
 
 -- SYN before an address is no PAD
 begins_syns : (syns rest : List ℕ) → AreAll SYN syns → begins (is_octet PAD) rest ≡ false
@@ -259,11 +261,11 @@ by_eot (x ∷ rest) m h e =
     rw (k.1, eqb-true x EOT h) k.2
 
 -- a body that is read as a reply or as a call is that of its message
-replied : (body : List ℕ) (m : Message) (o : Option ReplyValue) → reply_spelled body ≡ o
+body_of_reply_or_call : (body : List ℕ) (m : Message) (o : Option ReplyValue) → reply_spelled body ≡ o
     → reply_or_call o body ≡ Some m → IsBody m body
-replied body m (Some r) s e =
+body_of_reply_or_call body m (Some r) s e =
     subst (λ k. IsBody k body) (some_is _ _ e) (reply_reads body r s)
-replied body m None s e = elim (chosen (begins (is_octet EOT) body) _ _ _ e) [
+body_of_reply_or_call body m None s e = elim (branch_of_test (begins (is_octet EOT) body) _ _ _ e) [
   | inl h ↦ by_eot body m h.0 h.1
   | inr e ↦ absurd (let h = e.1 in cc)
 ]
@@ -271,11 +273,11 @@ replied body m None s e = elim (chosen (begins (is_octet EOT) body) _ _ _ e) [
 -- a body that is read as a control sequence is that of its message
 pub control_reads : (body : List ℕ) (m : Message) → control body ≡ Some m → IsBody m body
 unfolding control
-control_reads body m e = elim (chosen (bytes_eq body (EOT ∷ [])) _ _ _ e) [
-  | inl h ↦ subst (λ k. IsBody k body) (some_is _ _ h.1) (equal _ _ h.0)
-  | inr e ↦ elim (chosen (bytes_eq body (ENQ ∷ [])) _ _ _ e.1) [
-    | inl h ↦ subst (λ k. IsBody k body) (some_is _ _ h.1) (equal _ _ h.0)
-    | inr e ↦ replied body m (reply_spelled body) refl e.1
+control_reads body m e = elim (branch_of_test (bytes_eq body (EOT ∷ [])) _ _ _ e) [
+  | inl h ↦ subst (λ k. IsBody k body) (some_is _ _ h.1) (equal_octets_are_same _ _ h.0)
+  | inr e ↦ elim (branch_of_test (bytes_eq body (ENQ ∷ [])) _ _ _ e.1) [
+    | inl h ↦ subst (λ k. IsBody k body) (some_is _ _ h.1) (equal_octets_are_same _ _ h.0)
+    | inr e ↦ body_of_reply_or_call body m (reply_spelled body) refl e.1
   ]
 ]
 

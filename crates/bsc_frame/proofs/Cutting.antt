@@ -5,18 +5,18 @@ use Rattle.std.proofs.Common.{◌∙◌, arith, List, [], ◌∷◌, length, tak
 use Rattle.std.proofs.Common.{None}
 use Rattle.std.specs.List.{filter, prefix_len}
 use Rattle.std.proofs.lemmas.Bool.{eqb-true}
-use Rattle.bsc_octet.specs.Octet.{code_of}
-use Rattle.bsc_frame.specs.Reading.{low_bits, is_other, is_before_ending, is_ending_octet}
+use Rattle.bsc_octet.specs.Octet.{code_of, code_in}
+use Rattle.bsc_frame.specs.Reading.{is_other, is_before_ending, is_ending_octet}
 use Rattle.bsc_frame.specs.Reading.{before_gathered}
 use Rattle.bsc_frame.specs.Reading.{gathered}
-use Rattle.bsc_frame.specs.declared.octets.TheConstants.{SYN}
+use Rattle.bsc_octet.specs.declared.controls.TheConstants.{SYN}
 use Rattle.bsc_frame.proofs.CarriedOctets.{AreCarried, ending_same}
 
 -- gathering depends on three tests: fill, room, an ending octet
-gather_step : (room x : ℕ) (s : List ℕ) → code_of x ≡ Some (low_bits x)
+gather_step : (room x : ℕ) (s : List ℕ) → code_of x ≡ Some (code_in x)
     → gathered room (x ∷ s) ≡ cond (x == SYN) (gathered room s)
-    (cond (room == 0) None (cond (is_ending_octet x) (Some (low_bits x ∷ [], s))
-    (before_gathered (low_bits x) (gathered (room - 1) s))))
+    (cond (room == 0) None (cond (is_ending_octet x) (Some (code_in x ∷ [], s))
+    (before_gathered (code_in x) (gathered (room - 1) s))))
 unfolding gathered
 gather_step room x s c = rw (c, ← ending_same x c) refl
 
@@ -28,9 +28,9 @@ no_ending x s false true ending more e = refl
 no_ending x s false false ending more e = rw e refl
 
 -- if the front is longer than the first octet, that octet passes the test
-goes_on : (x n : ℕ) (l : ℕ) (b : Bool) → cond (not b) (1 + n) 0 ≡ suc l → (b ≡ false) × (n ≡ l)
-goes_on x n l true e = absurd (omega arith)
-goes_on x n l false e = (refl, omega arith)
+first_passes_in_longer_front : (x n : ℕ) (l : ℕ) (b : Bool) → cond (not b) (1 + n) 0 ≡ suc l → (b ≡ false) × (n ≡ l)
+first_passes_in_longer_front x n l true e = absurd (omega arith)
+first_passes_in_longer_front x n l false e = (refl, omega arith)
 
 -- no codes are read if no octet carries an ending character
 pub gathered_none : (room : ℕ) (s : List ℕ) → AreCarried s → prefix_len is_before_ending s
@@ -39,16 +39,16 @@ pub gathered_none : (room : ℕ) (s : List ℕ) → AreCarried s → prefix_len 
 unfolding gathered
 gathered_none room [] c e = refl
 gathered_none room (x ∷ s) c e =
-    let k = goes_on x (prefix_len is_before_ending s) (length s) (is_ending_octet x) e in
+    let k = first_passes_in_longer_front x (prefix_len is_before_ending s) (length s) (is_ending_octet x) e in
     gather_step room x s c.0 ∙ rw (gathered_none room s c.1 k.1, gathered_none (room - 1) s c.1 k.1)
-    (no_ending (low_bits x) s (x == SYN) (room == 0) (is_ending_octet x) (low_bits x ∷ [], s)
+    (no_ending (code_in x) s (x == SYN) (room == 0) (is_ending_octet x) (code_in x ∷ [], s)
     k.0)
 
 -- a cut after the first m octets: gathering gives their codes without fill if there is room for
 -- these, otherwise nothing
 pub record CutTo (m room : ℕ) (s : List ℕ) : Type 0 where
   pub fits : length (filter is_other (take m s)) ≤ room → gathered room s
-      ≡ Some (map low_bits (filter is_other (take m s)), drop m s)
+      ≡ Some (map code_in (filter is_other (take m s)), drop m s)
   pub full : room < length (filter is_other (take m s)) → gathered room s ≡ None
 
 -- a SYN at the front changes nothing but the place of the cut
@@ -65,12 +65,12 @@ last_room room r false e =
     (λ l. refl, λ l. let z : room ≡ 0 = omega arith in let t : (room == 0) ≡ true = rw z refl in cc)
 
 -- the cut after an octet that carries an ending character
-cut_last : (room x : ℕ) (s : List ℕ) → code_of x ≡ Some (low_bits x) → (x == SYN) ≡ false
+cut_last : (room x : ℕ) (s : List ℕ) → code_of x ≡ Some (code_in x) → (x == SYN) ≡ false
     → is_ending_octet x ≡ true → CutTo 1 room (x ∷ s)
 cut_last room x s c f e =
-    let step : gathered room (x ∷ s) ≡ cond (room == 0) None (Some (low_bits x ∷ [], s)) =
+    let step : gathered room (x ∷ s) ≡ cond (room == 0) None (Some (code_in x ∷ [], s)) =
     gather_step room x s c ∙ rw (f, e) refl in
-    let r = last_room room (low_bits x ∷ [], s) (room == 0) refl in
+    let r = last_room room (code_in x ∷ [], s) (room == 0) refl in
     record { fits = rw f (λ l. step ∙ r.0 l); full = rw f (λ l. step ∙ r.1 l) }
 
 -- one code more is read if there is room for it, otherwise nothing is
@@ -93,19 +93,19 @@ more_room x room n o r false e fits full = (
     above l = omega (arith, some)
 
 -- the cut one octet further, after a code that ends nothing
-cut_code : (m room x : ℕ) (s : List ℕ) → code_of x ≡ Some (low_bits x) → (x == SYN) ≡ false
+cut_code : (m room x : ℕ) (s : List ℕ) → code_of x ≡ Some (code_in x) → (x == SYN) ≡ false
     → is_ending_octet x ≡ false → CutTo m (room - 1) s → CutTo (suc m) room (x ∷ s)
 cut_code m room x s c f e k =
     let step : gathered room (x ∷ s) ≡ cond (room == 0) None
-    (before_gathered (low_bits x) (gathered (room - 1) s)) =
+    (before_gathered (code_in x) (gathered (room - 1) s)) =
     gather_step room x s c ∙ rw (f, e) refl in
     let r =
-    more_room (low_bits x) room (length (filter is_other (take m s))) (gathered (room - 1) s)
-    (map low_bits (filter is_other (take m s)), drop m s) (room == 0) refl k.fits k.full in
+    more_room (code_in x) room (length (filter is_other (take m s))) (gathered (room - 1) s)
+    (map code_in (filter is_other (take m s)), drop m s) (room == 0) refl k.fits k.full in
     record { fits = rw f (λ l. step ∙ r.0 l); full = rw f (λ l. step ∙ r.1 l) }
 
 -- the cut one octet further, whatever the octet is
-cut_octet : (m room x : ℕ) (s : List ℕ) (fill ending : Bool) → code_of x ≡ Some (low_bits x)
+cut_octet : (m room x : ℕ) (s : List ℕ) (fill ending : Bool) → code_of x ≡ Some (code_in x)
     → (x == SYN) ≡ fill → is_ending_octet x ≡ ending
     → suc m ≡ cond (not ending) (1 + prefix_len is_before_ending s) 0 + 1
     → ((room : ℕ) → m ≡ prefix_len is_before_ending s + 1 → CutTo m room s)
@@ -120,11 +120,11 @@ cut_octet m room x s false false c f e n more =
     cut_code m room x s c f e (more (room - 1) (omega arith))
 
 -- the codes that are read are those of the octets up to the first ending octet, without fill
-pub cut : (m room : ℕ) (s : List ℕ) → AreCarried s → m ≡ prefix_len is_before_ending s + 1 → m
+pub codes_cut_at_first_ending : (m room : ℕ) (s : List ℕ) → AreCarried s → m ≡ prefix_len is_before_ending s + 1 → m
     ≤ length s
     → CutTo m room s
-cut zero room s c e l = absurd (omega arith)
-cut (suc m) room [] c e l = absurd (omega arith)
-cut (suc m) room (x ∷ s) c e l =
+codes_cut_at_first_ending zero room s c e l = absurd (omega arith)
+codes_cut_at_first_ending (suc m) room [] c e l = absurd (omega arith)
+codes_cut_at_first_ending (suc m) room (x ∷ s) c e l =
     cut_octet m room x s (x == SYN) (is_ending_octet x) c.0 refl refl e
-    (λ r k. cut m r s c.1 k (omega arith))
+    (λ r k. codes_cut_at_first_ending m r s c.1 k (omega arith))

@@ -7,20 +7,21 @@ use Rattle.std.proofs.Common.{count_ones, IsTrue}
 use Rattle.std.specs.List.{AllByRecursion}
 use Rattle.std.specs.Int.Count.{ones-ones}
 use Rattle.std.proofs.lemmas.Bool.{eqb-false}
-use Rattle.bsc_octet.specs.Octet.{IsOdd, odd_octet}
-use Rattle.bsc_frame.specs.Addresses.{IsAddress, is_address_code}
+use Rattle.bsc_octet.specs.Octet.{IsOdd, odd_octet, is_address_code, HaveOtherParity}
+use Rattle.bsc_frame.specs.Addresses.{IsAddress}
 use Rattle.bsc_frame.specs.Spells.{IsBody, AreAll}
-use Rattle.bsc_frame.specs.TurnedBits.{HaveOtherParity, IsCallFill}
+use Rattle.bsc_frame.specs.TurnedBits.{IsCallFill}
 use Rattle.bsc_frame.specs.declared.message.Message.{Message}
 use Rattle.bsc_frame.specs.declared.message.Message.TheVariants.{Eot, Call, Enq, Reply, Text}
-use Rattle.bsc_frame.specs.declared.octets.TheConstants.{ENQ, EOT, PAD, SYN}
-use Rattle.bsc_frame.proofs.ControlSequences.{plain, plain_odd}
+use Rattle.bsc_octet.specs.declared.controls.TheConstants.{ENQ, EOT, PAD, SYN}
+use Rattle.bsc_frame.proofs.ControlSequences.{plain_address_code, plain_odd}
 use Rattle.bsc_frame.proofs.Replies.{reply_form}
 use Rattle.bsc_frame.proofs.OddTexts.{syn_odd}
 use Rattle.bsc_frame.proofs.BodyParity.{called_odd, address_odd, enq_odd}
-use Rattle.bsc_frame.proofs.Places.{parted, all_here, all_after}
+use Rattle.bsc_frame.proofs.Places.{in_first_or_second_list, all_here, all_after}
 use Rattle.bsc_frame.proofs.Insides.{AfterFirst}
-use Rattle.bsc_frame.proofs.DamagedText.{heads, tails, not_both_odd, not_same}
+use Rattle.bsc_frame.proofs.DamagedText.{equal_lists_equal_heads, equal_lists_equal_tails}
+use Rattle.bsc_frame.proofs.DamagedText.{not_both_odd, not_same}
 use Rattle.bsc_octet.proofs.Elements.{all_append}
 
 -- PAD has even parity
@@ -54,7 +55,7 @@ called_or_end n rest b = by_message n b.is_body
     ended e = rw (b.whole, e) b.are_trail
 
     by_message : (k : Message) → IsBody k (EOT ∷ b.body) → Called rest ⊎ AreAll PAD rest
-    by_message Eot h = inr (ended (tails h))
+    by_message Eot h = inr (ended (equal_lists_equal_tails h))
     by_message (Call a) h = inl (record {
       pads = h.pads;
       syns = h.syns;
@@ -62,7 +63,7 @@ called_or_end n rest b = by_message n b.is_body
       trail = b.trail;
       whole =
           b.whole ∙ ap (λ z. z ++ b.trail)
-          (tails h.whole ∙ append_assoc (h.pads ++ h.syns) (map odd_octet a) (ENQ ∷ [])
+          (equal_lists_equal_tails h.whole ∙ append_assoc (h.pads ++ h.syns) (map odd_octet a) (ENQ ∷ [])
           ∙ append_assoc h.pads h.syns (map odd_octet a ++ ENQ ∷ [])
           ∙ ap (λ z. h.pads ++ z) (sym (append_assoc h.syns (map odd_octet a) (ENQ ∷ []))))
           ∙ append_assoc h.pads (h.syns ++ map odd_octet a ++ ENQ ∷ []) b.trail;
@@ -71,25 +72,25 @@ called_or_end n rest b = by_message n b.is_body
       is_address = h.address;
       are_trail = b.are_trail;
     })
-    by_message Enq h = absurd (omega (arith, heads h))
+    by_message Enq h = absurd (omega (arith, equal_lists_equal_heads h))
     by_message (Reply r) h = elim (reply_form r) [
-      | inl k ↦ absurd (omega (arith, heads (h ∙ k)))
-      | inr k ↦ absurd (omega (arith, heads (h ∙ k.whole)))
+      | inl k ↦ absurd (omega (arith, equal_lists_equal_heads (h ∙ k)))
+      | inr k ↦ absurd (omega (arith, equal_lists_equal_heads (h ∙ k.whole)))
     ]
-    by_message (Text t) h = absurd (omega (arith, heads h.whole))
+    by_message (Text t) h = absurd (omega (arith, equal_lists_equal_heads h.whole))
 
 -- the first octet after the PAD is odd
 first_odd : (syns a trail : List ℕ) (o : ℕ) (rest : List ℕ) → AreAll SYN syns → IsAddress a
     → o ∷ rest ≡ (syns ++ map odd_octet a ++ ENQ ∷ []) ++ trail → IsOdd o
-first_odd (s ∷ syns) a trail o rest k h e = rw (heads e, k.0) syn_odd
-first_odd [] [] trail o rest k h e = rw (heads e) enq_odd
-first_odd [] (c ∷ a) trail o rest k h e = rw (heads e) (address_odd (c ∷ a) h.each).0
+first_odd (s ∷ syns) a trail o rest k h e = rw (equal_lists_equal_heads e, k.0) syn_odd
+first_odd [] [] trail o rest k h e = rw (equal_lists_equal_heads e) enq_odd
+first_odd [] (c ∷ a) trail o rest k h e = rw (equal_lists_equal_heads e) (address_odd (c ∷ a) h.each).0
 
 -- there is no ENQ among the octets of an address
 no_enq : (a : List ℕ) → AllByRecursion (λ c. IsTrue (is_address_code c)) a → NoEnq (map odd_octet a)
 no_enq [] h = tt
 no_enq (c ∷ a) h =
-    (eqb-false (odd_octet c) ENQ (plain_odd c ENQ (plain c h.0) (inl refl)), no_enq a h.1)
+    (eqb-false (odd_octet c) ENQ (plain_odd c ENQ (plain_address_code c h.0) (inl refl)), no_enq a h.1)
 
 -- there is no ENQ among octets that are all SYN
 syns_no_enq : (syns : List ℕ) → AreAll SYN syns → NoEnq syns
@@ -99,7 +100,7 @@ syns_no_enq (s ∷ syns) h = ((λ e. absurd (omega (arith, h.0, e))), syns_no_en
 -- one ENQ does not stand before another
 one_enq : (xs front more : List ℕ) (o : ℕ) → NoEnq xs → xs ++ ENQ ∷ [] ≡ front ++ ENQ ∷ (o ∷ more)
     → ⊥
-one_enq xs front more o h e = elim (parted xs (ENQ ∷ []) front ENQ (o ∷ more) e) [
+one_enq xs front more o h e = elim (in_first_or_second_list xs (ENQ ∷ []) front ENQ (o ∷ more) e) [
   | inl p ↦ all_here (λ x. x ≡ ENQ → ⊥) front ENQ p.more (rw p.first at h) refl
   | inr p ↦ omega (arith, ap length p.rest, length-append p.more (ENQ ∷ o ∷ more))
 ]
@@ -109,12 +110,12 @@ one_enq xs front more o h e = elim (parted xs (ENQ ∷ []) front ENQ (o ∷ more
 -- the octet before a SYN, at the front of what follows the PAD of a call, is SYN
 third_syn : (syns a trail : List ℕ) (o : ℕ) (rest : List ℕ) → AreAll SYN syns → IsAddress a
     → o ∷ SYN ∷ rest ≡ (syns ++ map odd_octet a ++ ENQ ∷ []) ++ trail → o ≡ SYN
-third_syn (s ∷ syns) a trail o rest k h e = heads e ∙ k.0
+third_syn (s ∷ syns) a trail o rest k h e = equal_lists_equal_heads e ∙ k.0
 third_syn [] [] trail o rest k h e = absurd (omega (arith, h.some))
-third_syn [] (c ∷ []) trail o rest k h e = absurd (omega (arith, heads (tails e)))
+third_syn [] (c ∷ []) trail o rest k h e = absurd (omega (arith, equal_lists_equal_heads (equal_lists_equal_tails e)))
 third_syn [] (c ∷ d ∷ a) trail o rest k h e =
-    absurd (eqb-false (odd_octet d) SYN (plain_odd d SYN (plain d h.each.1.0) (inr (inl refl)))
-    (sym (heads (tails e))))
+    absurd (eqb-false (odd_octet d) SYN (plain_odd d SYN (plain_address_code d h.each.1.0) (inr (inl refl)))
+    (sym (equal_lists_equal_heads (equal_lists_equal_tails e))))
 
 -- the octet after EOT, of the other parity than PAD, is SYN if a SYN follows and it is a call
 third_pads : (pads syns a trail : List ℕ) (o : ℕ) (rest : List ℕ) → AreAll PAD pads
@@ -123,12 +124,12 @@ third_pads : (pads syns a trail : List ℕ) (o : ℕ) (rest : List ℕ) → AreA
     → o ∷ SYN ∷ rest ≡ pads ++ ((syns ++ map odd_octet a ++ ENQ ∷ []) ++ trail) → o ≡ SYN
 third_pads [] syns a trail o rest p k h other e = third_syn syns a trail o rest k h e
 third_pads (x ∷ pads) syns a trail o rest p k h other e =
-    absurd (not_same o PAD other (heads e ∙ p.0))
+    absurd (not_same o PAD other (equal_lists_equal_heads e ∙ p.0))
 
 -- the octet after EOT is SYN, whatever message is read
-third : (new : ℕ) (rest : List ℕ) (n : Message) → HaveOtherParity new PAD
+octet_after_eot_is_syn : (new : ℕ) (rest : List ℕ) (n : Message) → HaveOtherParity new PAD
     → AfterFirst EOT (new ∷ SYN ∷ rest) n → new ≡ SYN
-third new rest n other b = elim (called_or_end n (new ∷ SYN ∷ rest) b) [
+octet_after_eot_is_syn new rest n other b = elim (called_or_end n (new ∷ SYN ∷ rest) b) [
   | inl c ↦ third_pads c.pads c.syns c.address c.trail new rest c.are_pads c.are_syns c.is_address
       other c.whole
   | inr e ↦ absurd (omega (arith, e.1.0))
@@ -144,13 +145,13 @@ fourth_pads : (pads syns a trail : List ℕ) (new : ℕ) (rest : List ℕ) → A
 fourth_pads [] syns a trail new rest p k h other e =
     absurd (pad_even (first_odd syns a trail PAD (new ∷ rest) k h e))
 fourth_pads (x ∷ []) syns a trail new rest p k h other e =
-    absurd (not_both_odd new SYN other (first_odd syns a trail new rest k h (tails e)) syn_odd)
-fourth_pads (x ∷ y ∷ pads) syns a trail new rest p k h other e = heads (tails e) ∙ p.1.0
+    absurd (not_both_odd new SYN other (first_odd syns a trail new rest k h (equal_lists_equal_tails e)) syn_odd)
+fourth_pads (x ∷ y ∷ pads) syns a trail new rest p k h other e = equal_lists_equal_heads (equal_lists_equal_tails e) ∙ p.1.0
 
 -- the octet after the PAD is PAD, whatever message is read
-fourth : (new : ℕ) (rest : List ℕ) (n : Message) → HaveOtherParity new SYN
+octet_after_pad_is_pad : (new : ℕ) (rest : List ℕ) (n : Message) → HaveOtherParity new SYN
     → AfterFirst EOT (PAD ∷ new ∷ SYN ∷ rest) n → new ≡ PAD
-fourth new rest n other b = elim (called_or_end n (PAD ∷ new ∷ SYN ∷ rest) b) [
+octet_after_pad_is_pad new rest n other b = elim (called_or_end n (PAD ∷ new ∷ SYN ∷ rest) b) [
   | inl c ↦ fourth_pads c.pads c.syns c.address c.trail new (SYN ∷ rest) c.are_pads c.are_syns
       c.is_address other c.whole
   | inr e ↦ absurd (omega (arith, e.1.1.0))
@@ -165,8 +166,8 @@ one_pad : (pads syns a trail : List ℕ) (rest : List ℕ) → AreAll PAD pads �
     → SYN ∷ rest ≡ (syns ++ map odd_octet a ++ ENQ ∷ []) ++ trail
 one_pad [] syns a trail rest p k h e =
     absurd (pad_even (first_odd syns a trail PAD (SYN ∷ rest) k h e))
-one_pad (x ∷ []) syns a trail rest p k h e = tails e
-one_pad (x ∷ y ∷ pads) syns a trail rest p k h e = absurd (omega (arith, heads (tails e), p.1.0))
+one_pad (x ∷ []) syns a trail rest p k h e = equal_lists_equal_tails e
+one_pad (x ∷ y ∷ pads) syns a trail rest p k h e = absurd (omega (arith, equal_lists_equal_heads (equal_lists_equal_tails e), p.1.0))
 
 -- the octets of a call after its first SYN, as they were sent and as they are heard
 record Later (a front : List ℕ) (o : ℕ) (after : List ℕ) (new : ℕ) : Type 0 where
@@ -189,7 +190,7 @@ later_address a front o after new more l other first rest =
     (syn_odd, address_odd a l.is_address.each) in
     let was : IsOdd o =
     all_here IsOdd front o more (subst (λ z. AllByRecursion IsOdd z) first sent_odd) in
-    elim (parted (l.syns ++ map odd_octet l.other_address ++ ENQ ∷ []) l.trail (SYN ∷ front) new
+    elim (in_first_or_second_list (l.syns ++ map odd_octet l.other_address ++ ENQ ∷ []) l.trail (SYN ∷ front) new
     after l.heard) [
       | inl q ↦ not_both_odd new o other
           (all_here IsOdd (SYN ∷ front) new q.more
@@ -209,7 +210,7 @@ line_no_enq syns a k h =
 later_enq : (a front : List ℕ) (after : List ℕ) (new : ℕ) → Later a front ENQ after new
     → HaveOtherParity new ENQ → front ≡ SYN ∷ map odd_octet a → ⊥
 later_enq a front after new l other first =
-    elim (parted (l.syns ++ map odd_octet l.other_address ++ ENQ ∷ []) l.trail (SYN ∷ front) new
+    elim (in_first_or_second_list (l.syns ++ map odd_octet l.other_address ++ ENQ ∷ []) l.trail (SYN ∷ front) new
     after l.heard) [
       | inl q ↦ not_both_odd new ENQ other
           (all_here IsOdd (SYN ∷ front) new q.more
@@ -228,7 +229,7 @@ later_enq a front after new l other first =
 later_pad : (a front : List ℕ) (after : List ℕ) (new : ℕ) → Later a front PAD after new
     → HaveOtherParity new PAD → front ≡ SYN ∷ map odd_octet a ++ ENQ ∷ [] → ⊥
 later_pad a front after new l other first =
-    elim (parted (l.syns ++ map odd_octet l.other_address ++ ENQ ∷ []) l.trail (SYN ∷ front) new
+    elim (in_first_or_second_list (l.syns ++ map odd_octet l.other_address ++ ENQ ∷ []) l.trail (SYN ∷ front) new
     after l.heard) [
       | inl q ↦
           let there : (l.syns ++ map odd_octet l.other_address) ++ ENQ ∷ []
@@ -247,21 +248,21 @@ later_end : (a front : List ℕ) (o : ℕ) (after : List ℕ) (new : ℕ) (more 
     → HaveOtherParity new o
     → front ≡ (SYN ∷ map odd_octet a) ++ more → ENQ ∷ PAD ∷ [] ≡ more ++ o ∷ after → ⊥
 later_end a front o after new [] l other first rest =
-    let was : o ≡ ENQ = sym (heads rest) in
+    let was : o ≡ ENQ = sym (equal_lists_equal_heads rest) in
     later_enq a front after new (rw was at l) (rw was at other)
     (first ∙ append-nil (SYN ∷ map odd_octet a))
 later_end a front o after new (x ∷ []) l other first rest =
-    let was : o ≡ PAD = sym (heads (tails rest)) in
+    let was : o ≡ PAD = sym (equal_lists_equal_heads (equal_lists_equal_tails rest)) in
     later_pad a front after new (rw was at l) (rw was at other)
-    (first ∙ ap (λ z. (SYN ∷ map odd_octet a) ++ z ∷ []) (sym (heads rest)))
+    (first ∙ ap (λ z. (SYN ∷ map odd_octet a) ++ z ∷ []) (sym (equal_lists_equal_heads rest)))
 later_end a front o after new (x ∷ y ∷ more) l other first rest =
     omega (arith, ap length rest, length-append more (o ∷ after))
 
 -- a change after the first SYN of a call leaves no call
-later : (a front : List ℕ) (o : ℕ) (after : List ℕ) (new : ℕ) → Later a front o after new
+no_call_after_later_change : (a front : List ℕ) (o : ℕ) (after : List ℕ) (new : ℕ) → Later a front o after new
     → HaveOtherParity new o → ⊥
-later a front o after new l other =
-    elim (parted (SYN ∷ map odd_octet a) (ENQ ∷ PAD ∷ []) front o after l.sent) [
+no_call_after_later_change a front o after new l other =
+    elim (in_first_or_second_list (SYN ∷ map odd_octet a) (ENQ ∷ PAD ∷ []) front o after l.sent) [
       | inl p ↦ later_address a front o after new p.more l other p.first p.rest
       | inr p ↦ later_end a front o after new p.more l other p.first p.rest
     ]
@@ -279,32 +280,32 @@ pub spared_call : (a : List ℕ) (n : Message) (before : List ℕ) (o : ℕ) (af
     → AfterFirst EOT (before ++ new ∷ after) n
     → IsCallFill (suc (suc (suc (length before)))) new
 spared_call a n [] o after new h whole other b =
-    let was : o ≡ PAD = sym (heads whole) in
+    let was : o ≡ PAD = sym (equal_lists_equal_heads whole) in
     let then : after ≡ SYN ∷ SYN ∷ (map odd_octet a ++ ENQ ∷ []) ++ PAD ∷ [] =
-    sym (tails whole) in
+    sym (equal_lists_equal_tails whole) in
     inl (
       refl,
-      third new (SYN ∷ (map odd_octet a ++ ENQ ∷ []) ++ PAD ∷ []) n (rw was at other)
+      octet_after_eot_is_syn new (SYN ∷ (map odd_octet a ++ ENQ ∷ []) ++ PAD ∷ []) n (rw was at other)
           (rw then at b),
     )
 spared_call a n (x ∷ []) o after new h whole other b =
-    let first : x ≡ PAD = sym (heads whole) in
-    let was : o ≡ SYN = sym (heads (tails whole)) in
+    let first : x ≡ PAD = sym (equal_lists_equal_heads whole) in
+    let was : o ≡ SYN = sym (equal_lists_equal_heads (equal_lists_equal_tails whole)) in
     let then : after ≡ SYN ∷ (map odd_octet a ++ ENQ ∷ []) ++ PAD ∷ [] =
-    sym (tails (tails whole)) in
+    sym (equal_lists_equal_tails (equal_lists_equal_tails whole)) in
     inr (
       refl,
-      fourth new ((map odd_octet a ++ ENQ ∷ []) ++ PAD ∷ []) n (rw was at other)
+      octet_after_pad_is_pad new ((map odd_octet a ++ ENQ ∷ []) ++ PAD ∷ []) n (rw was at other)
           (rw (first, then) at b),
     )
 spared_call a n (x ∷ y ∷ front) o after new h whole other b =
-    let first : x ≡ PAD = sym (heads whole) in
-    let second : y ≡ SYN = sym (heads (tails whole)) in
+    let first : x ≡ PAD = sym (equal_lists_equal_heads whole) in
+    let second : y ≡ SYN = sym (equal_lists_equal_heads (equal_lists_equal_tails whole)) in
     let then : SYN ∷ (map odd_octet a ++ ENQ ∷ []) ++ PAD ∷ [] ≡ front ++ o ∷ after =
-    tails (tails whole) in
+    equal_lists_equal_tails (equal_lists_equal_tails whole) in
     let heard : AfterFirst EOT (PAD ∷ SYN ∷ front ++ new ∷ after) n = rw (first, second) at b in
     elim (called_or_end n (PAD ∷ SYN ∷ front ++ new ∷ after) heard) [
-      | inl c ↦ absurd (later a front o after new (record {
+      | inl c ↦ absurd (no_call_after_later_change a front o after new (record {
         sent = sym (append_assoc (SYN ∷ map odd_octet a) (ENQ ∷ []) (PAD ∷ [])) ∙ then;
         is_address = h;
         syns = c.syns;

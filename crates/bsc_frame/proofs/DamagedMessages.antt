@@ -2,14 +2,14 @@
 use Rattle.std.proofs.Common.{◌≡◌, ◌⊎◌, ◌↔◌, inl, inr, ℕ, zero, suc, ◌<◌, ◌≤◌, ◌==◌, false, refl}
 use Rattle.std.proofs.Common.{sym, ap, subst, ◌∙◌, arith, List, [], ◌∷◌, ◌++◌, length, get_or, set}
 use Rattle.std.proofs.Common.{length-set, map, append-nil}
-use Rattle.bsc_octet.specs.Octet.{IsOdd, odd_octet}
+use Rattle.bsc_octet.specs.Octet.{IsOdd, odd_octet, HaveOtherParity}
 use Rattle.bsc_frame.specs.Addresses.{IsAddress}
 use Rattle.bsc_frame.specs.Texts.{TextValue, IsText}
 use Rattle.bsc_frame.specs.Units.{units_wire}
 use Rattle.bsc_frame.specs.Message.{IsMessage}
 use Rattle.bsc_frame.specs.Wire.{wire, framed}
 use Rattle.bsc_frame.specs.Spells.{Spells, IsBody, IsFailed}
-use Rattle.bsc_frame.specs.TurnedBits.{HaveOtherParity, IsSomeCall, IsSomeText, IsLeadingPad}
+use Rattle.bsc_frame.specs.TurnedBits.{IsSomeCall, IsSomeText, IsLeadingPad}
 use Rattle.bsc_frame.specs.TurnedBits.{IsCallFill, IsFillIn}
 use Rattle.bsc_frame.specs.declared.message.Message.{Message}
 use Rattle.bsc_frame.specs.declared.message.Message.TheVariants.{Eot, Call, Enq, Reply, Text}
@@ -22,13 +22,14 @@ use Rattle.bsc_frame.proofs.BodyParity.{eot_odd, enq_odd, nak_odd, dle_odd, stx_
 use Rattle.bsc_frame.proofs.Replies.{IsPair, reply_form}
 use Rattle.bsc_frame.specs.Replies.{reply_octets}
 use Rattle.bsc_frame.specs.declared.reply.Reply.{Reply as ReplyValue}
-use Rattle.bsc_frame.proofs.Places.{around}
-use Rattle.bsc_frame.proofs.Insides.{Inside, inside, failed_inside, after_first, first_is_odd}
+use Rattle.bsc_frame.proofs.Places.{split_at_place}
+use Rattle.bsc_frame.proofs.Insides.{Inside, inside_after_syns, failed_inside, after_first}
+use Rattle.bsc_frame.proofs.Insides.{first_is_odd}
 use Rattle.bsc_frame.proofs.Insides.{starts_wrong, pad_or_not}
-use Rattle.bsc_frame.proofs.DamagedText.{heads, not_both_odd, not_same, lost_text}
+use Rattle.bsc_frame.proofs.DamagedText.{equal_lists_equal_heads, not_both_odd, not_same, lost_text}
 use Rattle.bsc_frame.proofs.DamagedCall.{call_tail, spared_call}
 use Rattle.bsc_frame.specs.declared.limits.TheConstants.{MAX_HEARD}
-use Rattle.bsc_frame.specs.declared.octets.TheConstants.{DLE, ENQ, EOT, NAK, PAD, STX, SYN}
+use Rattle.bsc_octet.specs.declared.controls.TheConstants.{DLE, ENQ, EOT, NAK, PAD, STX, SYN}
 use Rattle.bsc_frame.proofs.DamagedReply.{lost_single, lost_reply}
 
 -- ---- what is sent for each message
@@ -120,8 +121,8 @@ shape_pair r k = record {
 }
 
 -- each message has its first octet, of odd parity and not SYN, and the rest
-shape : (m : Message) → IsMessage m → Shape m
-shape Eot h = record {
+shape_of_message : (m : Message) → IsMessage m → Shape m
+shape_of_message Eot h = record {
   x = EOT;
   tail = PAD ∷ [];
   whole = refl;
@@ -133,7 +134,7 @@ shape Eot h = record {
       (after_first EOT (before ++ new ∷ after) n i));
   starts_text = λ e. absurd (omega (arith, e));
 }
-shape (Call a) h = record {
+shape_of_message (Call a) h = record {
   x = EOT;
   tail = call_tail a;
   whole = refl;
@@ -146,7 +147,7 @@ shape (Call a) h = record {
       );
   starts_text = λ e. absurd (omega (arith, e));
 }
-shape Enq h = record {
+shape_of_message Enq h = record {
   x = ENQ;
   tail = PAD ∷ [];
   whole = refl;
@@ -158,8 +159,8 @@ shape Enq h = record {
       (after_first ENQ (before ++ new ∷ after) n i));
   starts_text = λ e. absurd (omega (arith, e));
 }
-shape (Reply r) h = elim (reply_form r) [ inl k ↦ shape_nak r k | inr k ↦ shape_pair r k ]
-shape (Text t) h = record {
+shape_of_message (Reply r) h = elim (reply_form r) [ inl k ↦ shape_nak r k | inr k ↦ shape_pair r k ]
+shape_of_message (Text t) h = record {
   x = STX;
   tail = units_wire t.units t.end ++ PAD ∷ [];
   whole = refl;
@@ -186,18 +187,18 @@ by_place m s zero new n l p h = elim (pad_or_not new) [
 ]
 by_place m s (suc zero) new n l p h =
     let i =
-    inside (SYN ∷ []) (new ∷ s.x ∷ s.tail) n (refl, tt) (λ e. cc)
+    inside_after_syns (SYN ∷ []) (new ∷ s.x ∷ s.tail) n (refl, tt) (λ e. cc)
     (test_false new SYN (not_same new SYN p)) h in
     absurd (not_both_odd new SYN p (first_is_odd new (s.x ∷ s.tail) n i) syn_odd)
 by_place m s (suc (suc zero)) new n l p h =
     let i =
-    inside (SYN ∷ SYN ∷ []) (new ∷ s.tail) n (refl, (refl, tt)) (λ e. cc)
+    inside_after_syns (SYN ∷ SYN ∷ []) (new ∷ s.tail) n (refl, (refl, tt)) (λ e. cc)
     (test_false new SYN (λ e. not_both_odd new s.x p (rw e syn_odd) s.odd)) h in
     absurd (not_both_odd new s.x p (first_is_odd new s.tail n i) s.odd)
 by_place m s (suc (suc (suc place))) new n l p h =
-    let r = around s.tail place (omega arith) in
+    let r = split_at_place s.tail place (omega arith) in
     let i =
-    inside (SYN ∷ SYN ∷ []) (s.x ∷ r.before ++ new ∷ r.after) n (refl, (refl, tt)) (λ e. cc)
+    inside_after_syns (SYN ∷ SYN ∷ []) (s.x ∷ r.before ++ new ∷ r.after) n (refl, (refl, tt)) (λ e. cc)
     s.other (rw (r.changed new) at h) in
     let k = s.lost n r.before r.here r.after new r.whole (rw r.is_here at p) i in
     inr (rw r.long at k)
@@ -208,12 +209,12 @@ pub spelled_fill : (m : Message) → IsMessage m → (place new : ℕ) (n : Mess
     → HaveOtherParity new (get_or (wire m) place 0)
     → Spells (set (wire m) place new) n → IsFillIn m place new
 spelled_fill m h place new n l p k =
-    let s = shape m h in
+    let s = shape_of_message m h in
     by_place m s place new n (rw s.whole at l) (rw s.whole at p) (rw s.whole at k)
 
 -- a change does not make a transmission longer, so it is not too long to be heard
-small : (m : Message) → IsMessage m → (place new : ℕ) → length (set (wire m) place new) ≤ MAX_HEARD
-small m h place new = omega (arith, length-set (wire m) place new, length_wire m h)
+changed_wire_not_too_long : (m : Message) → IsMessage m → (place new : ℕ) → length (set (wire m) place new) ≤ MAX_HEARD
+changed_wire_not_too_long m h place new = omega (arith, length-set (wire m) place new, length_wire m h)
 
 -- with a leading pad in place of the first SYN the message is still spelled
 pad_spells : (m : Message) (body : List ℕ) (new : ℕ) → length (set (framed body) 0 new) ≤ MAX_HEARD
@@ -261,7 +262,7 @@ fill_in_call : (a : List ℕ) (h : IsAddress a) (place new : ℕ) → IsCallFill
     → Spells (set (wire (Call a)) place new) (Call a)
 fill_in_call a h place new (inl k) =
     rw (k.0, k.1) (call_spells a (EOT ∷ SYN ∷ SYN ∷ SYN ∷ [] ++ map odd_octet a ++ ENQ ∷ [])
-    (small (Call a) h 3 SYN)
+    (changed_wire_not_too_long (Call a) h 3 SYN)
     (record {
       pads = [];
       syns = SYN ∷ SYN ∷ SYN ∷ [];
@@ -273,7 +274,7 @@ fill_in_call a h place new (inl k) =
     }))
 fill_in_call a h place new (inr k) =
     rw (k.0, k.1) (call_spells a (EOT ∷ PAD ∷ PAD ∷ SYN ∷ [] ++ map odd_octet a ++ ENQ ∷ [])
-    (small (Call a) h 4 PAD)
+    (changed_wire_not_too_long (Call a) h 4 PAD)
     (record {
       pads = PAD ∷ PAD ∷ [];
       syns = SYN ∷ [];
@@ -289,7 +290,7 @@ pub fill_spells : (m : Message) → IsMessage m → (place new : ℕ) → IsFill
     → Spells (set (wire m) place new) m
 fill_spells m h place new (inl k) =
     let s = sent_of m h in
-    let long : length (set (framed s.body) 0 new) ≤ MAX_HEARD = rw s.whole at (small m h 0 new) in
+    let long : length (set (framed s.body) 0 new) ≤ MAX_HEARD = rw s.whole at (changed_wire_not_too_long m h 0 new) in
     rw (k.0, s.whole) (pad_spells m s.body new long s.is_body k.1)
 fill_spells m h place new (inr k) =
     let call : m ≡ Call k.0.0 = k.0.1 in
@@ -307,7 +308,7 @@ text_fails t h zero new u l p = absurd (omega arith)
 text_fails t h (suc zero) new u l p = absurd (omega arith)
 text_fails t h (suc (suc zero)) new u l p = absurd (omega arith)
 text_fails t h (suc (suc (suc place))) new u l p = record {
-  small = small (Text t) h (suc (suc (suc place))) new;
+  small = changed_wire_not_too_long (Text t) h (suc (suc (suc place))) new;
   rest = set (units_wire t.units t.end ++ PAD ∷ []) place new;
   carried = record {
     pads = [];
@@ -342,17 +343,17 @@ by_failed_place m s (suc zero) new q l p f =
     let k =
     failed_inside (SYN ∷ []) (new ∷ s.x ∷ s.tail) (refl, tt) (λ e. cc)
     (test_false new SYN (not_same new SYN p)) f in
-    absurd (not_both_odd new SYN p (rw (heads k.1) stx_odd) syn_odd)
+    absurd (not_both_odd new SYN p (rw (equal_lists_equal_heads k.1) stx_odd) syn_odd)
 by_failed_place m s (suc (suc zero)) new q l p f =
     let k =
     failed_inside (SYN ∷ SYN ∷ []) (new ∷ s.tail) (refl, (refl, tt)) (λ e. cc)
     (test_false new SYN (λ e. not_both_odd new s.x p (rw e syn_odd) s.odd)) f in
-    absurd (not_both_odd new s.x p (rw (heads k.1) stx_odd) s.odd)
+    absurd (not_both_odd new s.x p (rw (equal_lists_equal_heads k.1) stx_odd) s.odd)
 by_failed_place m s (suc (suc (suc place))) new q l p f =
     let k =
     failed_inside (SYN ∷ SYN ∷ []) (s.x ∷ set s.tail place new) (refl, (refl, tt)) (λ e. cc)
     s.other f in
-    (omega arith, s.starts_text (heads k.1))
+    (omega arith, s.starts_text (equal_lists_equal_heads k.1))
 
 -- a change makes a transmission fail exactly if it stands after the STX of a text
 pub failed_place : (m : Message) → IsMessage m → (place new : ℕ) → place < length (wire m)
@@ -362,7 +363,7 @@ failed_place m h place new l p = (there, back)
   where
     there : IsFailed (set (wire m) place new) → (2 < place) × IsSomeText m
     there f =
-        let s = shape m h in
+        let s = shape_of_message m h in
         by_failed_place m s place new (λ k. f.none m (fill_spells m h place new (inl k)))
         (rw s.whole at l) (rw s.whole at p) (rw s.whole at f)
 

@@ -3,28 +3,27 @@ use Rattle.std.proofs.Common.{◌≡◌, inl, inr, ℕ, ◌%◌, ◌<◌, false,
 use Rattle.std.proofs.Common.{List, []}
 use Rattle.std.proofs.Common.{◌∷◌, ◌++◌, length, length-append, append_assoc, count_ones}
 use Rattle.std.specs.List.{AllByRecursion}
-use Rattle.bsc_octet.specs.Octet.{IsOdd}
+use Rattle.bsc_octet.specs.Octet.{IsOdd, HaveOtherParity}
 use Rattle.bsc_frame.specs.Texts.{TextValue, IsText}
 use Rattle.bsc_frame.specs.Units.{units_wire}
 use Rattle.bsc_frame.specs.Spells.{IsBody, AreAll, AreUnits}
-use Rattle.bsc_frame.specs.TurnedBits.{HaveOtherParity}
 use Rattle.bsc_frame.specs.declared.message.Message.{Message}
 use Rattle.bsc_frame.specs.declared.message.Message.TheVariants.{Eot, Call, Enq, Reply, Text}
-use Rattle.bsc_frame.specs.declared.octets.TheConstants.{PAD, STX}
+use Rattle.bsc_octet.specs.declared.controls.TheConstants.{PAD, STX}
 use Rattle.bsc_frame.proofs.Replies.{reply_form}
 use Rattle.bsc_frame.proofs.TextUnits.{wire_units}
 use Rattle.bsc_frame.proofs.OddTexts.{units_odd}
-use Rattle.bsc_frame.proofs.Places.{parted, all_here}
+use Rattle.bsc_frame.proofs.Places.{in_first_or_second_list, all_here}
 use Rattle.bsc_frame.proofs.Insides.{Inside, after_first}
 use Rattle.bsc_frame.proofs.LongerTexts.{no_longer_units}
 
 -- lists that are the same have the same first element
-pub heads : {x y : ℕ} {xs ys : List ℕ} → x ∷ xs ≡ y ∷ ys → x ≡ y
-heads e = cc
+pub equal_lists_equal_heads : {x y : ℕ} {xs ys : List ℕ} → x ∷ xs ≡ y ∷ ys → x ≡ y
+equal_lists_equal_heads e = cc
 
 -- lists that are the same have the same rest
-pub tails : {x y : ℕ} {xs ys : List ℕ} → x ∷ xs ≡ y ∷ ys → xs ≡ ys
-tails e = cc
+pub equal_lists_equal_tails : {x y : ℕ} {xs ys : List ℕ} → x ∷ xs ≡ y ∷ ys → xs ≡ ys
+equal_lists_equal_tails e = cc
 
 -- two octets of different parity are not both odd
 pub not_both_odd : (a b : ℕ) → HaveOtherParity a b → IsOdd a → IsOdd b → ⊥
@@ -37,14 +36,14 @@ not_same a b h e = h (ap (λ x. count_ones x % 2) e)
 -- a body that begins with STX
 pub text_body : (n : Message) (body : List ℕ) → IsBody n (STX ∷ body)
     → (s : TextValue) × AreUnits false s.units s.end body × IsText s
-text_body Eot body h = absurd (omega (arith, heads h))
-text_body (Call a) body h = absurd (omega (arith, heads h.whole))
-text_body Enq body h = absurd (omega (arith, heads h))
+text_body Eot body h = absurd (omega (arith, equal_lists_equal_heads h))
+text_body (Call a) body h = absurd (omega (arith, equal_lists_equal_heads h.whole))
+text_body Enq body h = absurd (omega (arith, equal_lists_equal_heads h))
 text_body (Reply r) body h = elim (reply_form r) [
-  | inl k ↦ absurd (omega (arith, heads (h ∙ k)))
-  | inr k ↦ absurd (omega (arith, heads (h ∙ k.whole)))
+  | inl k ↦ absurd (omega (arith, equal_lists_equal_heads (h ∙ k)))
+  | inr k ↦ absurd (omega (arith, equal_lists_equal_heads (h ∙ k.whole)))
 ]
-text_body (Text s) body h = (s, rw (tails h.whole) h.units, h.text)
+text_body (Text s) body h = (s, rw (equal_lists_equal_tails h.whole) h.units, h.text)
 
 -- a list with an element in it is not empty
 pub some_after : (front back : List ℕ) (o : ℕ) → 0 < length (front ++ o ∷ back)
@@ -64,12 +63,12 @@ lost_text t n before o after new h whole other i =
     units_odd false t.units t.end (units_wire t.units t.end) sent h.each in
     let body_odd : AllByRecursion IsOdd b.body =
     units_odd false s.0.units s.0.end b.body s.1 s.2.each in
-    elim (parted (units_wire t.units t.end) (PAD ∷ []) before o after whole) [
+    elim (in_first_or_second_list (units_wire t.units t.end) (PAD ∷ []) before o after whole) [
       | inl p ↦
           let was : IsOdd o =
           all_here IsOdd before o p.more (subst (λ z. AllByRecursion IsOdd z) p.first
           sent_odd) in
-          elim (parted b.body b.trail before new after (sym b.whole)) [
+          elim (in_first_or_second_list b.body b.trail before new after (sym b.whole)) [
             | inl q ↦ not_both_odd new o other
                 (all_here IsOdd before new q.more
                 (subst (λ z. AllByRecursion IsOdd z) q.first body_odd)) was
@@ -83,7 +82,7 @@ lost_text t n before o after new h whole other i =
       | inr p ↦
           let was : PAD ≡ o =
           sym (all_here (λ x. x ≡ PAD) p.more o after (subst (AreAll PAD) p.rest pad_all)) in
-          elim (parted b.body b.trail before new after (sym b.whole)) [
+          elim (in_first_or_second_list b.body b.trail before new after (sym b.whole)) [
             | inl q ↦
                 let longer : b.body ≡ units_wire t.units t.end ++ (p.more ++ new ∷ q.more) =
                 q.first ∙ ap (λ z. z ++ new ∷ q.more) p.first

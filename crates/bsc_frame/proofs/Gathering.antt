@@ -8,9 +8,9 @@ use Rattle.bsc_octet.specs.Octet.{odd_octet, code_of}
 use Rattle.bsc_octet.proofs.OddOctets.{odd_cases, code_of_some, code_of_odd_octet}
 use Rattle.bsc_frame.specs.Spells.{AreAll, AreFilled}
 use Rattle.bsc_frame.specs.Reading.{is_ending_code, before_gathered, gather_code, gathered}
-use Rattle.bsc_frame.specs.declared.octets.TheConstants.{SYN}
+use Rattle.bsc_octet.specs.declared.controls.TheConstants.{SYN}
 use Rattle.bsc_frame.proofs.ReadingSteps.{test_false, has_room}
-use Rattle.bsc_frame.proofs.ReadingSteps.{chosen}
+use Rattle.bsc_frame.proofs.ReadingSteps.{branch_of_test}
 
 -- the last of the codes is an ending character
 abbrev pub EndsUnit : List ℕ → Type 0
@@ -78,7 +78,7 @@ gathers_code : (x : ℕ) (xs : List ℕ) (o : Option ℕ) (more : Option (List �
     → ((h : List ℕ × List ℕ) → more ≡ Some h → Gathers xs h.0 h.1)
     → gather_code o xs more ≡ Some g → Gathers (x ∷ xs) g.0 g.1
 gathers_code x xs None more g k f e = cc
-gathers_code x xs (Some c) more g k f e = elim (chosen (is_ending_code c) _ _ _ e) [
+gathers_code x xs (Some c) more g k f e = elim (branch_of_test (is_ending_code c) _ _ _ e) [
   | inl h ↦
       let codes : g.0 ≡ c ∷ [] = let w = h.1 in cc in
       let rest : g.1 ≡ xs = let w = h.1 in cc in
@@ -101,9 +101,9 @@ gathers_octet : (room x : ℕ) (xs : List ℕ) (g : List ℕ × List ℕ)
     → cond (x == SYN) (gathered room xs)
     (cond (room == 0) None (gather_code (code_of x) xs (gathered (room - 1) xs))) ≡ Some g
     → Gathers (x ∷ xs) g.0 g.1
-gathers_octet room x xs g same more e = elim (chosen (x == SYN) _ _ _ e) [
+gathers_octet room x xs g same more e = elim (branch_of_test (x == SYN) _ _ _ e) [
   | inl h ↦ rw (eqb-true x SYN h.0) (filled_more xs g.0 g.1 (same h.1))
-  | inr h ↦ elim (chosen (room == 0) _ _ _ h.1) [
+  | inr h ↦ elim (branch_of_test (room == 0) _ _ _ h.1) [
     | inl q ↦ let w = q.1 in cc
     | inr q ↦ gathers_code x xs (code_of x) (gathered (room - 1) xs) g refl more q.1
   ]

@@ -17,14 +17,15 @@ use Rattle.bsc_frame.specs.declared.message.Message.{Message}
 use Rattle.bsc_frame.specs.declared.message.Message.TheVariants.{Eot, Call, Enq, Reply, Text}
 use Rattle.bsc_frame.specs.declared.message.Heard.{Heard}
 use Rattle.bsc_frame.specs.declared.message.Heard.TheVariants.{Whole, Failed, Noise}
-use Rattle.bsc_frame.proofs.Fronts.{bodies, heard_carried, Ends, trimmed_body, trimmed_begins}
+use Rattle.bsc_frame.proofs.Fronts.{body_unless_noise, heard_carried, Ends, trimmed_body}
+use Rattle.bsc_frame.proofs.Fronts.{trimmed_begins}
 use Rattle.bsc_frame.proofs.ControlSequences.{control_reads, control_read, IsControl}
-use Rattle.bsc_frame.proofs.ReadingSteps.{chosen}
+use Rattle.bsc_frame.proofs.ReadingSteps.{branch_of_test}
 use Rattle.bsc_frame.proofs.Replies.{reply_form}
 use Rattle.bsc_frame.proofs.TextUnits.{units_at_reads, units_at_read, units_end, wire_units}
 use Rattle.bsc_frame.proofs.TextUnits.{length_units_wire}
 use Rattle.bsc_frame.specs.declared.limits.TheConstants.{MAX_UNITS, MAX_SENT}
-use Rattle.bsc_frame.specs.declared.octets.TheConstants.{DLE, ENQ, EOT, NAK, PAD, STX, SYN}
+use Rattle.bsc_octet.specs.declared.controls.TheConstants.{DLE, ENQ, EOT, NAK, PAD, STX, SYN}
 
 -- ---- bodies
 
@@ -56,7 +57,7 @@ text_reads (x ∷ rest) t h e =
 -- a body that is heard as a message is that of the message
 pub body_reads : (body : List ℕ) (m : Message) → heard_body body ≡ Whole m → IsBody m body
 unfolding heard_body
-body_reads body m e = elim (chosen (begins (is_octet STX) body) _ _ _ e) [
+body_reads body m e = elim (branch_of_test (begins (is_octet STX) body) _ _ _ e) [
   | inl h ↦
       let t = or_failed (units_at MAX_UNITS false (drop 1 body)) m h.1 in
       subst (λ k. IsBody k body) t.2 (text_reads body t.0 h.0 t.1)
@@ -69,9 +70,9 @@ record Plain (body : List ℕ) : Type 0 where
   ends : Ends body
 
 -- a body of one octet that is neither SYN nor PAD has no SYN first and no PAD last
-short : (x : ℕ) → ((x == SYN) ≡ false) → ((x == PAD) ≡ false) → (body : List ℕ) → body ≡ x ∷ []
+plain_body_of_one : (x : ℕ) → ((x == SYN) ≡ false) → ((x == PAD) ≡ false) → (body : List ℕ) → body ≡ x ∷ []
     → Plain body
-short x a c body e =
+plain_body_of_one x a c body e =
     record {
       begins_other = (x, [], e, a);
       ends =
@@ -79,8 +80,8 @@ short x a c body e =
     }
 
 -- a body of DLE and one octet that is not PAD has no SYN first and no PAD last
-pair : (y : ℕ) → ((y == PAD) ≡ false) → (body : List ℕ) → body ≡ DLE ∷ y ∷ [] → Plain body
-pair y c body e =
+plain_body_after_dle : (y : ℕ) → ((y == PAD) ≡ false) → (body : List ℕ) → body ≡ DLE ∷ y ∷ [] → Plain body
+plain_body_after_dle y c body e =
     record {
       begins_other = (DLE, y ∷ [], e, refl);
       ends =
@@ -100,7 +101,7 @@ ends_text rest e =
 
 -- the body of a message neither begins with SYN nor ends with PAD
 plain_body : (body : List ℕ) (m : Message) → IsBody m body → Plain body
-plain_body body Eot h = short EOT refl refl body h
+plain_body body Eot h = plain_body_of_one EOT refl refl body h
 plain_body body (Call a) h = record {
   begins_other = (EOT, h.pads ++ h.syns ++ map odd_octet a ++ ENQ ∷ [], h.whole, refl);
   ends =
@@ -111,10 +112,10 @@ plain_body body (Call a) h = record {
         other = refl;
       };
 }
-plain_body body Enq h = short ENQ refl refl body h
+plain_body body Enq h = plain_body_of_one ENQ refl refl body h
 plain_body body (Reply r) h = elim (reply_form r) [
-  | inl k ↦ short NAK refl refl body (h ∙ k)
-  | inr k ↦ pair k.second k.no_pad body (h ∙ k.whole)
+  | inl k ↦ plain_body_of_one NAK refl refl body (h ∙ k)
+  | inr k ↦ plain_body_after_dle k.second k.no_pad body (h ∙ k.whole)
 ]
 plain_body body (Text t) h = record {
   begins_other = (STX, h.rest, h.whole, refl);
@@ -165,7 +166,7 @@ loud_whole h m e n = cc
 -- octets that are heard as a message spell it
 pub spelled_heard : (octets : List ℕ) (m : Message) → heard octets ≡ Whole m → Spells octets m
 spelled_heard octets m e =
-    let b = bodies octets (loud_whole (heard octets) m e) in
+    let b = body_unless_noise octets (loud_whole (heard octets) m e) in
     record {
       small = b.small;
       body = b.body;
@@ -181,7 +182,7 @@ pub failed_begins : (body : List ℕ) → heard_body body ≡ Failed → (rest :
     × (body ≡ STX ∷ rest)
 unfolding heard_body control
 failed_begins [] e = absurd cc
-failed_begins (x ∷ rest) e = elim (chosen (x == STX) _ _ _ e) [
+failed_begins (x ∷ rest) e = elim (branch_of_test (x == STX) _ _ _ e) [
   | inl h ↦ (rest, ap (λ o. o ∷ rest) (eqb-true x STX h.0))
   | inr h ↦ absurd (not_failed (control (x ∷ rest)) h.1)
 ]
@@ -208,7 +209,7 @@ loud_failed h e n = cc
 -- octets that are heard as failed are failed by the relation
 pub failed_heard : (octets : List ℕ) → heard octets ≡ Failed → IsFailed octets
 failed_heard octets e =
-    let b = bodies octets (loud_failed (heard octets) e) in
+    let b = body_unless_noise octets (loud_failed (heard octets) e) in
     let f = failed_begins b.body (sym b.same ∙ e) in
     record {
       small = b.small;
@@ -278,9 +279,9 @@ length_wire (Text t) h =
     )
 
 -- two SYN, a body and one PAD spell the message of the body
-sent : (body : List ℕ) (m : Message) → length (framed body) ≤ MAX_SENT → IsBody m body
+framed_body_spells : (body : List ℕ) (m : Message) → length (framed body) ≤ MAX_SENT → IsBody m body
     → Spells (framed body) m
-sent body m short h = record {
+framed_body_spells body m plain_body_of_one h = record {
   small = omega arith;
   body = body;
   carried =
@@ -299,9 +300,9 @@ sent body m short h = record {
 
 -- what is sent for a message spells it
 pub wire_spells : (m : Message) → IsMessage m → Spells (wire m) m
-wire_spells Eot h = sent _ Eot (length_wire Eot h) refl
+wire_spells Eot h = framed_body_spells _ Eot (length_wire Eot h) refl
 wire_spells (Call a) h =
-    sent _ (Call a) (length_wire (Call a) h)
+    framed_body_spells _ (Call a) (length_wire (Call a) h)
     (record {
       pads = PAD ∷ [];
       syns = SYN ∷ SYN ∷ [];
@@ -310,10 +311,10 @@ wire_spells (Call a) h =
       are_syns = (refl, (refl, tt));
       address = h;
     })
-wire_spells Enq h = sent _ Enq (length_wire Enq h) refl
-wire_spells (Reply r) h = sent _ (Reply r) (length_wire (Reply r) h) refl
+wire_spells Enq h = framed_body_spells _ Enq (length_wire Enq h) refl
+wire_spells (Reply r) h = framed_body_spells _ (Reply r) (length_wire (Reply r) h) refl
 wire_spells (Text t) h =
-    sent _ (Text t) (length_wire (Text t) h)
+    framed_body_spells _ (Text t) (length_wire (Text t) h)
     (record {
       rest = units_wire t.units t.end;
       whole = refl;

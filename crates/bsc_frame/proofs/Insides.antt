@@ -3,9 +3,9 @@ use Rattle.std.proofs.Common.{◌≡◌, ◌≢◌, ◌⊎◌, inl, inr, ℕ, �
 use Rattle.std.proofs.Common.{sym, ap}
 use Rattle.std.proofs.Common.{subst, ◌∙◌, List, [], ◌∷◌, ◌++◌, length, append-nil, map, nat_lt}
 use Rattle.std.proofs.lemmas.Bool.{eqb-true}
-use Rattle.bsc_octet.specs.Octet.{IsOdd, odd_octet}
+use Rattle.bsc_octet.specs.Octet.{IsOdd, odd_octet, is_pad_octet}
 use Rattle.bsc_frame.specs.Spells.{Spells, IsBody, Carries, AreAll, IsFailed}
-use Rattle.bsc_frame.specs.Reading.{skip, is_octet, is_pad_octet, begins, heard, heard_body}
+use Rattle.bsc_frame.specs.Reading.{skip, is_octet, begins, heard, heard_body}
 use Rattle.bsc_frame.specs.Reading.{trimmed}
 use Rattle.bsc_frame.specs.declared.message.Message.{Message}
 use Rattle.bsc_frame.specs.declared.message.Message.TheVariants.{Eot, Call, Enq, Reply, Text}
@@ -16,7 +16,7 @@ use Rattle.bsc_frame.proofs.HeardMessages.{body_reads, heard_spelled, heard_fail
 use Rattle.bsc_frame.proofs.Replies.{reply_form}
 use Rattle.bsc_frame.proofs.BodyParity.{eot_odd, enq_odd, nak_odd, dle_odd, stx_odd}
 use Rattle.bsc_frame.specs.declared.limits.TheConstants.{MAX_HEARD}
-use Rattle.bsc_frame.specs.declared.octets.TheConstants.{DLE, ENQ, EOT, NAK, PAD, STX, SYN}
+use Rattle.bsc_octet.specs.declared.controls.TheConstants.{DLE, ENQ, EOT, NAK, PAD, STX, SYN}
 
 -- a body and the PAD after it
 pub record Inside (rest : List ℕ) (n : Message) : Type 0 where
@@ -47,9 +47,9 @@ heard_syns syns rest are some stops small =
     ∙ ap (λ z. heard_body (trimmed z)) (append-nil rest)
 
 -- what is after SYN carries the body of the message that is spelled
-pub inside : (syns rest : List ℕ) (n : Message) → AreAll SYN syns → syns ≢ []
+pub inside_after_syns : (syns rest : List ℕ) (n : Message) → AreAll SYN syns → syns ≢ []
     → begins (is_octet SYN) rest ≡ false → Spells (syns ++ rest) n → Inside rest n
-inside syns rest n are some stops s =
+inside_after_syns syns rest n are some stops s =
     let t = trail_of rest in
     record {
       body = trimmed rest;

@@ -29,24 +29,24 @@ first_lane_is stops f octets lanes r e long by found =
     map_same (x ∷ xs) = rw (e x, map_same xs) refl
 
 -- the lanes of a comparison are all ones or none
-pub top_or : (a b c : Bool)
+pub top_bit_of_any_lane_test : (a b c : Bool)
     → top 7 (bit_or (bit_or (cond a 255 0) (cond b 255 0)) (cond c 255 0)) ≡ (a || (b || c))
-top_or true true true = refl
-top_or true true false = refl
-top_or true false true = refl
-top_or true false false = refl
-top_or false true true = refl
-top_or false true false = refl
-top_or false false true = refl
-top_or false false false = refl
+top_bit_of_any_lane_test true true true = refl
+top_bit_of_any_lane_test true true false = refl
+top_bit_of_any_lane_test true false true = refl
+top_bit_of_any_lane_test true false false = refl
+top_bit_of_any_lane_test false true true = refl
+top_bit_of_any_lane_test false true false = refl
+top_bit_of_any_lane_test false false true = refl
+top_bit_of_any_lane_test false false false = refl
 
 -- the highest bit of a lane is set if neither of two tests passes
-pub top_and : (a b : Bool) → top 7 (bit_and (cond (not a) 255 0) (cond (not b) 255 0))
+pub top_bit_of_no_lane_test : (a b : Bool) → top 7 (bit_and (cond (not a) 255 0) (cond (not b) 255 0))
     ≡ not (a || b)
-top_and true true = refl
-top_and true false = refl
-top_and false true = refl
-top_and false false = refl
+top_bit_of_no_lane_test true true = refl
+top_bit_of_no_lane_test true false = refl
+top_bit_of_no_lane_test false true = refl
+top_bit_of_no_lane_test false false = refl
 
 -- tests that agree pass the same front
 pub prefix_len_same : (p q : ℕ → Bool) → ((x : ℕ) → p x ≡ q x) → (xs : List ℕ)

@@ -1,3 +1,5 @@
+-- Lemmas about members of lists, for the layers above.
+pub use Rattle.bsc_octet.proofs.Elements
 pub mod Addresses
 pub mod ReadingSteps
 pub mod Replies

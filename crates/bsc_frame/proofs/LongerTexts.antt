@@ -7,13 +7,13 @@ use Rattle.bsc_frame.specs.Texts.{TextUnit, TextValue, IsText}
 use Rattle.bsc_frame.specs.Units.{unit_codes}
 use Rattle.bsc_frame.specs.Spells.{AreUnits}
 use Rattle.bsc_frame.specs.Reading.{unit_at, units_at, last_unit}
-use Rattle.bsc_frame.proofs.ReadingSteps.{chosen}
+use Rattle.bsc_frame.proofs.ReadingSteps.{branch_of_test}
 use Rattle.bsc_frame.proofs.Units.{UnitAt, unit_at_reads, unit_at_read}
 use Rattle.bsc_frame.proofs.TextUnits.{units_at_read}
 use Rattle.bsc_frame.proofs.Units.{bind_some}
 use Rattle.bsc_frame.proofs.TextUnits.{before_units_some}
 use Rattle.bsc_frame.specs.declared.limits.TheConstants.{MAX_UNITS}
-use Rattle.bsc_frame.specs.declared.octets.TheConstants.{US_CODE}
+use Rattle.bsc_octet.specs.declared.controls.TheConstants.{US_CODE}
 
 -- a unit is still read with more octets after it, which are left
 unit_longer : (after_us : Bool) (octets more : List ℕ) (u : TextUnit) (e : ℕ) (rest : List ℕ)
@@ -46,7 +46,7 @@ units_longer (suc n) after_us octets t y ys e =
     let first : unit_at after_us (octets ++ y ∷ ys) ≡ Some (u.0, u.1, u.2 ++ y ∷ ys) =
     unit_at_read after_us (octets ++ y ∷ ys) u.0 u.1 (u.2 ++ y ∷ ys)
     (unit_longer after_us octets (y ∷ ys) u.0 u.1 u.2 (unit_at_reads after_us octets u b.1)) in
-    elim (chosen (u.1 == US_CODE) _ _ _ b.2) [
+    elim (branch_of_test (u.1 == US_CODE) _ _ _ b.2) [
       | inl h ↦
           let r = before_units_some u.0 (units_at n true u.2) t h.1 in
           let none : units_at n true (u.2 ++ y ∷ ys) ≡ None =

@@ -18,7 +18,7 @@ use Rattle.bsc_frame.proofs.TextUnits.{units_at_reads, ending_is}
 use Rattle.bsc_frame.proofs.Gathering.{IsRun}
 use Rattle.std.specs.Int.Count.{ones}
 use Rattle.bsc_frame.specs.declared.limits.TheConstants.{MAX_UNITS}
-use Rattle.bsc_frame.specs.declared.octets.TheConstants.{SYN}
+use Rattle.bsc_octet.specs.declared.controls.TheConstants.{SYN}
 use Rattle.bsc_octet.proofs.Elements.{all_append}
 
 pub syn_odd : IsOdd SYN

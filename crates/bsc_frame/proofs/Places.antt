@@ -15,9 +15,9 @@ pub record Around (xs : List ℕ) (place : ℕ) : Type 0 where
   pub changed : (o : ℕ) → set xs place o ≡ before ++ o ∷ after
 
 -- a place in a list splits it
-pub around : (xs : List ℕ) (place : ℕ) → place < length xs → Around xs place
-around [] place l = absurd (omega arith)
-around (x ∷ xs) zero l =
+pub split_at_place : (xs : List ℕ) (place : ℕ) → place < length xs → Around xs place
+split_at_place [] place l = absurd (omega arith)
+split_at_place (x ∷ xs) zero l =
     record {
       before = [];
       here = x;
@@ -28,8 +28,8 @@ around (x ∷ xs) zero l =
       changed =
           λ o. refl;
     }
-around (x ∷ xs) (suc place) l =
-    let r = around xs place (omega arith) in
+split_at_place (x ∷ xs) (suc place) l =
+    let r = split_at_place xs place (omega arith) in
     record {
       before = x ∷ r.before;
       here = r.here;
@@ -53,17 +53,17 @@ pub record InSecond (xs ys front : List ℕ) (o : ℕ) (back : List ℕ) : Type 
   pub rest : ys ≡ more ++ o ∷ back
 
 -- an octet in two lists stands in the first or in the second
-pub parted : (xs ys front : List ℕ) (o : ℕ) (back : List ℕ) → xs ++ ys ≡ front ++ o ∷ back
+pub in_first_or_second_list : (xs ys front : List ℕ) (o : ℕ) (back : List ℕ) → xs ++ ys ≡ front ++ o ∷ back
     → InFirst xs ys front o back ⊎ InSecond xs ys front o back
-parted [] ys front o back e = inr (record { more = front; first = refl; rest = e })
-parted (x ∷ xs) ys [] o back e =
+in_first_or_second_list [] ys front o back e = inr (record { more = front; first = refl; rest = e })
+in_first_or_second_list (x ∷ xs) ys [] o back e =
     let head : x ≡ o = cc in
     let tail : xs ++ ys ≡ back = cc in
     inl (record { more = xs; first = ap (λ z. z ∷ xs) head; rest = sym tail })
-parted (x ∷ xs) ys (y ∷ front) o back e =
+in_first_or_second_list (x ∷ xs) ys (y ∷ front) o back e =
     let head : x ≡ y = cc in
     let tail : xs ++ ys ≡ front ++ o ∷ back = cc in
-    elim (parted xs ys front o back tail) [
+    elim (in_first_or_second_list xs ys front o back tail) [
       | inl r ↦ inl (record {
         more = r.more;
         first = ap (λ z. z ∷ xs) head

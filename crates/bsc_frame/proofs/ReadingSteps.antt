@@ -1,5 +1,6 @@
 -- The steps of reading from left to right.
-use Rattle.std.proofs.Common.{◌≡◌, ◌≢◌, ◌⊎◌, inl, inr, ℕ, zero, suc, ◌+◌, ◌-◌, ◌<◌, ◌≤◌, ◌==◌, Bool, true, false}
+use Rattle.std.proofs.Common.{◌≡◌, ◌≢◌, ◌⊎◌, inl, inr, ℕ, zero, suc, ◌+◌, ◌-◌, ◌<◌, ◌≤◌, ◌==◌, Bool}
+use Rattle.std.proofs.Common.{true, false}
 use Rattle.std.proofs.Common.{cond, refl}
 use Rattle.std.proofs.Common.{sym, ap, ◌∙◌, arith, List, [], ◌∷◌, ◌++◌, length, take, drop, get_or}
 use Rattle.std.proofs.Common.{drop-cons}
@@ -14,7 +15,7 @@ use Rattle.std.specs.Str.{bytes_eq}
 use Rattle.bsc_octet.specs.Octet.{code_of}
 use Rattle.bsc_frame.specs.Reading.{trimmed, before_rest, called, with_code, at_end}
 use Rattle.bsc_frame.specs.declared.limits.TheConstants.{MAX_ADDRESS}
-use Rattle.bsc_frame.specs.declared.octets.TheConstants.{ENQ, PAD}
+use Rattle.bsc_octet.specs.declared.controls.TheConstants.{ENQ, PAD}
 
 -- numbers that differ fail the test
 pub test_false : (a b : ℕ) → (a ≡ b → ⊥) → (a == b) ≡ false
@@ -186,11 +187,11 @@ called_none front i s r l = from_rest front i s None r (rw (drop_all i s l) refl
 pub ruleset trim_steps = (trimmed_less, trimmed_done, trimmed_none)
 
 -- which branch a test took
-pub chosen : {A : Type 0} (b : Bool) (x y z : A) → cond b x y ≡ z
+pub branch_of_test : {A : Type 0} (b : Bool) (x y z : A) → cond b x y ≡ z
     → ((b ≡ true) × (x ≡ z)) ⊎ ((b ≡ false) × (y ≡ z))
-chosen true x y z h = inl (refl, h)
-chosen false x y z h = inr (refl, h)
+branch_of_test true x y z h = inl (refl, h)
+branch_of_test false x y z h = inr (refl, h)
 
 -- lists that compare as equal are the same
-pub equal : (x y : List ℕ) → bytes_eq x y ≡ true → x ≡ y
-equal x y h = (bytes_eq-Decides x y).0 h
+pub equal_octets_are_same : (x y : List ℕ) → bytes_eq x y ≡ true → x ≡ y
+equal_octets_are_same x y h = (bytes_eq-Decides x y).0 h

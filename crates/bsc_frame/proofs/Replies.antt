@@ -5,18 +5,17 @@ use Rattle.std.proofs.Common.{arith, List, [], ◌∷◌, Some}
 use Rattle.std.specs.Bool.{Decides}
 use Rattle.std.specs.Int.Count.{ones}
 use Rattle.std.specs.Str.{bytes_eq}
-use Rattle.std.proofs.lemmas.Slice.Eq.{bytes_eq-Decides}
 use mathlib.Core.Bool.{true≢false}
 use Rattle.bsc_octet.specs.Octet.{IsOdd, odd_octet}
 use Rattle.bsc_octet.proofs.OddOctets.{is_odd_odd_octet}
 use Rattle.bsc_frame.specs.Reading.{control}
 use Rattle.bsc_frame.specs.Replies.{reply_octets, reply_spelled}
-use Rattle.bsc_frame.specs.declared.octets.TheConstants.{ACK0, ACK1, DLE, NAK, PAD, RVI, WACK}
+use Rattle.bsc_octet.specs.declared.controls.TheConstants.{ACK0, ACK1, DLE, NAK, PAD, RVI, WACK}
 use Rattle.bsc_frame.specs.declared.message.Message.TheVariants as m
 use Rattle.bsc_frame.specs.declared.reply.Reply.{Reply}
 use Rattle.bsc_frame.specs.declared.reply.Reply.TheVariants.{Ack0, Ack1, Nak, Wack, Rvi}
 use Rattle.bsc_frame.specs.contracts.reply.ReplyPartialEq.TheImpl.{eq-value}
-use Rattle.bsc_frame.proofs.ReadingSteps.{chosen, equal}
+use Rattle.bsc_frame.proofs.ReadingSteps.{branch_of_test, equal_octets_are_same}
 
 -- ---- the form of their octets
 
@@ -71,20 +70,20 @@ same_reply e = cc
 those_of : (body : List ℕ) (r s : Reply) → bytes_eq body (reply_octets r) ≡ true
     → Some r ≡ Some s → body ≡ reply_octets s
 those_of body r s b e =
-    equal body (reply_octets r) b ∙ subst (λ (z : Reply). reply_octets r ≡ reply_octets z)
+    equal_octets_are_same body (reply_octets r) b ∙ subst (λ (z : Reply). reply_octets r ≡ reply_octets z)
     (same_reply e) refl
 
 -- octets from which a reply is read are its octets
 pub reply_reads : (body : List ℕ) (r : Reply) → reply_spelled body ≡ Some r → body ≡ reply_octets r
-reply_reads body r e = elim (chosen (bytes_eq body ACK0) _ _ _ e) [
+reply_reads body r e = elim (branch_of_test (bytes_eq body ACK0) _ _ _ e) [
   | inl h ↦ those_of body Ack0 r h.0 h.1
-  | inr e ↦ elim (chosen (bytes_eq body ACK1) _ _ _ e.1) [
+  | inr e ↦ elim (branch_of_test (bytes_eq body ACK1) _ _ _ e.1) [
     | inl h ↦ those_of body Ack1 r h.0 h.1
-    | inr e ↦ elim (chosen (bytes_eq body (NAK ∷ [])) _ _ _ e.1) [
+    | inr e ↦ elim (branch_of_test (bytes_eq body (NAK ∷ [])) _ _ _ e.1) [
       | inl h ↦ those_of body Nak r h.0 h.1
-      | inr e ↦ elim (chosen (bytes_eq body WACK) _ _ _ e.1) [
+      | inr e ↦ elim (branch_of_test (bytes_eq body WACK) _ _ _ e.1) [
         | inl h ↦ those_of body Wack r h.0 h.1
-        | inr e ↦ elim (chosen (bytes_eq body RVI) _ _ _ e.1) [
+        | inr e ↦ elim (branch_of_test (bytes_eq body RVI) _ _ _ e.1) [
           | inl h ↦ those_of body Rvi r h.0 h.1
           | inr e ↦ absurd (let h = e.1 in cc)
         ]
@@ -96,45 +95,45 @@ reply_reads body r e = elim (chosen (bytes_eq body ACK0) _ _ _ e) [
 -- ---- equality
 
 -- false is not true
-never : false ≡ true → ⊥
-never e = true≢false (sym e)
+false_is_not_true : false ≡ true → ⊥
+false_is_not_true e = true≢false (sym e)
 
 -- replies that compare as equal are the same
-told : (r s : Reply) → eq-value.it r s ≡ true → r ≡ s
-told Ack0 Ack0 e = refl
-told Ack0 Ack1 e = absurd (never e)
-told Ack0 Nak e = absurd (never e)
-told Ack0 Wack e = absurd (never e)
-told Ack0 Rvi e = absurd (never e)
-told Ack1 Ack0 e = absurd (never e)
-told Ack1 Ack1 e = refl
-told Ack1 Nak e = absurd (never e)
-told Ack1 Wack e = absurd (never e)
-told Ack1 Rvi e = absurd (never e)
-told Nak Ack0 e = absurd (never e)
-told Nak Ack1 e = absurd (never e)
-told Nak Nak e = refl
-told Nak Wack e = absurd (never e)
-told Nak Rvi e = absurd (never e)
-told Wack Ack0 e = absurd (never e)
-told Wack Ack1 e = absurd (never e)
-told Wack Nak e = absurd (never e)
-told Wack Wack e = refl
-told Wack Rvi e = absurd (never e)
-told Rvi Ack0 e = absurd (never e)
-told Rvi Ack1 e = absurd (never e)
-told Rvi Nak e = absurd (never e)
-told Rvi Wack e = absurd (never e)
-told Rvi Rvi e = refl
+equal_replies_are_same : (r s : Reply) → eq-value.it r s ≡ true → r ≡ s
+equal_replies_are_same Ack0 Ack0 e = refl
+equal_replies_are_same Ack0 Ack1 e = absurd (false_is_not_true e)
+equal_replies_are_same Ack0 Nak e = absurd (false_is_not_true e)
+equal_replies_are_same Ack0 Wack e = absurd (false_is_not_true e)
+equal_replies_are_same Ack0 Rvi e = absurd (false_is_not_true e)
+equal_replies_are_same Ack1 Ack0 e = absurd (false_is_not_true e)
+equal_replies_are_same Ack1 Ack1 e = refl
+equal_replies_are_same Ack1 Nak e = absurd (false_is_not_true e)
+equal_replies_are_same Ack1 Wack e = absurd (false_is_not_true e)
+equal_replies_are_same Ack1 Rvi e = absurd (false_is_not_true e)
+equal_replies_are_same Nak Ack0 e = absurd (false_is_not_true e)
+equal_replies_are_same Nak Ack1 e = absurd (false_is_not_true e)
+equal_replies_are_same Nak Nak e = refl
+equal_replies_are_same Nak Wack e = absurd (false_is_not_true e)
+equal_replies_are_same Nak Rvi e = absurd (false_is_not_true e)
+equal_replies_are_same Wack Ack0 e = absurd (false_is_not_true e)
+equal_replies_are_same Wack Ack1 e = absurd (false_is_not_true e)
+equal_replies_are_same Wack Nak e = absurd (false_is_not_true e)
+equal_replies_are_same Wack Wack e = refl
+equal_replies_are_same Wack Rvi e = absurd (false_is_not_true e)
+equal_replies_are_same Rvi Ack0 e = absurd (false_is_not_true e)
+equal_replies_are_same Rvi Ack1 e = absurd (false_is_not_true e)
+equal_replies_are_same Rvi Nak e = absurd (false_is_not_true e)
+equal_replies_are_same Rvi Wack e = absurd (false_is_not_true e)
+equal_replies_are_same Rvi Rvi e = refl
 
 -- a reply compares as equal to itself
-itself : (r : Reply) → eq-value.it r r ≡ true
-itself Ack0 = refl
-itself Ack1 = refl
-itself Nak = refl
-itself Wack = refl
-itself Rvi = refl
+reply_equals_itself : (r : Reply) → eq-value.it r r ≡ true
+reply_equals_itself Ack0 = refl
+reply_equals_itself Ack1 = refl
+reply_equals_itself Nak = refl
+reply_equals_itself Wack = refl
+reply_equals_itself Rvi = refl
 
 -- the comparison decides whether two replies are the same
 pub reply_decides : (r s : Reply) → Decides (eq-value.it r s) (r ≡ s)
-reply_decides r s = (told r s, λ e. subst (λ (k : Reply). eq-value.it r k ≡ true) e (itself r))
+reply_decides r s = (equal_replies_are_same r s, λ e. subst (λ (k : Reply). eq-value.it r k ≡ true) e (reply_equals_itself r))

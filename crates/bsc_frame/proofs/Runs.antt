@@ -9,10 +9,11 @@ use Rattle.std.proofs.Common.{ap, ◌∙◌, arith}
 use Rattle.std.specs.List.{prefix_len}
 use Rattle.std.proofs.lemmas.List.{drop_all}
 use Rattle.std.proofs.lemmas.Bool.{eqb-true}
-use Rattle.bsc_frame.specs.Reading.{skip, is_either, is_octet, is_pad_octet, trimmed}
+use Rattle.bsc_frame.specs.Reading.{skip, is_either, is_octet, trimmed}
+use Rattle.bsc_octet.specs.Octet.{is_pad_octet}
 use Rattle.bsc_frame.proofs.ReadingSteps.{rest_is, trimmed_push_pad}
 use Rattle.bsc_frame.specs.declared.front.TheConstants.{LANES}
-use Rattle.bsc_frame.specs.declared.octets.TheConstants.{PAD}
+use Rattle.bsc_octet.specs.declared.controls.TheConstants.{PAD}
 
 -- the loop invariant: `at` octets were counted, and all of them pass
 pub record CountedTo (p : ℕ → Bool) (at : ℕ) (s : List ℕ) : Type 0 where
@@ -65,16 +66,16 @@ cuts_head p n x s false e c =
     record { stops = rw e (λ l. refl); goes_on = rw e (λ l. absurd (omega arith)) }
 
 -- this holds of every list
-cuts : (p : ℕ → Bool) (n : ℕ) (s : List ℕ) → n ≤ length s → Cuts p n s
-cuts p zero s l = record { stops = λ h. absurd (omega arith); goes_on = λ h. omega arith }
-cuts p (suc n) [] l = absurd (omega arith)
-cuts p (suc n) (x ∷ s) l = cuts_head p n x s (p x) refl (cuts p n s (omega arith))
+cuts_of_every_list : (p : ℕ → Bool) (n : ℕ) (s : List ℕ) → n ≤ length s → Cuts p n s
+cuts_of_every_list p zero s l = record { stops = λ h. absurd (omega arith); goes_on = λ h. omega arith }
+cuts_of_every_list p (suc n) [] l = absurd (omega arith)
+cuts_of_every_list p (suc n) (x ∷ s) l = cuts_head p n x s (p x) refl (cuts_of_every_list p n s (omega arith))
 
 -- a lane that does not pass ends the front
 pub run_stops : (p : ℕ → Bool) (at run : ℕ) (s : List ℕ) → CountedTo p at s → LANES ≤ length s - at
     → run ≡ prefix_len p (take LANES (drop at s)) → run < LANES → at + run ≡ prefix_len p s
 run_stops p at run s c l e h =
-    let k = (cuts p LANES (drop at s) (omega (arith, length-drop at s))).stops (omega arith) in
+    let k = (cuts_of_every_list p LANES (drop at s) (omega (arith, length-drop at s))).stops (omega arith) in
     omega (arith, c.rest, k)
 
 -- all lanes pass
@@ -82,7 +83,7 @@ pub run_goes_on : (p : ℕ → Bool) (at run : ℕ) (s : List ℕ) → CountedTo
     → LANES ≤ length s - at → run ≡ prefix_len p (take LANES (drop at s)) → LANES ≤ run
     → CountedTo p (at + LANES) s
 run_goes_on p at run s c l e h =
-    let k = (cuts p LANES (drop at s) (omega (arith, length-drop at s))).goes_on (omega arith) in
+    let k = (cuts_of_every_list p LANES (drop at s) (omega (arith, length-drop at s))).goes_on (omega arith) in
     let further : prefix_len p (drop LANES (drop at s)) ≡ prefix_len p (drop (at + LANES) s) =
     ap (prefix_len p) (drop-drop LANES at s) in
     record { within = omega arith; rest = omega (arith, c.rest, k, further) }
@@ -118,9 +119,9 @@ skip_same p q e [] = refl
 skip_same p q e (x ∷ s) = rw (e x, skip_same p q e s) refl
 
 -- a test or itself is that test
-twice : (b : Bool) → (b || b) ≡ b
-twice true = refl
-twice false = refl
+or_with_itself : (b : Bool) → (b || b) ≡ b
+or_with_itself true = refl
+or_with_itself false = refl
 
 -- the octets after a front of leading pads
 pub skip_pads : (s : List ℕ) (n : ℕ) → n ≡ prefix_len (is_either 0x55 0xaa) s
@@ -132,7 +133,7 @@ pub skip_all : (s : List ℕ) (n octet : ℕ) → n ≡ prefix_len (is_either oc
     → take (length s - n) (drop n s) ≡ skip (is_octet octet) s
 skip_all s n octet e =
     rest_is s n ∙ ap (λ k. drop k s) e ∙ sym (skip_drop (is_either octet octet) s)
-    ∙ skip_same (is_either octet octet) (is_octet octet) (λ x. twice (x == octet)) s
+    ∙ skip_same (is_either octet octet) (is_octet octet) (λ x. or_with_itself (x == octet)) s
 
 -- ---- what is trimmed
 

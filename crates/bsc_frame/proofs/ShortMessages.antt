@@ -10,7 +10,7 @@ use Rattle.bsc_frame.specs.declared.message.Heard.{Heard}
 use Rattle.bsc_frame.proofs.HeardMessages.{spelled_heard, heard_spelled, failed_heard, heard_failed}
 use Rattle.bsc_frame.proofs.HeardMessages.{noise_heard, heard_noise}
 use Rattle.bsc_frame.specs.declared.limits.TheConstants.{MAX_UNITS}
-use Rattle.bsc_frame.specs.declared.octets.TheConstants.{STX}
+use Rattle.bsc_octet.specs.declared.controls.TheConstants.{STX}
 
 -- what is read from left to right is what is heard by the relations
 is_heard : (octets : List ℕ) (h : Heard) → heard octets ≡ h → IsHeard octets h

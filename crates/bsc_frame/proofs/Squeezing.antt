@@ -10,10 +10,11 @@ use Rattle.std.specs.List.{filter, list_any, list_all}
 use Rattle.std.proofs.lemmas.List.{take_more, take_all, take_more_set, take-set, map-append}
 use Rattle.std.proofs.lemmas.List.Elements.{filter_more, filter-append}
 use Rattle.std.proofs.lemmas.List.Folds.{list_any_more, list_all_more}
-use Rattle.bsc_frame.specs.Reading.{low_bits, is_octet, is_other, is_char_octet}
+use Rattle.bsc_frame.specs.Reading.{is_octet, is_other, is_char_octet}
+use Rattle.bsc_octet.specs.Octet.{code_in}
 use Rattle.bsc_frame.specs.declared.limits.TheConstants.{MAX_CHARS, MAX_UNIT_CODES}
 use Rattle.bsc_frame.specs.declared.squeeze.TheConstants.{PART, TOO_MANY, UNIT_ROOM}
-use Rattle.bsc_frame.specs.declared.octets.TheConstants.{SYN}
+use Rattle.bsc_octet.specs.declared.controls.TheConstants.{SYN}
 
 -- ---- fill
 
@@ -142,32 +143,32 @@ part_last count new buffer after at s k e =
 -- the codes of the first i octets stand at the front, and whether all are record characters
 pub record CopiedTo (chars : Bool) (buffer : List ℕ) (i : ℕ) (s : List ℕ) : Type 0 where
   pub long : length buffer ≡ MAX_CHARS
-  pub front : take i buffer ≡ map low_bits (take i s)
+  pub front : take i buffer ≡ map code_in (take i s)
   pub all : chars ≡ list_all is_char_octet (take i s)
 
 -- one code more is copied
 pub codes_more : (chars : Bool) (buffer : List ℕ) (i : ℕ) (s : List ℕ) → CopiedTo chars buffer i s
     → i < length s → length s ≤ MAX_CHARS
-    → CopiedTo (chars && is_char_octet (get_or s i 0)) (set buffer i (low_bits (get_or s i 0)))
+    → CopiedTo (chars && is_char_octet (get_or s i 0)) (set buffer i (code_in (get_or s i 0)))
     (i + 1) s
 codes_more chars buffer i s k l few =
     let x : ℕ = get_or s i 0 in
-    let stored : take (i + 1) (set buffer i (low_bits x)) ≡ take i buffer ++ low_bits x ∷ [] =
-    take_more_set buffer i (low_bits x) (omega (arith, k.long)) in
-    let next : map low_bits (take (i + 1) s) ≡ map low_bits (take i s) ++ low_bits x ∷ [] =
-    ap (map low_bits) (take_more s i 0 l) ∙ map-append low_bits (take i s) (x ∷ []) in
+    let stored : take (i + 1) (set buffer i (code_in x)) ≡ take i buffer ++ code_in x ∷ [] =
+    take_more_set buffer i (code_in x) (omega (arith, k.long)) in
+    let next : map code_in (take (i + 1) s) ≡ map code_in (take i s) ++ code_in x ∷ [] =
+    ap (map code_in) (take_more s i 0 l) ∙ map-append code_in (take i s) (x ∷ []) in
     record {
-      long = omega (arith, k.long, length-set buffer i (low_bits x));
-      front = stored ∙ ap (λ z. z ++ low_bits x ∷ []) k.front ∙ sym next;
+      long = omega (arith, k.long, length-set buffer i (code_in x));
+      front = stored ∙ ap (λ z. z ++ code_in x ∷ []) k.front ∙ sym next;
       all = ap (λ b. b && is_char_octet x) k.all ∙ sym (list_all_more is_char_octet s i 0 l);
     }
 
 -- at the end all codes are copied
 pub codes_all : (chars : Bool) (buffer : List ℕ) (i : ℕ) (s : List ℕ) → CopiedTo chars buffer i s
-    → length s ≤ i → i ≤ length s → take (length s) buffer ≡ map low_bits s
+    → length s ≤ i → i ≤ length s → take (length s) buffer ≡ map code_in s
 codes_all chars buffer i s k l u =
     let same : length s ≡ i = omega arith in
-    ap (λ n. take n buffer) same ∙ k.front ∙ ap (map low_bits) (take_all i s l)
+    ap (λ n. take n buffer) same ∙ k.front ∙ ap (map code_in) (take_all i s l)
 
 -- the steps of squeezing a part
 pub ruleset part_steps = (part_start, part_more, part_full, part_last)

@@ -10,19 +10,21 @@ use Rattle.std.proofs.lemmas.Bool.{eqb-true, cases_lt}
 use Rattle.std.proofs.lemmas.List.{take_more, map-append, append_cancel_right, length-map}
 use Rattle.std.proofs.lemmas.List.Elements.{filter-append, All-drop}
 use Rattle.std.proofs.lemmas.List.Sums.{prefix_len_stops}
-use Rattle.bsc_octet.specs.Octet.{IsOdd, is_record_char, code_of}
+use Rattle.bsc_octet.specs.Octet.{IsOdd, is_record_char, code_of, code_in}
 use Rattle.bsc_frame.specs.Texts.{TextUnit, IsUnit}
 use Rattle.bsc_frame.specs.Units.{unit_codes}
-use Rattle.bsc_frame.specs.Reading.{◌>>=◌, low_bits, is_octet, begins, is_other, is_char_octet}
+use Rattle.bsc_frame.specs.Reading.{◌>>=◌, is_octet, begins, is_other, is_char_octet}
 use Rattle.bsc_frame.specs.Reading.{is_before_ending, is_ending_code, is_ending_octet, IsFront}
 use Rattle.bsc_frame.specs.Reading.{AreParts}
-use Rattle.bsc_frame.specs.Reading.{after_check, after_start, read_unit, unit_before, unit_at}
+use Rattle.bsc_frame.specs.Reading.{after_start, read_unit, unit_before, unit_at}
+use Rattle.bsc_octet.specs.Check.{after_check}
 use Rattle.bsc_frame.proofs.Units.{length_unit_codes}
 use Rattle.bsc_frame.proofs.UnitCodes.{unit_of_reads, unit_of_read}
-use Rattle.bsc_frame.proofs.CarriedOctets.{AreCarried, ending_same, em_is, check_low, start_low}
-use Rattle.bsc_frame.proofs.Cutting.{gathered_none, cut}
+use Rattle.bsc_frame.proofs.CarriedOctets.{AreCarried, ending_same, em_is, start_low}
+use Rattle.bsc_octet.proofs.Checks.{check_low}
+use Rattle.bsc_frame.proofs.Cutting.{gathered_none, codes_cut_at_first_ending}
 use Rattle.bsc_frame.specs.declared.limits.TheConstants.{MAX_CHARS, MAX_UNIT_CODES}
-use Rattle.bsc_frame.specs.declared.octets.TheConstants.{EM_CODE, STX, SYN}
+use Rattle.bsc_octet.specs.declared.controls.TheConstants.{EM_CODE, STX, SYN}
 
 -- ---- the front
 
@@ -74,16 +76,16 @@ at_end after_us s place c e l = rw (gathered_none MAX_UNIT_CODES s c (sym e ∙ 
 pub at_front : (after_us : Bool) (s : List ℕ) (m : ℕ) → AreCarried s → m
     ≡ prefix_len is_before_ending s + 1
     → m ≤ length s
-    → unit_at after_us s ≡ unit_before after_us (map low_bits (filter is_other (take m s)))
+    → unit_at after_us s ≡ unit_before after_us (map code_in (filter is_other (take m s)))
     (drop m s)
 unfolding unit_at
 at_front after_us s m c e l =
-    let k = cut m MAX_UNIT_CODES s c e l in
-    let codes : List ℕ = map low_bits (filter is_other (take m s)) in
+    let k = codes_cut_at_first_ending m MAX_UNIT_CODES s c e l in
+    let codes : List ℕ = map code_in (filter is_other (take m s)) in
     elim (cases_lt MAX_UNIT_CODES (length (filter is_other (take m s)))) [
       | inl many ↦ rw (k.full many)
           (sym (long_unit after_us codes (drop m s)
-          (omega (arith, many, length-map (filter is_other (take m s)) low_bits))))
+          (omega (arith, many, length-map (filter is_other (take m s)) code_in))))
       | inr few ↦ rw (k.fits few) refl
     ]
 
@@ -178,7 +180,7 @@ last_ends octets chars em last e p =
 
 -- an octet in a list of odd parity carries its low bits
 carried_last : (xs : List ℕ) (x : ℕ) (ys : List ℕ) → AreCarried (xs ++ x ∷ ys) → code_of x
-    ≡ Some (low_bits x)
+    ≡ Some (code_in x)
 carried_last [] x ys c = c.0
 carried_last (z ∷ xs) x ys c = carried_last xs x ys c.1
 
@@ -189,43 +191,43 @@ carried_front (x ∷ xs) ys c = (c.0, carried_front xs ys c.1)
 
 -- the code of the last octet of a front is an ending character
 pub last_code : (octets chars : List ℕ) (em : Bool) (last : ℕ) → AreCarried octets → IsFront octets
-    → AreParts octets chars em last → is_ending_code (low_bits last) ≡ true
+    → AreParts octets chars em last → is_ending_code (code_in last) ≡ true
 last_code octets chars em last c e p =
     ending_same last (carried_last (chars ++ cond em (EM_CODE ∷ []) []) last [] (rw p.whole at c))
     ∙ last_ends octets chars em last e p
 
 -- the low bits of EM are EM
-low_em : (em : Bool) → map low_bits (cond em (EM_CODE ∷ []) []) ≡ cond em (EM_CODE ∷ []) []
+low_em : (em : Bool) → map code_in (cond em (EM_CODE ∷ []) []) ≡ cond em (EM_CODE ∷ []) []
 low_em true = refl
 low_em false = refl
 
 -- the codes of the parts
 low_parts : (octets chars : List ℕ) (em : Bool) (last : ℕ) → AreParts octets chars em last
-    → map low_bits octets ≡ unit_codes (record { chars = map low_bits chars; em = em })
-    (low_bits last)
+    → map code_in octets ≡ unit_codes (record { chars = map code_in chars; em = em })
+    (code_in last)
 low_parts octets chars em last p =
-    ap (map low_bits) p.whole ∙ map-append low_bits (chars ++ cond em (EM_CODE ∷ []) []) (last ∷ [])
-    ∙ ap (λ z. z ++ low_bits last ∷ [])
-    (map-append low_bits chars (cond em (EM_CODE ∷ []) [])
-    ∙ ap (λ z. map low_bits chars ++ z) (low_em em))
+    ap (map code_in) p.whole ∙ map-append code_in (chars ++ cond em (EM_CODE ∷ []) []) (last ∷ [])
+    ∙ ap (λ z. z ++ code_in last ∷ [])
+    (map-append code_in chars (cond em (EM_CODE ∷ []) [])
+    ∙ ap (λ z. map code_in chars ++ z) (low_em em))
 
 -- one octet more that carries a record character
 char_head : (x : ℕ) (chars : List ℕ) (b : Bool) → is_char_octet x ≡ b
     → (list_all is_char_octet chars ≡ true
-    → AllByRecursion (λ c. IsTrue (is_record_char c)) (map low_bits chars))
+    → AllByRecursion (λ c. IsTrue (is_record_char c)) (map code_in chars))
     → (b && list_all is_char_octet chars) ≡ true
-    → AllByRecursion (λ c. IsTrue (is_record_char c)) (map low_bits (x ∷ chars))
+    → AllByRecursion (λ c. IsTrue (is_record_char c)) (map code_in (x ∷ chars))
 char_head x chars true e f h = (e, f h)
 char_head x chars false e f h = cc
 
 -- octets that pass the test have codes that are record characters
 all_chars : (chars : List ℕ) → list_all is_char_octet chars ≡ true
-    → AllByRecursion (λ c. IsTrue (is_record_char c)) (map low_bits chars)
+    → AllByRecursion (λ c. IsTrue (is_record_char c)) (map code_in chars)
 all_chars [] h = tt
 all_chars (x ∷ chars) h = char_head x chars (is_char_octet x) refl (all_chars chars) h
 
 -- octets whose codes are record characters pass the test of the octets
-chars_all : (chars : List ℕ) → AllByRecursion (λ c. IsTrue (is_record_char c)) (map low_bits chars)
+chars_all : (chars : List ℕ) → AllByRecursion (λ c. IsTrue (is_record_char c)) (map code_in chars)
     → list_all is_char_octet chars ≡ true
 chars_all [] h = refl
 chars_all (x ∷ chars) h = rw (h.0, chars_all chars h.1) refl
@@ -233,18 +235,18 @@ chars_all (x ∷ chars) h = rw (h.0, chars_all chars h.1) refl
 -- at most MAX_CHARS octets that pass the test are the characters of a unit
 pub chars_unit : (chars : List ℕ) (em : Bool) → length chars ≤ MAX_CHARS
     → list_all is_char_octet chars ≡ true
-    → IsUnit (record { chars = map low_bits chars; em = em })
+    → IsUnit (record { chars = map code_in chars; em = em })
 chars_unit chars em l h =
-    record { most = omega (arith, length-map chars low_bits); each = all_chars chars h }
+    record { most = omega (arith, length-map chars code_in); each = all_chars chars h }
 
 -- the characters are a unit
 pub parts_read : (octets chars : List ℕ) (em : Bool) (last : ℕ) → AreCarried octets → IsFront octets
     → AreParts octets chars em last → length chars ≤ MAX_CHARS → list_all is_char_octet chars ≡ true
-    → read_unit (map low_bits octets) ≡ Some
-    (record { chars = map low_bits chars; em = em }, low_bits last)
+    → read_unit (map code_in octets) ≡ Some
+    (record { chars = map code_in chars; em = em }, code_in last)
 parts_read octets chars em last c e p l h =
     ap read_unit (low_parts octets chars em last p)
-    ∙ unit_of_read (record { chars = map low_bits chars; em = em }) (low_bits last)
+    ∙ unit_of_read (record { chars = map code_in chars; em = em }) (code_in last)
     (chars_unit chars em l h) (last_code octets chars em last c e p)
 
 -- ---- no other characters are
@@ -275,55 +277,55 @@ same_chars chars true more false e h n =
 same_chars chars false more true e h n = absurd (n refl more (sym (append-nil chars) ∙ e))
 
 -- EM at the end of the codes is EM at the end of the octets
-last_em : (xs front : List ℕ) → AreCarried xs → map low_bits xs ≡ front ++ EM_CODE ∷ []
+last_em : (xs front : List ℕ) → AreCarried xs → map code_in xs ≡ front ++ EM_CODE ∷ []
     → (before : List ℕ) × (xs ≡ before ++ EM_CODE ∷ [])
 last_em [] [] c e = absurd cc
 last_em [] (y ∷ front) c e = absurd cc
 last_em (x ∷ []) [] c e =
-    ([], let k = em_is x c.0 (let w : low_bits x ≡ EM_CODE = cc in w) in ap (λ z. z ∷ []) k)
+    ([], let k = em_is x c.0 (let w : code_in x ≡ EM_CODE = cc in w) in ap (λ z. z ∷ []) k)
 last_em (x ∷ z ∷ xs) [] c e = absurd cc
 last_em (x ∷ xs) (y ∷ front) c e =
-    let k = last_em xs front c.1 (let w : map low_bits xs ≡ front ++ EM_CODE ∷ [] = cc in w) in
+    let k = last_em xs front c.1 (let w : map code_in xs ≡ front ++ EM_CODE ∷ [] = cc in w) in
     (x ∷ k.0, ap (λ t. x ∷ t) k.1)
 
 -- parts with too many characters, or with one that is not a record character, are no unit
 pub parts_none : (octets chars : List ℕ) (em : Bool) (last : ℕ) → AreCarried octets
     → AreParts octets chars em last
     → (length chars ≤ MAX_CHARS → list_all is_char_octet chars ≡ true → ⊥)
-    → read_unit (map low_bits octets) ≡ None
-parts_none octets chars em last c p n = by_unit (read_unit (map low_bits octets)) refl
+    → read_unit (map code_in octets) ≡ None
+parts_none octets chars em last c p n = by_unit (read_unit (map code_in octets)) refl
   where
     carried_chars : AreCarried chars
     carried_chars =
         carried_front chars (cond em (EM_CODE ∷ []) [] ++ last ∷ [])
         (rw (p.whole ∙ append_assoc chars (cond em (EM_CODE ∷ []) []) (last ∷ [])) at c)
 
-    by_unit : (o : Option (TextUnit × ℕ)) → read_unit (map low_bits octets) ≡ o → o ≡ None
+    by_unit : (o : Option (TextUnit × ℕ)) → read_unit (map code_in octets) ≡ o → o ≡ None
     by_unit None e = refl
     by_unit (Some f) e =
-        let r = unit_of_reads (map low_bits octets) f e in
+        let r = unit_of_reads (map code_in octets) f e in
         let k =
-        snoc_same (map low_bits chars ++ cond em (EM_CODE ∷ []) [])
-        (f.0.chars ++ cond f.0.em (EM_CODE ∷ []) []) (low_bits last) f.1
+        snoc_same (map code_in chars ++ cond em (EM_CODE ∷ []) [])
+        (f.0.chars ++ cond f.0.em (EM_CODE ∷ []) []) (code_in last) f.1
         (sym (low_parts octets chars em last p) ∙ r.0) in
-        let same : map low_bits chars ≡ f.0.chars =
-        same_chars (map low_bits chars) em f.0.chars f.0.em k.0 r.1.each
+        let same : map code_in chars ≡ f.0.chars =
+        same_chars (map code_in chars) em f.0.chars f.0.em k.0 r.1.each
         (λ m front w. let b = last_em chars front carried_chars w in p.no_em m b.0 b.1) in
-        absurd (n (omega (arith, r.1.most, ap length same, length-map chars low_bits))
+        absurd (n (omega (arith, r.1.most, ap length same, length-map chars code_in))
         (chars_all chars (rw same r.1.each)))
 
 -- ---- the check, and an STX after one
 
 -- a wrong check: no unit is read
 pub wrong_check_none : (after_us : Bool) (front octets : List ℕ) → None ≡ after_check front octets
-    → unit_before after_us (map low_bits front) octets ≡ None
+    → unit_before after_us (map code_in front) octets ≡ None
 wrong_check_none after_us front octets e = rw (check_low front octets, ← e) refl
 
 -- a right check of codes that are no unit: none is read
 pub wrong_unit : (after_us : Bool) (front octets rest : List ℕ) → AreCarried front
-    → Some rest ≡ after_check front octets → read_unit (map low_bits (after_start after_us front))
+    → Some rest ≡ after_check front octets → read_unit (map code_in (after_start after_us front))
     ≡ None
-    → unit_before after_us (map low_bits front) octets ≡ None
+    → unit_before after_us (map code_in front) octets ≡ None
 wrong_unit after_us front octets rest c e n =
     rw (check_low front octets, ← e, start_low after_us front c, n) refl
 
@@ -331,8 +333,8 @@ wrong_unit after_us front octets rest c e n =
 pub right_unit : (after_us : Bool) (front octets rest : List ℕ) (u : TextUnit) (k : ℕ)
     → AreCarried front
     → Some rest ≡ after_check front octets
-    → read_unit (map low_bits (after_start after_us front)) ≡ Some (u, k)
-    → unit_before after_us (map low_bits front) octets ≡ Some (u, k, rest)
+    → read_unit (map code_in (after_start after_us front)) ≡ Some (u, k)
+    → unit_before after_us (map code_in front) octets ≡ Some (u, k, rest)
 right_unit after_us front octets rest u k c e n =
     rw (check_low front octets, ← e, start_low after_us front c, n) refl
 
@@ -350,10 +352,10 @@ odd_start after_us s h = by_test (after_us && begins (is_octet STX) s)
 pub front_without_fill : (after_us : Bool) (s : List ℕ) (place : ℕ) → AreCarried s
     → place ≡ prefix_len is_before_ending s → place < length s
     → list_any (is_octet SYN) (take (place + 1) s) ≡ false
-    → unit_before after_us (map low_bits (take (place + 1) s)) (drop (place + 1) s)
+    → unit_before after_us (map code_in (take (place + 1) s)) (drop (place + 1) s)
     ≡ unit_at after_us s
 front_without_fill after_us s place c e l n =
-    ap (λ z. unit_before after_us (map low_bits z) (drop (place + 1) s))
+    ap (λ z. unit_before after_us (map code_in z) (drop (place + 1) s))
     (sym (filter_no_fill (take (place + 1) s) n))
     ∙ sym (at_front after_us s (place + 1) c (omega arith) (omega arith))
 
@@ -361,9 +363,9 @@ front_without_fill after_us s place c e l n =
 pub front_squeezed : (after_us : Bool) (s : List ℕ) (place : ℕ) (unit : List ℕ) → AreCarried s
     → place ≡ prefix_len is_before_ending s → place < length s → unit
     ≡ filter is_other (take (place + 1) s)
-    → unit_before after_us (map low_bits unit) (drop (place + 1) s) ≡ unit_at after_us s
+    → unit_before after_us (map code_in unit) (drop (place + 1) s) ≡ unit_at after_us s
 front_squeezed after_us s place unit c e l n =
-    ap (λ z. unit_before after_us (map low_bits z) (drop (place + 1) s)) n
+    ap (λ z. unit_before after_us (map code_in z) (drop (place + 1) s)) n
     ∙ sym (at_front after_us s (place + 1) c (omega arith) (omega arith))
 
 -- more than MAX_UNIT_CODES octets without fill are no unit
@@ -373,4 +375,4 @@ pub long_front_none : (after_us : Bool) (s : List ℕ) (place : ℕ) → AreCarr
     → unit_at after_us s ≡ None
 unfolding unit_at
 long_front_none after_us s place c e l n =
-    rw ((cut (place + 1) MAX_UNIT_CODES s c (omega arith) (omega arith)).full n) refl
+    rw ((codes_cut_at_first_ending (place + 1) MAX_UNIT_CODES s c (omega arith) (omega arith)).full n) refl

@@ -19,9 +19,9 @@ use Rattle.bsc_frame.specs.declared.text.End.{End}
 use Rattle.bsc_frame.specs.declared.text.End.TheVariants.{Etb, Etx}
 use Rattle.bsc_frame.proofs.ReadingSteps.{test_false}
 use Rattle.bsc_frame.proofs.ControlSequences.{some_is}
-use Rattle.bsc_frame.proofs.ReadingSteps.{chosen}
+use Rattle.bsc_frame.proofs.ReadingSteps.{branch_of_test}
 use Rattle.bsc_frame.specs.declared.limits.TheConstants.{MAX_UNIT_SENT}
-use Rattle.bsc_frame.specs.declared.octets.TheConstants.{ETB_CODE, PAD, US_CODE}
+use Rattle.bsc_octet.specs.declared.controls.TheConstants.{ETB_CODE, PAD, US_CODE}
 use Rattle.bsc_frame.proofs.Units.{bind_some, UnitAt, unit_at_reads, length_unit_codes}
 use Rattle.bsc_frame.proofs.Units.{unit_at_read}
 use Rattle.bsc_frame.proofs.UnitCodes.{ending_cases}
@@ -66,7 +66,7 @@ units_step : (n : ℕ) (after_us : Bool) (octets : List ℕ) (t : TextValue) (f 
     → ((s : TextValue) → units_at n true f.2 ≡ Some s → ReadsUnits n true f.2 s)
     → cond (f.1 == US_CODE) (before_units f.0 (units_at n true f.2)) (last_unit f.0 f.1 f.2) ≡ Some t
     → ReadsUnits (suc n) after_us octets t
-units_step n after_us octets t f a more e = elim (chosen (f.1 == US_CODE) _ _ _ e) [
+units_step n after_us octets t f a more e = elim (branch_of_test (f.1 == US_CODE) _ _ _ e) [
   | inl h ↦
       let b = before_units_some f.0 (units_at n true f.2) t h.1 in
       let r = more b.0 b.1 in

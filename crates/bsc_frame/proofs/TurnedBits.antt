@@ -6,7 +6,7 @@ use Rattle.bsc_frame.specs.Spells.{Spells, IsFailed, IsNoise}
 use Rattle.bsc_frame.specs.TurnedBits.{turned, with_turned_bit, IsSomeCall, IsSomeText, IsFillIn}
 use Rattle.bsc_frame.specs.TurnedBits.{IsLeadingPad, IsCallFill}
 use Rattle.bsc_frame.specs.declared.message.Message.{Message}
-use Rattle.bsc_frame.specs.declared.octets.TheConstants.{PAD, SYN}
+use Rattle.bsc_octet.specs.declared.controls.TheConstants.{PAD, SYN}
 use Rattle.bsc_frame.proofs.TurnedOctets.{turned_other, syn_no_pad, syn_no_fill, pad_no_fill}
 use Rattle.bsc_frame.proofs.DamagedMessages.{spelled_where, failed_place, sent_of}
 

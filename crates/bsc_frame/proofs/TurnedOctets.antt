@@ -6,9 +6,9 @@ use Rattle.std.proofs.lemmas.Nat.{ones_cat, ones_le_self, pow_pos}
 use Rattle.std.specs.Int.Bits.{xor_zero_l}
 use Rattle.std.specs.Int.Count.{ones-ones}
 use lib.Bits.{xor_block}
-use Rattle.bsc_octet.specs.Octet.{IsOdd}
-use Rattle.bsc_frame.specs.TurnedBits.{turned, HaveOtherParity, IsLeadingPad}
-use Rattle.bsc_frame.specs.declared.octets.TheConstants.{PAD, SYN}
+use Rattle.bsc_octet.specs.Octet.{IsOdd, HaveOtherParity}
+use Rattle.bsc_frame.specs.TurnedBits.{turned, IsLeadingPad}
+use Rattle.bsc_octet.specs.declared.controls.TheConstants.{PAD, SYN}
 
 ones_zero : count_ones 0 ≡ 0
 ones_zero = omega (arith, ones_le_self 0)
@@ -43,14 +43,14 @@ record Digit (r s : ℕ) : Type 0 where
   counts : count_ones (bit_xor r s) % 2 ≡ (count_ones r + count_ones s) % 2
 
 -- this holds for all bits
-digit : (r s : ℕ) → r < 2 → s < 2 → Digit r s
-digit zero zero l k = record { small = omega arith; counts = omega (arith, ones_zero) }
-digit zero (suc zero) l k = record { small = omega arith; counts = omega (arith, ones_zero) }
-digit (suc zero) zero l k = record { small = omega arith; counts = omega (arith, ones_zero) }
-digit (suc zero) (suc zero) l k =
+digit_of_two_bits : (r s : ℕ) → r < 2 → s < 2 → Digit r s
+digit_of_two_bits zero zero l k = record { small = omega arith; counts = omega (arith, ones_zero) }
+digit_of_two_bits zero (suc zero) l k = record { small = omega arith; counts = omega (arith, ones_zero) }
+digit_of_two_bits (suc zero) zero l k = record { small = omega arith; counts = omega (arith, ones_zero) }
+digit_of_two_bits (suc zero) (suc zero) l k =
     record { small = omega arith; counts = omega (arith, ones_zero, ones_one) }
-digit (suc (suc r)) s l k = absurd (omega arith)
-digit r (suc (suc s)) l k = absurd (omega arith)
+digit_of_two_bits (suc (suc r)) s l k = absurd (omega arith)
+digit_of_two_bits r (suc (suc s)) l k = absurd (omega arith)
 
 -- whether an exclusive or has an odd or an even number of ones
 xor_by : (n a b : ℕ) → a ≤ n → count_ones (bit_xor a b) % 2 ≡ (count_ones a + count_ones b) % 2
@@ -61,7 +61,7 @@ xor_by (suc n) a b l =
     let rest : count_ones (bit_xor (a / 2) (b / 2)) % 2
     ≡ (count_ones (a / 2) + count_ones (b / 2)) % 2 =
     xor_by n (a / 2) (b / 2) (omega arith) in
-    let low = digit (a % 2) (b % 2) (omega arith) (omega arith) in
+    let low = digit_of_two_bits (a % 2) (b % 2) (omega arith) (omega arith) in
     let both : count_ones (bit_xor a b) ≡ count_ones (bit_xor (a / 2) (b / 2))
     + count_ones (bit_xor (a % 2) (b % 2)) =
     ap count_ones (xor_half a b) ∙ ones_cat 1 (bit_xor (a / 2) (b / 2)) (bit_xor (a % 2) (b % 2))

@@ -15,9 +15,10 @@ use Rattle.bsc_frame.specs.Reading.{is_ending_code, is_octet, begins, after_star
 use Rattle.bsc_frame.specs.Reading.{unit_of_tail}
 use Rattle.bsc_frame.proofs.ReadingSteps.{test_false}
 use Rattle.bsc_frame.proofs.ControlSequences.{some_is}
-use Rattle.bsc_frame.proofs.ReadingSteps.{chosen}
+use Rattle.bsc_frame.proofs.ReadingSteps.{branch_of_test}
 use Rattle.bsc_frame.specs.declared.limits.TheConstants.{MAX_CHARS}
-use Rattle.bsc_frame.specs.declared.octets.TheConstants.{EM_CODE, ETB_CODE, ETX_CODE, STX, US_CODE}
+use Rattle.bsc_octet.specs.declared.controls.TheConstants.{EM_CODE, ETB_CODE, ETX_CODE, STX}
+use Rattle.bsc_octet.specs.declared.controls.TheConstants.{US_CODE}
 
 -- one code more: the front of record characters has only record characters
 pass_head : (c : ℕ) (cs : List ℕ) (b : Bool) → is_record_char c ≡ b
@@ -49,7 +50,7 @@ tail_reads chars [] f h = cc
 tail_reads chars (e ∷ []) f h =
     subst (IsTail chars (e ∷ [])) (some_is _ _ h)
     (ap (λ z. z ++ e ∷ []) (sym (append-nil chars)), refl)
-tail_reads chars (m ∷ e ∷ []) f h = elim (chosen (m == EM_CODE) _ _ _ h) [
+tail_reads chars (m ∷ e ∷ []) f h = elim (branch_of_test (m == EM_CODE) _ _ _ h) [
   | inl k ↦ subst (IsTail chars (m ∷ e ∷ [])) (some_is _ _ k.1) (
     ap (λ z. chars ++ z ∷ e ∷ []) (eqb-true m EM_CODE k.0)
         ∙ sym (append_assoc chars (EM_CODE ∷ []) (e ∷ [])),
@@ -60,8 +61,8 @@ tail_reads chars (m ∷ e ∷ []) f h = elim (chosen (m == EM_CODE) _ _ _ h) [
 tail_reads chars (m ∷ e ∷ x ∷ xs) f h = cc
 
 -- characters that are not too many are as many as a unit has
-few : (n : ℕ) → nat_lt MAX_CHARS n ≡ false → n ≤ MAX_CHARS
-few n h = grind (arith, nat_tests)
+at_most_max_chars : (n : ℕ) → nat_lt MAX_CHARS n ≡ false → n ≤ MAX_CHARS
+at_most_max_chars n h = grind (arith, nat_tests)
 
 -- as many characters as a unit has are not too many
 not_many : (n : ℕ) → n ≤ MAX_CHARS → nat_lt MAX_CHARS n ≡ false
@@ -72,7 +73,7 @@ pub unit_of_reads : (codes : List ℕ) (f : TextUnit × ℕ) → read_unit codes
     → (codes ≡ unit_codes f.0 f.1) × IsUnit f.0
 unfolding read_unit
 unit_of_reads codes f h =
-    elim (chosen (nat_lt MAX_CHARS (prefix_len is_record_char codes)) _ _ _ h) [
+    elim (branch_of_test (nat_lt MAX_CHARS (prefix_len is_record_char codes)) _ _ _ h) [
       | inl k ↦ let w = k.1 in cc
       | inr k ↦
           let t =
@@ -83,7 +84,7 @@ unit_of_reads codes f h =
               most =
                   omega (
                     arith,
-                    few (prefix_len is_record_char codes) k.0,
+                    at_most_max_chars (prefix_len is_record_char codes) k.0,
                     length-take (prefix_len is_record_char codes) codes,
                     ap length t.1,
                   );

@@ -1,58 +1,23 @@
 -- The steps of reading units.
 use Rattle.std.proofs.Common.{◌≡◌, ℕ, zero, suc, ◌+◌, ◌-◌, ◌<◌, ◌≤◌, ◌==◌, Bool, true, false, cond}
 use Rattle.std.proofs.Common.{refl, sym}
-use Rattle.std.proofs.Common.{ap, subst, All, ◌∙◌, arith, List, [], ◌∷◌, ◌++◌, length, take, drop}
-use Rattle.std.proofs.Common.{get_or}
+use Rattle.std.proofs.Common.{ap, subst, All, ◌∙◌, arith, List, [], ◌∷◌, ◌++◌, length, drop}
 use Rattle.std.proofs.Common.{append_assoc, length-append, Option, Some, None, nat_lt}
-use Rattle.std.proofs.lemmas.Bool.{eq-eqb}
 use Rattle.std.proofs.lemmas.Bool.Decides.{nat_tests}
 use Rattle.std.proofs.Math.Seq.{drop-append_seam}
 use Rattle.std.proofs.lemmas.List.Elements.{All-drop}
 use Rattle.bsc_frame.specs.Units.{unit_codes}
 use Rattle.bsc_octet.specs.Octet.{IsOdd, odd_octet, longitudinal_sum}
-use Rattle.bsc_octet.proofs.Sums.{longitudinal_sum_lt}
 use Rattle.bsc_frame.specs.Texts.{TextUnit, TextValue}
 use Rattle.bsc_frame.specs.Drafts.{draft_units, IsDraft, TakesUnit, ReadsText}
-use Rattle.bsc_frame.specs.Reading.{after_check, unit_at, units_at, before_units, last_unit}
+use Rattle.bsc_frame.specs.Reading.{unit_at, units_at, before_units, last_unit}
 use Rattle.bsc_frame.specs.declared.text.End.{End}
 use Rattle.bsc_frame.specs.declared.text.End.TheVariants.{Etb, Etx}
 use Rattle.bsc_frame.specs.declared.text.Draft.{Draft}
-use Rattle.bsc_frame.proofs.ReadingSteps.{test_false, rest_is}
+use Rattle.bsc_frame.proofs.ReadingSteps.{test_false}
 use Rattle.bsc_frame.proofs.Units.{unit_at_reads}
 use Rattle.bsc_frame.specs.declared.limits.TheConstants.{MAX_UNITS}
-use Rattle.bsc_frame.specs.declared.octets.TheConstants.{ETB_CODE, US_CODE}
-
--- ---- the check
-
--- a sum is below 128
-is_code : (s : List ℕ) → nat_lt (longitudinal_sum s) 128 ≡ true
-is_code s = grind (arith, nat_tests, longitudinal_sum_lt s)
-
--- the sum has an octet
-pub check_no : (s : List ℕ)
-    → cond (nat_lt (longitudinal_sum s) 128) (Some (odd_octet (longitudinal_sum s))) None ≡ None → ⊥
-check_no s e = let h : Some (odd_octet (longitudinal_sum s)) ≡ None = rw (is_code s) at e in cc
-
--- the check that is found is the octet of the sum
-pub check_is : (s : List ℕ) (k : ℕ)
-    → cond (nat_lt (longitudinal_sum s) 128) (Some (odd_octet (longitudinal_sum s))) None ≡ Some k
-    → k ≡ odd_octet (longitudinal_sum s)
-check_is s k e = let h : Some (odd_octet (longitudinal_sum s)) ≡ Some k = rw (is_code s) at e in cc
-
--- if the first octet is not the check, nothing is left
-pub check_wrong : (s octets : List ℕ) → (get_or octets 0 0 ≡ odd_octet (longitudinal_sum s) → ⊥)
-    → None ≡ after_check s octets
-check_wrong s [] h = refl
-check_wrong s (x ∷ octets) h =
-    rw (test_false (odd_octet (longitudinal_sum s)) x (λ w. h (sym w))) refl
-
--- the octets after the check are left
-pub check_right : (s octets : List ℕ) → get_or octets 0 0 ≡ odd_octet (longitudinal_sum s)
-    → (length octets ≡ 0 → ⊥)
-    → Some (take (length octets - 1) (drop 1 octets)) ≡ after_check s octets
-check_right s [] h p = absurd (p refl)
-check_right s (x ∷ octets) h p =
-    rw (eq-eqb (odd_octet (longitudinal_sum s)) x (sym h)) (ap Some (rest_is (x ∷ octets) 1))
+use Rattle.bsc_octet.specs.declared.controls.TheConstants.{ETB_CODE, US_CODE}
 
 -- ---- all units
 

@@ -9,14 +9,15 @@ use Rattle.bsc_octet.specs.Octet.{odd_octet, longitudinal_sum, is_record_char, c
 use Rattle.bsc_frame.specs.Texts.{TextUnit, IsUnit}
 use Rattle.bsc_frame.specs.Units.{unit_codes}
 use Rattle.bsc_frame.specs.Spells.{AreFilled, IsStart}
-use Rattle.bsc_frame.specs.Reading.{◌>>=◌, is_ending_code, gathered, after_check, after_start}
+use Rattle.bsc_frame.specs.Reading.{◌>>=◌, is_ending_code, gathered, after_start}
+use Rattle.bsc_octet.specs.Check.{after_check}
 use Rattle.bsc_frame.specs.Reading.{read_unit, unit_at}
 use Rattle.bsc_frame.proofs.ControlSequences.{some_is}
-use Rattle.bsc_frame.proofs.ReadingSteps.{chosen}
+use Rattle.bsc_frame.proofs.ReadingSteps.{branch_of_test}
 use Rattle.bsc_frame.proofs.Gathering.{gathered_reads, gathered_read, ends_unit_last, IsOther}
 use Rattle.bsc_frame.proofs.Gathering.{IsRun}
 use Rattle.bsc_frame.specs.declared.limits.TheConstants.{MAX_UNIT_CODES}
-use Rattle.bsc_frame.specs.declared.octets.TheConstants.{EM_CODE, STX, SYN}
+use Rattle.bsc_octet.specs.declared.controls.TheConstants.{EM_CODE, STX, SYN}
 use Rattle.bsc_frame.proofs.UnitCodes.{unit_of_reads, ending_cases, ending_no_char, unit_of_read}
 use Rattle.bsc_frame.proofs.UnitCodes.{start_of, start_read, char_not, not_stx}
 
@@ -44,7 +45,7 @@ check_reads : (codes octets rest : List ℕ) → after_check codes octets ≡ So
     → octets ≡ odd_octet (longitudinal_sum codes) ∷ rest
 check_reads codes [] rest e = cc
 check_reads codes (k ∷ more) rest e =
-    elim (chosen (odd_octet (longitudinal_sum codes) == k) _ _ _ e) [
+    elim (branch_of_test (odd_octet (longitudinal_sum codes) == k) _ _ _ e) [
       | inl h ↦ let w : more ≡ rest = some_is _ _ h.1 in
           ap (λ z. z ∷ more) (sym (eqb-true (odd_octet (longitudinal_sum codes)) k h.0))
           ∙ ap (λ z. odd_octet (longitudinal_sum codes) ∷ z) w

@@ -7,19 +7,17 @@ use Rattle.std.proofs.Common.{add-one, append_assoc, length-set, length-append, 
 use Rattle.std.proofs.Common.{All, IsTrue}
 use Rattle.std.specs.List.{AllByRecursion}
 use Rattle.std.proofs.lemmas.List.{drop_all, take_all, take_more, take_more_set, map-append}
-use Rattle.std.proofs.lemmas.List.Elements.{recursion_from_All, All-from_recursion, All-append}
+use Rattle.std.proofs.lemmas.List.Elements.{All-from_recursion, All-append}
 use Rattle.std.proofs.lemmas.List.Elements.{All-cons}
 use Rattle.std.proofs.lemmas.List.Elements.{All-nil}
 use Rattle.bsc_octet.specs.Octet.{odd_octet, longitudinal_sum, is_record_char}
-use Rattle.bsc_octet.proofs.OddOctets.{odd_octet_low}
 use Rattle.std.specs.Int.Count.{ones}
-use Rattle.bsc_frame.specs.Reading.{low_bits}
-use Rattle.bsc_frame.proofs.CarriedOctets.{sum_low}
+use Rattle.bsc_octet.proofs.Checks.{sum_odd}
 use Rattle.bsc_frame.specs.Texts.{TextUnit, IsUnit}
 use Rattle.bsc_frame.specs.Units.{unit_codes, unit_wire, units_wire, ending, end_code}
 use Rattle.bsc_frame.specs.declared.limits.TheConstants.{MAX_UNITS, MAX_UNIT_SENT, MAX_SENT}
 use Rattle.bsc_frame.specs.declared.text.End.{End}
-use Rattle.bsc_frame.specs.declared.octets.TheConstants.{EM_CODE, US_CODE}
+use Rattle.bsc_octet.specs.declared.controls.TheConstants.{EM_CODE, US_CODE}
 use Rattle.bsc_frame.proofs.Units.{char_lt}
 use Rattle.bsc_frame.proofs.TextUnits.{length_units_wire}
 
@@ -75,19 +73,6 @@ put_all octets i codes p l u =
 -- the characters of a unit are codes of seven bits
 pub chars_small : (u : TextUnit) → IsUnit u → All (λ c. c < 128) u.chars
 chars_small u h = All-from_recursion (λ c. c < 128) u.chars (all_small u.chars h.each)
-
--- the low bits of the octets of codes are the codes
-low_odd : (codes : List ℕ) → AllByRecursion (λ c. c < 128) codes
-    → map low_bits (map odd_octet codes) ≡ codes
-low_odd [] h = refl
-low_odd (c ∷ codes) h = rw (odd_octet_low c h.0, low_odd codes h.1) refl
-
--- the sum of the octets is that of their codes
-sum_odd : (codes : List ℕ) → All (λ c. c < 128) codes
-    → longitudinal_sum (map odd_octet codes) ≡ longitudinal_sum codes
-sum_odd codes h =
-    sym (sum_low (map odd_octet codes))
-    ∙ ap longitudinal_sum (low_odd codes (recursion_from_All (λ c. c < 128) codes h))
 
 -- EM is carried as it is
 odd_em : (em : Bool) → map odd_octet (cond em (EM_CODE ∷ []) []) ≡ cond em (EM_CODE ∷ []) []

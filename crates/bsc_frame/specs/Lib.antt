@@ -1,3 +1,5 @@
+-- The code set, for the layers above.
+pub use Rattle.bsc_octet.specs.Octet
 pub mod Addresses
 pub mod Texts
 pub mod Drafts

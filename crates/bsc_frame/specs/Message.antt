@@ -1,7 +1,8 @@
 -- Messages within their limits, and the reading of codes as an address.
 use Rattle.std.specs.Prelude.{ℕ, ◌==◌, nat_lt, not, if◌then◌else◌, List, length, position, Option}
 use Rattle.std.specs.Prelude.{Some, None, Result, Ok, Err}
-use Rattle.bsc_frame.specs.Addresses.{IsAddress, is_address_code}
+use Rattle.bsc_frame.specs.Addresses.{IsAddress}
+use Rattle.bsc_octet.specs.Octet.{is_address_code}
 use Rattle.bsc_frame.specs.Texts.{IsText}
 use Rattle.bsc_frame.specs.declared.limits.TheConstants.{MAX_ADDRESS}
 use Rattle.bsc_frame.specs.declared.address.AddressError.{AddressError}

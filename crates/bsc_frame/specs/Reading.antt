@@ -1,10 +1,11 @@
 -- What octets are read as, from left to right.
-use Rattle.std.specs.Prelude.{ℕ, ◌-◌, ◌%◌, ◌==◌, ◌||◌, ◌&&◌, not, Bool, true, false, zero, suc}
+use Rattle.std.specs.Prelude.{ℕ, ◌-◌, ◌==◌, ◌||◌, ◌&&◌, not, Bool, true, false, zero, suc}
 use Rattle.std.specs.Prelude.{nat_lt, take, if◌then◌else◌, List, [], ◌∷◌, ◌++◌, ◌≡◌, length, drop}
 use Rattle.std.specs.Prelude.{Option, Some, None, Result, Ok, Err, option_and_then}
 use Rattle.std.specs.Str.{bytes_eq}
 use Rattle.std.specs.List.{prefix_len}
-use Rattle.bsc_octet.specs.Octet.{code_of, odd_octet, longitudinal_sum, is_record_char}
+use Rattle.bsc_octet.specs.Octet.{code_of, code_in, is_record_char, is_pad_octet}
+use Rattle.bsc_octet.specs.Check.{after_check}
 use Rattle.bsc_frame.specs.Texts.{TextUnit, TextValue}
 use Rattle.bsc_frame.specs.declared.limits.TheConstants.{MAX_UNITS, MAX_CHARS, MAX_UNIT_CODES}
 use Rattle.bsc_frame.specs.declared.limits.TheConstants.{MAX_ADDRESS, MAX_HEARD}
@@ -17,16 +18,13 @@ use Rattle.bsc_frame.specs.declared.message.Message.{Message}
 use Rattle.bsc_frame.specs.declared.message.Message.TheVariants.{Eot, Call, Enq, Reply, Text}
 use Rattle.bsc_frame.specs.declared.message.Heard.{Heard}
 use Rattle.bsc_frame.specs.declared.message.Heard.TheVariants.{Whole, Failed, Noise}
-use Rattle.bsc_frame.specs.declared.octets.TheConstants.{EM_CODE, ENQ, EOT, ETB, ETB_CODE, ETX}
-use Rattle.bsc_frame.specs.declared.octets.TheConstants.{ETX_CODE, PAD, STX, SYN, US, US_CODE}
+use Rattle.bsc_octet.specs.declared.controls.TheConstants.{EM_CODE, ENQ, EOT, ETB, ETB_CODE, ETX}
+use Rattle.bsc_octet.specs.declared.controls.TheConstants.{ETX_CODE, PAD, STX, SYN, US, US_CODE}
 
 -- What follows the octets at the front that pass the test.
 unfoldable pub skip : (ℕ → Bool) → List ℕ → List ℕ
 skip test [] = []
 skip test (x ∷ xs) = if test x then skip test xs else x ∷ xs
-
-abbrev pub is_pad_octet : ℕ → Bool
-is_pad_octet x = (x == 0x55) || (x == 0xaa)
 
 abbrev pub is_octet : ℕ → ℕ → Bool
 is_octet octet x = x == octet
@@ -116,17 +114,13 @@ is_ending_octet x = (x == US) || ((x == ETB) || (x == ETX))
 abbrev pub is_before_ending : ℕ → Bool
 is_before_ending x = not (is_ending_octet x)
 
--- The code of an octet with odd parity.
-abbrev pub low_bits : ℕ → ℕ
-low_bits x = x % 128
-
 -- Whether an octet is not SYN.
 abbrev pub is_other : ℕ → Bool
 is_other x = not (x == SYN)
 
 -- Whether an octet carries a record character.
 abbrev pub is_char_octet : ℕ → Bool
-is_char_octet x = is_record_char (low_bits x)
+is_char_octet x = is_record_char (code_in x)
 
 abbrev pub before_gathered : ℕ → Option (List ℕ × List ℕ) → Option (List ℕ × List ℕ)
 before_gathered c None = None
@@ -145,11 +139,6 @@ gathered room (x ∷ xs) =
     if x == SYN then gathered room xs
     else if room == 0 then None
     else gather_code (code_of x) xs (gathered (room - 1) xs)
-
--- The octets after the check of the codes, if the check is right.
-abbrev pub after_check : List ℕ → List ℕ → Option (List ℕ)
-after_check codes [] = None
-after_check codes (k ∷ rest) = if odd_octet (longitudinal_sum codes) == k then Some rest else None
 
 -- The codes without an STX at their front, if they follow the check of a unit with US.
 abbrev pub after_start : Bool → List ℕ → List ℕ

@@ -2,8 +2,7 @@
 -- its name (GA27-3004: control characters and sequences in USASCII).
 use Rattle.std.specs.Prelude.{ℕ, List, [], ◌∷◌, Option, Some, None, if◌then◌else◌, codes}
 use Rattle.std.specs.Str.{bytes_eq}
-use Rattle.bsc_frame.specs.declared.octets.TheConstants.{ACK0, ACK1, NAK, WACK, RVI}
-use Rattle.bsc_frame.specs.declared.message.Message.{Message}
+use Rattle.bsc_octet.specs.declared.controls.TheConstants.{ACK0, ACK1, NAK, WACK, RVI}
 use Rattle.bsc_frame.specs.declared.message.Message.TheVariants as m
 use Rattle.bsc_frame.specs.declared.message.Heard.{Heard}
 use Rattle.bsc_frame.specs.declared.message.Heard.TheVariants.{Whole}

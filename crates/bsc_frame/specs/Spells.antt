@@ -4,7 +4,8 @@
 use Rattle.std.specs.Prelude.{◌≡◌, ◌≢◌, ◌⊎◌, ℕ, ◌≤◌, Bool, true, false, List, [], ◌∷◌, ◌++◌, length}
 use Rattle.std.specs.Prelude.{map}
 use Rattle.std.specs.List.{AllByRecursion}
-use Rattle.bsc_octet.specs.Octet.{odd_octet, longitudinal_sum}
+use Rattle.bsc_octet.specs.Octet.{odd_octet, IsPad}
+use Rattle.bsc_octet.specs.Check.{check_then}
 use Rattle.bsc_frame.specs.Addresses.{IsAddress}
 use Rattle.bsc_frame.specs.Texts.{TextUnit, TextValue, IsText}
 use Rattle.bsc_frame.specs.Replies.{reply_octets}
@@ -15,11 +16,11 @@ use Rattle.bsc_frame.specs.declared.message.Message.{Message}
 use Rattle.bsc_frame.specs.declared.message.Message.TheVariants.{Eot, Call, Enq, Reply, Text}
 use Rattle.bsc_frame.specs.declared.message.Heard.{Heard}
 use Rattle.bsc_frame.specs.declared.message.Heard.TheVariants.{Whole, Failed, Noise}
-use Rattle.bsc_frame.specs.declared.octets.TheConstants.{ENQ, EOT, PAD, STX, SYN}
+use Rattle.bsc_octet.specs.declared.controls.TheConstants.{ENQ, EOT, PAD, STX, SYN}
 
--- Leading pads: any number of octets 0x55 and 0xaa (GA27-3004: pad format).
+-- Any number of leading pads (GA27-3004: pad format).
 abbrev pub ArePads : List ℕ → Type 0
-ArePads = AllByRecursion (λ x. (x ≡ 0x55) ⊎ (x ≡ 0xaa))
+ArePads = AllByRecursion IsPad
 
 -- One octet, any number of times.
 abbrev pub AreAll : ℕ → List ℕ → Type 0
@@ -56,8 +57,7 @@ AreUnits after_us [] end octets = octets ≡ []
 AreUnits after_us (u ∷ us) end octets =
     (start front rest : List ℕ) × IsStart after_us start
     × AreFilled (start ++ unit_codes u (ending us end)) front
-    × (octets
-    ≡ front ++ odd_octet (longitudinal_sum (start ++ unit_codes u (ending us end))) ∷ rest)
+    × (octets ≡ front ++ check_then (start ++ unit_codes u (ending us end)) rest)
     × AreUnits true us end rest
 
 -- The body of a text: STX, then its units.

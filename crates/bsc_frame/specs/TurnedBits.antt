@@ -1,14 +1,14 @@
 -- Octets of which one was changed on the line, as noise does (GA27-3004: VRC and LRC checking). The
 -- cases, and which changes are detected, are this project's own.
-use Rattle.std.specs.Prelude.{◌≡◌, ◌≢◌, ◌⊎◌, ℕ, ◌^◌, ◌%◌, ◌<◌, true, false, List, [], ◌∷◌}
-use Rattle.std.specs.Prelude.{slice_index, slice_set, bit_xor, count_ones}
-use Rattle.bsc_octet.specs.Octet.{IsOdd}
+use Rattle.std.specs.Prelude.{◌≡◌, ◌≢◌, ◌⊎◌, ℕ, ◌^◌, ◌<◌, true, false, List, [], ◌∷◌, slice_index}
+use Rattle.std.specs.Prelude.{slice_set, bit_xor}
+use Rattle.bsc_octet.specs.Octet.{IsOdd, IsPad}
 use Rattle.bsc_frame.specs.Texts.{TextValue}
 use Rattle.bsc_frame.specs.Reading.{is_ending_octet}
 use Rattle.bsc_frame.specs.declared.message.Message.{Message}
 use Rattle.bsc_frame.specs.declared.message.Message.TheVariants.{Call, Text}
 use Rattle.bsc_frame.specs.declared.text.End.TheVariants.{Etx}
-use Rattle.bsc_frame.specs.declared.octets.TheConstants.{PAD, SYN}
+use Rattle.bsc_octet.specs.declared.controls.TheConstants.{PAD, SYN}
 
 -- The octets with the octet at the place replaced.
 abbrev pub with_octet : ℕ → ℕ → List ℕ → List ℕ
@@ -21,10 +21,6 @@ turned bit octet = bit_xor octet (2 ^ bit)
 -- The octets with this bit of the octet at the place turned.
 abbrev pub with_turned_bit : ℕ → ℕ → List ℕ → List ℕ
 with_turned_bit place bit octets = with_octet place (turned bit (slice_index octets place)) octets
-
--- One of the two octets has an odd number of ones, and the other an even number.
-abbrev pub HaveOtherParity : ℕ → ℕ → Type 0
-HaveOtherParity a b = count_ones a % 2 ≢ count_ones b % 2
 
 -- The message is a call.
 abbrev pub IsSomeCall : Message → Type 0
@@ -40,7 +36,7 @@ IsBodyOctet m octet = IsOdd octet ⊎ (IsSomeCall m × (octet ≡ PAD))
 
 -- A leading pad in place of the first SYN.
 abbrev pub IsLeadingPad : ℕ → ℕ → Type 0
-IsLeadingPad place octet = (place ≡ 0) × ((octet ≡ 0x55) ⊎ (octet ≡ 0xaa))
+IsLeadingPad place octet = (place ≡ 0) × IsPad octet
 
 -- In a call, SYN in place of the PAD after EOT, or PAD in place of the SYN after that PAD.
 abbrev pub IsCallFill : ℕ → ℕ → Type 0

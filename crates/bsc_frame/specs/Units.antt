@@ -1,12 +1,13 @@
 -- The codes of a unit, and the octets that are sent for the units of a text (GA27-3004:
 -- intermediate text blocks, each with its own check).
 use Rattle.std.specs.Prelude.{ℕ, if◌then◌else◌, List, [], ◌∷◌, ◌++◌, map}
-use Rattle.bsc_octet.specs.Octet.{odd_octet, longitudinal_sum}
+use Rattle.bsc_octet.specs.Octet.{odd_octet}
+use Rattle.bsc_octet.specs.Check.{check}
 use Rattle.bsc_frame.specs.Texts.{TextUnit}
 use Rattle.bsc_frame.specs.declared.text.End.{End}
 use Rattle.bsc_frame.specs.declared.text.End.TheVariants.{Etb, Etx}
 use Rattle.bsc_frame.specs.declared.text.Unit.{Unit as Lent}
-use Rattle.bsc_frame.specs.declared.octets.TheConstants.{EM_CODE, ETB_CODE, ETX_CODE, US_CODE}
+use Rattle.bsc_octet.specs.declared.controls.TheConstants.{EM_CODE, ETB_CODE, ETX_CODE, US_CODE}
 
 -- A lent unit, as its characters and whether EM follows them.
 abbrev pub text_unit : Lent → TextUnit
@@ -27,10 +28,9 @@ ending (u ∷ us) end = US_CODE
 abbrev pub unit_codes : TextUnit → ℕ → List ℕ
 unit_codes u e = u.chars ++ (if u.em then EM_CODE ∷ [] else []) ++ e ∷ []
 
--- What is sent for a unit: each of its codes with odd parity, then the check octet, which is the
--- longitudinal sum of the codes with odd parity.
+-- What is sent for a unit: the octet of each of its codes, then their check.
 abbrev pub unit_wire : TextUnit → ℕ → List ℕ
-unit_wire u e = map odd_octet (unit_codes u e) ++ odd_octet (longitudinal_sum (unit_codes u e)) ∷ []
+unit_wire u e = map odd_octet (unit_codes u e) ++ check (unit_codes u e)
 
 -- What is sent for the units of a text.
 abbrev pub units_wire : List TextUnit → End → List ℕ

@@ -6,7 +6,7 @@ use Rattle.bsc_frame.specs.Replies.{reply_octets}
 use Rattle.bsc_frame.specs.Units.{units_wire}
 use Rattle.bsc_frame.specs.declared.message.Message.{Message}
 use Rattle.bsc_frame.specs.declared.message.Message.TheVariants.{Eot, Call, Enq, Reply, Text}
-use Rattle.bsc_frame.specs.declared.octets.TheConstants.{ENQ, EOT, PAD, STX, SYN}
+use Rattle.bsc_octet.specs.declared.controls.TheConstants.{ENQ, EOT, PAD, STX, SYN}
 
 -- A body between two SYN and one PAD.
 abbrev pub framed : List ℕ → List ℕ

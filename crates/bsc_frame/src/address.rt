@@ -7,11 +7,12 @@ ghost use Rattle.std.specs.Cmp.Rules.{comparing, hashing};
 ghost use Rattle.std.specs.Hash as fed;
 ghost use Rattle.std.proofs.Common.{rules};
 ghost use lib.Pointwise.{pointwise};
-ghost use Rattle.bsc_frame.specs.Addresses.{IsAddress, is_address_code};
+ghost use Rattle.bsc_frame.specs.Addresses.{IsAddress};
+ghost use Rattle.bsc_octet.specs.Octet.{is_address_code};
 
 use crate::limits::MAX_ADDRESS;
-use crate::octets::ENQ;
-use bsc_octet::from_line;
+use bsc_octet::controls::ENQ;
+use bsc_octet::{from_line, is_address_code};
 use std::cmp::Ordering;
 use std::hash::{Hash, Hasher};
 use std::marker::Model;
@@ -28,13 +29,13 @@ pub enum AddressError {
     #[error("the address has more than seven characters")]
     TooLong,
 
-    /// The first code that is not 0x21 to 0x7e is at this place, counted from 0.
+    /// The first code that may not stand in an address is at this place, counted from 0.
     #[error("wrong character at {0}")]
     BadChar(usize),
 }
 
-/// An address: one to seven codes from 0x21 to 0x7e. GA27-3004 leaves the addresses of a line to
-/// its owner; these limits are this project's.
+/// An address: one to seven codes that may stand in one ([`is_address_code`]). GA27-3004 leaves the
+/// addresses of a line to its owner; these limits are this project's.
 ///
 /// Equality, order and hash are those of the list of its codes.
 #[derive(Clone, Copy, Debug)]
@@ -107,13 +108,6 @@ impl Hash for Address {
     }
 }
 
-/// Returns whether the code may stand in an address.
-fn is_address_code(code: u8) -> bool
-    ensures { result ≡ is_address_code code }
-{
-    (0x21..=0x7e).contains(&code)
-}
-
 /// Returns the place of the first code that may not stand in an address.
 fn wrong_place(codes: &[u8]) -> Option<usize>
     ensures { result ≡ position (λ c. not (is_address_code c)) codes.now }
@@ -128,7 +122,8 @@ impl Address {
 
     /// Returns the address with these codes, which have seven bits and no parity. The errors, in
     /// the order in which they are tested: `Empty` if there are no codes, `TooLong` if there are
-    /// more than seven, `BadChar` with the place of the first code that is not 0x21 to 0x7e.
+    /// more than seven, `BadChar` with the place of the first code that may not stand in an
+    /// address.
     pub fn read(codes: &[u8]) -> Result<Address, AddressError>
         ensures value { result ≡ read_address codes.now }
         ensures address { IfOk result (λ a. IsAddress a) }
@@ -179,7 +174,7 @@ impl Address {
         None
     }
 
-    /// Returns the codes of the address, 1 to 7 of them, each 0x21 to 0x7e.
+    /// Returns the codes of the address, 1 to 7 of them, each of which may stand in an address.
     pub fn codes(&self) -> &[u8]
         ensures value { result.now ≡ self.now }
         ensures address { IsAddress self.now }

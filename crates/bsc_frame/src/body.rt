@@ -1,11 +1,12 @@
 //! The body of a transmission: the octets between the SYN at its front and the PAD at its end.
 ghost use Rattle.std.specs.Prelude.{◌≡◌, ◌<◌, length};
-ghost use Rattle.bsc_frame.specs.Reading.{skip, is_pad_octet, is_octet, trimmed, begins};
+ghost use Rattle.bsc_frame.specs.Reading.{skip, is_octet, trimmed, begins};
+ghost use Rattle.bsc_octet.specs.Octet.{is_pad_octet};
 ghost use Rattle.bsc_frame.specs.Reading.{heard_body, heard};
 
 use crate::front::{LANES, either_front, either_in, either_rest};
 use crate::limits::MAX_HEARD;
-use crate::octets::{LEADING_PADS, PAD, SYN};
+use bsc_octet::controls::{LEADING_PADS, PAD, SYN};
 
 /// Returns the octets after the leading pads (`LEADING_PADS`).
 #[tactic(auto, using(crate::proofs::Runs::skip_pads))]

@@ -7,12 +7,12 @@ ghost use Rattle.bsc_frame.specs.Reading.{heard, units_at, whole_or_failed};
 
 use crate::body::{body_of, starts_with};
 use crate::limits::MAX_UNITS;
-use crate::octets::STX;
 use crate::short::short_of;
 use crate::text::Draft;
 use crate::unit_decoder::read_units;
 use crate::{Heard, Message, Short, Text};
 use bsc_octet::all_odd;
+use bsc_octet::controls::STX;
 
 /// Returns what a text is heard as, from the octets after its STX.
 #[tactic(auto, using(crate::proofs::OddTexts::not_odd_fails))]

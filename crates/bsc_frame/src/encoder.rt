@@ -1,7 +1,7 @@
 //! From messages to octets: the one form in which each message is sent.
 ghost use Rattle.std.specs.Prelude.{◌≡◌, ◌≤◌, ◌<◌, ◌+◌, [], ◌∷◌, ◌++◌, length, take, drop, map};
 ghost use Rattle.std.specs.Prelude.{All, if◌then◌else◌};
-ghost use Rattle.bsc_octet.specs.Octet.{odd_octet};
+ghost use Rattle.bsc_octet.specs.Octet.{IsCode, odd_octet};
 ghost use Rattle.bsc_frame.specs.Texts.{IsUnit, IsText};
 ghost use Rattle.bsc_frame.specs.Message.{IsMessage};
 ghost use Rattle.bsc_frame.specs.Units.{text_unit, end_code, ending, unit_wire, units_wire};
@@ -9,10 +9,12 @@ ghost use Rattle.bsc_frame.specs.Wire.{wire as wire_of};
 
 use crate::buffer::append;
 use crate::limits::{MAX_SENT, MAX_UNIT_SENT};
-use crate::octets::{CALL_START, EM_CODE, ENQ, EOT, ETB_CODE, ETX_CODE, PAD, START, STX, US_CODE};
-use crate::unit_decoder::check_of;
 use crate::{End, Message, Text, Unit};
 use arrayvec::ArrayVec;
+use bsc_octet::controls::{
+    CALL_START, EM_CODE, ENQ, EOT, ETB_CODE, ETX_CODE, PAD, START, STX, US_CODE,
+};
+use bsc_octet::{carried, put_check};
 
 /// The octets of one transmission that is sent.
 pub type Wire = ArrayVec<u8, MAX_SENT>;
@@ -20,24 +22,12 @@ pub type Wire = ArrayVec<u8, MAX_SENT>;
 /// A buffer for the octets of a unit.
 type UnitOctets = [u8; MAX_UNIT_SENT];
 
-/// Returns the octet that carries the code. The parity is found by folding bits because a compiler
-/// vectorizes that; it does not vectorize a count of ones with a test.
-fn carried(code: u8) -> u8
-    requires { code < 128 }
-    ensures { result ≡ odd_octet code }
-{
-    let fours = code ^ (code >> 4);
-    let twos = fours ^ (fours >> 2);
-    let ones = twos ^ (twos >> 1);
-    code | ((!ones & 1) << 7)
-}
-
 /// Writes the octets that carry the codes to the front of the buffer. The loop has no branch, so a
 /// compiler vectorizes it.
 #[tactic(auto, using(crate::proofs::WireSteps::put_more, crate::proofs::WireSteps::put_all))]
 fn put_codes(octets: &mut UnitOctets, codes: &[u8])
     requires room { length codes.now ≤ MAX_UNIT_SENT }
-    requires codes { All (λ c. c < 128) codes.now }
+    requires codes { All IsCode codes.now }
     ensures { take (length codes.now) octets.new ≡ map odd_octet codes.now }
 {
     for (i, code) in codes.iter().enumerate() {
@@ -72,21 +62,20 @@ fn put_em(octets: &mut UnitOctets, count: usize, em: bool) -> usize
 /// Writes the octets of the unit and its check, and returns how many they are.
 fn put_unit(octets: &mut UnitOctets, unit: Unit<'_>, ending: u8) -> usize
     requires unit { IsUnit (text_unit unit) }
-    requires ending { ending < 128 }
+    requires ending { IsCode ending }
     ensures octets { take result octets.new ≡ unit_wire (text_unit unit.entry) ending }
     ensures count { result ≤ MAX_UNIT_SENT }
 {
     put_codes(octets, unit.chars);
     let count = put_em(octets, unit.chars.len(), unit.em);
     let count = put(octets, count, carried(ending));
-    let check = check_of(&octets[..count]);
-    put(octets, count, check)
+    put_check(octets, count)
 }
 
 /// Appends the octets that carry the codes, one at a time.
 fn append_codes(wire: &mut Wire, codes: &[u8])
     requires room { length wire.old.items + length codes.now ≤ MAX_SENT }
-    requires codes { All (λ c. c < 128) codes.now }
+    requires codes { All IsCode codes.now }
     ensures { wire.new.items ≡ wire.old.items ++ map odd_octet codes.now }
 {
     for code in codes {
@@ -107,7 +96,7 @@ fn end_char(end: End) -> u8
 /// Appends the unit and its check.
 fn append_unit(wire: &mut Wire, unit: Unit<'_>, ending: u8)
     requires unit { IsUnit (text_unit unit) }
-    requires ending { ending < 128 }
+    requires ending { IsCode ending }
     requires room { length wire.old.items + length (unit_wire (text_unit unit) ending) ≤ MAX_SENT }
     ensures { wire.new.items ≡ wire.old.items ++ unit_wire (text_unit unit.entry) ending }
 {
@@ -121,7 +110,7 @@ fn append_unit(wire: &mut Wire, unit: Unit<'_>, ending: u8)
 fn ending_at(text: &Text, place: usize) -> u8
     requires { place < length text.now.units }
     ensures value { result ≡ ending (drop (place + 1) text.now.units) text.now.end }
-    ensures code { result < 128 }
+    ensures code { IsCode result }
 {
     let count = text.count();
     if place + 1 < count {

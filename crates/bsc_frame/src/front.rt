@@ -4,7 +4,7 @@ ghost use Rattle.std.specs.Int.{w64, trailing_zeros};
 ghost use Rattle.std.specs.List.{prefix_len};
 ghost use Rattle.bsc_frame.specs.Reading.{is_either, is_before_ending};
 
-use crate::octets::{ETB, ETX, US};
+use bsc_octet::controls::{ETB, ETX, US};
 use std::simd::prelude::*;
 
 /// The number of octets that are tested together.

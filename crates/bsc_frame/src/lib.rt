@@ -6,10 +6,14 @@
 //! octets that do not begin as a text. Nothing here waits, allocates or keeps state between
 //! transmissions.
 //!
+//! The code set, which is the octet of each code, the control characters, the check of a unit and
+//! the codes of records and addresses, is `bsc_octet`; here only their order is known. Layers above
+//! have from here what they need of it.
+//!
 //! Control characters and sequences, calls, text and intermediate text blocks, odd parity (VRC),
 //! the check characters (LRC), pads and SYN time fill are those of GA27-3004. The limits of
-//! messages and transmissions, the codes that an address may have, and how far pads and fill are
-//! accepted are this project's own; EM in a unit is used in the manner of the IBM 2780.
+//! messages and transmissions, and how far pads and fill are accepted are this project's own; EM in
+//! a unit is used in the manner of the IBM 2780.
 #![tactic(auto)]
 
 mod address;
@@ -21,7 +25,6 @@ mod front;
 pub mod laws;
 pub mod limits;
 mod message;
-pub mod octets;
 mod reply;
 mod short;
 mod squeeze;
@@ -29,6 +32,7 @@ mod text;
 mod unit_decoder;
 
 pub use address::{Address, AddressError};
+pub use bsc_octet::{controls, is_address_code, is_record_char};
 pub use decoder::decode;
 pub use encoder::{Wire, encode};
 pub use message::{Heard, Message};

@@ -1,6 +1,8 @@
 //! The limits of messages and transmissions, which are this project's own. All other sizes are
 //! computed from these.
 
+use bsc_octet::CHECK_OCTETS;
+
 /// The maximum number of units of a text.
 pub const MAX_UNITS: usize = 7;
 
@@ -19,7 +21,7 @@ pub(crate) const MAX_UNIT_CODES: usize = MAX_CHARS + 3;
 
 /// The maximum number of octets that are sent for a unit: its characters, EM, the ending character,
 /// the check.
-pub(crate) const MAX_UNIT_SENT: usize = MAX_CHARS + 3;
+pub(crate) const MAX_UNIT_SENT: usize = MAX_CHARS + 2 + CHECK_OCTETS;
 
 /// The maximum number of characters of a text, in all its units.
 pub(crate) const MAX_TEXT_CHARS: usize = MAX_UNITS * MAX_CHARS;

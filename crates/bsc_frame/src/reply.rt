@@ -3,7 +3,7 @@
 ghost use Rattle.std.specs.Prelude.{◌≡◌, ◌≤◌, length};
 ghost use Rattle.bsc_frame.specs.Replies.{reply_octets, reply_name, reply_spelled};
 
-use crate::octets::{ACK0, ACK1, NAK, RVI, WACK};
+use bsc_octet::controls::{ACK0, ACK1, NAK, RVI, WACK};
 
 /// A reply of a receiver (GA27-3004: control characters and sequences).
 #[derive(Clone, Copy, Debug, PartialEq, Eq)]

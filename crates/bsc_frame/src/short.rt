@@ -6,8 +6,8 @@ ghost use Rattle.bsc_frame.specs.Reading.{call, control, reply_or_call, whole_or
 ghost use Rattle.bsc_frame.specs.Replies.{reply_spelled};
 
 use crate::body::{after_all, body_of, starts_with};
-use crate::octets::{ENQ, EOT, PAD, STX, SYN};
 use crate::{Address, Reply};
+use bsc_octet::controls::{ENQ, EOT, PAD, STX, SYN};
 
 /// What octets that do not begin as a text are heard as: a message without a text, or noise.
 #[derive(Clone, Copy, Debug, PartialEq, Eq)]

@@ -3,12 +3,12 @@
 ghost use Rattle.std.specs.Prelude.{◌≡◌, ◌<◌, ◌≤◌, ◌+◌, ◌++◌, length, take, map, filter, IfSome};
 ghost use Rattle.std.specs.Prelude.{IfNone};
 ghost use Rattle.std.specs.List.{list_any, list_all};
-ghost use Rattle.bsc_octet.specs.Octet.{is_record_char};
-ghost use Rattle.bsc_frame.specs.Reading.{low_bits, is_octet, is_other, is_char_octet};
+ghost use Rattle.bsc_octet.specs.Octet.{is_record_char, code_in};
+ghost use Rattle.bsc_frame.specs.Reading.{is_octet, is_other, is_char_octet};
 
 use crate::limits::{MAX_CHARS, MAX_UNIT_CODES};
-use crate::octets::SYN;
-use bsc_octet::is_record_char;
+use bsc_octet::controls::SYN;
+use bsc_octet::{code_in, is_record_char};
 
 /// One octet more, without fill, than a unit has before its check.
 const TOO_MANY: usize = MAX_UNIT_CODES + 1;
@@ -80,12 +80,12 @@ pub(crate) fn squeeze(octets: &[u8], buffer: &mut UnitBuffer) -> Option<usize>
 #[tactic(auto, using(crate::proofs::Squeezing::code_steps))]
 pub(crate) fn copy_codes(octets: &[u8], buffer: &mut [u8; MAX_CHARS]) -> bool
     requires { length octets.now ≤ MAX_CHARS }
-    ensures codes { take (length octets.now) buffer.new ≡ map low_bits octets.now }
+    ensures codes { take (length octets.now) buffer.new ≡ map code_in octets.now }
     ensures chars { result ≡ list_all is_char_octet octets.now }
 {
     let mut chars = true;
     for (i, octet) in octets.iter().enumerate() {
-        let code = *octet % 0x80;
+        let code = code_in(*octet);
         buffer[i] = code;
         chars &= is_record_char(code);
     }

@@ -1,43 +1,17 @@
 //! From octets to the units of a text.
 ghost use Rattle.std.specs.Prelude.{◌≡◌, ◌<◌, [], length, map, All, None, IfSome, IfNone, false};
-ghost use Rattle.std.specs.Option.{option_copied};
-ghost use Rattle.bsc_octet.specs.Octet.{IsOdd, odd_octet, longitudinal_sum};
+ghost use Rattle.bsc_octet.specs.Octet.{IsOdd, code_in};
 ghost use Rattle.bsc_frame.specs.Drafts.{draft_units, IsDraft, AddsUnit, TakesUnit, ReadsText};
-ghost use Rattle.bsc_frame.specs.Reading.{low_bits, IsFront, AreParts, after_check, after_start};
-ghost use Rattle.bsc_frame.specs.Reading.{read_unit, unit_before, unit_at, units_at};
+ghost use Rattle.bsc_frame.specs.Reading.{IsFront, AreParts, after_start, read_unit, unit_before};
+ghost use Rattle.bsc_frame.specs.Reading.{unit_at, units_at};
 
 use crate::front::before_ending;
 use crate::limits::{MAX_CHARS, MAX_UNITS};
-use crate::octets::{EM, ETB_CODE, STX, US_CODE};
 use crate::squeeze::{UNIT_ROOM, UnitBuffer, copy_codes, has_fill, squeeze};
 use crate::text::Draft;
 use crate::{End, Unit};
-use bsc_octet::{sum, to_line};
-
-/// Returns the check of the codes: the octet that carries their sum.
-#[tactic(auto, using(crate::proofs::UnitSteps::check_no, crate::proofs::UnitSteps::check_is))]
-pub(crate) fn check_of(codes: &[u8]) -> u8
-    ensures { result ≡ odd_octet (longitudinal_sum codes.now) }
-{
-    let Some(check) = to_line(sum(codes)) else {
-        unreachable!();
-    };
-    check
-}
-
-/// Returns the octets after the check of `unit`; `None` if the first octet is not that check.
-#[tactic(auto, using(crate::proofs::UnitSteps::check_wrong, crate::proofs::UnitSteps::check_right))]
-fn checked<'a>(unit: &[u8], octets: &'a [u8]) -> Option<&'a [u8]>
-    ensures { option_copied result ≡ after_check unit.now octets.entry.now }
-{
-    if octets.is_empty() {
-        return None;
-    }
-    if octets[0] != check_of(unit) {
-        return None;
-    }
-    Some(&octets[1..])
-}
+use bsc_octet::controls::{EM, ETB_CODE, STX, US_CODE};
+use bsc_octet::{after_check, code_in};
 
 /// Returns the octets without an STX at their front, if they follow the check of a unit with US.
 fn without_start(after_us: bool, octets: &[u8]) -> &[u8]
@@ -86,8 +60,8 @@ fn take_chars(octets: &[u8], draft: &mut Draft) -> Option<u8>
     requires odd { All IsOdd octets.now }
     requires ends { IsFront octets.now }
     ensures found { IfSome result
-        (λ e. AddsUnit draft.old draft.new (read_unit (map low_bits octets.now)) e) }
-    ensures none { IfNone result (read_unit (map low_bits octets.now) ≡ None) }
+        (λ e. AddsUnit draft.old draft.new (read_unit (map code_in octets.now)) e) }
+    ensures none { IfNone result (read_unit (map code_in octets.now) ≡ None) }
 {
     let Parts { chars, em, last } = parts_of(octets);
     if chars.len() > MAX_CHARS {
@@ -101,7 +75,7 @@ fn take_chars(octets: &[u8], draft: &mut Draft) -> Option<u8>
         chars: &codes[..chars.len()],
         em,
     });
-    Some(last % 0x80)
+    Some(code_in(last))
 }
 
 /// Reads the unit of the octets `front`, which have no fill, adds it to the draft, and returns the
@@ -118,10 +92,10 @@ fn take_front<'a>(
     requires odd { All IsOdd front.now }
     requires ends { IsFront front.now }
     ensures found { IfSome result (λ r. TakesUnit draft.old draft.new
-        (unit_before after_us (map low_bits front.now) octets.entry.now) r.0 r.1.now) }
-    ensures none { IfNone result (unit_before after_us (map low_bits front.now) octets.now ≡ None) }
+        (unit_before after_us (map code_in front.now) octets.entry.now) r.0 r.1.now) }
+    ensures none { IfNone result (unit_before after_us (map code_in front.now) octets.now ≡ None) }
 {
-    let Some(rest) = checked(front, octets) else {
+    let Some(rest) = after_check(front, octets) else {
         return None;
     };
     let Some(ending) = take_chars(without_start(after_us, front), draft) else {

@@ -2,6 +2,6 @@
 use Rattle.std.proofs.Common.{◌↔◌, ℕ, ◌<◌, Bool, IsTrue}
 use Rattle.bsc_line_model.specs.Trust.{EachOf}
 
-pub alike : (b : Bool) (P : Type 0) (n : ℕ) → 0 < n → (IsTrue b ↔ P)
+pub same_test_for_each : (b : Bool) (P : Type 0) (n : ℕ) → 0 < n → (IsTrue b ↔ P)
     → (IsTrue b ↔ EachOf n (λ t. P))
-alike b P n some h = (λ yes t less. h.0 yes, λ each. h.1 (each 0 some))
+same_test_for_each b P n some h = (λ yes t less. h.0 yes, λ each. h.1 (each 0 some))

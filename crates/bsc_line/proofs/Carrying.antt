@@ -42,46 +42,46 @@ true_of_both true false r e x y = absurd (cc)
 true_of_both false b r e x y = absurd (cc)
 
 -- the flag after the transmission is the one that the definition requires
-pub trust_after : (a b r : Bool) (fair : Type 0) → r ≡ (a && b) → (IsTrue b ↔ fair)
+pub flag_is_trust_after : (a b r : Bool) (fair : Type 0) → r ≡ (a && b) → (IsTrue b ↔ fair)
     → IsTrustAfter a fair r
-trust_after a b r fair e f = (
+flag_is_trust_after a b r fair e f = (
   λ h. let both : IsTrue a × IsTrue b = both_true a b r e h in (both.0, f.0 both.1),
   λ h. true_of_both a b r e h.0 (f.1 h.1),
 )
 
 -- what is said of a transmission, if one is pending
-pub of_some : (P : Transmission → Type 0) (o : Option Transmission) (s : Transmission) → IfSome o P
+pub said_of_pending : (P : Transmission → Type 0) (o : Option Transmission) (s : Transmission) → IfSome o P
     → o ≡ Some s → P s
-of_some P o s h e = subst (λ (z : Option Transmission). IfSome z P) e h
+said_of_pending P o s h e = subst (λ (z : Option Transmission). IfSome z P) e h
 
 -- there is at least one terminal
-pub some_terminal : (c : ControlValue) (ts : List TributaryValue) → AreStations c ts → 0 < length ts
-some_terminal c ts s = let some : 1 ≤ length c.peers = s.control.some in omega (arith, s.count)
+pub at_least_one_terminal : (c : ControlValue) (ts : List TributaryValue) → AreStations c ts → 0 < length ts
+at_least_one_terminal c ts s = let some : 1 ≤ length c.peers = s.control.some in omega (arith, s.count)
 
 -- the sender of the pending transmission
-sent_of : (Q : Type 0) (o : Option Transmission) (speaker : Speaker) → speaker_of o ≡ Some speaker
+sender_of_pending : (Q : Type 0) (o : Option Transmission) (speaker : Speaker) → speaker_of o ≡ Some speaker
     → ((s : Transmission) → o ≡ Some s → s.speaker ≡ speaker → Q) → Q
-sent_of Q None speaker is f = absurd (cc)
-sent_of Q (Some s) speaker is f = f s refl (let same : s.speaker ≡ speaker = cc in same)
+sender_of_pending Q None speaker is f = absurd (cc)
+sender_of_pending Q (Some s) speaker is f = f s refl (let same : s.speaker ≡ speaker = cc in same)
 
 pub from_terminal : (l : LineValue) (t : ℕ) → speaker_of l.pending ≡ Some (Terminal t)
     → IsFromTerminal l
 from_terminal l t is =
-    sent_of (IsFromTerminal l) l.pending (Terminal t) is
+    sender_of_pending (IsFromTerminal l) l.pending (Terminal t) is
     (λ s e speaker. record { sent = s; pending = e; speaker = λ control. cc })
 
 pub from_control : (l : LineValue) → speaker_of l.pending ≡ Some Control → IsFromControl l
 from_control l is =
-    sent_of (IsFromControl l) l.pending Control is
+    sender_of_pending (IsFromControl l) l.pending Control is
     (λ s e speaker. record { sent = s; pending = e; speaker = speaker })
 
 -- all terminals hear the pending transmission in this way
-pub carries_down : (hear : Transmission → Heard) (l new : LineValue) → speaker_of l.pending
+pub terminals_hear_pending : (hear : Transmission → Heard) (l new : LineValue) → speaker_of l.pending
     ≡ Some Control
     → ((s : Transmission) → l.pending ≡ Some s → IsCarriedDown s.message (λ t. hear s) l new)
     → CarriesAs hear l new
-carries_down hear l new is f =
-    sent_of (CarriesAs hear l new) l.pending Control is
+terminals_hear_pending hear l new is f =
+    sender_of_pending (CarriesAs hear l new) l.pending Control is
     (λ s e speaker. record {
       sent = s;
       pending = e;
@@ -90,12 +90,12 @@ carries_down hear l new is f =
     })
 
 -- or the control station does
-pub carries_up : (hear : Transmission → Heard) (l new : LineValue) (t : ℕ) → speaker_of l.pending
+pub control_hears_pending : (hear : Transmission → Heard) (l new : LineValue) (t : ℕ) → speaker_of l.pending
     ≡ Some (Terminal t)
     → ((s : Transmission) → l.pending ≡ Some s → IsCarriedUp s.message (hear s) l new)
     → CarriesAs hear l new
-carries_up hear l new t is f =
-    sent_of (CarriesAs hear l new) l.pending (Terminal t) is
+control_hears_pending hear l new t is f =
+    sender_of_pending (CarriesAs hear l new) l.pending (Terminal t) is
     (λ s e speaker. record {
       sent = s;
       pending = e;
@@ -104,27 +104,27 @@ carries_up hear l new t is f =
     })
 
 -- nothing is pending
-pub none_of : (o : Option Transmission) → is_some o ≡ false → o ≡ None
-none_of None e = refl
-none_of (Some s) e = absurd (cc)
+pub none_if_not_some : (o : Option Transmission) → is_some o ≡ false → o ≡ None
+none_if_not_some None e = refl
+none_if_not_some (Some s) e = absurd (cc)
 
 -- the owner of the line has acted on a silence
 pub passes_silence : (l new : LineValue) (owner : Option ℕ) → is_some l.pending ≡ false → owner
     ≡ line_owner l.terminals → OwnerActs owner l new → PassesSilence l new
 passes_silence l new owner none is acts =
     record {
-      nothing = none_of l.pending none;
+      nothing = none_if_not_some l.pending none;
       acts =
           subst (λ (o : Option ℕ). OwnerActs o l new) is acts;
     }
 
 -- each terminal hears its item
-pub carries_each : (l new : LineValue) (items : List (Option (Bor (List ℕ)))) → speaker_of l.pending
+pub each_hears_own_item : (l new : LineValue) (items : List (Option (Bor (List ℕ)))) → speaker_of l.pending
     ≡ Some Control → length items ≡ terminal_count l
     → ((s : Transmission) → l.pending ≡ Some s → IsCarriedDown s.message (heard_at items) l new)
     → CarriesEachAs items l new
-carries_each l new items is count f =
-    sent_of (CarriesEachAs items l new) l.pending Control is
+each_hears_own_item l new items is count f =
+    sender_of_pending (CarriesEachAs items l new) l.pending Control is
     (λ s e speaker. record {
       sent = s;
       pending = e;
@@ -135,26 +135,26 @@ carries_each l new items is count f =
     })
 
 -- what is heard as it was sent is heard fairly
-whole_fair : (w : Message) (n : ℕ) → IsHeardFairly w n (λ t. Whole w)
-whole_fair (m.Call a) n = inl (λ t less. refl)
-whole_fair m.Eot n = λ t less. inl refl
-whole_fair m.Enq n = λ t less. inl refl
-whole_fair (m.Reply r) n = λ t less. inl refl
-whole_fair (m.Text x) n = λ t less. inl refl
+whole_is_fair_hearing : (w : Message) (n : ℕ) → IsHeardFairly w n (λ t. Whole w)
+whole_is_fair_hearing (m.Call a) n = inl (λ t less. refl)
+whole_is_fair_hearing m.Eot n = λ t less. inl refl
+whole_is_fair_hearing m.Enq n = λ t less. inl refl
+whole_is_fair_hearing (m.Reply r) n = λ t less. inl refl
+whole_is_fair_hearing (m.Text x) n = λ t less. inl refl
 
 -- so the line is trusted after it exactly if it was before
 pub trust_stays : (trusted : Bool) (fair : Type 0) → fair → IsTrustAfter trusted fair trusted
 trust_stays trusted fair f = (λ h. (h, f), λ h. h.0)
 
 -- all terminals hear what was sent
-pub carried_whole : (w : Message) (h : Heard) (old new : LineValue) → h ≡ Whole w → new.control
+pub all_hear_what_was_sent : (w : Message) (h : Heard) (old new : LineValue) → h ≡ Whole w → new.control
     ≡ old.control → EachHears old.terminals (λ t. h) new.terminals
     → EachKeeps old.terminals (λ t. h) new.terminals →
     new.pending ≡ first_answer old.terminals (λ t. h) new.terminals (terminal_count old)
     → IsAddressedAfter (addresses_of old.control) (terminal_count old) (λ t. h) old.addressed
     new.addressed → new.trusted ≡ old.trusted →
     IsCarriedDown w (λ t. Whole w) old new
-carried_whole w h old new is control each kept pending addressed trusted =
+all_hear_what_was_sent w h old new is control each kept pending addressed trusted =
     subst (λ (x : Heard). IsCarriedDown w (λ t. x) old new) is
     (record {
       control = control;
@@ -167,7 +167,7 @@ carried_whole w h old new is control each kept pending addressed trusted =
           (IsHeardFairly w (terminal_count old) (λ t. h)) b) (sym trusted)
           (trust_stays old.trusted (IsHeardFairly w (terminal_count old) (λ t. h))
           (subst (λ (x : Heard). IsHeardFairly w (terminal_count old) (λ t. x)) (sym is)
-          (whole_fair w (terminal_count old))));
+          (whole_is_fair_hearing w (terminal_count old))));
     })
 
 -- the control station hears what was sent
@@ -198,11 +198,11 @@ carries_heard h k l result new same c =
     subst (λ (x : Heard). Carries (λ (s : Transmission). x) l result new) same c
 
 -- a terminal has acted
-pub acted_at : (l : LineValue) (t : ℕ) (x u : TributaryValue) (sent : Option Message)
+pub owner_terminal_acted : (l : LineValue) (t : ℕ) (x u : TributaryValue) (sent : Option Message)
     (next : Option Transmission) → t < terminal_count l → x ≡ get_or l.terminals t x
     → TerminalActs x u sent → TerminalKeeps x u sent → next ≡ sent_by (Terminal t) sent →
     TerminalActsAlone t l (record (with_terminal l t u) { pending = next })
-acted_at l t x u sent next less is row kept made =
+owner_terminal_acted l t x u sent next less is row kept made =
     let here : x ≡ terminal_at l t = sym (is_terminal l.terminals t x less is) in
     let there : u ≡ terminal_in (slice_set l.terminals t u) t =
     sym (get_or-set_same l.terminals t u no_terminal less) in

@@ -30,19 +30,19 @@ pub heeds_answer : (t : TributaryValue) (h : Heard) (u : TributaryValue) (out : 
 heeds_answer t h u out x = subst (λ (o : Option Message). Heeds t h u o) (sent_is t h u out x.row) x
 
 -- a terminal that does not answer leaves the first answer unchanged
-pub first_kept : (first : Option Transmission) (t : ℕ) → first
+pub first_answer_kept_by_quiet : (first : Option Transmission) (t : ℕ) → first
     ≡ or_first first (sent_by (Terminal t) None)
-first_kept None t = refl
-first_kept (Some s) t = refl
+first_answer_kept_by_quiet None t = refl
+first_answer_kept_by_quiet (Some s) t = refl
 
 -- the first n answers depend only on the first n terminals
-pub first_same : (old a b : List TributaryValue) (hears : ℕ → Heard) (n : ℕ)
+pub first_answer_of_same_front : (old a b : List TributaryValue) (hears : ℕ → Heard) (n : ℕ)
     → ((k : ℕ) → k < n → terminal_in a k ≡ terminal_in b k) → first_answer old hears a n
     ≡ first_answer old hears b n
-first_same old a b hears zero e = refl
-first_same old a b hears (suc n) e =
+first_answer_of_same_front old a b hears zero e = refl
+first_answer_of_same_front old a b hears (suc n) e =
     let r : first_answer old hears a n ≡ first_answer old hears b n =
-    first_same old a b hears n (λ k less. e k (omega arith)) in
+    first_answer_of_same_front old a b hears n (λ k less. e k (omega arith)) in
     let here : get_or a n no_terminal ≡ get_or b n no_terminal = e n (omega arith) in
     rw (r, here)
 
@@ -54,24 +54,24 @@ pub record HaveHeard (old : List TributaryValue) (hears : ℕ → Heard) (cur : 
       → Heeds (terminal_in old k) (hears k) (terminal_in cur k) (answer_of old hears cur k)
   pub rest : (k : ℕ) → i ≤ k → terminal_in cur k ≡ terminal_in old k
 
-pub none_heard : (old : List TributaryValue) (hears : ℕ → Heard) → HaveHeard old hears old 0
-none_heard old hears =
+pub none_have_heard : (old : List TributaryValue) (hears : ℕ → Heard) → HaveHeard old hears old 0
+none_have_heard old hears =
     record { count = refl; heard = λ k less. absurd (omega arith); rest = λ k less. refl }
 
 -- the terminal at place i is the old one
-pub still_there : (old : List TributaryValue) (hears : ℕ → Heard) (cur : List TributaryValue)
+pub next_terminal_is_old : (old : List TributaryValue) (hears : ℕ → Heard) (cur : List TributaryValue)
     (i : ℕ) (t : TributaryValue) → HaveHeard old hears cur i → i < length old → t ≡ get_or cur i t
     → terminal_in old i ≡ t
-still_there old hears cur i t p less is =
+next_terminal_is_old old hears cur i t p less is =
     let less_cur : i < length cur = rw p.count less in
     sym (p.rest i (omega arith)) ∙ (get_or_default cur i no_terminal t less_cur ∙ sym is)
 
-pub one_more : (old : List TributaryValue) (hears : ℕ → Heard) (cur : List TributaryValue) (i : ℕ)
+pub one_more_has_heard : (old : List TributaryValue) (hears : ℕ → Heard) (cur : List TributaryValue) (i : ℕ)
     (t u : TributaryValue) (out : Option Message) → HaveHeard old hears cur i → i < length old → t
     ≡ get_or cur i t → Heeds t (hears i) u out → HaveHeard old hears (slice_set cur i u) (i + 1)
-one_more old hears cur i t u out p less is heard =
+one_more_has_heard old hears cur i t u out p less is heard =
     let less_cur : i < length cur = rw p.count less in
-    let there : get_or old i no_terminal ≡ t = still_there old hears cur i t p less is in
+    let there : get_or old i no_terminal ≡ t = next_terminal_is_old old hears cur i t p less is in
     record {
       count = length-set cur i u ∙ p.count;
       heard =
@@ -88,16 +88,16 @@ one_more old hears cur i t u out p less is heard =
     }
 
 -- the first answer of one more terminal
-pub first_more : (old : List TributaryValue) (hears : ℕ → Heard) (cur : List TributaryValue) (i : ℕ)
+pub first_answer_with_one_more : (old : List TributaryValue) (hears : ℕ → Heard) (cur : List TributaryValue) (i : ℕ)
     (t u : TributaryValue) (out : Option Message) → HaveHeard old hears cur i → i < length old → t
     ≡ get_or cur i t → Heeds t (hears i) u out →
     first_answer old hears (slice_set cur i u) (i + 1)
     ≡ or_first (first_answer old hears cur i) (sent_by (Terminal i) out)
-first_more old hears cur i t u out p less is heard =
+first_answer_with_one_more old hears cur i t u out p less is heard =
     let less_cur : i < length cur = rw p.count less in
-    let there : get_or old i no_terminal ≡ t = still_there old hears cur i t p less is in
+    let there : get_or old i no_terminal ≡ t = next_terminal_is_old old hears cur i t p less is in
     let same : first_answer old hears (slice_set cur i u) i ≡ first_answer old hears cur i =
-    first_same old (slice_set cur i u) cur hears i
+    first_answer_of_same_front old (slice_set cur i u) cur hears i
     (λ k less. let ne : k ≢ i = omega arith in get_or-set_other cur i k u no_terminal ne) in
     rw (
       add-one,
@@ -108,9 +108,9 @@ first_more old hears cur i t u out p less is heard =
     )
 
 -- all have heard
-pub all_heard : (old : List TributaryValue) (hears : ℕ → Heard) (cur : List TributaryValue) (i : ℕ)
+pub all_have_heard : (old : List TributaryValue) (hears : ℕ → Heard) (cur : List TributaryValue) (i : ℕ)
     → HaveHeard old hears cur i → i ≡ length old → EachHears old hears cur × EachKeeps old hears cur
-all_heard old hears cur i p all = (
+all_have_heard old hears cur i p all = (
   record { count = p.count; each = λ t less. (p.heard t (omega arith)).row },
   λ t less. (p.heard t (omega arith)).after,
 )

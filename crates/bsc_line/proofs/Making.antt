@@ -19,15 +19,15 @@ pub record AreMade (setup : SetupValue) (given : List TerminalValue) (ts : List 
   pub each : (t : ℕ) → t < n
       → IsNewTerminal setup (get_or given t no_peer.terminal) (terminal_in ts t)
 
-pub none_made : (setup : SetupValue) (given : List TerminalValue) (ts : List TributaryValue) → ts
+pub made_at_start : (setup : SetupValue) (given : List TerminalValue) (ts : List TributaryValue) → ts
     ≡ [] → AreMade setup given ts 0
-none_made setup given ts e = record { count = ap length e; each = λ t less. absurd (omega arith) }
+made_at_start setup given ts e = record { count = ap length e; each = λ t less. absurd (omega arith) }
 
-pub one_made : (setup : SetupValue) (given : List TerminalValue) (ts us : List TributaryValue)
+pub one_more_made : (setup : SetupValue) (given : List TerminalValue) (ts us : List TributaryValue)
     (n : ℕ) (given_here : TerminalValue) (x : TributaryValue) → AreMade setup given ts n → n
     < length given → given_here ≡ get_or given n given_here → IsNewTerminal setup given_here x → us
     ≡ ts ++ x ∷ [] → AreMade setup given us (n + 1)
-one_made setup given ts us n given_here x m less is new becomes =
+one_more_made setup given ts us n given_here x m less is new becomes =
     let seam : get_or (ts ++ x ∷ []) n no_terminal ≡ x =
     subst (λ (k : ℕ). get_or (ts ++ x ∷ []) k no_terminal ≡ x) m.count
     (get_or-append_seam ts x [] no_terminal) in
@@ -46,7 +46,7 @@ one_made setup given ts us n given_here x m less is new becomes =
           (rw (here, seam) new));
     }
 
-pub all_made : (setup : SetupValue) (given : List TerminalValue) (ts : List TributaryValue) (n : ℕ)
+pub all_terminals_made : (setup : SetupValue) (given : List TerminalValue) (ts : List TributaryValue) (n : ℕ)
     → AreMade setup given ts n → n ≡ length given → AreNewTerminals setup given ts
-all_made setup given ts n m all =
+all_terminals_made setup given ts n m all =
     record { count = m.count ∙ all; each = λ t less. m.each t (omega arith) }

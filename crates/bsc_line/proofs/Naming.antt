@@ -39,10 +39,10 @@ addressed_nobody ts n hears old some all =
     }
 
 -- not all hear a call, and not all hear EOT
-pub still_addressed : (ts : List TerminalValue) (n : ℕ) (hears : ℕ → Heard) (old : Option (ℕ × Way))
+pub addressed_if_no_call_or_eot : (ts : List TerminalValue) (n : ℕ) (hears : ℕ → Heard) (old : Option (ℕ × Way))
     → ((a : List ℕ) → AllHear n hears (m.Call a) → ⊥) → (AllHear n hears m.Eot → ⊥)
     → IsAddressedAfter ts n hears old old
-still_addressed ts n hears old f g =
+addressed_if_no_call_or_eot ts n hears old f g =
     record {
       called = λ z each. absurd (f z each);
       ended = λ each. absurd (g each);
@@ -51,11 +51,11 @@ still_addressed ts n hears old f g =
     }
 
 -- the first terminal hears a call that not all hear
-pub other_call : (ts : List TerminalValue) (n : ℕ) (hears : ℕ → Heard) (old : Option (ℕ × Way))
+pub addressed_after_call_not_heard_by_all : (ts : List TerminalValue) (n : ℕ) (hears : ℕ → Heard) (old : Option (ℕ × Way))
     (a : List ℕ) (all : Bool) → 0 < n → Address a ≡ named_in (hears 0) → all ≡ false
     → (IsTrue all ↔ AllHear n hears (m.Call a)) → IsAddressedAfter ts n hears old old
-other_call ts n hears old a all some first not told =
-    still_addressed ts n hears old
+addressed_after_call_not_heard_by_all ts n hears old a all some first not told =
+    addressed_if_no_call_or_eot ts n hears old
     (λ z each.
     let there : hears 0 ≡ Whole (m.Call z) = each 0 some in
     let named : Address a ≡ Address z = first ∙ ap named_in there in
@@ -65,19 +65,19 @@ other_call ts n hears old a all some first not told =
     (λ each. let there : Address a ≡ Nobody = first ∙ ap named_in (each 0 some) in cc)
 
 -- the first terminal hears an EOT that not all hear
-pub other_eot : (ts : List TerminalValue) (n : ℕ) (hears : ℕ → Heard) (old : Option (ℕ × Way))
+pub addressed_after_eot_not_heard_by_all : (ts : List TerminalValue) (n : ℕ) (hears : ℕ → Heard) (old : Option (ℕ × Way))
     (all : Bool) → 0 < n → Nobody ≡ named_in (hears 0) → all ≡ false
     → (IsTrue all ↔ AllHear n hears m.Eot) → IsAddressedAfter ts n hears old old
-other_eot ts n hears old all some first not told =
-    still_addressed ts n hears old
+addressed_after_eot_not_heard_by_all ts n hears old all some first not told =
+    addressed_if_no_call_or_eot ts n hears old
     (λ z each. let there : Nobody ≡ Address z = first ∙ ap named_in (each 0 some) in cc)
     (λ each. let yet : IsTrue all = told.1 each in cc)
 
 -- the first terminal hears neither
-pub other_heard : (ts : List TerminalValue) (n : ℕ) (hears : ℕ → Heard) (old : Option (ℕ × Way)) → 0
+pub addressed_after_other_hearing : (ts : List TerminalValue) (n : ℕ) (hears : ℕ → Heard) (old : Option (ℕ × Way)) → 0
     < n → Nothing ≡ named_in (hears 0) → IsAddressedAfter ts n hears old old
-other_heard ts n hears old some first =
-    still_addressed ts n hears old
+addressed_after_other_hearing ts n hears old some first =
+    addressed_if_no_call_or_eot ts n hears old
     (λ z each. let there : Nothing ≡ Address z = first ∙ ap named_in (each 0 some) in cc)
     (λ each. let there : Nothing ≡ Nobody = first ∙ ap named_in (each 0 some) in cc)
 

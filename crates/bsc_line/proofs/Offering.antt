@@ -4,7 +4,7 @@ use Rattle.std.proofs.Common.{Some, Result, Ok, Err, OnOk, OnErr, IfErr, length,
 use Rattle.std.proofs.Common.{not, if◌then◌else◌, sym, ◌∙◌, ap, subst}
 use Rattle.std.proofs.lemmas.List.{set-get_or}
 use Rattle.std.proofs.lemmas.Bool.Decides.{nat_tests}
-use Rattle.bsc_octet.specs.Octet.{is_record_char}
+use Rattle.bsc_frame.specs.Octet.{is_record_char}
 use Rattle.bsc_block.specs.declared.record.RecordError.{RecordError}
 use Rattle.bsc_block.specs.declared.record.RecordError.TheVariants.{TooLong}
 use Rattle.bsc_block.specs.Records.{record_of, unless_wrong}
@@ -26,9 +26,9 @@ use Rattle.bsc_line_model.specs.Kept.{IsLine, IsMember}
 use Rattle.bsc_line_model.specs.Stays.{OfferAtStays, OfferForStays}
 
 -- what was read is a record
-good : (x : Result (List ℕ) RecordError) (r : List ℕ) → or_bad x ≡ Ok r → x ≡ Ok r
-good (Ok y) r e = let same : y ≡ r = cc in ap (λ (z : List ℕ). Ok z) same
-good (Err y) r e = absurd (cc)
+record_of_good_read : (x : Result (List ℕ) RecordError) (r : List ℕ) → or_bad x ≡ Ok r → x ≡ Ok r
+record_of_good_read (Ok y) r e = let same : y ≡ r = cc in ap (λ (z : List ℕ). Ok z) same
+record_of_good_read (Err y) r e = absurd (cc)
 
 -- and has these codes
 own_codes : (long : Bool) (wrong : Option ℕ) (codes r : List ℕ)
@@ -40,11 +40,11 @@ own_codes false (Some place) codes r e = absurd (cc)
 pub read_codes : (full : ℕ) (codes r : List ℕ) → read_for full codes ≡ Ok r → r ≡ codes
 read_codes full codes r e =
     own_codes (nat_lt full (length codes)) (position (λ c. not (is_record_char c)) codes) codes r
-    (good (record_of full codes) r e)
+    (record_of_good_read (record_of full codes) r e)
 
 pub read_good : (full : ℕ) (codes r : List ℕ) → read_for full codes ≡ Ok r → record_of full codes
     ≡ Ok codes
-read_good full codes r e = good (record_of full codes) r e
+read_good full codes r e = record_of_good_read (record_of full codes) r e
     ∙ ap (λ (z : List ℕ). Ok z) (read_codes full codes r e)
 
 -- which are not too many
@@ -58,7 +58,7 @@ read_short full codes r e =
     subst (λ (xs : List ℕ). length xs ≤ full) (sym (read_codes full codes r e))
     (few_codes full (length codes) (nat_lt full (length codes))
     (position (λ c. not (is_record_char c)) codes) codes r refl
-    (good (record_of full codes) r e))
+    (record_of_good_read (record_of full codes) r e))
 
 -- writing back the terminal that was read changes nothing
 put_back : (l : LineValue) (t : ℕ) → with_terminal l t (terminal_at l t) ≡ l
@@ -66,13 +66,13 @@ put_back l t =
     ap (λ (ts : List TributaryValue). record l { terminals = ts })
     (set-get_or l.terminals t no_terminal)
 
-pub offers_at : (old new : LineValue) (t : ℕ) (codes r : List ℕ) (x u : TributaryValue)
+pub offer_at_terminal : (old new : LineValue) (t : ℕ) (codes r : List ℕ) (x u : TributaryValue)
     (result : Result (Unit {0}) LineError) → t < terminal_count old
     → read_for (full_length old) codes ≡ Ok r → terminal_at old t ≡ x → new ≡ with_terminal old t u
     →
     OnOk result (u ≡ record x { queue = with_offered x.queue r }) → OnErr result (u ≡ x)
     → IfErr result (λ e. e ≡ Memory) → OffersAt old t codes result new
-offers_at old new t codes r x u (Ok done) less read here is ok err memory =
+offer_at_terminal old new t codes r x u (Ok done) less read here is ok err memory =
     let same : u ≡ record (terminal_at old t)
     { queue = with_offered (terminal_at old t).queue codes } =
     ok ∙ ap (λ (y : TributaryValue). record y { queue = with_offered y.queue r }) (sym here)
@@ -84,7 +84,7 @@ offers_at old new t codes r x u (Ok done) less read here is ok err memory =
       is
           ∙ ap (λ (y : TributaryValue). with_terminal old t y) same,
     )
-offers_at old new t codes r x u (Err e) less read here is ok err memory =
+offer_at_terminal old new t codes r x u (Err e) less read here is ok err memory =
     subst (λ (f : LineError). OffersAt old t codes (Err f) new) (sym memory) (
       less,
       read_good (full_length old) codes r read,

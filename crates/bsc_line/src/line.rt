@@ -19,7 +19,7 @@ ghost use Rattle.bsc_line_model.specs.Kept.{IsLine, IsNewLine};
 use crate::pending::lend;
 use crate::terminals::new_terminals;
 use bsc_bid::{Setup, Terminal};
-use bsc_block::Record;
+use bsc_block::Records;
 use bsc_control::{Control, SetupError, Way};
 use bsc_directory::laws::distinct_addresses;
 use bsc_line_model::Transmission;
@@ -130,9 +130,9 @@ impl<A: Allocator> Line<A> {
     }
 
     /// Returns the records that were offered on a channel, in order. Condition: the channel exists.
-    pub fn offered(&self, terminal: usize, way: Way) -> &[Record]
+    pub fn offered(&self, terminal: usize, way: Way) -> &Records<A>
         requires { IsChannel self.now terminal way }
-        ensures value { result.now ≡ (channel_of self.now terminal way).offered }
+        ensures value { result.now.items ≡ (channel_of self.now terminal way).offered }
         ensures line { IsLine self.now }
     {
         match way {
@@ -145,9 +145,9 @@ impl<A: Allocator> Line<A> {
     }
 
     /// Returns the records that arrived on a channel, in order. Condition: the channel exists.
-    pub fn spooled(&self, terminal: usize, way: Way) -> &[Record]
+    pub fn spooled(&self, terminal: usize, way: Way) -> &Records<A>
         requires { IsChannel self.now terminal way }
-        ensures value { result.now ≡ (channel_of self.now terminal way).spooled }
+        ensures value { result.now.items ≡ (channel_of self.now terminal way).spooled }
         ensures line { IsLine self.now }
     {
         match way {

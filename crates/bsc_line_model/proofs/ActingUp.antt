@@ -20,7 +20,7 @@ use Rattle.bsc_line_model.specs.Transmission.{sent_by}
 use Rattle.bsc_line_model.specs.Together.{HasNoBid, RestsDown, IsInBidUp, AllInControlMode}
 use Rattle.bsc_line_model.specs.Together.{IsPolledWith}
 use Rattle.bsc_line_model.specs.BidLaws.{BidLaws}
-use Rattle.bsc_line_model.proofs.SendingUp.{rests, stays}
+use Rattle.bsc_line_model.proofs.SendingUp.{bid_over_at_rest, in_bid_while_going}
 
 -- the terminal sends nothing or EOT, and is then in control mode
 abbrev pub IsEndedUp : Option Message → Mode → Type 0
@@ -42,7 +42,7 @@ pub record StepsUp (p : PeerValue) (x : TributaryValue) (step : SenderStep) : Ty
 abbrev pub KeptQuiet : Mode → Phase → Type 0
 KeptQuiet mode phase = ((mode ≡ Sending) × IsGoing phase) ⊎ ((mode ≢ Sending) × IsAtRest phase)
 
-pub acts_up : (laws : BidLaws) (p : PeerValue) (e : ℕ) (x : TributaryValue) (step : SenderStep)
+pub bid_up_after_act : (laws : BidLaws) (p : PeerValue) (e : ℕ) (x : TributaryValue) (step : SenderStep)
     (act : Act) → step.act ≡ act → StepsUp p x step
     → (act ≡ a.Quiet → KeptQuiet x.mode step.sender.phase) →
     HasActedUp p e (record x {
@@ -51,7 +51,7 @@ pub acts_up : (laws : BidLaws) (p : PeerValue) (e : ℕ) (x : TributaryValue) (s
       queue =
           step.queue;
     }) (message_of_act act)
-acts_up laws p e x step (a.Send text) is h kept =
+bid_up_after_act laws p e x step (a.Send text) is h kept =
     inr (record {
       mode = refl;
       down = h.down;
@@ -63,7 +63,7 @@ acts_up laws p e x step (a.Send text) is h kept =
           (subst (λ (z : Act). Continues step.sender.phase step.queue p.receiver.alternation
           p.receiver.last p.spool.records (sent_flight z)) is h.continues);
     })
-acts_up laws p e x step a.Enq is h kept =
+bid_up_after_act laws p e x step a.Enq is h kept =
     inr (record {
       mode = refl;
       down = h.down;
@@ -75,19 +75,19 @@ acts_up laws p e x step a.Enq is h kept =
           (subst (λ (z : Act). Continues step.sender.phase step.queue p.receiver.alternation
           p.receiver.last p.spool.records (sent_flight z)) is h.continues);
     })
-acts_up laws p e x step a.Over is h kept =
+bid_up_after_act laws p e x step a.Over is h kept =
     let at_rest : IsAtRest step.sender.phase =
     subst (λ (z : Act). IsEnded z step.sender.phase) is h.ended in
     inl (
       record {
         mode = λ sends. cc;
         up =
-            rests step.sender.phase step.queue _ _ _ _ at_rest h.continues;
+            bid_over_at_rest step.sender.phase step.queue _ _ _ _ at_rest h.continues;
         down = h.down;
       },
       inr (refl, refl),
     )
-acts_up laws p e x step a.Quiet is h kept =
+bid_up_after_act laws p e x step a.Quiet is h kept =
     elim (kept refl) [
       | inl k ↦
           inr (record {
@@ -96,7 +96,7 @@ acts_up laws p e x step a.Quiet is h kept =
             flight = Still;
             flies = refl;
             bid =
-                stays step.sender.phase step.queue p.receiver.alternation p.receiver.last
+                in_bid_while_going step.sender.phase step.queue p.receiver.alternation p.receiver.last
                 p.spool.records Still k.1
                 (subst (λ (z : Act). Continues step.sender.phase step.queue p.receiver.alternation
                 p.receiver.last p.spool.records (sent_flight z)) is h.continues);
@@ -105,7 +105,7 @@ acts_up laws p e x step a.Quiet is h kept =
           inl (
             record {
               mode = k.0;
-              up = rests step.sender.phase step.queue _ _ _ _ k.1 h.continues;
+              up = bid_over_at_rest step.sender.phase step.queue _ _ _ _ k.1 h.continues;
               down = h.down;
             },
             inl refl,
@@ -123,11 +123,11 @@ ended_with p e mode out replied ts (inr eot) all =
     subst (λ (o : Option Message). IsPolledWith (sent_by (sp.Terminal e) o) replied p e ts)
     (sym eot.0) (refl, refl, all eot.1)
 
-pub present_after : (p : PeerValue) (e : ℕ) (u : TributaryValue) (out : Option Message)
+pub present_terminal_after_act : (p : PeerValue) (e : ℕ) (u : TributaryValue) (out : Option Message)
     (replied : Replied) (ts : List TributaryValue) → HasActedUp p e u out
     → (u.mode ≡ Control → AllInControlMode ts) →
     (HasNoBid p u × IsPolledWith (sent_by (sp.Terminal e) out) replied p e ts)
     ⊎ IsInBidUp (sent_by (sp.Terminal e) out) p e u
-present_after p e u out replied ts (inl h) all =
+present_terminal_after_act p e u out replied ts (inl h) all =
     inl (h.0, ended_with p e u.mode out replied ts h.1 all)
-present_after p e u out replied ts (inr h) all = inr h
+present_terminal_after_act p e u out replied ts (inr h) all = inr h

@@ -24,10 +24,10 @@ use Rattle.bsc_line_model.specs.Together.{IsPolling, IsInBidDown, InTask}
 use Rattle.bsc_line_model.specs.BidLaws.{BidLaws}
 use Rattle.bsc_line_model.proofs.Stations.{current_terminal_there}
 use Rattle.bsc_line_model.proofs.Tuning.{NamesOwn, each_fairly}
-use Rattle.bsc_line_model.proofs.SendingDown.{IsBidMessage, sends_down}
+use Rattle.bsc_line_model.proofs.SendingDown.{IsBidMessage, bid_down_continues}
 use Rattle.bsc_line_model.proofs.CallsHeard.{selecting_heard}
 use Rattle.bsc_line_model.proofs.CallsMissed.{selecting_missed, polling_missed}
-use Rattle.bsc_line_model.proofs.CallsHeard.{polling_heard, with_others}
+use Rattle.bsc_line_model.proofs.CallsHeard.{polling_heard, no_bids_if_none_with_each}
 use Rattle.bsc_line_model.proofs.RepliesHeard.{polling_replied, selecting_enquired}
 
 bid_no_call : (w : Message) → IsBidMessage w → is_call w ≡ false
@@ -42,7 +42,7 @@ pub reply_is_no_call : (r : Reply) → is_call (m.Reply r) ≡ false
 reply_is_no_call r = refl
 
 -- The terminals hear the control station: they and their answer fit together with it.
-pub hears_down : (names : NamesOwn) (laws : BidLaws) (c : ControlValue) (old : List TributaryValue)
+pub together_after_hearing_control : (names : NamesOwn) (laws : BidLaws) (c : ControlValue) (old : List TributaryValue)
     (before after : Option (ℕ × Way)) (w : Message) (hears : ℕ → Heard) (new : List TributaryValue)
     → AreStations c old → AreTuned before old →
     InTask c.task (Some (record { speaker = sp.Control; message = w })) c old
@@ -50,7 +50,7 @@ pub hears_down : (names : NamesOwn) (laws : BidLaws) (c : ControlValue) (old : L
     → IsAddressedAfter (terminals c) (length old) hears before after → EachHears old hears new
     → EachKeeps old hears new →
     InTask c.task (first_answer old hears new (length old)) c new
-hears_down names laws c old before after w hears new stations tuned together fair addressed each
+together_after_hearing_control names laws c old before after w hears new stations tuned together fair addressed each
     keeps = by_task c.task refl together
   where
     there : current c < length old
@@ -81,13 +81,13 @@ hears_down names laws c old before after w hears new stations tuned together fai
         (spool_at x.spools s).records w
         (subst (λ (f : Flight). InBid o.sender.phase o.queue x.receiver.alternation x.receiver.last
         (spool_at x.spools s).records f) b.flies b.bid) in
-        sends_down laws c old before s w hears new there stations tuned k
+        bid_down_continues laws c old before s w hears new there stations tuned k
         (each_fairly w (length old) hears (bid_no_call w bid) fair) each keeps
     by_task (Polling replied) is k =
         elim k.present [
           | inl q ↦
               (let nothing : replied ≡ Nothing = q.1.1 in
-              let no_bids = with_others c old (current c) k.others q.0 in
+              let no_bids = no_bids_if_none_with_each c old (current c) k.others q.0 in
               elim (subst (λ (v : Message). IsHeardFairly v (length old) hears) q.1.0 fair) [
                 | inl all ↦
                     subst (λ (r : Replied). IsPolling (first_answer old hears new (length old)) c

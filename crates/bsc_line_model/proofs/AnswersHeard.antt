@@ -9,7 +9,7 @@ use Rattle.bsc_frame.specs.declared.message.Heard.TheVariants.{Whole, Failed, No
 use Rattle.bsc_bid.specs.declared.alternation.Alternation.{Alternation}
 use Rattle.bsc_bid.specs.declared.alternation.Alternation.TheVariants.{Even}
 use Rattle.bsc_frame.specs.declared.reply.Reply.{Reply}
-use Rattle.bsc_frame.specs.declared.reply.Reply.TheVariants.{Ack0, Ack1, Nak, Wack, Rvi}
+use Rattle.bsc_frame.specs.declared.reply.Reply.TheVariants.{Ack0, Nak, Wack}
 use Rattle.bsc_bid.specs.declared.phase.Phase.{Phase}
 use Rattle.bsc_bid.specs.declared.phase.Phase.TheVariants.{Idle}
 use Rattle.bsc_frame.specs.Replies.{reply_in}
@@ -29,7 +29,8 @@ use Rattle.bsc_control.specs.Control.{ControlValue, ControlStep, peer, current, 
 use Rattle.bsc_control.specs.CallOrder.{After, Selection, Poll, next_call}
 use Rattle.bsc_control.specs.Kept.{IsSelected, SuitsTask, AfterHearing}
 use Rattle.bsc_control.specs.Table.{Hears, next_call_step, bid_step, selecting_step, polling_step}
-use Rattle.bsc_control.specs.Table.{task_step, receive_step, is_interrupted, replied_after, rooms_after}
+use Rattle.bsc_control.specs.Table.{task_step, receive_step, is_interrupted, replied_after}
+use Rattle.bsc_control.specs.Table.{rooms_after}
 use Rattle.bsc_line_model.specs.declared.transmission.Speaker.TheVariants as sp
 use Rattle.bsc_line_model.specs.declared.transmission.Transmission.{Transmission}
 use Rattle.bsc_line_model.specs.Transmission.{sent_by}
@@ -39,12 +40,14 @@ use Rattle.bsc_line_model.specs.Together.{HasNoBid, NoBids, NoOtherBids, IsFresh
 use Rattle.bsc_line_model.specs.Together.{IsSelecting, IsSending, IsPolling, IsInBidDown, IsInBidUp}
 use Rattle.bsc_line_model.specs.Together.{FliesUp, InTask}
 use Rattle.bsc_line_model.specs.BidLaws.{BidLaws}
-use Rattle.bsc_control.proofs.Calls.{places, current_there, next_there}
+use Rattle.bsc_control.proofs.Calls.{places, current_within_peers, next_call_within_peers}
 use Rattle.bsc_line_model.proofs.Stations.{current_terminal_there}
-use Rattle.bsc_line_model.proofs.Calling.{called_next}
+use Rattle.bsc_line_model.proofs.Calling.{no_bids_after_call}
 use Rattle.bsc_line_model.proofs.SendingDown.{IsBidMessage, no_call_heard}
-use Rattle.bsc_line_model.proofs.SendingUp.{HasActed, performed, places_after, answers_down}
-use Rattle.bsc_line_model.proofs.CallsHeard.{with_others}
+use Rattle.bsc_line_model.proofs.SendingUp.{HasActed, control_acts_as_sender}
+use Rattle.bsc_line_model.proofs.SendingUp.{places_after_sender_step}
+use Rattle.bsc_line_model.proofs.SendingUp.{together_after_reply}
+use Rattle.bsc_line_model.proofs.CallsHeard.{no_bids_if_none_with_each}
 use Rattle.bsc_bid.proofs.Fitting.{begin_not_quiet}
 
 -- the pending transmission is lost
@@ -96,38 +99,38 @@ lost_polling laws c ts pending replied h =
       ];
     }
 
-pub lost : (laws : BidLaws) (task : Task) (c : ControlValue) (ts : List TributaryValue)
+pub task_stays_without_pending : (laws : BidLaws) (task : Task) (c : ControlValue) (ts : List TributaryValue)
     (pending : Option Transmission) → InTask task pending c ts → InTask task None c ts
-lost laws AtRest c ts pending h = record { nothing = refl; no_bids = h.no_bids; modes = h.modes }
-lost laws (Selecting s enquired) c ts pending h = lost_selecting c ts pending s enquired h
-lost laws (Sending s) c ts pending h = lost_sending laws c ts pending s h
-lost laws (Polling replied) c ts pending h = lost_polling laws c ts pending replied h
+task_stays_without_pending laws AtRest c ts pending h = record { nothing = refl; no_bids = h.no_bids; modes = h.modes }
+task_stays_without_pending laws (Selecting s enquired) c ts pending h = lost_selecting c ts pending s enquired h
+task_stays_without_pending laws (Sending s) c ts pending h = lost_sending laws c ts pending s h
+task_stays_without_pending laws (Polling replied) c ts pending h = lost_polling laws c ts pending replied h
 
 -- the next call is made while no bid is in progress
-pub next_made : (c : ControlValue) (ts : List TributaryValue) (after : After) → AreStations c ts
+pub together_after_next_call : (c : ControlValue) (ts : List TributaryValue) (after : After) → AreStations c ts
     → NoBids c ts
     → InTask (next_call_step c after).control.task
     (sent_by sp.Control (next_call_step c after).sent) (next_call_step c after).control ts
-next_made c ts after stations all =
-    called_next c ts (next_call c after).place (next_call c after).way
-    (next_there c after (places c stations.control.entries)) stations.count all
+together_after_next_call c ts after stations all =
+    no_bids_after_call c ts (next_call c after).place (next_call c after).way
+    (next_call_within_peers c after (places c stations.control.entries)) stations.count all
 
 -- the selected terminal is ready: a bid begins
-pub begins_down : (laws : BidLaws) (c : ControlValue) (ts : List TributaryValue) (s : ℕ)
+pub bid_down_begins : (laws : BidLaws) (c : ControlValue) (ts : List TributaryValue) (s : ℕ)
     (enquired : Bool) → AreStations c ts → c.task ≡ Selecting s enquired → NoBids c ts
     → IsFresh (terminal_in ts (current c)) s → (terminal_in ts (current c)).receiver.last ≡ Ack0 →
     let new : ControlStep =
     bid_step c s (begin_step (outbound_at (peer c) s).sender (outbound_at (peer c) s).queue)
     (Selection s) in
     InTask new.control.task (sent_by sp.Control new.sent) new.control ts
-begins_down laws c ts s enquired stations task all fresh last =
+bid_down_begins laws c ts s enquired stations task all fresh last =
     let e : ℕ = current c in
     let x : TributaryValue = terminal_in ts e in
     let o : OutboundValue = outbound_at (peer c) s in
     let step : SenderStep = begin_step o.sender o.queue in
     let suits : IsSelected (peer c) s =
     subst (λ (t : Task). SuitsTask t (peer c)) task stations.control.orderly.suits in
-    let there : current c < length c.peers = current_there c (places c stations.control.entries) in
+    let there : current c < length c.peers = current_within_peers c (places c stations.control.entries) in
     let within : current c < length ts = current_terminal_there c ts stations in
     let this : HasNoBid (peer c) x = all e within in
     let spooled : List (List ℕ) = (spool_at x.spools s).records in
@@ -149,9 +152,9 @@ begins_down laws c ts s enquired stations task all fresh last =
           (sent_flight step.act)) (sym fresh.even) agrees.continues);
       ended = agrees.ended;
     } in
-    performed laws c ts s step (Selection s) step.act refl has
+    control_acts_as_sender laws c ts s step (Selection s) step.act refl has
     (λ is. absurd (begin_not_quiet o.sender o.queue is)) stations.count
-    (places_after c s step (places c stations.control.entries))
+    (places_after_sender_step c s step (places c stations.control.entries))
 
 -- the terminal asks to wait: ENQ is sent, or after too many WACKs the next call
 asks_again : (c : ControlValue) (ts : List TributaryValue) (s : ℕ) (over : Bool) → AreStations c ts
@@ -165,7 +168,7 @@ asks_again : (c : ControlValue) (ts : List TributaryValue) (s : ℕ) (over : Boo
           Some m.Enq;
     } in
     InTask new.control.task (sent_by sp.Control new.sent) new.control ts
-asks_again c ts s true stations all fresh = next_made c ts (Selection s) stations all
+asks_again c ts s true stations all fresh = together_after_next_call c ts (Selection s) stations all
 asks_again c ts s false stations all fresh =
     record { no_bids = all; with_pending = refl; fresh = fresh }
 
@@ -177,29 +180,24 @@ pub selecting_answered : (laws : BidLaws) (c : ControlValue) (ts : List Tributar
     (sent_by sp.Control (selecting_step c s (reply_in (Whole w))).sent)
     (selecting_step c s (reply_in (Whole w))).control ts
 selecting_answered laws c ts s t (m.Reply Ack0) enquired stations task h =
-    begins_down laws c ts s enquired stations task h.no_bids h.with_pending.1.0 h.with_pending.1.1
+    bid_down_begins laws c ts s enquired stations task h.no_bids h.with_pending.1.0 h.with_pending.1.1
 selecting_answered laws c ts s t (m.Reply Nak) enquired stations task h =
-    next_made c ts (Selection s) stations h.no_bids
+    together_after_next_call c ts (Selection s) stations h.no_bids
 selecting_answered laws c ts s t (m.Reply Wack) enquired stations task h =
     asks_again c ts s (nat_lt c.setup.waits (c.wacks + 1)) stations h.no_bids h.with_pending.1.0
-selecting_answered laws c ts s t m.Eot enquired stations task h = absurd h.with_pending.1
-selecting_answered laws c ts s t m.Enq enquired stations task h = absurd h.with_pending.1
-selecting_answered laws c ts s t (m.Reply Ack1) enquired stations task h = absurd h.with_pending.1
-selecting_answered laws c ts s t (m.Reply Rvi) enquired stations task h = absurd h.with_pending.1
-selecting_answered laws c ts s t (m.Text z) enquired stations task h = absurd h.with_pending.1
-selecting_answered laws c ts s t (m.Call z) enquired stations task h = absurd h.with_pending.1
+selecting_answered laws c ts s t _ enquired stations task h = absurd h.with_pending.1
 
 -- in a poll, a transmission other than EOT goes to the receiver
-polling_by : (c : ControlValue) (replied : Replied) (h : Heard) (rooms : Rooms) → IsNoCall h
+receiver_step_in_poll : (c : ControlValue) (replied : Replied) (h : Heard) (rooms : Rooms) → IsNoCall h
     → polling_step c replied h rooms ≡ receive_step c replied
     (heard_step (peer c).receiver (peer c).spool h (peer c).urgent rooms)
-polling_by c replied Failed rooms k = refl
-polling_by c replied Noise rooms k = refl
-polling_by c replied (Whole m.Eot) rooms k = absurd k
-polling_by c replied (Whole (m.Call z)) rooms k = absurd k
-polling_by c replied (Whole (m.Text b)) rooms k = refl
-polling_by c replied (Whole m.Enq) rooms k = refl
-polling_by c replied (Whole (m.Reply r)) rooms k = refl
+receiver_step_in_poll c replied Failed rooms k = refl
+receiver_step_in_poll c replied Noise rooms k = refl
+receiver_step_in_poll c replied (Whole m.Eot) rooms k = absurd k
+receiver_step_in_poll c replied (Whole (m.Call z)) rooms k = absurd k
+receiver_step_in_poll c replied (Whole (m.Text b)) rooms k = refl
+receiver_step_in_poll c replied (Whole m.Enq) rooms k = refl
+receiver_step_in_poll c replied (Whole (m.Reply r)) rooms k = refl
 
 reply_flies_up : (e : ℕ) (reply : Option Reply)
     → FliesUp (sent_by sp.Control (option_map m.Reply reply)) e (reply_flight reply)
@@ -237,7 +235,7 @@ polling_received laws c ts t w h rooms replied stations others b fair =
     let agrees : ReceiverAgrees x.sender.phase x.queue p.spool.records step =
     laws.hearing x.sender.phase x.queue p.receiver p.spool w (Some h) p.urgent rooms flying
     fair in
-    let there : current c < length c.peers = current_there c (places c stations.control.entries) in
+    let there : current c < length c.peers = current_within_peers c (places c stations.control.entries) in
     let peer_is : peer (with_current c q) ≡ q = get_or-set_same c.peers e q no_peer there in
     let made : IsInBidUp (sent_by sp.Control (option_map m.Reply step.reply)) q e x =
     record {
@@ -258,7 +256,7 @@ polling_received laws c ts t w h rooms replied stations others b fair =
           (sent_by sp.Control (option_map m.Reply step.reply)) z e x) (sym peer_is) made);
     } in
     subst (λ (o : ControlStep). InTask o.control.task (sent_by sp.Control o.sent) o.control ts)
-    (sym (polling_by c replied h rooms (no_call_heard w h bid fair))) polls
+    (sym (receiver_step_in_poll c replied h rooms (no_call_heard w h bid fair))) polls
 
 -- a whole EOT ends the poll
 pub polling_ended : (c : ControlValue) (ts : List TributaryValue) (rooms : Rooms)
@@ -266,57 +264,47 @@ pub polling_ended : (c : ControlValue) (ts : List TributaryValue) (rooms : Rooms
     InTask (polling_step c replied (Whole m.Eot) rooms).control.task
     (sent_by sp.Control (polling_step c replied (Whole m.Eot) rooms).sent)
     (polling_step c replied (Whole m.Eot) rooms).control ts
-polling_ended c ts rooms replied stations all = next_made c ts (Poll (is_interrupted replied)) stations all
+polling_ended c ts rooms replied stations all = together_after_next_call c ts (Poll (is_interrupted replied)) stations all
 
 -- the control station after the step fits together with the terminals
 abbrev pub StepsTo : ControlStep → List TributaryValue → Type 0
 StepsTo o ts = InTask o.control.task (sent_by sp.Control o.sent) o.control ts
 
 -- EOT is heard whole or as noise
-whole_eot : (h : Heard) → IsFairlyHeard m.Eot h → (h ≡ Whole m.Eot) ⊎ (h ≡ Noise)
-whole_eot (Whole v) (inl e) = inl (ap (λ (z : Message). Whole z) e)
-whole_eot (Whole v) (inr f) = absurd f
-whole_eot Failed f = absurd f
-whole_eot Noise f = inr refl
+eot_whole_or_noise : (h : Heard) → IsFairlyHeard m.Eot h → (h ≡ Whole m.Eot) ⊎ (h ≡ Noise)
+eot_whole_or_noise (Whole v) (inl e) = inl (ap (λ (z : Message). Whole z) e)
+eot_whole_or_noise (Whole v) (inr f) = absurd f
+eot_whole_or_noise Failed f = absurd f
+eot_whole_or_noise Noise f = inr refl
 
 -- a terminal's answer to a selection is heard whole or as noise
-whole_answer : (w : Message) (x : TributaryValue) (s : ℕ) (ts : List TributaryValue) (h : Heard)
+answer_whole_or_noise : (w : Message) (x : TributaryValue) (s : ℕ) (ts : List TributaryValue) (h : Heard)
     → IsAnswer w x s ts → IsFairlyHeard w h → (h ≡ Whole w) ⊎ (h ≡ Noise)
-whole_answer w x s ts Noise k f = inr refl
-whole_answer w x s ts (Whole v) k (inl e) = inl (ap (λ (z : Message). Whole z) e)
-whole_answer (m.Reply Ack0) x s ts (Whole v) k (inr f) = absurd f
-whole_answer (m.Reply Nak) x s ts (Whole v) k (inr f) = absurd f
-whole_answer (m.Reply Wack) x s ts (Whole v) k (inr f) = absurd f
-whole_answer m.Eot x s ts (Whole v) k (inr f) = absurd k
-whole_answer m.Enq x s ts (Whole v) k (inr f) = absurd k
-whole_answer (m.Reply Ack1) x s ts (Whole v) k (inr f) = absurd k
-whole_answer (m.Reply Rvi) x s ts (Whole v) k (inr f) = absurd k
-whole_answer (m.Text z) x s ts (Whole v) k (inr f) = absurd k
-whole_answer (m.Call z) x s ts (Whole v) k (inr f) = absurd k
-whole_answer (m.Reply Ack0) x s ts Failed k f = absurd f
-whole_answer (m.Reply Nak) x s ts Failed k f = absurd f
-whole_answer (m.Reply Wack) x s ts Failed k f = absurd f
-whole_answer m.Eot x s ts Failed k f = absurd k
-whole_answer m.Enq x s ts Failed k f = absurd k
-whole_answer (m.Reply Ack1) x s ts Failed k f = absurd k
-whole_answer (m.Reply Rvi) x s ts Failed k f = absurd k
-whole_answer (m.Text z) x s ts Failed k f = absurd k
-whole_answer (m.Call z) x s ts Failed k f = absurd k
+answer_whole_or_noise w x s ts Noise k f = inr refl
+answer_whole_or_noise w x s ts (Whole v) k (inl e) = inl (ap (λ (z : Message). Whole z) e)
+answer_whole_or_noise (m.Reply Ack0) x s ts (Whole v) k (inr f) = absurd f
+answer_whole_or_noise (m.Reply Nak) x s ts (Whole v) k (inr f) = absurd f
+answer_whole_or_noise (m.Reply Wack) x s ts (Whole v) k (inr f) = absurd f
+answer_whole_or_noise _ x s ts (Whole v) k (inr f) = absurd k
+answer_whole_or_noise (m.Reply Ack0) x s ts Failed k f = absurd f
+answer_whole_or_noise (m.Reply Nak) x s ts Failed k f = absurd f
+answer_whole_or_noise (m.Reply Wack) x s ts Failed k f = absurd f
+answer_whole_or_noise _ x s ts Failed k f = absurd k
 
 -- The control station hears a terminal: it and its answer fit together with the terminals.
-pub hears_up : (laws : BidLaws) (c d : ControlValue) (ts : List TributaryValue) (t : ℕ)
+pub together_after_hearing_terminal : (laws : BidLaws) (c d : ControlValue) (ts : List TributaryValue) (t : ℕ)
     (w : Message) (h : Heard) (out : Option Message) → AreStations c ts
     → InTask c.task (Some (record { speaker = sp.Terminal t; message = w })) c ts
     → IsFairlyHeard w h →
     Hears c h d out → AfterHearing c h d out → InTask d.task (sent_by sp.Control out) d ts
-hears_up laws c d ts t w h out stations together fair row after = by_task c.task refl together
+together_after_hearing_terminal laws c d ts t w h out stations together fair row after = by_task c.task refl together
   where
     noise : h ≡ Noise → InTask d.task (sent_by sp.Control out) d ts
     noise e =
         let same : (d ≡ c) × (out ≡ None) = after.noise e in
         subst (λ (o : Option Message). InTask d.task (sent_by sp.Control o) d ts) (sym same.1)
         (subst (λ (k : ControlValue). InTask k.task None k ts) (sym same.0)
-        (lost laws c.task c ts (Some (record { speaker = sp.Terminal t; message = w }))
+        (task_stays_without_pending laws c.task c ts (Some (record { speaker = sp.Terminal t; message = w }))
         together))
 
     by_row : (task : Task) → c.task ≡ task → StepsTo (task_step c task h (rooms_after c h d)) ts
@@ -332,7 +320,7 @@ hears_up laws c d ts t w h out stations together fair row after = by_task c.task
     by_task AtRest is k = let no : Some (record { speaker = sp.Terminal t; message = w }) ≡ None =
         k.nothing in absurd (cc)
     by_task (Selecting s enquired) is k =
-        elim (whole_answer w (terminal_in ts (current c)) s ts h k.with_pending.1 fair) [
+        elim (answer_whole_or_noise w (terminal_in ts (current c)) s ts h k.with_pending.1 fair) [
           | inl whole ↦
               by_row (Selecting s enquired) is
               (subst (λ (z : Heard). StepsTo (selecting_step c s (reply_in z)) ts) (sym whole)
@@ -340,17 +328,17 @@ hears_up laws c d ts t w h out stations together fair row after = by_task c.task
           | inr quiet ↦ noise quiet
         ]
     by_task (Sending s) is k =
-        by_row (Sending s) is (answers_down laws c ts s t w h stations is k fair)
+        by_row (Sending s) is (together_after_reply laws c ts s t w h stations is k fair)
     by_task (Polling replied) is k =
         elim k.present [
           | inl q ↦
-              elim (whole_eot h (subst (λ (v : Message). IsFairlyHeard v h) q.1.1 fair)) [
+              elim (eot_whole_or_noise h (subst (λ (v : Message). IsFairlyHeard v h) q.1.1 fair)) [
                 | inl whole ↦
                     by_row (Polling replied) is
                     (subst (λ (z : Heard). StepsTo (polling_step c replied z (rooms_after c h d))
                     ts) (sym whole)
                     (polling_ended c ts (rooms_after c h d) replied stations
-                    (with_others c ts (current c) k.others q.0)))
+                    (no_bids_if_none_with_each c ts (current c) k.others q.0)))
                 | inr quiet ↦ noise quiet
               ]
           | inr b ↦ by_row (Polling replied) is

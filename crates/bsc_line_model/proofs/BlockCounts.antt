@@ -36,27 +36,27 @@ pub record HasFirstBlock (q : QueueValue) (n : ℕ) : Type 0 where
 not_nil : (r : List ℕ) (rs : List (List ℕ)) → r ∷ rs ≢ []
 not_nil r rs e = cc
 
-pub some_blocks : (laws : CutLaws) (f : FormatValue) (rs : List (List ℕ)) → IsFormat f
+pub blocks_of_some_records : (laws : CutLaws) (f : FormatValue) (rs : List (List ℕ)) → IsFormat f
     → AreShort f.full rs → 0 < length rs → (k : ℕ) × (length (blocks f rs) ≡ suc k)
-some_blocks laws f [] format short less = absurd (omega arith)
-some_blocks laws f (r ∷ rs) format short less = (
+blocks_of_some_records laws f [] format short less = absurd (omega arith)
+blocks_of_some_records laws f (r ∷ rs) format short less = (
   length (blocks f (drop (taken f (r ∷ rs)) (r ∷ rs))),
   ap (λ (bs : List (List (List ℕ))). length bs)
       (laws.next f (r ∷ rs) format short (not_nil r rs)),
 )
 
 -- whether the block is the last one
-end_by : (laws : CutLaws) (f : FormatValue) (rs : List (List ℕ)) (k : ℕ) → IsFormat f
+end_of_last_block : (laws : CutLaws) (f : FormatValue) (rs : List (List ℕ)) (k : ℕ) → IsFormat f
     → AreShort f.full rs → k ≤ length rs → (b : Bool) → nat_eq k (length rs) ≡ b
     → IsEnd (if b then Etx else Etb) (length (blocks f (drop k rs)))
-end_by laws f rs k format short within true e =
+end_of_last_block laws f rs k format short within true e =
     let all : length rs ≤ k = grind (arith, nat_tests) in
     ap (λ (xs : List (List ℕ)). length (blocks f xs)) (drop_all k rs all)
     ∙ ap (λ (bs : List (List (List ℕ))). length bs) (laws.none f)
-end_by laws f rs k format short within false e =
+end_of_last_block laws f rs k format short within false e =
     let differ : k ≢ length rs = grind (arith, nat_tests) in
     let less : 0 < length (drop k rs) = omega (arith, length-drop k rs) in
-    some_blocks laws f (drop k rs) format (laws.rest f.full k rs short) less
+    blocks_of_some_records laws f (drop k rs) format (laws.rest f.full k rs short) less
 
 first_of_waiting : (laws : CutLaws) (q : QueueValue) (n : ℕ) → IsFormat q.format
     → (rs : List (List ℕ)) → waiting q ≡ rs → AreShort q.format.full rs
@@ -80,40 +80,40 @@ first_of_waiting laws q n format (r ∷ rs) is short count =
       rest = ap (λ (xs : List (List ℕ)). length (blocks f xs)) waits ∙ left;
       end =
           subst (λ (j : ℕ). IsEnd (if nat_eq k (length (r ∷ rs)) then Etx else Etb) j) left
-          (end_by laws f (r ∷ rs) k format short (laws.taken_is f (r ∷ rs)).there
+          (end_of_last_block laws f (r ∷ rs) k format short (laws.taken_is f (r ∷ rs)).there
           (nat_eq k (length (r ∷ rs))) refl);
     }
 
 -- a queue of n + 1 blocks has a first one, and after it n
-pub has_first : (laws : CutLaws) (q : QueueValue) (n : ℕ) → IsQueue q → block_count q ≡ suc n
+pub first_block_of_queue : (laws : CutLaws) (q : QueueValue) (n : ℕ) → IsQueue q → block_count q ≡ suc n
     → HasFirstBlock q n
-has_first laws q n is count =
+first_block_of_queue laws q n is count =
     first_of_waiting laws q n is.format (waiting q) refl
     (laws.rest q.format.full q.known q.offered is.short) count
 
 -- if there is no block, no record waits
-pub no_block : (laws : CutLaws) (q : QueueValue) → IsQueue q → block_count q ≡ 0
+pub nothing_waits_without_block : (laws : CutLaws) (q : QueueValue) → IsQueue q → block_count q ≡ 0
     → nat_eq (length (waiting q)) 0 ≡ true
-no_block laws q is none = by_test (nat_eq (length (waiting q)) 0) refl
+nothing_waits_without_block laws q is none = by_test (nat_eq (length (waiting q)) 0) refl
   where
     by_test : (b : Bool) → nat_eq (length (waiting q)) 0 ≡ b → b ≡ true
     by_test true e = refl
     by_test false e =
         let some : 0 < length (waiting q) = grind (arith, nat_tests) in
         let count : (k : ℕ) × (block_count q ≡ suc k) =
-        some_blocks laws q.format (waiting q) is.format
+        blocks_of_some_records laws q.format (waiting q) is.format
         (laws.rest q.format.full q.known q.offered is.short) some in
         absurd (omega (arith, none, count.1))
 
-some_wait : (laws : CutLaws) (q : QueueValue) (n : ℕ) → block_count q ≡ suc n → (rs : List (List ℕ))
+records_wait_for_block : (laws : CutLaws) (q : QueueValue) (n : ℕ) → block_count q ≡ suc n → (rs : List (List ℕ))
     → waiting q ≡ rs → nat_eq (length rs) 0 ≡ false
-some_wait laws q n some [] is =
+records_wait_for_block laws q n some [] is =
     absurd (let none : block_count q ≡ 0 =
     ap (λ (xs : List (List ℕ)). length (blocks q.format xs)) is
     ∙ ap (λ (bs : List (List (List ℕ))). length bs) (laws.none q.format) in
     omega (arith, none, some))
-some_wait laws q n some (r ∷ rs) is = grind (arith, nat_tests)
+records_wait_for_block laws q n some (r ∷ rs) is = grind (arith, nat_tests)
 
 pub a_block : (laws : CutLaws) (q : QueueValue) (n : ℕ) → block_count q ≡ suc n
     → nat_eq (length (waiting q)) 0 ≡ false
-a_block laws q n some = some_wait laws q n some (waiting q) refl
+a_block laws q n some = records_wait_for_block laws q n some (waiting q) refl

@@ -24,15 +24,15 @@ replaced_peer : (c : ControlValue) (e : ℕ) (p : PeerValue) → e < length c.pe
     → peer_at (with_peer c e p) e ≡ p
 replaced_peer c e p there = get_or-set_same c.peers e p no_peer there
 
-peer_other : (c : ControlValue) (e t : ℕ) (p : PeerValue) → t ≢ e → peer_at (with_peer c e p) t
+other_peer_unchanged : (c : ControlValue) (e t : ℕ) (p : PeerValue) → t ≢ e → peer_at (with_peer c e p) t
     ≡ peer_at c t
-peer_other c e t p differ = get_or-set_other c.peers e t p no_peer differ
+other_peer_unchanged c e t p differ = get_or-set_other c.peers e t p no_peer differ
 
 -- one peer is changed so that no bid with its terminal is in progress
 no_other_bids : (c : ControlValue) (ts : List TributaryValue) (e : ℕ) (p : PeerValue) → NoBids c ts
     → NoOtherBids (with_peer c e p) ts e
 no_other_bids c ts e p no_bids t less differ =
-    subst (λ (q : PeerValue). HasNoBid q (terminal_in ts t)) (sym (peer_other c e t p differ))
+    subst (λ (q : PeerValue). HasNoBid q (terminal_in ts t)) (sym (other_peer_unchanged c e t p differ))
     (no_bids t less)
 
 no_bids_with_peer : (c : ControlValue) (ts : List TributaryValue) (e : ℕ) (p : PeerValue) → e
@@ -58,11 +58,11 @@ no_bid_without_urgent : (p : PeerValue) (x : TributaryValue) → HasNoBid p x
 no_bid_without_urgent p x q = record { mode = q.mode; up = q.up; down = q.down }
 
 -- the polling address of an entry is called
-pub polled_next : (c : ControlValue) (ts : List TributaryValue) (place failures : ℕ)
+pub no_bids_after_poll_call : (c : ControlValue) (ts : List TributaryValue) (place failures : ℕ)
     → terminal_of_entry c place < length c.peers → length c.peers ≡ length ts → NoBids c ts →
     IsPolling (sent_by sp.Control (poll_call_step c place failures).sent)
     (poll_call_step c place failures).control ts Nothing
-polled_next c ts place failures there count no_bids =
+no_bids_after_poll_call c ts place failures there count no_bids =
     let e : ℕ = terminal_of_entry c place in
     let p : PeerValue = peer_at c e in
     let d : PeerValue = record p { receiver = new_receiver true } in
@@ -77,11 +77,11 @@ polled_next c ts place failures there count no_bids =
     }
 
 -- a selection address of an entry is called
-pub selected_next : (c : ControlValue) (ts : List TributaryValue) (place s : ℕ)
+pub no_bids_after_selection_call : (c : ControlValue) (ts : List TributaryValue) (place s : ℕ)
     → terminal_of_entry c place < length c.peers → length c.peers ≡ length ts → NoBids c ts →
     IsSelecting (sent_by sp.Control (selection_call_step c place s).sent)
     (selection_call_step c place s).control ts s false
-selected_next c ts place s there count no_bids =
+no_bids_after_selection_call c ts place s there count no_bids =
     let e : ℕ = terminal_of_entry c place in
     let p : PeerValue = peer_at c e in
     let d : PeerValue = record p { urgent = false } in
@@ -95,12 +95,12 @@ selected_next c ts place s there count no_bids =
     }
 
 -- any call
-pub called_next : (c : ControlValue) (ts : List TributaryValue) (place : ℕ) (way : Way)
+pub no_bids_after_call : (c : ControlValue) (ts : List TributaryValue) (place : ℕ) (way : Way)
     → terminal_of_entry c place < length c.peers → length c.peers ≡ length ts → NoBids c ts →
     let call : Call = record { place = place; way = way } in
     InTask (make_call_step c call).control.task (sent_by sp.Control (make_call_step c call).sent)
     (make_call_step c call).control ts
-called_next c ts place FromTerminal there count no_bids =
-    polled_next c ts place 0 there count no_bids
-called_next c ts place (ToTerminal s) there count no_bids =
-    selected_next c ts place s there count no_bids
+no_bids_after_call c ts place FromTerminal there count no_bids =
+    no_bids_after_poll_call c ts place 0 there count no_bids
+no_bids_after_call c ts place (ToTerminal s) there count no_bids =
+    no_bids_after_selection_call c ts place s there count no_bids

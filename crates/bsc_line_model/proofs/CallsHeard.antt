@@ -49,13 +49,13 @@ use Rattle.bsc_line_model.specs.Terminals.{answer_of, EachHears, first_answer}
 use Rattle.bsc_line_model.specs.Trust.{AllHear}
 use Rattle.bsc_line_model.specs.Kept.{AreStations}
 use Rattle.bsc_line_model.specs.Together.{HasNoBid, NoBids, NoOtherBids, AllInControlMode}
-use Rattle.bsc_line_model.specs.Together.{IsSelectedWith, IsSelecting, IsPolling}
+use Rattle.bsc_line_model.specs.Together.{selected, IsSelectedWith, IsSelecting, IsPolling}
 use Rattle.bsc_line_model.specs.BidLaws.{BidLaws}
-use Rattle.bsc_control.proofs.Calls.{places, current_there}
-use Rattle.bsc_line_model.proofs.Stations.{same_or_not, terminal_there, at_rest_in}
+use Rattle.bsc_control.proofs.Calls.{places, current_within_peers}
+use Rattle.bsc_line_model.proofs.Stations.{same_or_not, terminal_in_directory, at_rest_in}
 use Rattle.bsc_line_model.proofs.Tuning.{NamesOwn, IsCalledBy}
-use Rattle.bsc_line_model.proofs.SendingDown.{first_answer_is, same_terminal}
-use Rattle.bsc_line_model.proofs.ActingUp.{HasActedUp, acts_up, present_after}
+use Rattle.bsc_line_model.proofs.SendingDown.{first_answer_is, one_terminal_of_address}
+use Rattle.bsc_line_model.proofs.ActingUp.{HasActedUp, bid_up_after_act, present_terminal_after_act}
 use Rattle.bsc_line_model.proofs.CallsMissed.{no_bid_without_line, GivesUp}
 use Rattle.bsc_line_model.proofs.CallsMissed.{no_bid_back}
 use Rattle.bsc_bid.proofs.Resting.{idle_at_rest, cut_at_rest}
@@ -77,7 +77,7 @@ pub not_called : (laws : NamesOwn) (addressed : Option (ℕ × Way)) (ts : List 
 not_called laws addressed ts t e way x address b is differ Other k = k
 not_called laws addressed ts t e way x address b is differ PollingCalled k =
     absurd
-    (differ (same_terminal addressed t e FromTerminal way
+    (differ (one_terminal_of_address addressed t e FromTerminal way
     ((b.exact t FromTerminal).1 (record {
       terminal = x;
       there = b.there;
@@ -86,7 +86,7 @@ not_called laws addressed ts t e way x address b is differ PollingCalled k =
     })) is))
 not_called laws addressed ts t e way x address b is differ (Selection s) k =
     absurd
-    (differ (same_terminal addressed t e (ToTerminal s) way
+    (differ (one_terminal_of_address addressed t e (ToTerminal s) way
     ((b.exact t (ToTerminal s)).1 (record {
       terminal = x;
       there = b.there;
@@ -107,10 +107,10 @@ called_row x h u out address called heard is row =
     subst (λ (k : Called). record { tributary = u; sent = out } ≡ call_step x k (rooms_after h u))
     is first
 
-gives_up : (x : TributaryValue) (h : Heard) (u : TributaryValue) (out : Option Message)
+line_left_on_other_call : (x : TributaryValue) (h : Heard) (u : TributaryValue) (out : Option Message)
     (address : List ℕ) → h ≡ Whole (m.Call address) → called_as x.terminal address ≡ Other
     → Hears x h u out → GivesUp x u out
-gives_up x h u out address heard is row =
+line_left_on_other_call x h u out address heard is row =
     let row : record { tributary = u; sent = out } ≡ quiet_step (without_line x) =
     called_row x h u out address Other heard is row in
     record {
@@ -128,22 +128,22 @@ pub record OneCalled (c : ControlValue) (old : List TributaryValue) (hears : ℕ
       ≡ sent_by (sp.Terminal e) (answer_of old hears new e)
   pub modes : (terminal_in new e).mode ≡ Control → AllInControlMode new
 
-pub one_called : (laws : NamesOwn) (c : ControlValue) (old : List TributaryValue)
+pub only_called_terminal_hears : (laws : NamesOwn) (c : ControlValue) (old : List TributaryValue)
     (hears : ℕ → Heard) (new : List TributaryValue) (addressed : Option (ℕ × Way)) (e : ℕ)
     (way : Way) (address : List ℕ) → AreStations c old
     → IsCallTo c old hears addressed e way address → EachHears old hears new
     → OneCalled c old hears new e
-one_called laws c old hears new addressed e way address stations call each =
+only_called_terminal_hears laws c old hears new addressed e way address stations call each =
     let ups : (t : ℕ) → t < length old → t ≢ e
     → GivesUp (terminal_in old t) (terminal_in new t) (answer_of old hears new t) =
     λ t less differ.
     let x : TributaryValue = terminal_in old t in
     let distinct : HasDistinctAddresses x.terminal = (stations.members t less).tributary.distinct in
-    gives_up x (hears t) (terminal_in new t) (answer_of old hears new t) address (call.all t less)
+    line_left_on_other_call x (hears t) (terminal_in new t) (answer_of old hears new t) address (call.all t less)
     (not_called laws addressed (terminals c) t e way x.terminal address
     (record {
       exact = call.exact;
-      there = terminal_there c old t stations less;
+      there = terminal_in_directory c old t stations less;
       distinct =
           distinct;
     })
@@ -175,9 +175,9 @@ others_give_up c old hears new e stations no_bids count one t less differ =
     (record { becomes = inr up.becomes; silent = up.silent })
 
 -- no bid is in progress if none is with the others and none with this one
-pub with_others : (c : ControlValue) (ts : List TributaryValue) (e : ℕ) → NoOtherBids c ts e
+pub no_bids_if_none_with_each : (c : ControlValue) (ts : List TributaryValue) (e : ℕ) → NoOtherBids c ts e
     → HasNoBid (peer_at c e) (terminal_in ts e) → NoBids c ts
-with_others c ts e others this t less =
+no_bids_if_none_with_each c ts e others this t less =
     elim (same_or_not t e) [
       | inl same ↦ subst (λ (n : ℕ). HasNoBid (peer_at c n) (terminal_in ts n)) (sym same) this
       | inr differ ↦ others t less differ
@@ -214,7 +214,7 @@ selection_answer x s room ready =
     else answer_step d (m.Reply Nak)
 
 -- a terminal that receives from now on, and rests
-receives_now : (p : PeerValue) (x : TributaryValue) (s : ℕ) (room : Bool) → IsTributary x
+no_bid_of_new_receiver : (p : PeerValue) (x : TributaryValue) (s : ℕ) (room : Bool) → IsTributary x
     → HasNoBid p x → s < length x.spools →
     HasNoBid p (record (without_line x) {
       mode = Receiving s;
@@ -222,7 +222,7 @@ receives_now : (p : PeerValue) (x : TributaryValue) (s : ℕ) (room : Bool) → 
       spools =
           slice_set x.spools s (room_asked (spool_at x.spools s) room);
     })
-receives_now p x s room is q there =
+no_bid_of_new_receiver p x s room is q there =
     record {
       mode = λ sends. cc;
       up = (no_bid_without_line p x is q).up;
@@ -235,18 +235,18 @@ receives_now p x s room is q there =
 -- no bid with the selected terminal is in progress, and it answers as it may
 abbrev AnswersSelection : PeerValue → ℕ → ℕ → TributaryStep → List TributaryValue → Type 0
 AnswersSelection p e s step ts = (step.tributary.mode ≡ Control → AllInControlMode ts)
-    → HasNoBid p step.tributary × IsSelectedWith (sent_by (sp.Terminal e) step.sent) false p e s
-    step.tributary ts
+    → HasNoBid p step.tributary × IsSelectedWith (sent_by (sp.Terminal e) step.sent) false
+    (selected p e s step.tributary ts)
 
 selected_terminal : (p : PeerValue) (e s : ℕ) (x : TributaryValue) (ts : List TributaryValue)
     (room ready : Bool) → IsTributary x → HasNoBid p x → s < length x.spools
     → AnswersSelection p e s (selection_answer x s room ready) ts
 selected_terminal p e s x ts true true is q there modes = (
-  receives_now p x s true is q there,
+  no_bid_of_new_receiver p x s true is q there,
   (refl, (record { mode = refl; even = refl; last = inl refl }, refl)),
 )
 selected_terminal p e s x ts false true is q there modes = (
-  receives_now p x s false is q there,
+  no_bid_of_new_receiver p x s false is q there,
   (refl, (record { mode = refl; even = refl; last = inr refl }, refl)),
 )
 selected_terminal p e s x ts true false is q there modes =
@@ -255,11 +255,11 @@ selected_terminal p e s x ts false false is q there modes =
     (no_bid_without_line p x is q, (refl, modes refl))
 
 -- a selection address of the present terminal
-pub select_there : (c : ControlValue) (s : ℕ) → IsControl c → s < length (peer c).outbounds → s
+pub select_of_present_terminal : (c : ControlValue) (s : ℕ) → IsControl c → s < length (peer c).outbounds → s
     < length (peer c).terminal.selects
-select_there c s is less =
+select_of_present_terminal c s is less =
     let of_peer : IsPeer (peer c) =
-    is.entries.peers (current c) no_peer (current_there c (places c is.entries)) in
+    is.entries.peers (current c) no_peer (current_within_peers c (places c is.entries)) in
     subst (λ (n : ℕ). s < n) of_peer.outbounds less
 
 -- all hear the selection address of the present terminal: its terminal answers
@@ -282,7 +282,7 @@ selecting_heard laws c old hears new addressed s enquired there stations task no
     let is : IsTributary x = (stations.members e there).tributary in
     let suits : IsSelected p s =
     subst (λ (t : Task). SuitsTask t p) task stations.control.orderly.suits in
-    let select : s < length p.terminal.selects = select_there c s stations.control suits.there in
+    let select : s < length p.terminal.selects = select_of_present_terminal c s stations.control suits.there in
     let named : slice_get p.terminal.selects s ≡ Some address =
     slice_get-get_or p.terminal.selects s p.terminal.poll select in
     let same : x.terminal ≡ p.terminal = (stations.members e there).addresses in
@@ -291,12 +291,12 @@ selecting_heard laws c old hears new addressed s enquired there stations task no
     let its_own : IsAddressOf (terminals c) e (ToTerminal s) address =
     record {
       terminal = x.terminal;
-      there = terminal_there c old e stations there;
+      there = terminal_in_directory c old e stations there;
       its_own =
           named_there;
     } in
     let one : OneCalled c old hears new e =
-    one_called laws c old hears new addressed e (ToTerminal s) address stations
+    only_called_terminal_hears laws c old hears new addressed e (ToTerminal s) address stations
     (record { there = there; all = all; exact = exact; its_own = its_own }) each in
     let called : called_as x.terminal address ≡ Selection s =
     (laws.selection x.terminal address s is.distinct).1 named_there in
@@ -309,13 +309,13 @@ selecting_heard laws c old hears new addressed s enquired there stations task no
     (subst (λ (y : TerminalValue). s < length y.selects) (sym same) select) in
     let answers : HasNoBid p u
     × IsSelectedWith (sent_by (sp.Terminal e) (answer_of old hears new e))
-    false p e s u new =
+    false (selected p e s u new) =
     subst (λ (o : TributaryStep). AnswersSelection p e s o new) (sym row)
     (selected_terminal p e s x new (rooms_after (hears e) u).first x.ready is (no_bids e there)
     into) one.modes in
     record {
       no_bids =
-          with_others c new e (others_give_up c old hears new e stations no_bids each.count one)
+          no_bids_if_none_with_each c new e (others_give_up c old hears new e stations no_bids each.count one)
           answers.0;
       with_pending = rw (one.first) answers.1;
       fresh = tt;
@@ -338,7 +338,7 @@ begins_bid_up laws p e d new q mode idle some =
     subst (λ (k : Phase). IsResting k d.queue p.spool.records) idle q.up in
     let agrees : SenderAgrees d.queue Even Ack0 p.spool.records step =
     laws.begin d.sender d.queue p.spool.records rest some in
-    acts_up laws p e d step step.act refl
+    bid_up_after_act laws p e d step step.act refl
     (record {
       down = q.down;
       continues =
@@ -397,12 +397,12 @@ polling_heard names laws c old hears new addressed there stations task no_bids a
     let its_own : IsAddressOf (terminals c) e FromTerminal p.terminal.poll =
     record {
       terminal = x.terminal;
-      there = terminal_there c old e stations there;
+      there = terminal_in_directory c old e stations there;
       its_own =
           ap (λ (z : List ℕ). Some z) (sym poll);
     } in
     let one : OneCalled c old hears new e =
-    one_called names c old hears new addressed e FromTerminal p.terminal.poll stations
+    only_called_terminal_hears names c old hears new addressed e FromTerminal p.terminal.poll stations
     (record { there = there; all = all; exact = exact; its_own = its_own }) each in
     let row : record { tributary = u; sent = out }
     ≡ poll_by x (is_in_doubt (cut_phase x.sender.phase))
@@ -415,5 +415,5 @@ polling_heard names laws c old hears new addressed there stations task no_bids a
     (nat_eq (length (waiting x.queue)) 0) fresh is (no_bids e there) refl refl) in
     record {
       others = others_give_up c old hears new e stations no_bids each.count one;
-      present = rw (one.first) (present_after p e u out Nothing new acted one.modes);
+      present = rw (one.first) (present_terminal_after_act p e u out Nothing new acted one.modes);
     }

@@ -17,7 +17,7 @@ use Rattle.bsc_line_model.specs.Terminals.{answer_of, EachHears, EachKeeps, firs
 use Rattle.bsc_line_model.specs.Trust.{EachOf, IsMissed}
 use Rattle.bsc_line_model.specs.Kept.{AreStations}
 use Rattle.bsc_line_model.specs.Together.{HasNoBid, NoBids, IsSelecting, IsPolling}
-use Rattle.bsc_line_model.proofs.SendingDown.{none_before}
+use Rattle.bsc_line_model.proofs.SendingDown.{no_answer_before_terminal}
 use Rattle.bsc_bid.proofs.Resting.{cut_at_rest}
 use Rattle.bsc_line_model.proofs.Stations.{at_rest_in}
 use Rattle.bsc_bid.specs.Station.{StaysQuiet}
@@ -53,27 +53,27 @@ no_bid_back p x u out is q b =
     ]
 
 -- the terminal missed the call
-pub misses : (x : TributaryValue) (h : Heard) (u : TributaryValue) (out : Option Message)
+pub steps_back_after_missed_call : (x : TributaryValue) (h : Heard) (u : TributaryValue) (out : Option Message)
     → IsMissed h → Hears x h u out → AfterHearing x h u out → StepsBack x u out
-misses x Noise u out f row after =
+steps_back_after_missed_call x Noise u out f row after =
     let q : StaysQuiet x u out = after.noise refl in
     record { becomes = inl q.0; silent = q.1 }
-misses x (Whole m.Eot) u out f row after =
+steps_back_after_missed_call x (Whole m.Eot) u out f row after =
     record {
       becomes = inr (ap (λ (o : TributaryStep). o.tributary) row.row);
       silent =
           ap (λ (o : TributaryStep). o.sent) row.row;
     }
-misses x Failed u out f row after = absurd f
-misses x (Whole (m.Call z)) u out f row after = absurd f
-misses x (Whole (m.Text z)) u out f row after = absurd f
-misses x (Whole m.Enq) u out f row after = absurd f
-misses x (Whole (m.Reply r)) u out f row after = absurd f
+steps_back_after_missed_call x Failed u out f row after = absurd f
+steps_back_after_missed_call x (Whole (m.Call z)) u out f row after = absurd f
+steps_back_after_missed_call x (Whole (m.Text z)) u out f row after = absurd f
+steps_back_after_missed_call x (Whole m.Enq) u out f row after = absurd f
+steps_back_after_missed_call x (Whole (m.Reply r)) u out f row after = absurd f
 
 nobody_answers : (old : List TributaryValue) (hears : ℕ → Heard) (new : List TributaryValue) (n : ℕ)
     → ((k : ℕ) → k < n → answer_of old hears new k ≡ None) → first_answer old hears new n ≡ None
 nobody_answers old hears new n f =
-    none_before old hears new n n (omega arith) (λ k less ne. f k less)
+    no_answer_before_terminal old hears new n n (omega arith) (λ k less ne. f k less)
 
 -- all terminals missed the call: no bid is in progress, and nothing is pending
 pub record AllBack (c : ControlValue) (old : List TributaryValue) (hears : ℕ → Heard)
@@ -81,14 +81,14 @@ pub record AllBack (c : ControlValue) (old : List TributaryValue) (hears : ℕ �
   pub no_bids : NoBids c new
   pub first : first_answer old hears new (length old) ≡ None
 
-pub all_miss : (c : ControlValue) (old : List TributaryValue) (hears : ℕ → Heard)
+pub together_after_missed_call : (c : ControlValue) (old : List TributaryValue) (hears : ℕ → Heard)
     (new : List TributaryValue) → AreStations c old → NoBids c old
     → EachOf (length old) (λ t. IsMissed (hears t)) → EachHears old hears new
     → EachKeeps old hears new → AllBack c old hears new
-all_miss c old hears new stations no_bids missed each keeps =
+together_after_missed_call c old hears new stations no_bids missed each keeps =
     let backs : (t : ℕ) → t < length old
     → StepsBack (terminal_in old t) (terminal_in new t) (answer_of old hears new t) =
-    λ t less. misses (terminal_in old t) (hears t) (terminal_in new t) (answer_of old hears new t)
+    λ t less. steps_back_after_missed_call (terminal_in old t) (hears t) (terminal_in new t) (answer_of old hears new t)
     (missed t less) (each.each t less) (keeps t less) in
     record {
       no_bids = λ t less.
@@ -105,7 +105,7 @@ pub selecting_missed : (c : ControlValue) (old : List TributaryValue) (hears : �
     → EachKeeps old hears new →
     IsSelecting (first_answer old hears new (length old)) c new s false
 selecting_missed c old hears new s stations no_bids missed each keeps =
-    let b : AllBack c old hears new = all_miss c old hears new stations no_bids missed each keeps in
+    let b : AllBack c old hears new = together_after_missed_call c old hears new stations no_bids missed each keeps in
     record { no_bids = b.no_bids; with_pending = rw (b.first) tt; fresh = tt }
 
 pub polling_missed : (c : ControlValue) (old : List TributaryValue) (hears : ℕ → Heard)
@@ -114,7 +114,7 @@ pub polling_missed : (c : ControlValue) (old : List TributaryValue) (hears : ℕ
     → EachKeeps old hears new →
     IsPolling (first_answer old hears new (length old)) c new replied
 polling_missed c old hears new replied there stations no_bids missed each keeps =
-    let b : AllBack c old hears new = all_miss c old hears new stations no_bids missed each keeps in
+    let b : AllBack c old hears new = together_after_missed_call c old hears new stations no_bids missed each keeps in
     let after : current c < length new = omega (arith, each.count) in
     record {
       others = λ t less differ. b.no_bids t less;

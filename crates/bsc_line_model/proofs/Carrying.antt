@@ -7,7 +7,7 @@ use Rattle.bsc_frame.specs.declared.message.Message.{Message}
 use Rattle.bsc_frame.specs.declared.message.Heard.{Heard}
 use Rattle.bsc_tributary.specs.Tributary.{TributaryValue}
 use Rattle.bsc_tributary.specs.Kept.{AfterSilence, KeepsSetupAndMode}
-use Rattle.bsc_tributary.proofs.Addresses.{none_passes}
+use Rattle.bsc_tributary.proofs.Addresses.{none_passes_without_position}
 use Rattle.bsc_directory.specs.declared.way.Way.{Way}
 use Rattle.bsc_control.specs.Control.{ControlValue, terminals as addresses_of}
 use Rattle.bsc_control.specs.Kept.{IsControl, Keeps as ControlKeeps}
@@ -18,7 +18,8 @@ use Rattle.bsc_line_model.specs.Line.{line_of, no_terminal, terminal_in}
 use Rattle.bsc_line_model.specs.Terminals.{EachHears, EachKeeps, line_owner}
 use Rattle.bsc_line_model.specs.Trust.{IsHeardFairly, IsTrustAfter, IsAddressedAfter}
 use Rattle.bsc_line_model.specs.Kept.{AreStations, IsLine}
-use Rattle.bsc_line_model.proofs.Stations.{terminal_there, stations_down, stations_up, stations_at}
+use Rattle.bsc_line_model.proofs.Stations.{terminal_in_directory, stations_down, stations_up}
+use Rattle.bsc_line_model.proofs.Stations.{stations_at}
 use Rattle.bsc_line_model.proofs.Stations.{stations_set, tuned_at}
 use Rattle.bsc_line_model.proofs.Tuning.{NamesOwn, down_tuned}
 use Rattle.bsc_line_model.specs.BidLaws.{BidLaws}
@@ -38,15 +39,15 @@ use Rattle.bsc_control.specs.Peer.{PeerValue, no_peer, outbound_at}
 use Rattle.std.proofs.lemmas.List.{length-set}
 use Rattle.std.proofs.lemmas.List.Quantifiers.{position-Some}
 use Rattle.bsc_line_model.proofs.Stations.{same_or_not, current_terminal_there}
-use Rattle.bsc_line_model.proofs.AllHear.{hears_down}
-use Rattle.bsc_line_model.proofs.AnswersHeard.{hears_up}
+use Rattle.bsc_line_model.proofs.AllHear.{together_after_hearing_control}
+use Rattle.bsc_line_model.proofs.AnswersHeard.{together_after_hearing_terminal}
 use Rattle.bsc_line_model.proofs.Silences.{silent_control, silent_terminal}
 use Rattle.bsc_line_model.proofs.Likeness.{IsLike, together_like, terminal_like, peer_like}
 use Rattle.bsc_block.specs.Format.{FormatValue}
 use Rattle.bsc_bid.specs.Setup.{SetupValue}
 
 -- the terminals heard the control station's transmission
-pub line_down : (laws : NamesOwn) (bids : BidLaws) (c : ControlValue) (ts : List TributaryValue)
+pub line_kept_by_hearing_control : (laws : NamesOwn) (bids : BidLaws) (c : ControlValue) (ts : List TributaryValue)
     (pending next : Option Transmission) (trusted trusts : Bool) (old new : Option (ℕ × Way))
     (w : Message) (hears : ℕ → Heard) (us : List TributaryValue) →
     IsLine (line_of c ts pending trusted old) → pending
@@ -55,7 +56,7 @@ pub line_down : (laws : NamesOwn) (bids : BidLaws) (c : ControlValue) (ts : List
     → IsAddressedAfter (addresses_of c) (length ts) hears old new
     → IsTrustAfter trusted (IsHeardFairly w (length ts) hears) trusts →
     IsLine (line_of c us next trusts new)
-line_down laws bids c ts pending next trusted trusts old new w hears us l sent first e k a f =
+line_kept_by_hearing_control laws bids c ts pending next trusted trusts old new w hears us l sent first e k a f =
     record {
       stations = stations_down c ts hears us l.stations e k;
       tuned = λ now t less.
@@ -65,7 +66,7 @@ line_down laws bids c ts pending next trusted trusts old new w hears us l sent f
           down_tuned laws w (addresses_of c) (length ts) hears old new t x (terminal_in us t).mode
           before was.1 a
           (record {
-            there = terminal_there c ts t l.stations before;
+            there = terminal_in_directory c ts t l.stations before;
             distinct =
                 (l.stations.members t before).tributary.distinct;
             tuned = l.tuned was.0 t before;
@@ -74,34 +75,34 @@ line_down laws bids c ts pending next trusted trusts old new w hears us l sent f
       together = λ now.
           let was : IsTrue trusted × IsHeardFairly w (length ts) hears = f.0 now in
           subst (λ (o : Option Transmission). InTask c.task o c us) (sym first)
-          (hears_down laws bids c ts old new w hears us l.stations (l.tuned was.0)
+          (together_after_hearing_control laws bids c ts old new w hears us l.stations (l.tuned was.0)
           (subst (λ (o : Option Transmission). InTask c.task o c ts) sent (l.together was.0))
           was.1 a e k);
     }
 
 -- the control station heard a terminal's transmission
-up_together : (bids : BidLaws) (c d : ControlValue) (ts : List TributaryValue) (speaker : Speaker)
+together_after_carry_up : (bids : BidLaws) (c d : ControlValue) (ts : List TributaryValue) (speaker : Speaker)
     (w : Message) (h : Heard) (out : Option Message) → speaker ≢ Control → AreStations c ts
     → InTask c.task (Some (record { speaker = speaker; message = w })) c ts → IsFairlyHeard w h →
     ControlHears c h d out → ControlAfter c h d out → InTask d.task (sent_by Control out) d ts
-up_together bids c d ts Control w h out never s k f row after = absurd (never refl)
-up_together bids c d ts (Terminal t) w h out never s k f row after =
-    hears_up bids c d ts t w h out s k f row after
+together_after_carry_up bids c d ts Control w h out never s k f row after = absurd (never refl)
+together_after_carry_up bids c d ts (Terminal t) w h out never s k f row after =
+    together_after_hearing_terminal bids c d ts t w h out s k f row after
 
-pub line_up : (bids : BidLaws) (c d : ControlValue) (ts : List TributaryValue)
+pub line_kept_by_hearing_terminal : (bids : BidLaws) (c d : ControlValue) (ts : List TributaryValue)
     (pending next : Option Transmission) (trusted trusts : Bool) (addressed : Option (ℕ × Way))
     (sent : Transmission) (h : Heard) (out : Option Message) →
     IsLine (line_of c ts pending trusted addressed) → pending ≡ Some sent → sent.speaker ≢ Control
     → next ≡ sent_by Control out → ControlHears c h d out → ControlAfter c h d out
     → IsTrustAfter trusted (IsFairlyHeard sent.message h) trusts →
     IsLine (line_of d ts next trusts addressed)
-line_up bids c d ts pending next trusted trusts addressed sent h out l is never made row after f =
+line_kept_by_hearing_terminal bids c d ts pending next trusted trusts addressed sent h out l is never made row after f =
     record {
       stations = stations_up c d ts l.stations after.control after.keeps;
       tuned = λ now. l.tuned (f.0 now).0;
       together = λ now.
           subst (λ (o : Option Transmission). InTask d.task o d ts) (sym made)
-          (up_together bids c d ts sent.speaker sent.message h out never l.stations
+          (together_after_carry_up bids c d ts sent.speaker sent.message h out never l.stations
           (subst (λ (o : Option Transmission). InTask c.task o c ts) is
           (l.together (f.0 now).0)) (f.0 now).1 row after);
     }
@@ -117,7 +118,7 @@ nobody_sends : (ts : List TributaryValue) → line_owner ts ≡ None → (t : �
     → (terminal_in ts t).mode ≢ Sending
 nobody_sends ts none t less sends =
     let no : holds (terminal_in ts t).mode ≡ false =
-    none_passes (λ (x : TributaryValue). holds x.mode) ts t no_terminal none less in
+    none_passes_without_position (λ (x : TributaryValue). holds x.mode) ts t no_terminal none less in
     let yes : holds (terminal_in ts t).mode ≡ true = ap holds sends in
     let both : true ≡ false = sym yes ∙ no in cc
 
@@ -144,14 +145,14 @@ pub is_terminal : (ts : List TributaryValue) (t : ℕ) (x : TributaryValue) → 
 is_terminal ts t x less is = get_or_default ts t no_terminal x less ∙ sym is
 
 -- a terminal acted on a silence
-pub line_at : (bids : BidLaws) (c : ControlValue) (ts : List TributaryValue)
+pub line_kept_by_terminal_silence : (bids : BidLaws) (c : ControlValue) (ts : List TributaryValue)
     (pending next : Option Transmission) (trusted : Bool) (addressed : Option (ℕ × Way)) (t : ℕ)
     (x u : TributaryValue) (out : Option Message) →
     IsLine (line_of c ts pending trusted addressed) → pending ≡ None → t < length ts
     → terminal_in ts t ≡ x → line_owner ts ≡ Some t → next ≡ sent_by (Terminal t) out
     → TerminalActs x u out → AfterSilence x u out
     → IsLine (line_of c (slice_set ts t u) next trusted addressed)
-line_at bids c ts pending next trusted addressed t x u out l nothing less is owner made row after =
+line_kept_by_terminal_silence bids c ts pending next trusted addressed t x u out l nothing less is owner made row after =
     let here : AfterSilence (terminal_in ts t) u out =
     subst (λ (y : TributaryValue). AfterSilence y u out) (sym is) after in
     record {

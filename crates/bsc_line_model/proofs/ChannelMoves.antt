@@ -22,13 +22,13 @@ use Rattle.bsc_line_model.specs.ChannelSteps.{MovesOne, MovesNothing}
 use Rattle.bsc_line_model.proofs.Stations.{same_or_not}
 
 -- the terminal that was written, and another one
-this_terminal : (l : LineValue) (t : ℕ) (u : TributaryValue) → t < terminal_count l
+written_terminal : (l : LineValue) (t : ℕ) (u : TributaryValue) → t < terminal_count l
     → terminal_at (with_terminal l t u) t ≡ u
-this_terminal l t u there = get_or-set_same l.terminals t u no_terminal there
+written_terminal l t u there = get_or-set_same l.terminals t u no_terminal there
 
-other_terminal : (l : LineValue) (t n : ℕ) (u : TributaryValue) → n ≢ t
+other_terminal_unchanged : (l : LineValue) (t n : ℕ) (u : TributaryValue) → n ≢ t
     → terminal_at (with_terminal l t u) n ≡ terminal_at l n
-other_terminal l t n u differ = get_or-set_other l.terminals t n u no_terminal differ
+other_terminal_unchanged l t n u differ = get_or-set_other l.terminals t n u no_terminal differ
 
 -- the channels between a peer and a terminal
 abbrev channel_between : PeerValue → TributaryValue → Way → Channel
@@ -46,14 +46,14 @@ terminal_elsewhere : (l : LineValue) (t : ℕ) (u : TributaryValue) (n : ℕ) (w
 terminal_elsewhere l t u n way differ =
     channel_of_is (with_terminal l t u) n way
     ∙ ap (λ (y : TributaryValue). channel_between (peer_at l.control n) y way)
-    (other_terminal l t n u differ) ∙ sym (channel_of_is l n way)
+    (other_terminal_unchanged l t n u differ) ∙ sym (channel_of_is l n way)
 
 channel_with_terminal : (l : LineValue) (t : ℕ) (u : TributaryValue) (way : Way)
     → t < terminal_count l
     → channel_of (with_terminal l t u) t way ≡ channel_between (peer_at l.control t) u way
 channel_with_terminal l t u way there = channel_of_is (with_terminal l t u) t way
     ∙ ap (λ (y : TributaryValue). channel_between (peer_at l.control t) y way)
-    (this_terminal l t u there)
+    (written_terminal l t u there)
 
 -- only the channel from the terminal may move
 pub terminal_moves : (l : LineValue) (t : ℕ) (u : TributaryValue) (move : Move) → t
@@ -83,10 +83,10 @@ terminal_moves l t u move there spools makes =
         (spool_at zs s).records) spools)
 
 -- no channel moves
-pub terminal_still : (l : LineValue) (t : ℕ) (u : TributaryValue) → t < terminal_count l → u.queue
+pub no_move_of_same_terminal : (l : LineValue) (t : ℕ) (u : TributaryValue) → t < terminal_count l → u.queue
     ≡ (terminal_at l t).queue → u.spools ≡ (terminal_at l t).spools
     → MovesNothing l (with_terminal l t u)
-terminal_still l t u there queue spools n way is =
+no_move_of_same_terminal l t u there queue spools n way is =
     elim (same_or_not n t) [
       | inl same ↦ subst (λ (j : ℕ). channel_of (with_terminal l t u) j way ≡ channel_of l j way)
           (sym same) (by_way way)
@@ -117,10 +117,10 @@ channel_with_kept l t q way there = channel_of_is (with_kept l t q) t way
     ∙ ap (λ (z : PeerValue). channel_between z (terminal_at l t) way)
     (get_or-set_same l.control.peers t q no_peer there)
 
-pub peer_still : (l : LineValue) (t : ℕ) (q : PeerValue) → t < length l.control.peers → q.spool
+pub no_move_of_same_peer : (l : LineValue) (t : ℕ) (q : PeerValue) → t < length l.control.peers → q.spool
     ≡ (peer_at l.control t).spool → q.outbounds ≡ (peer_at l.control t).outbounds
     → MovesNothing l (with_kept l t q)
-peer_still l t q there spool outbounds n way is =
+no_move_of_same_peer l t q there spool outbounds n way is =
     elim (same_or_not n t) [
       | inl same ↦ subst (λ (j : ℕ). channel_of (with_kept l t q) j way ≡ channel_of l j way)
           (sym same) (by_way way)

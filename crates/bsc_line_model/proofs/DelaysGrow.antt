@@ -13,13 +13,13 @@ use Rattle.bsc_spool.specs.Spool.{SpoolValue, with_delay, room_asked}
 use Rattle.bsc_bid.specs.Act.{Act}
 use Rattle.bsc_bid.specs.Act as a
 use Rattle.bsc_frame.specs.declared.reply.Reply.{Reply}
-use Rattle.bsc_frame.specs.declared.reply.Reply.TheVariants.{Ack0, Ack1, Nak, Wack, Rvi}
+use Rattle.bsc_frame.specs.declared.reply.Reply.TheVariants.{Ack0, Nak, Wack}
 use Rattle.bsc_frame.specs.Replies.{reply_in}
 use Rattle.bsc_bid.specs.Receiver.{ReceiverValue, ReceiverStep, Rooms, heard_step, text_step}
 use Rattle.bsc_bid.specs.Receiver.{stored_text, taken_urgently, replied, is_interrupt, is_wack}
 use Rattle.bsc_bid.specs.Receiver.{new_receiver}
 use Rattle.bsc_bid.specs.Sender.{SenderStep, begin_step, reply_step, is_in_doubt}
-use Rattle.bsc_bid.proofs.Choice.{choose}
+use Rattle.bsc_bid.proofs.Choice.{either_branch}
 use Rattle.bsc_tributary.specs.declared.called.Called.{Called}
 use Rattle.bsc_tributary.specs.declared.called.Called.TheVariants.{Polling, Selection, Other}
 use Rattle.bsc_tributary.specs.declared.mode.Mode.{Mode}
@@ -42,18 +42,19 @@ use Rattle.bsc_control.specs.CallOrder.{After, Selection, Poll, next_call}
 use Rattle.bsc_control.specs.Table.{Hears as ControlHears, task_step, selecting_step, polling_step}
 use Rattle.bsc_control.specs.Table.{receive_step, bid_step, act_step as control_acts}
 use Rattle.bsc_control.specs.Table.{next_call_step}
-use Rattle.bsc_control.specs.Table.{way_call_step, after_bid, is_interrupted, rooms_after as rooms_up}
+use Rattle.bsc_control.specs.Table.{way_call_step, after_bid, is_interrupted}
+use Rattle.bsc_control.specs.Table.{rooms_after as rooms_up}
 use Rattle.bsc_line_model.proofs.Stations.{same_or_not}
 
 -- a count within 64 bits does not fall, and stays within them
 abbrev pub Grows : ℕ → ℕ → Type 0
 Grows d e = d ≤ 2 ^ 64 - 1 → (d ≤ e) × (e ≤ 2 ^ 64 - 1)
 
-pub grows_same : (d : ℕ) → Grows d d
-grows_same d within = (omega arith, within)
+pub grows_by_nothing : (d : ℕ) → Grows d d
+grows_by_nothing d within = (omega arith, within)
 
-pub grows_then : (a b c : ℕ) → Grows a b → Grows b c → Grows a c
-grows_then a b c x y within =
+pub grows_in_turn : (a b c : ℕ) → Grows a b → Grows b c → Grows a c
+grows_in_turn a b c x y within =
     let first : (a ≤ b) × (b ≤ 2 ^ 64 - 1) = x within in
     let second : (b ≤ c) × (c ≤ 2 ^ 64 - 1) = y first.1 in
     let low : a ≤ b = first.0 in
@@ -64,7 +65,7 @@ grows_with_delay : (d : ℕ) → Grows d (with_delay d)
 grows_with_delay d within = (omega (arith, within), omega (arith, within))
 
 asked_grows : (s : SpoolValue) (b : Bool) → Grows s.delays (room_asked s b).delays
-asked_grows s true = grows_same s.delays
+asked_grows s true = grows_by_nothing s.delays
 asked_grows s false = grows_with_delay s.delays
 
 -- a receiver hears a transmission
@@ -81,28 +82,28 @@ text_grows r s t urgent rooms =
     let plain : ReceiverStep = stored_text r s t rooms in
     let urgently : ReceiverStep = taken_urgently r s t rooms in
     let refused : ReceiverStep = replied r.alternation (room_asked s false) Nak in
-    choose (ReceiverGrows s.delays) rooms.first
+    either_branch (ReceiverGrows s.delays) rooms.first
     (if urgent then (if is_interrupt r.last then plain else urgently) else plain) refused
-    (choose (ReceiverGrows s.delays) urgent (if is_interrupt r.last then plain else urgently) plain
-    (choose (ReceiverGrows s.delays) (is_interrupt r.last) plain urgently (taken_grows r s t rooms)
-    (grows_same s.delays)) (taken_grows r s t rooms))
+    (either_branch (ReceiverGrows s.delays) urgent (if is_interrupt r.last then plain else urgently) plain
+    (either_branch (ReceiverGrows s.delays) (is_interrupt r.last) plain urgently (taken_grows r s t rooms)
+    (grows_by_nothing s.delays)) (taken_grows r s t rooms))
     (asked_grows s false)
 
 enq_grows : (r : ReceiverValue) (s : SpoolValue) (rooms : Rooms) (wack : Bool) (said : Reply)
     → ReceiverGrows s.delays (if wack then replied r.alternation (room_asked s rooms.first) said
     else replied r.alternation s r.last)
 enq_grows r s rooms true said = asked_grows s rooms.first
-enq_grows r s rooms false said = grows_same s.delays
+enq_grows r s rooms false said = grows_by_nothing s.delays
 
 heard_grows : (r : ReceiverValue) (s : SpoolValue) (h : Heard) (urgent : Bool) (rooms : Rooms)
     → ReceiverGrows s.delays (heard_step r s h urgent rooms)
 heard_grows r s (Whole (m.Text t)) urgent rooms = text_grows r s t urgent rooms
 heard_grows r s (Whole m.Enq) urgent rooms = enq_grows r s rooms (is_wack r.last) _
-heard_grows r s (Whole m.Eot) urgent rooms = grows_same s.delays
-heard_grows r s (Whole (m.Call x)) urgent rooms = grows_same s.delays
-heard_grows r s (Whole (m.Reply reply)) urgent rooms = grows_same s.delays
-heard_grows r s Failed urgent rooms = grows_same s.delays
-heard_grows r s Noise urgent rooms = grows_same s.delays
+heard_grows r s (Whole m.Eot) urgent rooms = grows_by_nothing s.delays
+heard_grows r s (Whole (m.Call x)) urgent rooms = grows_by_nothing s.delays
+heard_grows r s (Whole (m.Reply reply)) urgent rooms = grows_by_nothing s.delays
+heard_grows r s Failed urgent rooms = grows_by_nothing s.delays
+heard_grows r s Noise urgent rooms = grows_by_nothing s.delays
 
 -- the spools of a terminal
 abbrev SpoolsGrow : List SpoolValue → List SpoolValue → Type 0
@@ -112,8 +113,8 @@ SpoolsGrow old new = (s : ℕ) → s < length old
 abbrev TerminalGrows : List SpoolValue → TributaryStep → Type 0
 TerminalGrows old out = SpoolsGrow old out.tributary.spools
 
-spools_same : (old : List SpoolValue) → SpoolsGrow old old
-spools_same old s less = grows_same (spool_at old s).delays
+spools_grow_by_nothing : (old : List SpoolValue) → SpoolsGrow old old
+spools_grow_by_nothing old s less = grows_by_nothing (spool_at old s).delays
 
 spool_set : (old : List SpoolValue) (e : ℕ) (z : SpoolValue)
     → Grows (spool_at old e).delays z.delays → SpoolsGrow old (slice_set old e z)
@@ -126,38 +127,38 @@ spool_set old e z grows s less =
           (subst (λ (y : SpoolValue). Grows (spool_at old e).delays y.delays)
           (sym (get_or-set_same old e z empty_spool there)) grows))
       | inr differ ↦ subst (λ (y : SpoolValue). Grows (spool_at old s).delays y.delays)
-          (sym (get_or-set_other old e s z empty_spool differ)) (grows_same (spool_at old s).delays)
+          (sym (get_or-set_other old e s z empty_spool differ)) (grows_by_nothing (spool_at old s).delays)
     ]
 
 call_grows : (x : TributaryValue) (c : Called) (rooms : Rooms)
     → TerminalGrows x.spools (call_step x c rooms)
 call_grows x Polling rooms =
     let d : TributaryValue = record (without_line x) { urgent = false } in
-    let same : SpoolsGrow x.spools x.spools = spools_same x.spools in
+    let same : SpoolsGrow x.spools x.spools = spools_grow_by_nothing x.spools in
     let none : TributaryStep = answer_step d m.Eot in
     let some : TributaryStep = act_step d (begin_step d.sender d.queue) in
-    choose (TerminalGrows x.spools) (is_in_doubt d.sender.phase) none
+    either_branch (TerminalGrows x.spools) (is_in_doubt d.sender.phase) none
     (if nat_eq (length (waiting d.queue)) 0 then none else some) same
-    (choose (TerminalGrows x.spools) (nat_eq (length (waiting d.queue)) 0) none some same same)
+    (either_branch (TerminalGrows x.spools) (nat_eq (length (waiting d.queue)) 0) none some same same)
 call_grows x (Selection s) rooms =
     let d : TributaryValue = without_line x in
     let z : SpoolValue = room_asked (spool_at x.spools s) rooms.first in
-    choose (TerminalGrows x.spools) x.ready _ _
+    either_branch (TerminalGrows x.spools) x.ready _ _
     (spool_set x.spools s z (asked_grows (spool_at x.spools s) rooms.first))
-    (spools_same x.spools)
-call_grows x Other rooms = spools_same x.spools
+    (spools_grow_by_nothing x.spools)
+call_grows x Other rooms = spools_grow_by_nothing x.spools
 
 mode_grows : (x : TributaryValue) (n : Mode) (h : Heard) (rooms : Rooms)
     → TerminalGrows x.spools (mode_step x n h rooms)
-mode_grows x mode.Control h rooms = spools_same x.spools
+mode_grows x mode.Control h rooms = spools_grow_by_nothing x.spools
 mode_grows x (mode.Receiving s) h rooms =
     let out : ReceiverStep = heard_step x.receiver (spool_at x.spools s) h x.urgent rooms in
     spool_set x.spools s out.spool (heard_grows x.receiver (spool_at x.spools s) h x.urgent rooms)
-mode_grows x mode.Sending h rooms = spools_same x.spools
+mode_grows x mode.Sending h rooms = spools_grow_by_nothing x.spools
 
 hear_grows : (x : TributaryValue) (h : Heard) (rooms : Rooms)
     → TerminalGrows x.spools (hear_step x h rooms)
-hear_grows x (Whole m.Eot) rooms = spools_same x.spools
+hear_grows x (Whole m.Eot) rooms = spools_grow_by_nothing x.spools
 hear_grows x (Whole (m.Call address)) rooms = call_grows x (called_as x.terminal address) rooms
 hear_grows x (Whole (m.Text t)) rooms = mode_grows x x.mode (Whole (m.Text t)) rooms
 hear_grows x (Whole m.Enq) rooms = mode_grows x x.mode (Whole m.Enq) rooms
@@ -179,7 +180,7 @@ pub record ControlGrows (old new : ControlValue) : Type 0 where
 
 pub control_same_grows : (c : ControlValue) → ControlGrows c c
 control_same_grows c =
-    record { count = refl; spools = λ t less. grows_same (peer_at c t).spool.delays }
+    record { count = refl; spools = λ t less. grows_by_nothing (peer_at c t).spool.delays }
 
 peers_set : (c d : ControlValue) (e : ℕ) (p : PeerValue) → d.peers ≡ slice_set c.peers e p
     → Grows (peer_at c e).spool.delays p.spool.delays → ControlGrows c d
@@ -198,7 +199,7 @@ peers_set c d e p is grows =
                 (sym (get_or-set_same c.peers e p no_peer there)) grows))
             | inr differ ↦ subst (λ (q : PeerValue). Grows (peer_at c t).spool.delays
                 q.spool.delays) (sym (get_or-set_other c.peers e t p no_peer differ))
-                (grows_same (peer_at c t).spool.delays)
+                (grows_by_nothing (peer_at c t).spool.delays)
           ]);
     }
 
@@ -208,7 +209,7 @@ control_then_grows a b c x y =
       count = y.count ∙ x.count;
       spools = λ t less.
           let on : t < length b.peers = omega (arith, less, x.count) in
-          grows_then (peer_at a t).spool.delays (peer_at b t).spool.delays
+          grows_in_turn (peer_at a t).spool.delays (peer_at b t).spool.delays
           (peer_at c t).spool.delays (x.spools t less) (y.spools t on);
     }
 
@@ -218,22 +219,22 @@ calls_by_grow c place FromTerminal =
     let t : ℕ = terminal_of_entry c place in
     peers_set c (way_call_step c place FromTerminal).control t
     (record (peer_at c t) { receiver = new_receiver true }) refl
-    (grows_same (peer_at c t).spool.delays)
+    (grows_by_nothing (peer_at c t).spool.delays)
 calls_by_grow c place (ToTerminal s) =
     let t : ℕ = terminal_of_entry c place in
     peers_set c (way_call_step c place (ToTerminal s)).control t
-    (record (peer_at c t) { urgent = false }) refl (grows_same (peer_at c t).spool.delays)
+    (record (peer_at c t) { urgent = false }) refl (grows_by_nothing (peer_at c t).spool.delays)
 
-next_grows : (c : ControlValue) (after : After) → ControlGrows c (next_call_step c after).control
-next_grows c after = calls_by_grow c (next_call c after).place (next_call c after).way
+next_call_grows : (c : ControlValue) (after : After) → ControlGrows c (next_call_step c after).control
+next_call_grows c after = calls_by_grow c (next_call c after).place (next_call c after).way
 
 performs_grow : (c : ControlValue) (s : ℕ) (act : Act) (after : After)
     → ControlGrows c (control_acts c s act after).control
 performs_grow c s (a.Send text) after =
-    record { count = refl; spools = λ t less. grows_same (peer_at c t).spool.delays }
+    record { count = refl; spools = λ t less. grows_by_nothing (peer_at c t).spool.delays }
 performs_grow c s a.Enq after =
-    record { count = refl; spools = λ t less. grows_same (peer_at c t).spool.delays }
-performs_grow c s a.Over after = next_grows c after
+    record { count = refl; spools = λ t less. grows_by_nothing (peer_at c t).spool.delays }
+performs_grow c s a.Over after = next_call_grows c after
 performs_grow c s a.Quiet after = control_same_grows c
 
 acted_grows : (c : ControlValue) (s : ℕ) (step : SenderStep) (after : After)
@@ -242,7 +243,7 @@ acted_grows c s step after =
     let o : OutboundValue = outbound_after step in
     let d : ControlValue = with_current c (with_outbound (peer c) s o) in
     control_then_grows c d (control_acts d s step.act after).control
-    (peers_set c d (current c) (with_outbound (peer c) s o) refl (grows_same (peer c).spool.delays))
+    (peers_set c d (current c) (with_outbound (peer c) s o) refl (grows_by_nothing (peer c).spool.delays))
     (performs_grow d s step.act after)
 
 selecting_grows : (c : ControlValue) (s : ℕ) (r : Option Reply)
@@ -251,18 +252,17 @@ selecting_grows c s None = control_same_grows c
 selecting_grows c s (Some Ack0) =
     acted_grows c s (begin_step (outbound_at (peer c) s).sender (outbound_at (peer c) s).queue)
     (Selection s)
-selecting_grows c s (Some Nak) = next_grows c (Selection s)
+selecting_grows c s (Some Nak) = next_call_grows c (Selection s)
 selecting_grows c s (Some Wack) =
-    choose (λ (x : ControlStep). ControlGrows c x.control) (nat_lt c.setup.waits (c.wacks + 1))
+    either_branch (λ (x : ControlStep). ControlGrows c x.control) (nat_lt c.setup.waits (c.wacks + 1))
     (next_call_step c (Selection s)) (control_answers
     (record c { task = k.Selecting s true; failures = 0; wacks = c.wacks + 1 }) m.Enq)
-    (next_grows c (Selection s)) (record {
+    (next_call_grows c (Selection s)) (record {
       count = refl;
       spools =
-          λ t less. grows_same (peer_at c t).spool.delays;
+          λ t less. grows_by_nothing (peer_at c t).spool.delays;
     })
-selecting_grows c s (Some Ack1) = control_same_grows c
-selecting_grows c s (Some Rvi) = control_same_grows c
+selecting_grows c s (Some _) = control_same_grows c
 
 receives_grow : (c : ControlValue) (replied : Replied) (h : Heard) (rooms : Rooms)
     → ControlGrows c (receive_step c replied
@@ -274,7 +274,7 @@ receives_grow c replied h rooms =
 
 polling_grows : (c : ControlValue) (replied : Replied) (h : Heard) (rooms : Rooms)
     → ControlGrows c (polling_step c replied h rooms).control
-polling_grows c replied (Whole m.Eot) rooms = next_grows c (Poll (is_interrupted replied))
+polling_grows c replied (Whole m.Eot) rooms = next_call_grows c (Poll (is_interrupted replied))
 polling_grows c replied (Whole (m.Call x)) rooms = receives_grow c replied (Whole (m.Call x)) rooms
 polling_grows c replied (Whole (m.Text t)) rooms = receives_grow c replied (Whole (m.Text t)) rooms
 polling_grows c replied (Whole m.Enq) rooms = receives_grow c replied (Whole m.Enq) rooms

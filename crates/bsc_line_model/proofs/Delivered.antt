@@ -11,23 +11,23 @@ use Rattle.bsc_bid.specs.Sender.{is_in_doubt}
 use Rattle.bsc_bid.specs.Channel.{IsSpooled}
 use Rattle.bsc_bid.specs.Agreement.{IsResting}
 use Rattle.bsc_line_model.specs.Rounds.{block_count}
-use Rattle.bsc_line_model.proofs.BlockCounts.{CutLaws, no_block}
+use Rattle.bsc_line_model.proofs.BlockCounts.{CutLaws, nothing_waits_without_block}
 
-known_all : (phase : Phase) (known spooled : ℕ) → IsAtRest phase → is_in_doubt phase ≡ false
+all_known_at_rest : (phase : Phase) (known spooled : ℕ) → IsAtRest phase → is_in_doubt phase ≡ false
     → IsSpooled phase known spooled → spooled ≡ known
-known_all Idle known spooled rest sure s = s
-known_all (InDoubt k) known spooled rest sure s = absurd (cc)
-known_all (Unanswered b) known spooled rest sure s = absurd rest
-known_all (Held end p) known spooled rest sure s = absurd rest
+all_known_at_rest Idle known spooled rest sure s = s
+all_known_at_rest (InDoubt k) known spooled rest sure s = absurd (cc)
+all_known_at_rest (Unanswered b) known spooled rest sure s = absurd rest
+all_known_at_rest (Held end p) known spooled rest sure s = absurd rest
 
-pub all_delivered : (laws : CutLaws) (phase : Phase) (q : QueueValue) (spooled : List (List ℕ))
+pub all_delivered_without_blocks : (laws : CutLaws) (phase : Phase) (q : QueueValue) (spooled : List (List ℕ))
     → IsResting phase q spooled → IsAtRest phase → is_in_doubt phase ≡ false → block_count q ≡ 0
     → (q.known ≡ length q.offered) × (spooled ≡ q.offered)
-all_delivered laws phase q spooled h rest sure none =
-    let test : nat_eq (length (waiting q)) 0 ≡ true = no_block laws q h.queue none in
+all_delivered_without_blocks laws phase q spooled h rest sure none =
+    let test : nat_eq (length (waiting q)) 0 ≡ true = nothing_waits_without_block laws q h.queue none in
     let empty : length (waiting q) ≡ 0 = grind (arith, nat_tests) in
     let known : q.known ≡ length q.offered =
     omega (arith, empty, h.queue.known, length-drop q.known q.offered) in
     let count : length spooled ≡ q.known =
-    known_all phase q.known (length spooled) rest sure h.sound.spooled in
+    all_known_at_rest phase q.known (length spooled) rest sure h.sound.spooled in
     (known, h.sound.front ∙ take_all (length spooled) q.offered (omega (arith, known, count)))

@@ -36,7 +36,7 @@ use Rattle.bsc_control.specs.Kept.{IsTaskOf}
 use Rattle.bsc_control.specs.Table.{Hears, task_step, bid_step, make_call_step, after_bid}
 use Rattle.bsc_control.specs.Table.{select_address, rooms_after, after_step}
 use Rattle.bsc_line_model.specs.Rounds.{block_count}
-use Rattle.bsc_line_model.proofs.BlockCounts.{CutLaws, HasFirstBlock, IsEnd, has_first}
+use Rattle.bsc_line_model.proofs.BlockCounts.{CutLaws, HasFirstBlock, IsEnd, first_block_of_queue}
 use Rattle.bsc_line_model.proofs.Staying.{ControlStays, control_then, call_stays, sender_stays}
 
 -- the address for a way
@@ -121,7 +121,7 @@ pub sends_block : (laws : CutLaws) (c d : ControlValue) (sent : Option Message) 
     ≡ bid_step c s (sent_next x q alternation (next_block q)) after
     → SendsDown d sent c.place s n × ControlStays (current c) (ToTerminal s) c d
 sends_block laws c d sent s n x q alternation after there select is count row =
-    let h : HasFirstBlock q n = has_first laws q n is count in
+    let h : HasFirstBlock q n = first_block_of_queue laws q n is count in
     let b : SentBlock =
     record { count = h.next.count; end = h.next.end; alternation = alternation } in
     let step : SenderStep = sent_next x q alternation (Some h.next) in
@@ -168,10 +168,10 @@ pub ack_step : (x : SenderValue) (q : QueueValue) (b : SentBlock) (alternation :
 ack_step x q b Even p e = rw (e, p) refl
 ack_step x q b Odd p e = rw (e, p) refl
 
-ack_after : (s : ℕ) (alternation : Alternation)
+selection_after_ack : (s : ℕ) (alternation : Alternation)
     → after_bid s (reply_in (Whole (m.Reply (ack alternation)))) ≡ Selection s
-ack_after s Even = refl
-ack_after s Odd = refl
+selection_after_ack s Even = refl
+selection_after_ack s Odd = refl
 
 -- the bid to selection address s is over, no record is left and there is no doubt, and the next
 -- call is made
@@ -222,12 +222,12 @@ ends_bid c d sent s x q there select none row =
     )
 
 -- a block is acknowledged
-pub learns : (laws : CutLaws) (c d : ControlValue) (sent : Option Message) (s n : ℕ) (b : SentBlock)
+pub block_known_after_ack : (laws : CutLaws) (c d : ControlValue) (sent : Option Message) (s n : ℕ) (b : SentBlock)
     → current c < length c.peers → s < length (peer c).outbounds → IsInBlock c s n b
     → IsQueue (with_known (outbound_at (peer c) s).queue b.count) →
     Hears c (Whole (m.Reply (ack b.alternation))) d sent → GoesOnDown d sent c.place s n
     × ControlStays (current c) (ToTerminal s) c d
-learns laws c d sent s n b there select i is h =
+block_known_after_ack laws c d sent s n b there select i is h =
     let o : OutboundValue = outbound_at (peer c) s in
     let w : Heard = Whole (m.Reply (ack b.alternation)) in
     let q : QueueValue = with_known o.queue b.count in
@@ -237,7 +237,7 @@ learns laws c d sent s n b there select i is h =
     ∙ ap (λ (z : SenderStep). bid_step c s z (after_bid s (reply_in w)))
     (ack_step o.sender o.queue b b.alternation refl i.phase)
     ∙ ap (λ (z : After). bid_step c s (accepted o.sender q b.end b.alternation) z)
-    (ack_after s b.alternation) in
+    (selection_after_ack s b.alternation) in
     by_end b.end row n i.rest i.end
   where
     by_end : (end : End) → record { control = d; sent = sent }

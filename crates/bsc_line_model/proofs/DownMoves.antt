@@ -43,12 +43,12 @@ use Rattle.bsc_line_model.specs.Carries.{IsCarriedDown}
 use Rattle.bsc_line_model.specs.Kept.{IsTuned, IsLine}
 use Rattle.bsc_line_model.specs.Together.{IsInBidDown, InTask}
 use Rattle.bsc_line_model.specs.BidLaws.{BidLaws}
-use Rattle.bsc_control.proofs.Calls.{places, current_there}
+use Rattle.bsc_control.proofs.Calls.{places, current_within_peers}
 use Rattle.bsc_line_model.proofs.Tuning.{each_fairly}
-use Rattle.bsc_line_model.proofs.SendingDown.{same_terminal}
+use Rattle.bsc_line_model.proofs.SendingDown.{one_terminal_of_address}
 use Rattle.bsc_line_model.proofs.AllHear.{reply_is_no_call}
 use Rattle.bsc_line_model.proofs.QueueSteps.{LearnsUp, terminal_queue}
-use Rattle.bsc_line_model.proofs.Holding.{IsBidOf, bid_of}
+use Rattle.bsc_line_model.proofs.Holding.{IsBidOf, bid_of_sending_terminal}
 use Rattle.bsc_line_model.proofs.Moving.{MovesIfAddressed, EachMoves}
 use Rattle.bsc_bid.proofs.Answering.{no_reply}
 use Rattle.bsc_line_model.proofs.Stations.{receiving_into}
@@ -87,31 +87,31 @@ pub record IsBidTo (pending : Option Transmission) (c : ControlValue)
   pub select : ℕ
   pub bid : IsInBidDown pending (peer c) (current c) select (terminal_in ts (current c))
 
-bid_to : (task : Task) (t : TextValue) (c : ControlValue) (ts : List TributaryValue)
+bid_of_pending_text : (task : Task) (t : TextValue) (c : ControlValue) (ts : List TributaryValue)
     → InTask task (Some (record { speaker = sp.Control; message = m.Text t })) c ts
     → IsBidTo (Some (record { speaker = sp.Control; message = m.Text t })) c ts
-bid_to AtRest t c ts k = let sent : Transmission =
+bid_of_pending_text AtRest t c ts k = let sent : Transmission =
     record { speaker = sp.Control; message = m.Text t } in let no : Some sent ≡ None = k.nothing in
     absurd (cc)
-bid_to (Selecting s true) t c ts k = let no : m.Text t ≡ m.Enq = k.with_pending in absurd (cc)
-bid_to (Selecting s false) t c ts k = let no : m.Text t
+bid_of_pending_text (Selecting s true) t c ts k = let no : m.Text t ≡ m.Enq = k.with_pending in absurd (cc)
+bid_of_pending_text (Selecting s false) t c ts k = let no : m.Text t
     ≡ m.Call (select_address (peer c).terminal s) = k.with_pending in absurd (cc)
-bid_to (Sending s) t c ts k = record { select = s; bid = k.bid }
-bid_to (Polling replied) t c ts k =
+bid_of_pending_text (Sending s) t c ts k = record { select = s; bid = k.bid }
+bid_of_pending_text (Polling replied) t c ts k =
     elim k.present [
       | inl q ↦ (let no : m.Text t ≡ m.Call (peer c).terminal.poll = q.1.0 in absurd (cc))
       | inr b ↦ absurd (no_reply (m.Text t) b.flies.0 refl b.flies.1)
     ]
 
 -- the terminal to which it is sent hears it, or noise
-lands_down : (laws : BidLaws) (p : PeerValue) (e s : ℕ) (w : Message) (h : Heard)
+text_down_lands : (laws : BidLaws) (p : PeerValue) (e s : ℕ) (w : Message) (h : Heard)
     (x u : TributaryValue) (out : Option Message) → s < length x.spools →
     IsInBidDown (Some (record { speaker = sp.Control; message = w })) p e s x → IsNoCall h
     → IsFairlyHeard w h → Hears x h u out →
     MovesAtReceiver (outbound_at p s).sender.phase
     (channel (outbound_at p s).queue (spool_at x.spools s).records)
     (channel (outbound_at p s).queue (spool_at u.spools s).records)
-lands_down laws p e s w h x u out there b never fair row =
+text_down_lands laws p e s w h x u out there b never fair row =
     let spool : SpoolValue = spool_at x.spools s in
     let rooms : Rooms = rooms_after h u in
     let r : ReceiverStep = heard_step x.receiver spool h x.urgent rooms in
@@ -147,9 +147,9 @@ abbrev way_in : Option (ℕ × Way) → Way
 way_in None = FromTerminal
 way_in (Some a) = a.1
 
-same_select : (addressed : Option (ℕ × Way)) (t u s k : ℕ) → addressed ≡ Some (t, ToTerminal s)
+one_select_addressed : (addressed : Option (ℕ × Way)) (t u s k : ℕ) → addressed ≡ Some (t, ToTerminal s)
     → addressed ≡ Some (u, ToTerminal k) → s ≡ k
-same_select addressed t u s k a b = let same : ToTerminal s ≡ ToTerminal k =
+one_select_addressed addressed t u s k a b = let same : ToTerminal s ≡ ToTerminal k =
     ap way_in (sym a ∙ b) in cc
 
 -- the terminals of a line hear the control station's message
@@ -164,11 +164,11 @@ pub was_trusted_down : (old new : LineValue) (w : Message) (hears : ℕ → Hear
 was_trusted_down old new w hears k = k.carried.trusted.0 k.trusted
 
 -- how the stations fitted together before
-together_down : (old new : LineValue) (w : Message) (hears : ℕ → Heard)
+together_before_carry_down : (old new : LineValue) (w : Message) (hears : ℕ → Heard)
     → HearsControl old new w hears
     → InTask old.control.task (Some (record { speaker = sp.Control; message = w })) old.control
     old.terminals
-together_down old new w hears k =
+together_before_carry_down old new w hears k =
     subst (λ (o : Option Transmission). InTask old.control.task o old.control old.terminals)
     k.pending (k.line.together (was_trusted_down old new w hears k).0)
 
@@ -183,14 +183,14 @@ down_moves_from laws old new w hears t k less =
     (answer_of old.terminals hears new.terminals t) (k.carried.terminals.each t less)) [
       | inl same ↦ inl (ap (λ (q : QueueValue). channel q (peer_at old.control t).spool.records)
           same)
-      | inr learns ↦ learnt learns
+      | inr learns ↦ moves_if_up_is_learnt learns
     ]
   where
-    learnt : LearnsUp (terminal_at old t) (hears t) (terminal_at new t) →
+    moves_if_up_is_learnt : LearnsUp (terminal_at old t) (hears t) (terminal_at new t) →
         MovesIfAddressed old.addressed t FromTerminal
         (channel (terminal_at old t).queue (peer_at old.control t).spool.records)
         (channel (terminal_at new t).queue (peer_at old.control t).spool.records)
-    learnt l =
+    moves_if_up_is_learnt l =
         let c : ControlValue = old.control in
         let y : TributaryValue = terminal_at old (current c) in
         let q : PeerValue = peer c in
@@ -198,8 +198,8 @@ down_moves_from laws old new w hears t k less =
         was_trusted_down old new w hears k in
         let of : IsBidOf c.task (Some (record { speaker = sp.Control; message = w })) c
         old.terminals t =
-        bid_of c.task (Some (record { speaker = sp.Control; message = w })) c old.terminals t less
-        l.mode (together_down old new w hears k) in
+        bid_of_sending_terminal c.task (Some (record { speaker = sp.Control; message = w })) c old.terminals t less
+        l.mode (together_before_carry_down old new w hears k) in
         let r : Reply = of.bid.flies.0 in
         let never : is_call w ≡ false = ap is_call of.bid.flies.1 ∙ reply_is_no_call r in
         let fair : IsFairlyHeard (m.Reply r) (hears t) =
@@ -244,10 +244,10 @@ down_moves_to laws old new w hears t s k less =
     elim ((k.carried.kept t less).grows s) [
       | inl same ↦ inl (ap (λ (rs : List (List ℕ)). channel (outbound_of old.control t s).queue rs)
           same)
-      | inr stores ↦ landed stores
+      | inr stores ↦ moves_if_down_is_landed stores
     ]
   where
-    landed : Stores (terminal_at old t).mode (hears t) s
+    moves_if_down_is_landed : Stores (terminal_at old t).mode (hears t) s
         (spool_at (terminal_at old t).spools s).records
         (spool_at (terminal_at new t).spools s).records →
         MovesIfAddressed old.addressed t (ToTerminal s)
@@ -255,7 +255,7 @@ down_moves_to laws old new w hears t s k less =
         (spool_at (terminal_at old t).spools s).records)
         (channel (outbound_of old.control t s).queue
         (spool_at (terminal_at new t).spools s).records)
-    landed l =
+    moves_if_down_is_landed l =
         let c : ControlValue = old.control in
         let e : ℕ = current c in
         let was : IsTrue old.trusted × IsHeardFairly w (terminal_count old) hears =
@@ -264,13 +264,13 @@ down_moves_to laws old new w hears t s k less =
         text_sent_down w (terminal_count old) hears t l.text less l.heard was.1 in
         let to : IsBidTo (Some (record { speaker = sp.Control; message = m.Text l.text })) c
         old.terminals =
-        bid_to c.task l.text c old.terminals
+        bid_of_pending_text c.task l.text c old.terminals
         (subst (λ (v : Message). InTask c.task
         (Some (record { speaker = sp.Control; message = v })) c old.terminals) text
-        (together_down old new w hears k)) in
+        (together_before_carry_down old new w hears k)) in
         let there : e < terminal_count old =
         subst (λ (n : ℕ). e < n) k.line.stations.count
-        (current_there c (places c k.line.stations.control.entries)) in
+        (current_within_peers c (places c k.line.stations.control.entries)) in
         let is : old.addressed ≡ Some (t, ToTerminal s) =
         subst (λ (n : Mode). IsTuned old.addressed t n) l.receiving
         (k.line.tuned was.0 t less) in
@@ -278,8 +278,8 @@ down_moves_to laws old new w hears t s k less =
         subst (λ (n : Mode). IsTuned old.addressed e n) to.bid.mode
         (k.line.tuned was.0 e there) in
         let here : e ≡ t =
-        same_terminal old.addressed e t (ToTerminal to.select) (ToTerminal s) this is in
-        let select : to.select ≡ s = same_select old.addressed e t to.select s this is in
+        one_terminal_of_address old.addressed e t (ToTerminal to.select) (ToTerminal s) this is in
+        let select : to.select ≡ s = one_select_addressed old.addressed e t to.select s this is in
         let bid : IsInBidDown (Some (record { speaker = sp.Control; message = m.Text l.text }))
         (peer_at c t) t s (terminal_at old t) =
         subst (λ (n : ℕ). IsInBidDown (Some
@@ -299,19 +299,19 @@ down_moves_to laws old new w hears t s k less =
         if_lands (outbound_of c t s).sender.phase old.addressed t (ToTerminal s)
         (channel (outbound_of c t s).queue (spool_at (terminal_at old t).spools s).records)
         (channel (outbound_of c t s).queue (spool_at (terminal_at new t).spools s).records) is
-        (lands_down laws (peer_at c t) t s (m.Text l.text) (hears t) (terminal_at old t)
+        (text_down_lands laws (peer_at c t) t s (m.Text l.text) (hears t) (terminal_at old t)
         (terminal_at new t) (answer_of old.terminals hears new.terminals t) into bid
         (subst IsNoCall (sym l.heard) tt) fair (k.carried.terminals.each t less))
 
 -- each channel
-pub down_moves : (laws : BidLaws) (old new : LineValue) (w : Message) (hears : ℕ → Heard)
+pub channels_move_by_carry_down : (laws : BidLaws) (old new : LineValue) (w : Message) (hears : ℕ → Heard)
     → HearsControl old new w hears → EachMoves old.addressed old new
-down_moves laws old new w hears k t FromTerminal is =
+channels_move_by_carry_down laws old new w hears k t FromTerminal is =
     subst (λ (c : ControlValue). MovesIfAddressed old.addressed t FromTerminal
     (channel_of old t FromTerminal) (channel (terminal_at new t).queue
     (peer_at c t).spool.records)) (sym k.carried.control)
     (down_moves_from laws old new w hears t k is.there)
-down_moves laws old new w hears k t (ToTerminal s) is =
+channels_move_by_carry_down laws old new w hears k t (ToTerminal s) is =
     subst (λ (c : ControlValue). MovesIfAddressed old.addressed t (ToTerminal s)
     (channel_of old t (ToTerminal s))
     (channel (outbound_of c t s).queue (spool_at (terminal_at new t).spools s).records))

@@ -44,13 +44,15 @@ use Rattle.bsc_line_model.specs.Kept.{IsTuned, AreTuned}
 use Rattle.bsc_line_model.specs.Terminals.{answer_of}
 use Rattle.bsc_line_model.specs.Together.{InTask, IsSelecting, IsSending, IsInBidDown, FliesDown}
 use Rattle.bsc_line_model.specs.Rounds.{SameDelays}
-use Rattle.bsc_control.proofs.Calls.{current_there}
-use Rattle.bsc_line_model.proofs.Stations.{same_or_not, terminal_there, at_rest_in, receiving_into, current_terminal_there}
+use Rattle.bsc_control.proofs.Calls.{current_within_peers}
+use Rattle.bsc_line_model.proofs.Stations.{same_or_not, terminal_in_directory, at_rest_in}
+use Rattle.bsc_line_model.proofs.Stations.{receiving_into, current_terminal_there}
 use Rattle.bsc_line_model.proofs.Tuning.{NamesOwn}
 use Rattle.bsc_line_model.proofs.SendingDown.{others_in_control, first_answer_is, place_of}
 use Rattle.bsc_line_model.proofs.Staying.{TerminalStays, TerminalsStay, terminal_same}
 use Rattle.bsc_line_model.proofs.DownControl.{IsInBlock}
-use Rattle.bsc_line_model.proofs.DownTerminals.{takes_block, hears_other, hears_selection}
+use Rattle.bsc_line_model.proofs.DownTerminals.{takes_block, terminal_hears_other_call}
+use Rattle.bsc_line_model.proofs.DownTerminals.{hears_selection}
 use Rattle.bsc_line_model.proofs.Walking.{IsGood, good_places}
 
 -- what a terminal answers, and that nothing else moves
@@ -125,13 +127,13 @@ not_landed pending p e s x b t is phase h =
     ]
 
 -- a text to selection address s is acknowledged
-pub text_down : (l new : LineValue) (s n : ℕ) (b : SentBlock) → IsGood l → IsInBlock l.control s n b
+pub text_down_is_acknowledged : (l new : LineValue) (s n : ℕ) (b : SentBlock) → IsGood l → IsInBlock l.control s n b
     → (terminal_at l (current l.control)).urgent ≡ false → SameDelays l new →
     let t : TextValue = text_of (outbound_at (peer l.control) s).queue b in
     (l.pending ≡ Some (record { speaker = sp.Control; message = m.Text t })
     → IsCarriedDown (m.Text t) (λ z. Whole (m.Text t)) l new
     → OneAnswers (current l.control) (ToTerminal s) (m.Reply (ack b.alternation)) l new)
-text_down l new s n b g i calm delays is h =
+text_down_is_acknowledged l new s n b g i visit_ready delays is h =
     let c : ControlValue = l.control in
     let e : ℕ = current c in
     let x : TributaryValue = terminal_at l e in
@@ -159,7 +161,7 @@ text_down l new s n b g i calm delays is h =
     × TerminalStays e (ToTerminal s) e x (terminal_at new e) =
     takes_block e x (terminal_at new e)
     (answer_of l.terminals (λ z. Whole (m.Text t)) new.terminals e) s t b.alternation bid.mode
-    into calm counted same.0 same.1 (h.terminals.each e there) in
+    into visit_ready counted same.0 same.1 (h.terminals.each e there) in
     answered_by_one e (ToTerminal s) (m.Text t) (m.Reply (ack b.alternation)) l new there h
     (λ z less differ.
     answers_nothing e (ToTerminal s) z (terminal_at l z) (terminal_at new z)
@@ -169,11 +171,11 @@ text_down l new s n b g i calm delays is h =
     (record { says = taken.0; stays = taken.1 })
 
 -- a call does not name an address of any terminal but the one that is then addressed
-pub names_other : (laws : NamesOwn) (l new : LineValue) (e : ℕ) (way : Way) (a : List ℕ) (t : ℕ)
+pub call_names_no_other_terminal : (laws : NamesOwn) (l new : LineValue) (e : ℕ) (way : Way) (a : List ℕ) (t : ℕ)
     → IsGood l → IsCarriedDown (m.Call a) (λ z. Whole (m.Call a)) l new
     → IsAddressOf (terminals l.control) e way a → t < length l.terminals → t ≢ e →
     called_as (terminal_at l t).terminal a ≡ Other
-names_other laws l new e way a t g h its less differ =
+call_names_no_other_terminal laws l new e way a t g h its less differ =
     by_called (called_as (terminal_at l t).terminal a) refl
   where
     is_named : (other_way : Way) → IsAddressOf (terminals l.control) t other_way a → ⊥
@@ -191,27 +193,27 @@ names_other laws l new e way a t g h its less differ =
         (is_named FromTerminal (record {
           terminal = (terminal_at l t).terminal;
           there =
-              terminal_there l.control l.terminals t g.line.stations less;
+              terminal_in_directory l.control l.terminals t g.line.stations less;
           its_own =
               ap (λ (y : List ℕ). Some y) (sym ((laws.polling (terminal_at l t).terminal a).0 is));
         }))
     by_called (Selection s) is =
         absurd (is_named (ToTerminal s) (record {
           terminal = (terminal_at l t).terminal;
-          there = terminal_there l.control l.terminals t g.line.stations less;
+          there = terminal_in_directory l.control l.terminals t g.line.stations less;
           its_own =
               (laws.selection (terminal_at l t).terminal a s
               (g.line.stations.members t less).tributary.distinct).0 is;
         }))
 
 -- selection address s is called: ACK0
-pub call_down : (laws : NamesOwn) (l new : LineValue) (s : ℕ) → IsGood l → l.control.task
+pub selection_call_is_answered : (laws : NamesOwn) (l new : LineValue) (s : ℕ) → IsGood l → l.control.task
     ≡ k.Selecting s false → s < length (peer l.control).outbounds
     → IsTrue (terminal_at l (current l.control)).ready → SameDelays l new →
     let a : List ℕ = select_address (peer l.control).terminal s in
     (IsCarriedDown (m.Call a) (λ z. Whole (m.Call a)) l new
     → OneAnswers (current l.control) (ToTerminal s) (m.Reply Ack0) l new)
-call_down laws l new s g task select ready delays h =
+selection_call_is_answered laws l new s g task select ready delays h =
     let c : ControlValue = l.control in
     let e : ℕ = current c in
     let x : TributaryValue = terminal_at l e in
@@ -221,7 +223,7 @@ call_down laws l new s g task select ready delays h =
     let selecting : IsSelecting l.pending c l.terminals s false =
     subst (λ (z : Task). InTask z l.pending c l.terminals) task g.together in
     let peer_is : IsPeer (peer c) =
-    All-get_or IsPeer c.peers e no_peer (current_there c (good_places l g))
+    All-get_or IsPeer c.peers e no_peer (current_within_peers c (good_places l g))
     g.line.stations.control.entries.peers in
     let addresses : x.terminal ≡ (peer c).terminal = (g.line.stations.members e there).addresses in
     let within : s < length (peer c).terminal.selects =
@@ -238,7 +240,7 @@ call_down laws l new s g task select ready delays h =
     record {
       terminal = x.terminal;
       there =
-          terminal_there c l.terminals e g.line.stations there;
+          terminal_in_directory c l.terminals e g.line.stations there;
       its_own = own;
     } in
     let rests : (t : ℕ) → t < length l.terminals → IsAtRest (terminal_at l t).sender.phase =
@@ -260,9 +262,9 @@ call_down laws l new s g task select ready delays h =
     (λ t less differ.
     let quiet : (answer_of l.terminals (λ y. Whole (m.Call a)) new.terminals t ≡ None)
     × TerminalStays e (ToTerminal s) t (terminal_at l t) (terminal_at new t) =
-    hears_other e (ToTerminal s) t (terminal_at l t) (terminal_at new t)
+    terminal_hears_other_call e (ToTerminal s) t (terminal_at l t) (terminal_at new t)
     (answer_of l.terminals (λ y. Whole (m.Call a)) new.terminals t) a (rests t less)
-    (names_other laws l new e (ToTerminal s) a t g h its less differ)
+    (call_names_no_other_terminal laws l new e (ToTerminal s) a t g h its less differ)
     (h.terminals.each t less) in
     record { says = quiet.0; stays = quiet.1 })
     (record { says = taken.0; stays = taken.1 })

@@ -29,13 +29,13 @@ use Rattle.bsc_line_model.proofs.Staying.{TerminalStays}
 use Rattle.bsc_bid.proofs.Resting.{cut_at_rest}
 
 -- a flag that is down stays down
-pub calm : (b u : Bool) → u ≡ false → (if b then false else u) ≡ false
-calm true u e = refl
-calm false u e = e
+pub flag_stays_down : (b u : Bool) → u ≡ false → (if b then false else u) ≡ false
+flag_stays_down true u e = refl
+flag_stays_down false u e = e
 
-pub twice_other : (p : Alternation) → other (other p) ≡ p
-twice_other Even = refl
-twice_other Odd = refl
+pub other_of_other : (p : Alternation) → other (other p) ≡ p
+other_of_other Even = refl
+other_of_other Odd = refl
 
 -- a text for which there is room is taken and acknowledged
 pub taken_exact : (r : ReceiverValue) (s : SpoolValue) (t : TextValue) (first after : Bool)
@@ -53,7 +53,7 @@ receives_stays : (e : ℕ) (x : TributaryValue) (s : ℕ) (r : ReceiverStep)
 receives_stays e x s r =
     record {
       ready = refl;
-      urgent = λ k. calm (sends_interrupt r.reply) x.urgent k;
+      urgent = λ k. flag_stays_down (sends_interrupt r.reply) x.urgent k;
       down = λ k k_else.
           let differ : k ≢ s = λ same. k_else refl (ap (λ (n : ℕ). ToTerminal n) same) in
           ap (λ (z : SpoolValue). z.records)
@@ -84,7 +84,7 @@ takes_block e x u out s t alternation mode there not_urgent counted same less h 
     let reply : r.reply ≡ Some (ack (other x.receiver.alternation)) =
     taken_exact x.receiver spool t rooms.first rooms.after delays less in
     let parity_is : other x.receiver.alternation ≡ alternation = ap other counted
-    ∙ twice_other alternation in
+    ∙ other_of_other alternation in
     let said : out ≡ Some (m.Reply (ack alternation)) =
     ap (λ (o : TributaryStep). o.sent) row
     ∙ ap (λ (z : Option Reply). option_map m.Reply z) reply
@@ -95,10 +95,10 @@ takes_block e x u out s t alternation mode there not_urgent counted same less h 
     )
 
 -- the call of another terminal's address
-pub hears_other : (e : ℕ) (way : Way) (t : ℕ) (x u : TributaryValue) (out : Option Message)
+pub terminal_hears_other_call : (e : ℕ) (way : Way) (t : ℕ) (x u : TributaryValue) (out : Option Message)
     (a : List ℕ) → IsAtRest x.sender.phase → called_as x.terminal a ≡ Other
     → Hears x (Whole (m.Call a)) u out → (out ≡ None) × TerminalStays e way t x u
-hears_other e way t x u out a rest is h =
+terminal_hears_other_call e way t x u out a rest is h =
     let row : record { tributary = u; sent = out } ≡ quiet_step (without_line x) = h.row
     ∙ ap (λ (k : Called). call_step x k (rooms_after (Whole (m.Call a)) u)) is in (
       ap (λ (o : TributaryStep). o.sent) row,

@@ -32,16 +32,17 @@ use Rattle.bsc_line_model.specs.Runs.{CarriesAs, Does}
 use Rattle.bsc_line_model.specs.Kept.{IsLine}
 use Rattle.bsc_line_model.specs.ChannelSteps.{MovesOne, MovesNothing, MovesAddressed, StepsChannels}
 use Rattle.bsc_line_model.specs.BidLaws.{BidLaws}
-use Rattle.bsc_line_model.proofs.Soundness.{way_there}
-use Rattle.bsc_line_model.proofs.ChannelMoves.{terminal_still, peer_still, offer_at_moves}
+use Rattle.bsc_line_model.proofs.Soundness.{peer_has_way}
+use Rattle.bsc_line_model.proofs.ChannelMoves.{no_move_of_same_terminal, no_move_of_same_peer}
+use Rattle.bsc_line_model.proofs.ChannelMoves.{offer_at_moves}
 use Rattle.bsc_line_model.proofs.ChannelMoves.{offer_for_moves, release_from_moves}
 use Rattle.bsc_line_model.proofs.ChannelMoves.{release_to_moves}
 use Rattle.bsc_line_model.proofs.QueueSteps.{terminal_silent_queue}
 use Rattle.bsc_line_model.proofs.OutboundSteps.{outbound_silent_queue}
 use Rattle.bsc_line_model.proofs.Moving.{moves_addressed}
-use Rattle.bsc_line_model.proofs.DownMoves.{down_moves}
+use Rattle.bsc_line_model.proofs.DownMoves.{channels_move_by_carry_down}
 use Rattle.bsc_line_model.proofs.UpMoves.{up_moves}
-use Rattle.bsc_line_model.proofs.EachEvent.{peer_there}
+use Rattle.bsc_line_model.proofs.EachEvent.{peer_of_terminal}
 
 -- a transmission is carried
 carry_moves : (laws : BidLaws) (old new : LineValue) (speaker : Speaker) (w : Message) (h : Heard)
@@ -49,7 +50,7 @@ carry_moves : (laws : BidLaws) (old new : LineValue) (speaker : Speaker) (w : Me
     → IsCarriedBy speaker w h old new → IsTrue new.trusted → MovesAddressed old.addressed old new
 carry_moves laws old new Control w h is pending carried trusted =
     moves_addressed old.addressed old new
-    (down_moves laws old new w (λ t. h)
+    (channels_move_by_carry_down laws old new w (λ t. h)
     (record { line = is; pending = pending; carried = carried; trusted = trusted }))
 carry_moves laws old new (Terminal t) w h is pending carried trusted =
     moves_addressed old.addressed old new
@@ -87,13 +88,13 @@ control_silent old new is k t (ToTerminal s) there =
 abbrev same_stations : LineValue → LineValue → Type 0
 same_stations a b = (b.control ≡ a.control) × (b.terminals ≡ a.terminals)
 
-seen : (a b : LineValue) (t : ℕ) (way : Way) → same_stations a b → channel_of b t way
+same_channels_of_same_stations : (a b : LineValue) (t : ℕ) (way : Way) → same_stations a b → channel_of b t way
     ≡ channel_of a t way
-seen a b t FromTerminal e =
+same_channels_of_same_stations a b t FromTerminal e =
     ap (λ (ts : List TributaryValue). channel (terminal_in ts t).queue
     (peer_at b.control t).spool.records) e.1
     ∙ ap (λ (c : ControlValue). channel (terminal_at a t).queue (peer_at c t).spool.records) e.0
-seen a b t (ToTerminal s) e =
+same_channels_of_same_stations a b t (ToTerminal s) e =
     ap (λ (ts : List TributaryValue). channel (outbound_of b.control t s).queue
     (spool_at (terminal_in ts t).spools s).records) e.1
     ∙ ap (λ (c : ControlValue). channel (outbound_of c t s).queue
@@ -101,9 +102,9 @@ seen a b t (ToTerminal s) e =
 
 terminal_silent : (old new : LineValue) (t : ℕ) → TerminalActsAlone t old new → MovesNothing old new
 terminal_silent old new t k u way there =
-    seen (with_terminal old t (terminal_at new t)) new u way
+    same_channels_of_same_stations (with_terminal old t (terminal_at new t)) new u way
     (ap (λ (l : LineValue). l.control) k.becomes, ap (λ (l : LineValue). l.terminals) k.becomes)
-    ∙ terminal_still old t (terminal_at new t) k.there
+    ∙ no_move_of_same_terminal old t (terminal_at new t) k.there
     (terminal_silent_queue (terminal_at old t) (terminal_at new t) k.sent k.row) k.kept.spools u
     way there
 
@@ -120,9 +121,9 @@ release_moves old new t FromTerminal is k =
     (release_from_moves old t tt k.there k.answer)
 release_moves old new t (ToTerminal s) is k =
     let select : s < length (peer_at old.control t).outbounds =
-    way_there old.control old.terminals t (ToTerminal s) is.stations k.there k.select in
+    peer_has_way old.control old.terminals t (ToTerminal s) is.stations k.there k.select in
     subst (λ (l : LineValue). MovesOne t (ToTerminal s) Learn old l) (sym k.becomes)
-    (release_to_moves old t s tt (peer_there old t is k.there) select k.answer)
+    (release_to_moves old t s tt (peer_of_terminal old t is k.there) select k.answer)
 
 -- an offer and a flag
 nothing_moves : (old new : LineValue) (set : LineValue) → new ≡ set → MovesNothing old set
@@ -139,28 +140,28 @@ pub offer_for_event : (old new : LineValue) (t s : ℕ) (r : List ℕ) → IsLin
     → OffersFor old t s r (Ok tt) new → MovesOne t (ToTerminal s) (Offer r) old new
 offer_for_event old new t s r is d =
     let select : s < length (peer_at old.control t).outbounds =
-    way_there old.control old.terminals t (ToTerminal s) is.stations d.0 d.1 in
+    peer_has_way old.control old.terminals t (ToTerminal s) is.stations d.0 d.1 in
     subst (λ (l : LineValue). MovesOne t (ToTerminal s) (Offer r) old l) (sym d.3)
-    (offer_for_moves old t s r (peer_there old t is d.0) select)
+    (offer_for_moves old t s r (peer_of_terminal old t is d.0) select)
 
 pub ready_moves : (old new : LineValue) (t : ℕ) (ready : Bool)
     → Sets old t (ready_set old t ready) (Ok tt) new → MovesNothing old new
 ready_moves old new t ready d =
     nothing_moves old new (ready_set old t ready) d.1
-    (terminal_still old t (record (terminal_at old t) { ready = ready }) d.0 refl refl)
+    (no_move_of_same_terminal old t (record (terminal_at old t) { ready = ready }) d.0 refl refl)
 
 pub urgent_at_moves : (old new : LineValue) (t : ℕ) → Sets old t (urgent_set_at old t) (Ok tt) new
     → MovesNothing old new
 urgent_at_moves old new t d =
     nothing_moves old new (urgent_set_at old t) d.1
-    (terminal_still old t (record (terminal_at old t) { urgent = true }) d.0 refl refl)
+    (no_move_of_same_terminal old t (record (terminal_at old t) { urgent = true }) d.0 refl refl)
 
 pub urgent_for_moves : (old new : LineValue) (t : ℕ) → IsLine old
     → Sets old t (urgent_set_for old t) (Ok tt) new → MovesNothing old new
 urgent_for_moves old new t is d =
     nothing_moves old new (urgent_set_for old t) d.1
-    (peer_still old t (record (peer_at old.control t) { urgent = true })
-    (peer_there old t is d.0) refl refl)
+    (no_move_of_same_peer old t (record (peer_at old.control t) { urgent = true })
+    (peer_of_terminal old t is d.0) refl refl)
 
 pub event_moves : (laws : BidLaws) (event : Event) (old new : LineValue) → IsLine old
     → Does event old (Ok tt) new → IsTrue new.trusted → StepsChannels event old new
@@ -173,7 +174,7 @@ event_moves laws (CarryEach items) old new is d now =
     d.pending ∙ ap (λ (p : Speaker). Some (record { speaker = p; message = d.sent.message }))
     d.control in
     moves_addressed old.addressed old new
-    (down_moves laws old new d.sent.message (heard_at items.now)
+    (channels_move_by_carry_down laws old new d.sent.message (heard_at items.now)
     (record { line = is; pending = sent; carried = d.carried; trusted = now }))
 event_moves laws CarrySent old new is d now =
     carries_moves laws (λ sent. Whole sent.message) old new is d now

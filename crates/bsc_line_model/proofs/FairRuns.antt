@@ -22,7 +22,7 @@ use Rattle.bsc_line_model.specs.Rounds.{SameDelays, sent_times}
 use Rattle.bsc_line_model.proofs.HeardAlike.{alike_is_fair}
 use Rattle.bsc_line_model.proofs.OfferedGrows.{channel_stays, channel_was}
 use Rattle.bsc_line_model.proofs.Refusals.{nothing_changed}
-use Rattle.bsc_line_model.proofs.DelaysGrow.{Grows, grows_same, grows_then, terminal_grows}
+use Rattle.bsc_line_model.proofs.DelaysGrow.{Grows, grows_by_nothing, grows_in_turn, terminal_grows}
 use Rattle.bsc_line_model.proofs.DelaysGrow.{ControlGrows, control_grows}
 use Rattle.bsc_line_model.proofs.Walking.{IsGood, Goes, Walks}
 
@@ -35,25 +35,25 @@ record LineGrows (old new : LineValue) : Type 0 where
       → Grows (spool_at (terminal_at old t).spools s).delays
       (spool_at (terminal_at new t).spools s).delays
 
-line_same : (old new : LineValue) → new ≡ old → LineGrows old new
-line_same old new same =
+line_grows_by_nothing : (old new : LineValue) → new ≡ old → LineGrows old new
+line_grows_by_nothing old new same =
     subst (λ (l : LineValue). LineGrows old l) (sym same)
     (record {
       count = refl;
-      control = λ t less. grows_same (peer_at old.control t).spool.delays;
-      terminals = λ t s is. grows_same (spool_at (terminal_at old t).spools s).delays;
+      control = λ t less. grows_by_nothing (peer_at old.control t).spool.delays;
+      terminals = λ t s is. grows_by_nothing (spool_at (terminal_at old t).spools s).delays;
     })
 
 -- the terminals hear
-down_grows : (message : Message) (old new : LineValue) → IsLine old
+carry_down_grows : (message : Message) (old new : LineValue) → IsLine old
     → IsCarriedDown message (λ t. Whole message) old new → LineGrows old new
-down_grows message old new line h =
+carry_down_grows message old new line h =
     record {
       count = h.terminals.count;
       control =
           λ t less. subst (λ (c : ControlValue). Grows (peer_at old.control t).spool.delays
           (peer_at c t).spool.delays) (sym h.control)
-          (grows_same (peer_at old.control t).spool.delays);
+          (grows_by_nothing (peer_at old.control t).spool.delays);
       terminals = λ t s is.
           let into : s < length (terminal_at old t).spools =
           subst (λ (n : ℕ). s < n) (sym (line.stations.members t is.there).tributary.spools)
@@ -63,9 +63,9 @@ down_grows message old new line h =
     }
 
 -- the control station hears
-up_grows : (message : Message) (old new : LineValue) → IsLine old
+carry_up_grows : (message : Message) (old new : LineValue) → IsLine old
     → IsCarriedUp message (Whole message) old new → LineGrows old new
-up_grows message old new line h =
+carry_up_grows message old new line h =
     let grows : ControlGrows old.control new.control =
     control_grows old.control (Whole message) new.control h.sent h.control in
     record {
@@ -75,17 +75,17 @@ up_grows message old new line h =
       terminals =
           λ t s is. subst (λ ts. Grows (spool_at (terminal_at old t).spools s).delays
           (spool_at (terminal_at (record old { terminals = ts }) t).spools s).delays)
-          (sym h.terminals) (grows_same (spool_at (terminal_at old t).spools s).delays);
+          (sym h.terminals) (grows_by_nothing (spool_at (terminal_at old t).spools s).delays);
     }
 
 carried_grows : (speaker : Speaker) (message : Message) (old new : LineValue) → IsLine old
     → IsCarriedBy speaker message (Whole message) old new → LineGrows old new
-carried_grows Control message old new line h = down_grows message old new line h
-carried_grows (Terminal t) message old new line h = up_grows message old new line h
+carried_grows Control message old new line h = carry_down_grows message old new line h
+carried_grows (Terminal t) message old new line h = carry_up_grows message old new line h
 
 -- what is heard as it was sent is heard fairly
-fair_whole : (message : Message) → IsFairlyHeard message (Whole message)
-fair_whole message = inl refl
+whole_is_heard_fairly : (message : Message) → IsFairlyHeard message (Whole message)
+whole_is_heard_fairly message = inl refl
 
 carried_trusted : (speaker : Speaker) (message : Message) (old new : LineValue) → IsTrue old.trusted
     → IsCarriedBy speaker message (Whole message) old new → IsTrue new.trusted
@@ -93,9 +93,9 @@ carried_trusted Control message old new trusted h =
     h.trusted.1 (
       trusted,
       alike_is_fair message (terminal_count old) (Whole message)
-          (fair_whole message),
+          (whole_is_heard_fairly message),
     )
-carried_trusted (Terminal t) message old new trusted h = h.trusted.1 (trusted, fair_whole message)
+carried_trusted (Terminal t) message old new trusted h = h.trusted.1 (trusted, whole_is_heard_fairly message)
 
 -- one transmission
 abbrev AsSent : LineValue → LineValue → Type 0
@@ -108,17 +108,17 @@ step_trusted : (old new : LineValue) → IsTrue old.trusted → AsSent old new �
 step_trusted old new trusted h =
     carried_trusted h.sent.speaker h.sent.message old new trusted h.carried
 
-grows_on : (old mid new : LineValue) → AsSent old mid → LineGrows old mid → LineGrows mid new
+line_grows_in_turn : (old mid new : LineValue) → AsSent old mid → LineGrows old mid → LineGrows mid new
     → LineGrows old new
-grows_on old mid new h x y =
+line_grows_in_turn old mid new h x y =
     record {
       count = y.count ∙ x.count;
       control = λ t less.
           let on : t < terminal_count mid = omega (arith, less, x.count) in
-          grows_then (peer_at old.control t).spool.delays (peer_at mid.control t).spool.delays
+          grows_in_turn (peer_at old.control t).spool.delays (peer_at mid.control t).spool.delays
           (peer_at new.control t).spool.delays (x.control t less) (y.control t on);
       terminals = λ t s is.
-          grows_then (spool_at (terminal_at old t).spools s).delays
+          grows_in_turn (spool_at (terminal_at old t).spools s).delays
           (spool_at (terminal_at mid t).spools s).delays
           (spool_at (terminal_at new t).spools s).delays (x.terminals t s is)
           (y.terminals t s (channel_stays CarrySent old mid t (ToTerminal s) h is));
@@ -130,15 +130,15 @@ Answer = Result (Unit {0}) Stopped
 
 run_grows : (at n : ℕ) (old new : LineValue) (r : Answer) → IsLine old
     → RunsFrom at old (sent_times n) r new → LineGrows old new
-run_grows at zero old new (Ok done) line same = line_same old new same
+run_grows at zero old new (Ok done) line same = line_grows_by_nothing old new same
 run_grows at zero old new (Err stopped) line never = absurd never
 run_grows at (suc n) old new (Ok done) line go =
-    grows_on old go.mid new go.done (step_grows old go.mid line go.done)
+    line_grows_in_turn old go.mid new go.done (step_grows old go.mid line go.done)
     (run_grows (at + 1) n go.mid new (Ok done) go.line go.rest)
 run_grows at (suc n) old new (Err stopped) line (inl stop) =
-    line_same old new (nothing_changed CarrySent old new stopped.why stop.refused)
+    line_grows_by_nothing old new (nothing_changed CarrySent old new stopped.why stop.refused)
 run_grows at (suc n) old new (Err stopped) line (inr go) =
-    grows_on old go.mid new go.done (step_grows old go.mid line go.done)
+    line_grows_in_turn old go.mid new go.done (step_grows old go.mid line go.done)
     (run_grows (at + 1) n go.mid new (Err stopped) go.line go.rest)
 
 -- counts that are equal at both ends are equal in between
@@ -156,9 +156,9 @@ counts_between a b c x y same =
     let now : b ≡ a = omega (arith, low, high, equal) in
     ((now, less), (equal ∙ sym now, omega (arith, now, less)))
 
-first_same : (old mid new : LineValue) → LineGrows old mid → LineGrows mid new → AsSent old mid
+same_delays_in_first : (old mid new : LineValue) → LineGrows old mid → LineGrows mid new → AsSent old mid
     → SameDelays old new → SameDelays old mid
-first_same old mid new x y h d =
+same_delays_in_first old mid new x y h d =
     record {
       control = λ t less.
           let on : t < terminal_count mid = omega (arith, less, x.count) in
@@ -173,9 +173,9 @@ first_same old mid new x y h d =
           (d.terminals t s is)).0;
     }
 
-rest_same : (old mid new : LineValue) → LineGrows old mid → LineGrows mid new → AsSent old mid
+same_delays_in_rest : (old mid new : LineValue) → LineGrows old mid → LineGrows mid new → AsSent old mid
     → SameDelays old new → SameDelays mid new
-rest_same old mid new x y h d =
+same_delays_in_rest old mid new x y h d =
     record {
       control = λ t less.
           let before : t < terminal_count old = omega (arith, less, x.count) in
@@ -195,32 +195,32 @@ pub good_line : (l : LineValue) → IsLine l → IsTrue l.trusted → IsGood l
 good_line l line trusted =
     record { line = line; trusted = trusted; together = line.together trusted }
 
-goes : (at n : ℕ) (old new : LineValue) (r : Answer) → IsLine old → IsTrue old.trusted
+same_delays_in_step : (at n : ℕ) (old new : LineValue) (r : Answer) → IsLine old → IsTrue old.trusted
     → (go : GoesOn CarrySent old (λ mid. RunsFrom (at + 1) mid (sent_times n) r new))
     → SameDelays old new →
     (IsTrue go.mid.trusted → SameDelays go.mid new → Walks (at + 1) n go.mid r new)
     → Goes old (λ mid. Walks (at + 1) n mid r new)
-goes at n old new r line trusted go d rest =
+same_delays_in_step at n old new r line trusted go d rest =
     let x : LineGrows old go.mid = step_grows old go.mid line go.done in
     let y : LineGrows go.mid new = run_grows (at + 1) n go.mid new r go.line go.rest in
     let now : IsTrue go.mid.trusted = step_trusted old go.mid trusted go.done in
     record {
       mid = go.mid;
       carried = go.done;
-      delays = first_same old go.mid new x y go.done d;
+      delays = same_delays_in_first old go.mid new x y go.done d;
       good = good_line go.mid go.line now;
-      rest = rest now (rest_same old go.mid new x y go.done d);
+      rest = rest now (same_delays_in_rest old go.mid new x y go.done d);
     }
 
-pub walks : (at n : ℕ) (old new : LineValue) (r : Answer) → IsLine old → IsTrue old.trusted
+pub runs_walk_without_delays : (at n : ℕ) (old new : LineValue) (r : Answer) → IsLine old → IsTrue old.trusted
     → RunsFrom at old (sent_times n) r new → SameDelays old new → Walks at n old r new
-walks at zero old new (Ok done) line trusted same d = same
-walks at zero old new (Err stopped) line trusted never d = never
-walks at (suc n) old new (Ok done) line trusted go d =
-    goes at n old new (Ok done) line trusted go d
-    (λ now same. walks (at + 1) n go.mid new (Ok done) go.line now go.rest same)
-walks at (suc n) old new (Err stopped) line trusted (inl stop) d =
+runs_walk_without_delays at zero old new (Ok done) line trusted same d = same
+runs_walk_without_delays at zero old new (Err stopped) line trusted never d = never
+runs_walk_without_delays at (suc n) old new (Ok done) line trusted go d =
+    same_delays_in_step at n old new (Ok done) line trusted go d
+    (λ now same. runs_walk_without_delays (at + 1) n go.mid new (Ok done) go.line now go.rest same)
+runs_walk_without_delays at (suc n) old new (Err stopped) line trusted (inl stop) d =
     inl (record { place = stop.place; refused = stop.refused })
-walks at (suc n) old new (Err stopped) line trusted (inr go) d =
-    inr (goes at n old new (Err stopped) line trusted go d
-    (λ now same. walks (at + 1) n go.mid new (Err stopped) go.line now go.rest same))
+runs_walk_without_delays at (suc n) old new (Err stopped) line trusted (inr go) d =
+    inr (same_delays_in_step at n old new (Err stopped) line trusted go d
+    (λ now same. runs_walk_without_delays (at + 1) n go.mid new (Err stopped) go.line now go.rest same))

@@ -28,7 +28,7 @@ use Rattle.bsc_line_model.specs.Kept.{IsLine}
 use Rattle.bsc_line_model.specs.Together.{IsInBidUp, InTask}
 use Rattle.bsc_line_model.specs.StepLaws.{IsPolled}
 use Rattle.bsc_line_model.specs.BidLaws.{BidLaws}
-use Rattle.bsc_line_model.proofs.Soundness.{sound}
+use Rattle.bsc_line_model.proofs.Soundness.{sound_of_together}
 use Rattle.bsc_line_model.proofs.Stations.{same_or_not}
 
 -- terminal t sends: it is the polled one, and its bid is in progress
@@ -39,18 +39,18 @@ pub record IsBidOf (task : Task) (pending : Option Transmission) (c : ControlVal
   pub polling : task ≡ Polling replied
   pub bid : IsInBidUp pending (peer c) (current c) (terminal_in ts (current c))
 
-pub bid_of : (task : Task) (pending : Option Transmission) (c : ControlValue)
+pub bid_of_sending_terminal : (task : Task) (pending : Option Transmission) (c : ControlValue)
     (ts : List TributaryValue) (t : ℕ) → t < length ts → (terminal_in ts t).mode ≡ Sends
     → InTask task pending c ts → IsBidOf task pending c ts t
-bid_of AtRest pending c ts t less sends k = absurd ((k.no_bids t less).mode sends)
-bid_of (Selecting s enquired) pending c ts t less sends k = absurd ((k.no_bids t less).mode sends)
-bid_of (Sending s) pending c ts t less sends k =
+bid_of_sending_terminal AtRest pending c ts t less sends k = absurd ((k.no_bids t less).mode sends)
+bid_of_sending_terminal (Selecting s enquired) pending c ts t less sends k = absurd ((k.no_bids t less).mode sends)
+bid_of_sending_terminal (Sending s) pending c ts t less sends k =
     elim (same_or_not t (current c)) [
       | inl same ↦ (let both : Receiving s ≡ Sends = sym k.bid.mode
           ∙ ap (λ (n : ℕ). (terminal_in ts n).mode) (sym same) ∙ sends in absurd (cc))
       | inr differ ↦ absurd ((k.others t less differ).mode sends)
     ]
-bid_of (Polling replied) pending c ts t less sends k =
+bid_of_sending_terminal (Polling replied) pending c ts t less sends k =
     elim (same_or_not t (current c)) [
       | inl same ↦
           elim k.present [
@@ -70,7 +70,7 @@ pub holds_polled : (l : LineValue) (t : ℕ) → IsLine l → IsTrue l.trusted �
     → IsTrue (holds (terminal_at l t).mode) → IsPolled l t
 holds_polled l t is now less holder =
     let bid : IsBidOf l.control.task l.pending l.control l.terminals t =
-    bid_of l.control.task l.pending l.control l.terminals t less
+    bid_of_sending_terminal l.control.task l.pending l.control l.terminals t less
     (holder_sends (terminal_at l t).mode holder) (is.together now) in
     record { present = bid.terminal; replied = bid.replied; task = bid.polling }
 
@@ -96,18 +96,18 @@ never_from : (laws : BidLaws) (old new : LineValue) (t : ℕ) → IsLine old →
     → ReleasesFrom old t (Err e.CountMismatch) new → ⊥
 never_from laws old new t is now d =
     let sounds : IsSound (terminal_at old t).sender.phase (channel_of old t FromTerminal) =
-    sound laws old is.stations (is.together now) t FromTerminal
+    sound_of_together laws old is.stations (is.together now) t FromTerminal
     (record { there = d.there; its_way = tt }) in
     counts_match (terminal_at old t).sender (terminal_at old t).queue
     (length (peer_at old.control t).spool.records) (terminal_at old t).sender.phase
     sounds.spooled d.answer
 
-never_to : (laws : BidLaws) (old new : LineValue) (t s : ℕ) → IsLine old → IsTrue old.trusted
+no_mismatch_to_terminal : (laws : BidLaws) (old new : LineValue) (t s : ℕ) → IsLine old → IsTrue old.trusted
     → ReleasesTo old t s (Err e.CountMismatch) new → ⊥
-never_to laws old new t s is now d =
+no_mismatch_to_terminal laws old new t s is now d =
     let o : OutboundValue = outbound_of old.control t s in
     let sounds : IsSound o.sender.phase (channel_of old t (ToTerminal s)) =
-    sound laws old is.stations (is.together now) t (ToTerminal s)
+    sound_of_together laws old is.stations (is.together now) t (ToTerminal s)
     (record { there = d.there; its_way = d.select }) in
     counts_match o.sender o.queue (length (spool_at (terminal_at old t).spools s).records)
     o.sender.phase sounds.spooled d.answer
@@ -115,4 +115,4 @@ never_to laws old new t s is now d =
 pub never_mismatches : (laws : BidLaws) (old new : LineValue) (t : ℕ) (way : Way) → IsLine old
     → IsTrue old.trusted → ReleasesWay old t way (Err e.CountMismatch) new → ⊥
 never_mismatches laws old new t FromTerminal is now d = never_from laws old new t is now d
-never_mismatches laws old new t (ToTerminal s) is now d = never_to laws old new t s is now d
+never_mismatches laws old new t (ToTerminal s) is now d = no_mismatch_to_terminal laws old new t s is now d

@@ -9,7 +9,7 @@ use Rattle.bsc_frame.specs.declared.message.Message.TheVariants as m
 use Rattle.bsc_spool.specs.Queue.{QueueValue, with_offered}
 use Rattle.bsc_bid.specs.declared.alternation.Alternation.{Alternation}
 use Rattle.bsc_frame.specs.declared.reply.Reply.{Reply}
-use Rattle.bsc_frame.specs.declared.reply.Reply.TheVariants.{Ack0, Ack1, Nak, Wack, Rvi}
+use Rattle.bsc_frame.specs.declared.reply.Reply.TheVariants.{Ack0, Nak, Wack}
 use Rattle.bsc_bid.specs.declared.phase.Phase.{Phase}
 use Rattle.bsc_bid.specs.declared.phase.Phase.TheVariants.{Idle, Unanswered, Held, InDoubt}
 use Rattle.bsc_bid.specs.Receiver.{ReceiverValue}
@@ -31,7 +31,7 @@ use Rattle.bsc_line_model.specs.declared.transmission.Transmission.{Transmission
 use Rattle.bsc_line_model.specs.Line.{terminal_in, no_terminal}
 use Rattle.bsc_line_model.specs.Together.{HasNoBid, NoBids, NoOtherBids, RestsUp, RestsDown}
 use Rattle.bsc_line_model.specs.Together.{AllInControlMode, IsFresh, IsFreshAfter, IsAnswer}
-use Rattle.bsc_line_model.specs.Together.{IsSelectedBy, IsSelectedWith, IsInBidDown, IsInBidUp}
+use Rattle.bsc_line_model.specs.Together.{selected, IsSelectedBy, IsSelectedWith, IsInBidDown, IsInBidUp}
 use Rattle.bsc_line_model.specs.Together.{IsPolledBy, IsPolledWith, InTask}
 use Rattle.bsc_line_model.specs.BidLaws.{BidLaws}
 use Rattle.bsc_line_model.proofs.Stations.{same_or_not}
@@ -116,17 +116,13 @@ answer_like (m.Reply Ack0) p x q u s ts us k modes h =
     (fresh_like p x q u s k h.0, ap (λ (r : ReceiverValue). r.last) k.receiver ∙ h.1)
 answer_like (m.Reply Wack) p x q u s ts us k modes h =
     (fresh_like p x q u s k h.0, ap (λ (r : ReceiverValue). r.last) k.receiver ∙ h.1)
-answer_like m.Eot p x q u s ts us k modes h = absurd h
-answer_like m.Enq p x q u s ts us k modes h = absurd h
-answer_like (m.Reply Ack1) p x q u s ts us k modes h = absurd h
-answer_like (m.Reply Rvi) p x q u s ts us k modes h = absurd h
-answer_like (m.Text z) p x q u s ts us k modes h = absurd h
-answer_like (m.Call z) p x q u s ts us k modes h = absurd h
+answer_like _ p x q u s ts us k modes h = absurd h
 
 selected_by_like : (speaker : Speaker) (w : Message) (enquired : Bool) (p : PeerValue)
     (x : TributaryValue) (q : PeerValue) (u : TributaryValue) (e s : ℕ)
     (ts us : List TributaryValue) → IsLike p x q u → (AllInControlMode ts → AllInControlMode us)
-    → IsSelectedBy speaker w enquired p e s x ts → IsSelectedBy speaker w enquired q e s u us
+    → IsSelectedBy speaker w enquired (selected p e s x ts)
+    → IsSelectedBy speaker w enquired (selected q e s u us)
 selected_by_like sp.Control w true p x q u e s ts us k modes h = h
 selected_by_like sp.Control w false p x q u e s ts us k modes h = h
     ∙ ap (λ (t : TerminalValue). m.Call (select_address t s)) (sym k.terminal)
@@ -138,7 +134,8 @@ selected_by_like (sp.Terminal t) w false p x q u e s ts us k modes h =
 selected_like : (pending : Option Transmission) (enquired : Bool) (p : PeerValue)
     (x : TributaryValue) (q : PeerValue) (u : TributaryValue) (e s : ℕ)
     (ts us : List TributaryValue) → IsLike p x q u → (AllInControlMode ts → AllInControlMode us)
-    → IsSelectedWith pending enquired p e s x ts → IsSelectedWith pending enquired q e s u us
+    → IsSelectedWith pending enquired (selected p e s x ts)
+    → IsSelectedWith pending enquired (selected q e s u us)
 selected_like None enquired p x q u e s ts us k modes h = tt
 selected_like (Some sent) enquired p x q u e s ts us k modes h =
     selected_by_like sent.speaker sent.message enquired p x q u e s ts us k modes h
@@ -202,7 +199,8 @@ together_like c ts d us (Selecting s enquired) pending there k h =
     record {
       no_bids = no_bids_like c ts d us k h.no_bids;
       with_pending =
-          subst (λ (n : ℕ). IsSelectedWith pending enquired (peer_at d n) n s (terminal_in us n) us)
+          subst (λ (n : ℕ). IsSelectedWith pending enquired
+          (selected (peer_at d n) n s (terminal_in us n) us))
           (sym k.current)
           (selected_like pending enquired (peer_at c e) (terminal_in ts e) (peer_at d e)
           (terminal_in us e) e s ts us like (modes_like c ts d us k) h.with_pending);

@@ -87,7 +87,7 @@ moves_addressed (Some a) old new each =
                       (inr (record { this = learns; others = others_stay a old new each }))
                 ]
           ]
-      | inr nowhere ↦ inl (nothing nowhere)
+      | inr nowhere ↦ inl (moves_nothing_without_channel nowhere)
     ]
   where
     still_here : channel_of new a.0 a.1 ≡ channel_of old a.0 a.1 → MovesNothing old new
@@ -99,8 +99,8 @@ moves_addressed (Some a) old new each =
               subst (λ (b : ℕ × Way). channel_of new b.0 b.1 ≡ channel_of old b.0 b.1) e same)
         ]
 
-    nothing : (IsChannel old a.0 a.1 → ⊥) → MovesNothing old new
-    nothing nowhere u other is =
+    moves_nothing_without_channel : (IsChannel old a.0 a.1 → ⊥) → MovesNothing old new
+    moves_nothing_without_channel nowhere u other is =
         elim (each u other is) [
           | inl still ↦ still
           | inr moved ↦

@@ -16,7 +16,7 @@ use Rattle.bsc_line_model.specs.Line.{LineValue, terminal_at, IsChannel, channel
 use Rattle.bsc_line_model.specs.Kept.{IsLine, IsNewLine}
 use Rattle.bsc_tributary.specs.Kept.{IsNewTerminal}
 use Rattle.bsc_line_model.specs.StepLaws.{no_records}
-use Rattle.bsc_line_model.proofs.Soundness.{way_there}
+use Rattle.bsc_line_model.proofs.Soundness.{peer_has_way}
 
 -- what the control station keeps for a terminal is new
 new_peer : (setup : SetupValue) (given : List TerminalValue) (poll_list : List ℕ) (l : LineValue)
@@ -51,7 +51,7 @@ new_channels setup given poll_list l t (ToTerminal s) line new is =
     let of_peer : IsPeer (peer_at l.control t) =
     line.stations.control.entries.peers t no_peer before in
     let within : s < length (peer_at l.control t).outbounds =
-    way_there l.control l.terminals t (ToTerminal s) line.stations is.there is.its_way in
+    peer_has_way l.control l.terminals t (ToTerminal s) line.stations is.there is.its_way in
     let select : s < length (peer_at l.control t).terminal.selects =
     subst (λ (n : ℕ). s < n) of_peer.outbounds within in
     let into : s < length (terminal_at l t).spools =

@@ -38,25 +38,27 @@ use Rattle.bsc_line_model.specs.Line.{LineValue, terminal_at, terminal_count, ch
 use Rattle.bsc_line_model.specs.Kept.{IsLine}
 use Rattle.bsc_line_model.specs.Runs.{Runs}
 use Rattle.bsc_line_model.specs.Rounds.{block_count, poll_length, visit_length, round_length}
-use Rattle.bsc_line_model.specs.Rounds.{entry_at, sent_times, IsCalm, BeginsVisit}
+use Rattle.bsc_line_model.specs.Rounds.{entry_at, sent_times, IsReadyForVisit, BeginsVisit}
 use Rattle.bsc_line_model.specs.Rounds.{IsDelivered, SameDelays, IsVisited, IsRoundDone}
 use Rattle.bsc_line_model.specs.Rounds.{RunsDeliverVisit, RunsDeliverRound}
 use Rattle.bsc_line_model.specs.Together.{HasNoBid, NoBids, IsSelecting, InTask}
-use Rattle.bsc_control.proofs.Calls.{current_there}
-use Rattle.bsc_line_model.proofs.OutboundSteps.{selected_there}
-use Rattle.bsc_line_model.proofs.Soundness.{way_there}
-use Rattle.bsc_line_model.proofs.Stations.{same_or_not, terminal_there, current_terminal_there}
+use Rattle.bsc_control.proofs.Calls.{current_within_peers}
+use Rattle.bsc_line_model.proofs.OutboundSteps.{selected_outbound_exists}
+use Rattle.bsc_line_model.proofs.Soundness.{peer_has_way}
+use Rattle.bsc_line_model.proofs.Stations.{same_or_not, terminal_in_directory}
+use Rattle.bsc_line_model.proofs.Stations.{current_terminal_there}
 use Rattle.bsc_line_model.proofs.DownControl.{address_at}
 use Rattle.bsc_line_model.proofs.Walking.{IsGood, Walks, good_places}
 use Rattle.bsc_line_model.proofs.Selections.{VisitLaws, Comes, Calls}
 use Rattle.bsc_line_model.proofs.Polls.{no_bids_at_poll}
-use Rattle.bsc_line_model.proofs.Visits.{IsCalmAt, IsVisited as Visiting, IsVisitDone, StaysBut}
+use Rattle.bsc_line_model.proofs.Visits.{IsReadyForVisitAt, IsVisited as Visiting, IsVisitDone}
+use Rattle.bsc_line_model.proofs.Visits.{StaysBut}
 use Rattle.bsc_line_model.proofs.Visits.{but_same, selections_length, visit_from}
 use Rattle.bsc_line_model.proofs.VisitCounts.{calls_where_made, visit_is}
-use Rattle.bsc_line_model.proofs.RoundSteps.{IsEmptied, IsRoundAt, round_from, still_calm}
-use Rattle.bsc_line_model.proofs.RoundSteps.{not_last, entry_there}
-use Rattle.bsc_line_model.proofs.Delivered.{all_delivered}
-use Rattle.bsc_line_model.proofs.FairRuns.{walks, good_line}
+use Rattle.bsc_line_model.proofs.RoundSteps.{IsEmptied, IsRoundAt, round_from, still_visit_ready}
+use Rattle.bsc_line_model.proofs.RoundSteps.{next_place_before_last, entry_names_terminal}
+use Rattle.bsc_line_model.proofs.Delivered.{all_delivered_without_blocks}
+use Rattle.bsc_line_model.proofs.FairRuns.{runs_walk_without_delays, good_line}
 
 -- a selection address that is called is one of the terminal's
 selects_count : (l : LineValue) → IsGood l → length (peer l.control).outbounds
@@ -64,7 +66,7 @@ selects_count : (l : LineValue) → IsGood l → length (peer l.control).outboun
 selects_count l g =
     let is : IsPeer (peer l.control) =
     All-get_or IsPeer l.control.peers (current l.control) no_peer
-    (current_there l.control (good_places l g))
+    (current_within_peers l.control (good_places l g))
     g.line.stations.control.entries.peers in
     is.outbounds
 
@@ -72,7 +74,7 @@ called_there : (l : LineValue) (s : ℕ) → IsGood l → l.control.task ≡ k.S
     < length (peer l.control).terminal.selects
 called_there l s g task =
     subst (λ (n : ℕ). s < n) (selects_count l g)
-    (selected_there l.control s false g.line.stations.control task)
+    (selected_outbound_exists l.control s false g.line.stations.control task)
 
 called_within : (l : LineValue) (way : Way) (s : ℕ) → IsGood l → IsTaskOf way l.control.task → way
     ≡ ToTerminal s → s < length (peer l.control).terminal.selects
@@ -87,8 +89,8 @@ own_address x FromTerminal within = refl
 own_address x (ToTerminal s) within = slice_get-get_or x.selects s x.poll (within s refl)
 
 -- a visit begins if the first call of an entry is pending
-first_calm : (l : LineValue) (t : ℕ) → IsGood l → t < terminal_count l → IsCalmAt l t → IsCalm l t
-first_calm l t g there c =
+first_visit_ready : (l : LineValue) (t : ℕ) → IsGood l → t < terminal_count l → IsReadyForVisitAt l t → IsReadyForVisit l t
+first_visit_ready l t g there c =
     record {
       ready = c.ready;
       not_urgent_at = c.urgent_at;
@@ -101,8 +103,8 @@ first_calm l t g there c =
     sure (ToTerminal s) = c.sure_down s
 
 begins_next : (l : LineValue) (place : ℕ) → IsGood l → Calls l place (way_from (peer l.control) 0)
-    → ((j : ℕ) → j < length l.control.poll_list → IsCalmAt l (entry_at l j)) → BeginsVisit l place
-begins_next l place g h calm =
+    → ((j : ℕ) → j < length l.control.poll_list → IsReadyForVisitAt l (entry_at l j)) → BeginsVisit l place
+begins_next l place g h visit_ready =
     let way : Way = way_from (peer l.control) 0 in
     let address : List ℕ = address_at (peer l.control).terminal way in
     let same : current l.control ≡ terminal_of_entry l.control place =
@@ -111,7 +113,7 @@ begins_next l place g h calm =
     ap (λ (t : ℕ). way_from (peer_at l.control t) 0) same in
     let there : slice_get (terminals l.control) (current l.control)
     ≡ Some (peer l.control).terminal =
-    terminal_there l.control l.terminals (current l.control) g.line.stations
+    terminal_in_directory l.control l.terminals (current l.control) g.line.stations
     (current_terminal_there l.control l.terminals g.line.stations)
     ∙ ap (λ (x : TerminalValue). Some x)
     (g.line.stations.members (current l.control)
@@ -135,7 +137,7 @@ begins_next l place g h calm =
         task = subst (λ (w : Way). IsTaskOf w l.control.task) first h.called.task;
       };
       trusted = g.trusted;
-      calm = λ j less. first_calm l (entry_at l j) g (entry_there l j g less) (calm j less);
+      visit_ready = λ j less. first_visit_ready l (entry_at l j) g (entry_names_terminal l j g less) (visit_ready j less);
     }
 
 -- a visit from its beginning
@@ -153,8 +155,8 @@ first_calls l place g b =
     (λ s is. called_within l way s g b.called.task is) in
     subst (λ (t : ℕ). Calls l place (way_from (peer_at l.control t) 0)) (sym same) calls
 
-calm_at : (l : LineValue) (t : ℕ) → IsGood l → t < terminal_count l → IsCalm l t → IsCalmAt l t
-calm_at l t g there c =
+visit_ready_at : (l : LineValue) (t : ℕ) → IsGood l → t < terminal_count l → IsReadyForVisit l t → IsReadyForVisitAt l t
+visit_ready_at l t g there c =
     record {
       ready = c.ready;
       urgent_at = c.not_urgent_at;
@@ -204,7 +206,7 @@ rests_in mode.Sending phase count never is = absurd (never refl)
 
 -- if no record waits for terminal t, all are delivered
 delivered_at : (laws : VisitLaws) (l : LineValue) (place t : ℕ) (way : Way) → IsGood l
-    → Calls l place way → t < terminal_count l → IsCalmAt l t → IsEmptied l t → IsDelivered l t
+    → Calls l place way → t < terminal_count l → IsReadyForVisitAt l t → IsEmptied l t → IsDelivered l t
 delivered_at laws l place t called g h there c e = by_way
   where
     no_bid : HasNoBid (peer_at l.control t) (terminal_at l t)
@@ -219,27 +221,27 @@ delivered_at laws l place t called g h there c e = by_way
         (length (terminal_at l t).spools) no_bid.mode
         (g.line.stations.members t there).tributary.bid in
         let x : _ =
-        all_delivered laws.cuts (terminal_at l t).sender.phase (terminal_at l t).queue
+        all_delivered_without_blocks laws.cuts (terminal_at l t).sender.phase (terminal_at l t).queue
         (peer_at l.control t).spool.records no_bid.up rest c.sure_up e.up in
         record { known = x.0; spooled = x.1 }
     by_way (ToTerminal s) is =
         let within : s < length (peer_at l.control t).outbounds =
-        way_there l.control l.terminals t (ToTerminal s) g.line.stations there is.its_way in
+        peer_has_way l.control l.terminals t (ToTerminal s) g.line.stations there is.its_way in
         let o : OutboundValue = outbound_of l.control t s in
         let rest : IsAtRest o.sender.phase =
         g.line.stations.control.orderly.rests t s
         (λ used. not_sending called l.control.task s h.called.task used.1) in
         let x : _ =
-        all_delivered laws.cuts o.sender.phase o.queue
+        all_delivered_without_blocks laws.cuts o.sender.phase o.queue
         (spool_at (terminal_at l t).spools s).records (no_bid.down s within) rest
         (c.sure_down s) (e.down s within) in
         record { known = x.0; spooled = x.1 }
 
 -- the line at the end of a walk
-ends : (P : LineValue → Type 0) (new : LineValue) (r : Result (Unit {0}) Stopped) → Comes P 0 r new
+line_after_walk : (P : LineValue → Type 0) (new : LineValue) (r : Result (Unit {0}) Stopped) → Comes P 0 r new
     → (r ≡ Ok tt) × P new
-ends P new (Ok done) x = (refl, subst P (sym x.rest) x.holds)
-ends P new (Err stopped) x = absurd x.rest
+line_after_walk P new (Ok done) x = (refl, subst P (sym x.rest) x.holds)
+line_after_walk P new (Err stopped) x = absurd x.rest
 
 place_there : (l : LineValue) (place : ℕ) → IsGood l → BeginsVisit l place → place
     < length l.control.poll_list
@@ -248,8 +250,8 @@ place_there l place g b =
     g.line.stations.control.entries.place
 
 -- the place of an entry; after the last one comes the first
-wrap : (n : ℕ) → 0 < n → wrapped n 0 ≡ 0
-wrap n less = not_last 0 n less (nat_eq 0 n) refl
+wrapped_at_zero : (n : ℕ) → 0 < n → wrapped n 0 ≡ 0
+wrapped_at_zero n less = next_place_before_last 0 n less (nat_eq 0 n) refl
 
 at_end : (n : ℕ) (b : Bool) → nat_eq n n ≡ b → wrapped n n ≡ 0
 at_end n true e = ap (λ (c : Bool). if c then 0 else n) e
@@ -264,8 +266,8 @@ round_begins l g b =
       count = refl;
       calls =
           subst (λ (n : ℕ). Calls l n (way_from (peer l.control) 0))
-          (sym (wrap (length l.control.poll_list) (place_there l 0 g b))) (first_calls l 0 g b);
-      calm = λ j less. calm_at l (entry_at l j) g (entry_there l j g less) (b.calm j less);
+          (sym (wrapped_at_zero (length l.control.poll_list) (place_there l 0 g b))) (first_calls l 0 g b);
+      visit_ready = λ j less. visit_ready_at l (entry_at l j) g (entry_names_terminal l j g less) (b.visit_ready j less);
       visited = λ t inside seen. absurd (cc);
       passed = λ j less. absurd (omega arith);
       fresh = λ t inside seen. refl;
@@ -278,12 +280,12 @@ round_done laws old new result line b runs delays =
     let g : IsGood old = good_line old line b.trusted in
     let n : ℕ = length old.control.poll_list in
     let w : Walks 0 (round_length old) old result new =
-    walks 0 (round_length old) old new result line b.trusted runs delays in
+    runs_walk_without_delays 0 (round_length old) old new result line b.trusted runs delays in
     let x : Comes (λ z. (seen : List ℕ) × IsRoundAt old z n seen) 0 result new =
     round_from laws n 0 0 (round_length old) 0 [] old old new result (round_begins old g b)
     (omega arith) (omega arith) w in
     let done : (result ≡ Ok tt) × ((seen : List ℕ) × IsRoundAt old new n seen) =
-    ends (λ z. (seen : List ℕ) × IsRoundAt old z n seen) new result x in
+    line_after_walk (λ z. (seen : List ℕ) × IsRoundAt old z n seen) new result x in
     let seen : List ℕ = done.1.0 in
     let h : IsRoundAt old new n seen = done.1.1 in
     let at_start : Calls new 0 (way_from (peer new.control) 0) =
@@ -292,16 +294,16 @@ round_done laws old new result line b runs delays =
     let same : (j : ℕ) → entry_at new j ≡ entry_at old j =
     λ j. ap (λ (list : List ℕ). get_or list j 0) h.list in
     let there : (j : ℕ) → j < n → entry_at old j < terminal_count new =
-    λ j less. subst (λ (c : ℕ). entry_at old j < c) (sym h.count) (entry_there old j g less) in (
+    λ j less. subst (λ (c : ℕ). entry_at old j < c) (sym h.count) (entry_names_terminal old j g less) in (
       done.0,
       record {
         delivered =
             λ j less. delivered_at laws new 0 (entry_at old j) (way_from (peer new.control) 0)
-            h.good at_start (there j less) (h.calm j less)
-            (h.visited (entry_at old j) (entry_there old j g less) (h.passed j less));
+            h.good at_start (there j less) (h.visit_ready j less)
+            (h.visited (entry_at old j) (entry_names_terminal old j g less) (h.passed j less));
         next = begins_next new 0 h.good at_start (λ j less.
             let within : j < n = subst (λ (list : List ℕ). j < length list) h.list less in
-            subst (λ (t : ℕ). IsCalmAt new t) (sym (same j)) (h.calm j within));
+            subst (λ (t : ℕ). IsReadyForVisitAt new t) (sym (same j)) (h.visit_ready j within));
       },
     )
 
@@ -312,7 +314,7 @@ visit_begins : (laws : VisitLaws) (old new : LineValue) (place : ℕ) (r : Resul
 visit_begins laws old new place r g b w =
     let e : ℕ = entry_at old place in
     let cur : current old.control ≡ e = terminal_of old place b in
-    let there : e < terminal_count old = entry_there old place g (place_there old place g b) in
+    let there : e < terminal_count old = entry_names_terminal old place g (place_there old place g b) in
     let v : Visiting e place 0 (block_count (terminal_at old e).queue) old old = record {
       good = g;
       present = cur;
@@ -320,7 +322,7 @@ visit_begins laws old new place r g b w =
       calls =
           subst (λ (z : ℕ). Calls old place (way_from (peer_at old.control z) 0)) cur
           (first_calls old place g b);
-      calm = calm_at old e g there (b.calm place (place_there old place g b));
+      visit_ready = visit_ready_at old e g there (b.visit_ready place (place_there old place g b));
       done = λ s never. absurd (omega arith);
       blocks_up = refl;
       stays = but_same e old;
@@ -351,11 +353,11 @@ visit_done laws old new place result line b runs delays =
     let g : IsGood old = good_line old line b.trusted in
     let e : ℕ = entry_at old place in
     let w : Walks 0 (visit_length old e) old result new =
-    walks 0 (visit_length old e) old new result line b.trusted runs delays in
+    runs_walk_without_delays 0 (visit_length old e) old new result line b.trusted runs delays in
     let done : (result ≡ Ok tt) × IsVisitDone e place old new =
-    ends (IsVisitDone e place old) new result (visit_begins laws old new place result g b w) in
+    line_after_walk (IsVisitDone e place old) new result (visit_begins laws old new place result g b w) in
     let h : IsVisitDone e place old new = done.1 in
-    let there : e < terminal_count old = entry_there old place g (place_there old place g b) in
+    let there : e < terminal_count old = entry_names_terminal old place g (place_there old place g b) in
     let now : e < terminal_count new = subst (λ (c : ℕ). e < c) (sym h.stays.count) there in
     let same : (j : ℕ) → entry_at new j ≡ entry_at old j =
     λ j. ap (λ (list : List ℕ). get_or list j 0) h.stays.poll_list in (
@@ -363,18 +365,18 @@ visit_done laws old new place result line b runs delays =
       record {
         delivered =
             delivered_at laws new (place_after old.control.poll_list place) e
-            (way_from (peer new.control) 0) h.good h.calls now h.calm
+            (way_from (peer new.control) 0) h.good h.calls now h.visit_ready
             (record { down = h.down; up = h.up });
         others = λ t way is differ. channel_same e t way old new is.there differ h.stays;
         next = begins_next new (place_after old.control.poll_list place) h.good h.calls (λ j less.
             let within : j < length old.control.poll_list =
             subst (λ (list : List ℕ). j < length list) h.stays.poll_list less in
-            let inside : entry_at old j < terminal_count old = entry_there old j g within in
-            subst (λ (t : ℕ). IsCalmAt new t) (sym (same j))
+            let inside : entry_at old j < terminal_count old = entry_names_terminal old j g within in
+            subst (λ (t : ℕ). IsReadyForVisitAt new t) (sym (same j))
             (elim (same_or_not (entry_at old j) e) [
-              | inl this ↦ subst (λ (t : ℕ). IsCalmAt new t) (sym this) h.calm
-              | inr differ ↦ still_calm e (entry_at old j) old new inside differ h.stays
-                  (calm_at old (entry_at old j) g inside (b.calm j within))
+              | inl this ↦ subst (λ (t : ℕ). IsReadyForVisitAt new t) (sym this) h.visit_ready
+              | inr differ ↦ still_visit_ready e (entry_at old j) old new inside differ h.stays
+                  (visit_ready_at old (entry_at old j) g inside (b.visit_ready j within))
             ]));
       },
     )

@@ -22,10 +22,10 @@ use Rattle.bsc_line_model.specs.Terminals.{answer_of}
 use Rattle.bsc_line_model.specs.Trust.{AllHear, IsMissed, IsHeardFairly, is_call}
 use Rattle.bsc_line_model.specs.Carries.{IsCarriedDown}
 use Rattle.bsc_line_model.specs.Kept.{IsTuned, IsLine}
-use Rattle.bsc_line_model.proofs.Stations.{terminal_there}
+use Rattle.bsc_line_model.proofs.Stations.{terminal_in_directory}
 use Rattle.bsc_line_model.proofs.Tuning.{NamesOwn, IsNotCalled, IsCalledBy, fair_not_called}
 use Rattle.bsc_line_model.proofs.Tuning.{each_fairly}
-use Rattle.bsc_line_model.proofs.SendingDown.{same_terminal}
+use Rattle.bsc_line_model.proofs.SendingDown.{one_terminal_of_address}
 
 -- a channel of this terminal is addressed
 pub record IsAddressed (addressed : Option (ℕ × Way)) (t : ℕ) : Type 0 where
@@ -46,9 +46,9 @@ tuned_addressed addressed t (Receiving s) k f = record { way = ToTerminal s; is 
 tuned_addressed addressed t Sending k f = record { way = FromTerminal; is = k }
 
 -- a terminal that sends nothing does not answer
-silent : (sent : Option Message) → sent ≡ None → IsTrue (is_some sent) → ⊥
-silent None e answered = let no : false ≡ true = answered in cc
-silent (Some w) e answered = cc
+no_answer_without_message : (sent : Option Message) → sent ≡ None → IsTrue (is_some sent) → ⊥
+no_answer_without_message None e answered = let no : false ≡ true = answered in cc
+no_answer_without_message (Some w) e answered = cc
 
 -- a terminal that answers a transmission that is not a call is addressed
 answers_addressed : (addressed : Option (ℕ × Way)) (t : ℕ) (x u : TributaryValue) (h : Heard)
@@ -57,10 +57,10 @@ answers_addressed : (addressed : Option (ℕ × Way)) (t : ℕ) (x u : Tributary
 answers_addressed addressed t x u h sent after answered tuned never =
     elim (no_call_or_eot h never) [
       | inl neither ↦ tuned_addressed addressed t x.mode tuned
-          (λ mode. silent sent (after.control mode neither).1 answered)
+          (λ mode. no_answer_without_message sent (after.control mode neither).1 answered)
       | inr eot ↦
           absurd
-          (silent sent
+          (no_answer_without_message sent
           (after.gives_up_line
           (subst (λ (g : Heard). TakesLine x.terminal g) (sym eot) tt)).1 answered)
     ]
@@ -71,7 +71,7 @@ called_addressed : (laws : NamesOwn) (new : Option (ℕ × Way)) (ts : List Term
     → AfterHearing x (Whole (m.Call a)) u sent → IsTrue (is_some sent) →
     (called : Called) → called_as x.terminal a ≡ called → IsAddressed new t
 called_addressed laws new ts t x u a sent b after answered Other e =
-    absurd (silent sent (after.gives_up_line e).1 answered)
+    absurd (no_answer_without_message sent (after.gives_up_line e).1 answered)
 called_addressed laws new ts t x u a sent b after answered Polling e =
     record {
       way = FromTerminal;
@@ -139,7 +139,7 @@ call_answers laws w z hears old new t k all a =
     (record {
       exact = k.carried.addressed.called z all;
       there =
-          terminal_there old.control old.terminals t k.line.stations a.there;
+          terminal_in_directory old.control old.terminals t k.line.stations a.there;
       distinct =
           (k.line.stations.members t a.there).tributary.distinct;
     })
@@ -148,27 +148,27 @@ call_answers laws w z hears old new t k all a =
     a.sent
     (called_as x.terminal z) refl
 
-same_of : (addressed : Option (ℕ × Way)) (t u : ℕ) → IsAddressed addressed t
+one_terminal_addressed : (addressed : Option (ℕ × Way)) (t u : ℕ) → IsAddressed addressed t
     → IsAddressed addressed u → t ≡ u
-same_of addressed t u a b = same_terminal addressed t u a.way b.way a.is b.is
+one_terminal_addressed addressed t u a b = one_terminal_of_address addressed t u a.way b.way a.is b.is
 
-pub same_answerer : (laws : NamesOwn) (w : Message) (hears : ℕ → Heard) (old new : LineValue)
+pub one_terminal_answers : (laws : NamesOwn) (w : Message) (hears : ℕ → Heard) (old new : LineValue)
     (t u : ℕ) → Carried w hears old new → Answers hears old new t → Answers hears old new u → t ≡ u
-same_answerer laws w hears old new t u k a b = by_message w refl
+one_terminal_answers laws w hears old new t u k a b = by_message w refl
   where
     other : is_call w ≡ false → t ≡ u
     other never =
-        same_of old.addressed t u (other_answers w hears old new t k never a)
+        one_terminal_addressed old.addressed t u (other_answers w hears old new t k never a)
         (other_answers w hears old new u k never b)
 
     call : (z : List ℕ) → w ≡ m.Call z → t ≡ u
     call z is =
         elim (subst (λ (v : Message). IsHeardFairly v (terminal_count old) hears) is
         (k.carried.trusted.0 k.trusted).1) [
-          | inl all ↦ same_of new.addressed t u (call_answers laws w z hears old new t k all a)
+          | inl all ↦ one_terminal_addressed new.addressed t u (call_answers laws w z hears old new t k all a)
               (call_answers laws w z hears old new u k all b)
           | inr missed ↦
-              absurd (silent (answer_of old.terminals hears new.terminals t)
+              absurd (no_answer_without_message (answer_of old.terminals hears new.terminals t)
               (missed_silent (terminal_at old t) (terminal_at new t) (hears t)
               (answer_of old.terminals hears new.terminals t) (k.carried.kept t a.there)
               (missed t a.there)) a.sent)

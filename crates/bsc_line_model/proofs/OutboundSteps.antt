@@ -11,7 +11,7 @@ use Rattle.bsc_spool.specs.Queue.{QueueValue}
 use Rattle.bsc_bid.specs.Act.{Act}
 use Rattle.bsc_bid.specs.Act as a
 use Rattle.bsc_frame.specs.declared.reply.Reply.{Reply}
-use Rattle.bsc_frame.specs.declared.reply.Reply.TheVariants.{Ack0, Ack1, Nak, Wack, Rvi}
+use Rattle.bsc_frame.specs.declared.reply.Reply.TheVariants.{Ack0, Nak, Wack}
 use Rattle.bsc_frame.specs.Replies.{reply_in}
 use Rattle.bsc_bid.specs.Receiver.{ReceiverStep, Rooms, new_receiver, heard_step, sends_interrupt}
 use Rattle.bsc_bid.specs.Sender.{SenderStep, begin_step, reply_step, silence_step}
@@ -31,7 +31,8 @@ use Rattle.bsc_control.specs.Table.{Hears, ActsOnSilence, poll_call_step, way_ca
 use Rattle.bsc_control.specs.Table.{next_call_step, act_step, bid_step, after_bid}
 use Rattle.bsc_control.specs.Table.{selecting_step, receive_step, polling_step, task_step}
 use Rattle.bsc_control.specs.Table.{rooms_after, repeated, silence_in, is_interrupted, after_step}
-use Rattle.bsc_control.proofs.Calls.{HasPlaces, places, same_places, current_there, next_there}
+use Rattle.bsc_control.proofs.Calls.{HasPlaces, places, places_of_same_list, current_within_peers}
+use Rattle.bsc_control.proofs.Calls.{next_call_within_peers}
 use Rattle.bsc_line_model.proofs.Stations.{same_or_not}
 use Rattle.bsc_line_model.proofs.QueueSteps.{begin_queue, silence_queue}
 
@@ -68,10 +69,10 @@ calls_queues c place (ToTerminal s) t k there =
     let e : ℕ = terminal_of_entry c place in
     written_queues c e (record (peer_at c e) { urgent = false }) t k there refl
 
-next_queues : (c : ControlValue) (after : After) (t k : ℕ) → HasPlaces c
+queues_kept_by_next_call : (c : ControlValue) (after : After) (t k : ℕ) → HasPlaces c
     → (outbound_of (next_call_step c after).control t k).queue ≡ (outbound_of c t k).queue
-next_queues c after t k places =
-    calls_queues c (next_call c after).place (next_call c after).way t k (next_there c after places)
+queues_kept_by_next_call c after t k places =
+    calls_queues c (next_call c after).place (next_call c after).way t k (next_call_within_peers c after places)
 
 -- this queue is the one to selection address s of the present terminal, and is the step's
 pub record IsStepped (c : ControlValue) (s : ℕ) (step : SenderStep) (t k : ℕ)
@@ -83,20 +84,20 @@ pub record IsStepped (c : ControlValue) (s : ℕ) (step : SenderStep) (t k : ℕ
 abbrev SteppedAt : ControlValue → ℕ → SenderStep → ℕ → ℕ → QueueValue → Type 0
 SteppedAt c s step t k queue = (queue ≡ (outbound_of c t k).queue) ⊎ IsStepped c s step t k queue
 
-stepped_here : (c : ControlValue) (s : ℕ) (step : SenderStep) → current c < length c.peers → s
+outbound_after_own_step : (c : ControlValue) (s : ℕ) (step : SenderStep) → current c < length c.peers → s
     < length (peer c).outbounds → (outbound_of (after_step c s step) (current c) s).queue
     ≡ step.queue
-stepped_here c s step there select =
+outbound_after_own_step c s step there select =
     ap (λ (q : PeerValue). (outbound_at q s).queue)
     (get_or-set_same c.peers (current c) (with_outbound (peer c) s (outbound_after step))
     no_peer there)
     ∙ ap (λ (o : OutboundValue). o.queue)
     (get_or-set_same (peer c).outbounds s (outbound_after step) no_outbound select)
 
-stepped_other : (c : ControlValue) (s : ℕ) (step : SenderStep) (k : ℕ) → current c < length c.peers
+other_outbound_unchanged : (c : ControlValue) (s : ℕ) (step : SenderStep) (k : ℕ) → current c < length c.peers
     → k ≢ s → (outbound_of (after_step c s step) (current c) k).queue
     ≡ (outbound_of c (current c) k).queue
-stepped_other c s step k there differ =
+other_outbound_unchanged c s step k there differ =
     ap (λ (q : PeerValue). (outbound_at q k).queue)
     (get_or-set_same c.peers (current c) (with_outbound (peer c) s (outbound_after step))
     no_peer there)
@@ -116,11 +117,11 @@ stepped_queues c s step t k there select =
                   select = same;
                   left = ap (λ (n : ℕ). (outbound_of (after_step c s step) n k).queue) this
                       ∙ ap (λ (n : ℕ). (outbound_of (after_step c s step) (current c) n).queue) same
-                      ∙ stepped_here c s step there select;
+                      ∙ outbound_after_own_step c s step there select;
                 })
             | inr differ ↦
                 inl (subst (λ (n : ℕ). (outbound_of (after_step c s step) n k).queue
-                ≡ (outbound_of c n k).queue) (sym this) (stepped_other c s step k there differ))
+                ≡ (outbound_of c n k).queue) (sym this) (other_outbound_unchanged c s step k there differ))
           ]
       | inr other ↦ inl (ap (λ (q : PeerValue). (outbound_at q k).queue)
           (get_or-set_other c.peers (current c) t (with_outbound (peer c) s (outbound_after step))
@@ -132,7 +133,7 @@ performs_queues : (c : ControlValue) (s : ℕ) (act : Act) (after : After) (t k 
     → (outbound_of (act_step c s act after).control t k).queue ≡ (outbound_of c t k).queue
 performs_queues c s (a.Send text) after t k places = refl
 performs_queues c s a.Enq after t k places = refl
-performs_queues c s a.Over after t k places = next_queues c after t k places
+performs_queues c s a.Over after t k places = queues_kept_by_next_call c after t k places
 performs_queues c s a.Quiet after t k places = refl
 
 acted_queues : (c : ControlValue) (s : ℕ) (step : SenderStep) (after : After) (t k : ℕ)
@@ -141,17 +142,17 @@ acted_queues : (c : ControlValue) (s : ℕ) (step : SenderStep) (after : After) 
 acted_queues c s step after t k places select =
     let d : ControlValue = after_step c s step in
     let still : HasPlaces d =
-    same_places c d refl refl (length-set c.peers (current c)
+    places_of_same_list c d refl refl (length-set c.peers (current c)
     (with_outbound (peer c) s (outbound_after step))) places in
     subst (λ (q : QueueValue). SteppedAt c s step t k q)
     (sym (performs_queues d s step.act after t k still))
-    (stepped_queues c s step t k (current_there c places) select)
+    (stepped_queues c s step t k (current_within_peers c places) select)
 
 -- a step that leaves its queue unchanged leaves all unchanged
-acted_still : (c : ControlValue) (s : ℕ) (step : SenderStep) (after : After) (t k : ℕ) → HasPlaces c
+queues_kept_by_step : (c : ControlValue) (s : ℕ) (step : SenderStep) (after : After) (t k : ℕ) → HasPlaces c
     → s < length (peer c).outbounds → step.queue ≡ (outbound_at (peer c) s).queue
     → (outbound_of (bid_step c s step after).control t k).queue ≡ (outbound_of c t k).queue
-acted_still c s step after t k places select same =
+queues_kept_by_step c s step after t k places select same =
     elim (acted_queues c s step after t k places select) [
       | inl still ↦ still
       | inr now ↦ now.left ∙ same ∙ ap (λ (n : ℕ). (outbound_of c n s).queue) (sym now.terminal)
@@ -175,7 +176,7 @@ wack_queues : (c : ControlValue) (s : ℕ) (over : Bool) (t k : ℕ) → HasPlac
     (outbound_of (if over then next_call_step c (Selection s) else answer_step
     (record c { task = Selecting s true; failures = 0; wacks = c.wacks + 1 }) m.Enq).control t
     k).queue ≡ (outbound_of c t k).queue
-wack_queues c s true t k places = next_queues c (Selection s) t k places
+wack_queues c s true t k places = queues_kept_by_next_call c (Selection s) t k places
 wack_queues c s false t k places = refl
 
 selecting_queues : (c : ControlValue) (s : ℕ) (reply : Option Reply) (t k : ℕ) → HasPlaces c → s
@@ -183,14 +184,13 @@ selecting_queues : (c : ControlValue) (s : ℕ) (reply : Option Reply) (t k : �
     ≡ (outbound_of c t k).queue
 selecting_queues c s None t k places select = refl
 selecting_queues c s (Some Ack0) t k places select =
-    acted_still c s (begin_step (outbound_at (peer c) s).sender (outbound_at (peer c) s).queue)
+    queues_kept_by_step c s (begin_step (outbound_at (peer c) s).sender (outbound_at (peer c) s).queue)
     (Selection s) t k places select (begin_queue (outbound_at (peer c) s).sender
     (outbound_at (peer c) s).queue)
-selecting_queues c s (Some Ack1) t k places select = refl
-selecting_queues c s (Some Nak) t k places select = next_queues c (Selection s) t k places
+selecting_queues c s (Some Nak) t k places select = queues_kept_by_next_call c (Selection s) t k places
 selecting_queues c s (Some Wack) t k places select =
     wack_queues c s (nat_lt c.setup.waits (c.wacks + 1)) t k places
-selecting_queues c s (Some Rvi) t k places select = refl
+selecting_queues c s (Some _) t k places select = refl
 
 -- a poll is answered
 receives_queues : (c : ControlValue) (replied : Replied) (step : ReceiverStep) (t k : ℕ)
@@ -202,7 +202,7 @@ receives_queues c replied step t k places =
       spool = step.spool;
       urgent =
           if sends_interrupt step.reply then false else (peer c).urgent;
-    }) t k (current_there c places) refl
+    }) t k (current_within_peers c places) refl
 
 polling_queues : (c : ControlValue) (replied : Replied) (h : Heard) (rooms : Rooms) (t k : ℕ)
     → HasPlaces c → (outbound_of (polling_step c replied h rooms).control t k).queue
@@ -211,7 +211,7 @@ polling_queues c replied h rooms t k places = by_heard h
   where
     by_heard : (g : Heard) → (outbound_of (polling_step c replied g rooms).control t k).queue
         ≡ (outbound_of c t k).queue
-    by_heard (Whole m.Eot) = next_queues c (Poll (is_interrupted replied)) t k places
+    by_heard (Whole m.Eot) = queues_kept_by_next_call c (Poll (is_interrupted replied)) t k places
     by_heard (Whole (m.Call z)) =
         receives_queues c replied (heard_step (peer c).receiver (peer c).spool (Whole (m.Call z))
         (peer c).urgent rooms) t k places
@@ -232,15 +232,15 @@ polling_queues c replied h rooms t k places = by_heard h
         rooms) t k places
 
 -- the selection address that the task requires exists
-pub selected_there : (c : ControlValue) (s : ℕ) (enquired : Bool) → IsControl c → c.task
+pub selected_outbound_exists : (c : ControlValue) (s : ℕ) (enquired : Bool) → IsControl c → c.task
     ≡ Selecting s enquired → s < length (peer c).outbounds
-selected_there c s enquired is task =
+selected_outbound_exists c s enquired is task =
     let suits : IsSelected (peer c) s =
     subst (λ (k : Task). SuitsTask k (peer c)) task is.orderly.suits in suits.there
 
-pub sending_there : (c : ControlValue) (s : ℕ) → IsControl c → c.task ≡ Sending s → s
+pub sending_outbound_exists : (c : ControlValue) (s : ℕ) → IsControl c → c.task ≡ Sending s → s
     < length (peer c).outbounds
-sending_there c s is task =
+sending_outbound_exists c s is task =
     let suits : IsInBid (peer c) s =
     subst (λ (k : Task). SuitsTask k (peer c)) task is.orderly.suits in suits.there
 
@@ -258,11 +258,11 @@ outbound_queue c d h out t k is row =
     in_task AtRest e same = inl same
     in_task (Selecting s enquired) e same =
         inl (same ∙ selecting_queues c s (reply_in h) t k listed
-        (selected_there c s enquired is e))
+        (selected_outbound_exists c s enquired is e))
     in_task (Sending s) e same =
         elim (acted_queues c s (reply_step (outbound_at (peer c) s).sender
         (outbound_at (peer c) s).queue (reply_in h)) (after_bid s (reply_in h)) t k listed
-        (sending_there c s is e)) [
+        (sending_outbound_exists c s is e)) [
           | inl still ↦ inl (same ∙ still)
           | inr now ↦
               inr (record {
@@ -282,15 +282,15 @@ selects_again_queues : (c : ControlValue) (s : ℕ) (enquired over : Bool) (t k 
     (outbound_of (if over then next_call_step c (Selection s) else answer_step
     (record c { failures = c.failures + 1 }) (repeated c s enquired)).control t k).queue
     ≡ (outbound_of c t k).queue
-selects_again_queues c s enquired true t k listed = next_queues c (Selection s) t k listed
+selects_again_queues c s enquired true t k listed = queues_kept_by_next_call c (Selection s) t k listed
 selects_again_queues c s enquired false t k listed = refl
 
 polls_again_queues : (c : ControlValue) (over : Bool) (t k : ℕ) → HasPlaces c
     → (outbound_of (if over then next_call_step c (Poll false) else poll_call_step c c.place
     (c.failures + 1)).control t k).queue ≡ (outbound_of c t k).queue
-polls_again_queues c true t k listed = next_queues c (Poll false) t k listed
+polls_again_queues c true t k listed = queues_kept_by_next_call c (Poll false) t k listed
 polls_again_queues c false t k listed =
-    polls_queues c c.place (c.failures + 1) t k (current_there c listed)
+    polls_queues c c.place (c.failures + 1) t k (current_within_peers c listed)
 
 pub outbound_silent_queue : (c d : ControlValue) (out : Option Message) (t k : ℕ) → IsControl c
     → ActsOnSilence c d out → (outbound_of d t k).queue ≡ (outbound_of c t k).queue
@@ -302,14 +302,14 @@ outbound_silent_queue c d out t k is row =
 
     in_task : (task : Task) → c.task ≡ task → (outbound_of (silence_in c task).control t k).queue
         ≡ (outbound_of c t k).queue
-    in_task AtRest e = next_queues c Start t k listed
+    in_task AtRest e = queues_kept_by_next_call c Start t k listed
     in_task (Selecting s enquired) e =
         selects_again_queues c s enquired (nat_lt c.setup.tries (c.failures + 1)) t k listed
     in_task (Sending s) e =
-        acted_still c s (silence_step (outbound_at (peer c) s).sender
-        (outbound_at (peer c) s).queue) (Selection s) t k listed (sending_there c s is e)
+        queues_kept_by_step c s (silence_step (outbound_at (peer c) s).sender
+        (outbound_at (peer c) s).queue) (Selection s) t k listed (sending_outbound_exists c s is e)
         (silence_queue (outbound_at (peer c) s).sender (outbound_at (peer c) s).queue)
     in_task (Polling Nothing) e =
         polls_again_queues c (nat_lt c.setup.tries (c.failures + 1)) t k listed
-    in_task (Polling Uninterrupted) e = next_queues c (Poll false) t k listed
-    in_task (Polling Interrupted) e = next_queues c (Poll true) t k listed
+    in_task (Polling Uninterrupted) e = queues_kept_by_next_call c (Poll false) t k listed
+    in_task (Polling Interrupted) e = queues_kept_by_next_call c (Poll true) t k listed

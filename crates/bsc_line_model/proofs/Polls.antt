@@ -40,20 +40,22 @@ use Rattle.bsc_line_model.specs.Terminals.{answer_of}
 use Rattle.bsc_line_model.specs.Together.{HasNoBid, InTask, IsPolling, IsPolledWith, IsInBidUp}
 use Rattle.bsc_line_model.specs.Together.{FliesUp}
 use Rattle.bsc_line_model.specs.Rounds.{block_count, SameDelays}
-use Rattle.bsc_control.proofs.Calls.{current_there, next_there}
-use Rattle.bsc_line_model.proofs.Stations.{same_or_not, terminal_there, at_rest_in, current_terminal_there}
+use Rattle.bsc_control.proofs.Calls.{current_within_peers, next_call_within_peers}
+use Rattle.bsc_line_model.proofs.Stations.{same_or_not, terminal_in_directory, at_rest_in}
+use Rattle.bsc_line_model.proofs.Stations.{current_terminal_there}
 use Rattle.bsc_line_model.proofs.SendingDown.{others_in_control, first_answer_is}
 use Rattle.bsc_line_model.proofs.Staying.{Stays, ControlStays, TerminalStays, control_same}
 use Rattle.bsc_line_model.proofs.Staying.{terminals_same, stays_then}
 use Rattle.bsc_line_model.proofs.DownControl.{HasCalled}
-use Rattle.bsc_line_model.proofs.DownTerminals.{hears_other}
+use Rattle.bsc_line_model.proofs.DownTerminals.{terminal_hears_other_call}
 use Rattle.bsc_line_model.proofs.DownSteps.{Answers, answers_nothing}
-use Rattle.bsc_line_model.proofs.DownSteps.{names_other}
+use Rattle.bsc_line_model.proofs.DownSteps.{call_names_no_other_terminal}
 use Rattle.bsc_line_model.proofs.UpTerminals.{IsInBlockUp, SendsUp, EndsUp, GoesOnUp, ack_no_call}
 use Rattle.bsc_line_model.proofs.UpTerminals.{hears_ack, hears_poll}
 use Rattle.bsc_line_model.proofs.UpControl.{IsPolled, CallsNext, takes_up, polled_out}
 use Rattle.bsc_line_model.proofs.Walking.{IsGood, good_places, Walks, Stepped, one_step}
-use Rattle.bsc_line_model.proofs.Selections.{VisitLaws, Comes, Calls, known_queue, current_same}
+use Rattle.bsc_line_model.proofs.Selections.{VisitLaws, Comes, Calls, known_queue}
+use Rattle.bsc_line_model.proofs.Selections.{current_of_same_place}
 use Rattle.bsc_bid.proofs.Answering.{no_reply}
 
 -- the poll of terminal e is in progress, with n blocks to send, and the terminal's message is
@@ -65,7 +67,7 @@ pub record IsInPoll (l : LineValue) (e place n : ℕ) : Type 0 where
   pub polled : IsPolled l.control place
 
 -- the others are silent while terminal e acts
-one_acts : (e : ℕ) (v : Message) (old new : LineValue) (place n : ℕ) → e < length old.terminals
+others_quiet_while_one_acts : (e : ℕ) (v : Message) (old new : LineValue) (place n : ℕ) → e < length old.terminals
     → IsCarriedDown v (λ t. Whole v) old new → IsPolled old.control place →
     ((t : ℕ) → t < length old.terminals → t ≢ e
     → Answers e FromTerminal t (terminal_at old t) (terminal_at new t)
@@ -73,7 +75,7 @@ one_acts : (e : ℕ) (v : Message) (old new : LineValue) (place n : ℕ) → e <
     GoesOnUp (terminal_at new e) (answer_of old.terminals (λ z. Whole v) new.terminals e) n
     × TerminalStays e FromTerminal e (terminal_at old e) (terminal_at new e)
     → IsInPoll new e place n × Stays e FromTerminal old new
-one_acts e v old new place n there h polled others this = (
+others_quiet_while_one_acts e v old new place n there h polled others this = (
   record {
     out = answer_of old.terminals (λ z. Whole v) new.terminals e;
     pending =
@@ -125,7 +127,7 @@ no_bids_at_poll l a replied g task is t less =
         absurd (no_reply (msg.Call a) flies.0 refl flies.1))
 
 -- the polling address is called: the first block, or EOT
-call_up : (laws : VisitLaws) (l new : LineValue) (n : ℕ) → IsGood l → l.control.task
+poll_call_is_answered : (laws : VisitLaws) (l new : LineValue) (n : ℕ) → IsGood l → l.control.task
     ≡ k.Polling Nothing → is_in_doubt (terminal_at l (current l.control)).sender.phase ≡ false
     → block_count (terminal_at l (current l.control)).queue ≡ n →
     let a : List ℕ = (peer l.control).terminal.poll in
@@ -133,7 +135,7 @@ call_up : (laws : VisitLaws) (l new : LineValue) (n : ℕ) → IsGood l → l.co
     → IsCarriedDown (msg.Call a) (λ z. Whole (msg.Call a)) l new
     → IsInPoll new (current l.control) l.control.place n
     × Stays (current l.control) FromTerminal l new)
-call_up laws l new n g task sure count is h =
+poll_call_is_answered laws l new n g task sure count is h =
     let c : ControlValue = l.control in
     let e : ℕ = current c in
     let x : TributaryValue = terminal_at l e in
@@ -146,7 +148,7 @@ call_up laws l new n g task sure count is h =
     record {
       terminal = x.terminal;
       there =
-          terminal_there c l.terminals e g.line.stations there;
+          terminal_in_directory c l.terminals e g.line.stations there;
       its_own =
           ap (λ (z : List ℕ). Some z) (sym own);
     } in
@@ -155,14 +157,14 @@ call_up laws l new n g task sure count is h =
     (length (terminal_at l t).spools) (no_bids_at_poll l a Nothing g task is t less).mode
     (g.line.stations.members t less).tributary.bid in
     let named : called_as x.terminal a ≡ Polling = (laws.names.polling x.terminal a).1 own in
-    one_acts e (msg.Call a) l new c.place n there h
+    others_quiet_while_one_acts e (msg.Call a) l new c.place n there h
     (record { place_is = refl; replied = Nothing; task = task; uninterrupted = refl })
     (λ t less differ.
     let quiet : (answer_of l.terminals (λ y. Whole (msg.Call a)) new.terminals t ≡ None)
     × TerminalStays e FromTerminal t (terminal_at l t) (terminal_at new t) =
-    hears_other e FromTerminal t (terminal_at l t) (terminal_at new t)
+    terminal_hears_other_call e FromTerminal t (terminal_at l t) (terminal_at new t)
     (answer_of l.terminals (λ y. Whole (msg.Call a)) new.terminals t) a (rests t less)
-    (names_other laws.names l new e FromTerminal a t g h its less differ)
+    (call_names_no_other_terminal laws.names l new e FromTerminal a t g h its less differ)
     (h.terminals.each t less) in
     record { says = quiet.0; stays = quiet.1 })
     (hears_poll laws.cuts e x (terminal_at new e)
@@ -197,13 +199,13 @@ record TakenUp (l new : LineValue) (place : ℕ) (alternation : Alternation) : T
   terminals : new.terminals ≡ l.terminals
   stays : ControlStays (current l.control) FromTerminal l.control new.control
 
-text_up : (l new : LineValue) (place n : ℕ) (b : SentBlock) → IsGood l → IsPolled l.control place
+text_up_is_acknowledged : (l new : LineValue) (place n : ℕ) (b : SentBlock) → IsGood l → IsPolled l.control place
     → IsInBlockUp (terminal_at l (current l.control)) n b → (peer l.control).urgent ≡ false
     → SameDelays l new →
     let t : TextValue = text_of (terminal_at l (current l.control)).queue b in
     (l.pending ≡ Some (record { speaker = sp.Terminal (current l.control); message = msg.Text t })
     → IsCarriedUp (msg.Text t) (Whole (msg.Text t)) l new → TakenUp l new place b.alternation)
-text_up l new place n b g polled i calm delays is h =
+text_up_is_acknowledged l new place n b g polled i visit_ready delays is h =
     let c : ControlValue = l.control in
     let e : ℕ = current c in
     let x : TributaryValue = terminal_at l e in
@@ -220,8 +222,8 @@ text_up l new place n b g polled i calm delays is h =
     delays.control e (current_terminal_there l.control l.terminals g.line.stations) in
     let y : (h.sent ≡ Some (msg.Reply (ack b.alternation))) × IsPolled new.control place
     × ControlStays e FromTerminal c new.control =
-    takes_up c new.control h.sent t b.alternation place (current_there c (good_places l g))
-    polled calm counted
+    takes_up c new.control h.sent t b.alternation place (current_within_peers c (good_places l g))
+    polled visit_ready counted
     room.0 room.1 h.control in
     record {
       pending = h.pending ∙ ap (λ (o : Option Message). sent_by sp.Control o) y.0;
@@ -232,12 +234,12 @@ text_up l new place n b g polled i calm delays is h =
     }
 
 -- the terminal hears its acknowledgement: the next block, or EOT
-ack_up : (laws : VisitLaws) (l new : LineValue) (place n : ℕ) (b : SentBlock) → IsGood l
+next_block_after_ack_up : (laws : VisitLaws) (l new : LineValue) (place n : ℕ) (b : SentBlock) → IsGood l
     → IsPolled l.control place → IsInBlockUp (terminal_at l (current l.control)) n b →
     IsCarriedDown (msg.Reply (ack b.alternation)) (λ z. Whole (msg.Reply (ack b.alternation))) l
     new → IsInPoll new (current l.control) place n
     × Stays (current l.control) FromTerminal l new
-ack_up laws l new place n b g polled i h =
+next_block_after_ack_up laws l new place n b g polled i h =
     let c : ControlValue = l.control in
     let e : ℕ = current c in
     let x : TributaryValue = terminal_at l e in
@@ -248,7 +250,7 @@ ack_up laws l new place n b g polled i h =
     let addressed : l.addressed ≡ Some (e, FromTerminal) =
     subst (λ (z : Mode). IsTuned l.addressed e z) i.mode (tuned e there) in
     let ready : IsReady x.sender x.queue = (g.line.stations.members e there).tributary.ready in
-    one_acts e w l new place n there h polled
+    others_quiet_while_one_acts e w l new place n there h polled
     (λ z less differ.
     answers_nothing e FromTerminal z (terminal_at l z) (terminal_at new z)
     (answer_of l.terminals (λ y. Whole w) new.terminals z) (Whole w)
@@ -269,15 +271,15 @@ pub record IsPollDone (e place : ℕ) (old new : LineValue) : Type 0 where
   pub stays : Stays e FromTerminal old new
 
 -- EOT: the next entry
-eot_up : (l new : LineValue) (place : ℕ) (out : Option Message) → IsGood l → IsGood new
+next_entry_after_eot : (l new : LineValue) (place : ℕ) (out : Option Message) → IsGood l → IsGood new
     → IsPolled l.control place → EndsUp (terminal_at l (current l.control)) out
     → IsCarriedUp msg.Eot (Whole msg.Eot) l new → IsPollDone (current l.control) place l new
-eot_up l new place out g good polled ends h =
+next_entry_after_eot l new place out g good polled ends h =
     let c : ControlValue = l.control in
     let e : ℕ = current c in
     let y : CallsNext new.control h.sent (next_place c)
     × ControlStays e FromTerminal c new.control =
-    polled_out c new.control h.sent place (next_there c (Poll false) (good_places l g)) polled
+    polled_out c new.control h.sent place (next_call_within_peers c (Poll false) (good_places l g)) polled
     h.control in
     let after : EndsUp (terminal_at new e) out =
     subst (λ (ts : List TributaryValue). EndsUp (terminal_in ts e) out) (sym h.terminals)
@@ -307,11 +309,11 @@ record IsPollOn (e place n : ℕ) (old new : LineValue) : Type 0 where
   in_poll : IsInPoll new e place n
   stays : Stays e FromTerminal old new
 
-exchange_up : (laws : VisitLaws) (at more : ℕ) (l new : LineValue) (r : Result (Unit {0}) Stopped)
+exchange_of_one_block_up : (laws : VisitLaws) (at more : ℕ) (l new : LineValue) (r : Result (Unit {0}) Stopped)
     (place n : ℕ) → IsGood l → IsInPoll l (current l.control) place (suc n)
     → (peer l.control).urgent ≡ false → Walks at (suc (suc more)) l r new →
     Comes (IsPollOn (current l.control) place n l) more r new
-exchange_up laws at more l new r place n g h calm w =
+exchange_of_one_block_up laws at more l new r place n g h visit_ready w =
     let c : ControlValue = l.control in
     let e : ℕ = current c in
     let sends : SendsUp (terminal_at l e) h.out n = h.goes_on in
@@ -324,7 +326,7 @@ exchange_up laws at more l new r place n g h calm w =
     one_step at (suc more) (suc (suc more))
     (record { speaker = sp.Terminal e; message = msg.Text t }) l new r is refl w in
     let taken : TakenUp l one.mid place b.alternation =
-    text_up l one.mid place n b g h.polled sends.in_block calm one.delays is one.carried in
+    text_up_is_acknowledged l one.mid place n b g h.polled sends.in_block visit_ready one.delays is one.carried in
     let two : Stepped (record { speaker = sp.Control; message = msg.Reply (ack b.alternation) })
     one.mid (λ mid. Walks (at + 1 + 1) more mid r new) =
     one_step (at + 1) more (suc more) (record {
@@ -333,7 +335,7 @@ exchange_up laws at more l new r place n g h calm w =
           msg.Reply (ack b.alternation);
     }) one.mid new r taken.pending refl one.rest in
     let cur : current one.mid.control ≡ e =
-    current_same c one.mid.control taken.stays.poll_list
+    current_of_same_place c one.mid.control taken.stays.poll_list
     (taken.polled.place_is ∙ sym h.polled.place_is) in
     let there : IsInBlockUp (terminal_in one.mid.terminals e) n b =
     subst (λ (ts : List TributaryValue). IsInBlockUp (terminal_in ts e) n b)
@@ -342,7 +344,7 @@ exchange_up laws at more l new r place n g h calm w =
     subst (λ (z : ℕ). IsInBlockUp (terminal_at one.mid z) n b) (sym cur) there in
     let y : IsInPoll two.mid e place n × Stays e FromTerminal one.mid two.mid =
     subst (λ (z : ℕ). IsInPoll two.mid z place n × Stays z FromTerminal one.mid two.mid) cur
-    (ack_up laws one.mid two.mid place n b one.good taken.polled here two.carried) in
+    (next_block_after_ack_up laws one.mid two.mid place n b one.good taken.polled here two.carried) in
     let first : Stays e FromTerminal l one.mid =
     record {
       control = taken.stays;
@@ -367,11 +369,11 @@ exchange_up_at : (laws : VisitLaws) (at more e : ℕ) (l new : LineValue)
     → IsInPoll l e place (suc n) → (peer_at l.control e).urgent ≡ false
     → Walks at (suc (suc more)) l r new →
     Comes (IsPollOn e place n l) more r new
-exchange_up_at laws at more e l new r place n g here h calm w =
+exchange_up_at laws at more e l new r place n g here h visit_ready w =
     subst (λ (z : ℕ). Comes (IsPollOn z place n l) more r new) here
-    (exchange_up laws at more l new r place n g
+    (exchange_of_one_block_up laws at more l new r place n g
     (subst (λ (z : ℕ). IsInPoll l z place (suc n)) (sym here) h)
-    (subst (λ (z : ℕ). (peer_at l.control z).urgent ≡ false) (sym here) calm) w)
+    (subst (λ (z : ℕ). (peer_at l.control z).urgent ≡ false) (sym here) visit_ready) w)
 
 -- a channel that moved before, too
 poll_since : (e place : ℕ) (a b c : LineValue) → Stays e FromTerminal a b → IsPollDone e place b c
@@ -388,11 +390,11 @@ poll_since e place a b c x y =
     }
 
 -- n blocks, two transmissions for each, and EOT
-pub blocks_up : (laws : VisitLaws) (n at more count e place : ℕ) (l new : LineValue)
+pub poll_delivers_all_blocks : (laws : VisitLaws) (n at more count e place : ℕ) (l new : LineValue)
     (r : Result (Unit {0}) Stopped) → IsGood l → current l.control ≡ e → IsInPoll l e place n
     → (peer_at l.control e).urgent ≡ false → count ≡ 2 * n + 1 + more → Walks at count l r new →
     Comes (IsPollDone e place l) more r new
-blocks_up laws zero at more count e place l new r g here h calm number w =
+poll_delivers_all_blocks laws zero at more count e place l new r g here h visit_ready number w =
     let left : count ≡ suc more = omega (arith, number) in
     let ends : EndsUp (terminal_at l e) h.out = h.goes_on in
     let is : l.pending ≡ Some (record { speaker = sp.Terminal e; message = msg.Eot }) = h.pending
@@ -402,7 +404,7 @@ blocks_up laws zero at more count e place l new r g here h calm number w =
     one_step at more count (record { speaker = sp.Terminal e; message = msg.Eot }) l new r is
     left w in
     let done : IsPollDone (current l.control) place l one.mid =
-    eot_up l one.mid place h.out g one.good h.polled
+    next_entry_after_eot l one.mid place h.out g one.good h.polled
     (subst (λ (z : ℕ). EndsUp (terminal_at l z) h.out) (sym here) ends) one.carried in
     record {
       at = at + 1;
@@ -411,18 +413,18 @@ blocks_up laws zero at more count e place l new r g here h calm number w =
           subst (λ (z : ℕ). IsPollDone z place l one.mid) here done;
       rest = one.rest;
     }
-blocks_up laws (suc n) at more count e place l new r g here h calm number w =
+poll_delivers_all_blocks laws (suc n) at more count e place l new r g here h visit_ready number w =
     let left : count ≡ suc (suc (2 * n + 1 + more)) = omega (arith, number) in
     let x : Comes (IsPollOn e place n l) (2 * n + 1 + more) r new =
-    exchange_up_at laws at (2 * n + 1 + more) e l new r place n g here h calm
+    exchange_up_at laws at (2 * n + 1 + more) e l new r place n g here h visit_ready
     (subst (λ (j : ℕ). Walks at j l r new) left w) in
     let y : IsPollOn e place n l x.line = x.holds in
     let cur : current x.line.control ≡ e =
-    current_same l.control x.line.control y.stays.control.poll_list
+    current_of_same_place l.control x.line.control y.stays.control.poll_list
     (y.in_poll.polled.place_is ∙ sym h.polled.place_is) ∙ here in
     let z : Comes (IsPollDone e place x.line) more r new =
-    blocks_up laws n x.at more (2 * n + 1 + more) e place x.line new r y.good cur y.in_poll
-    ((y.stays.control.peers e).urgent calm) refl x.rest in
+    poll_delivers_all_blocks laws n x.at more (2 * n + 1 + more) e place x.line new r y.good cur y.in_poll
+    ((y.stays.control.peers e).urgent visit_ready) refl x.rest in
     record {
       at = z.at;
       line = z.line;
@@ -431,14 +433,14 @@ blocks_up laws (suc n) at more count e place l new r g here h calm number w =
     }
 
 -- a poll with n blocks
-pub poll : (laws : VisitLaws) (n at more count : ℕ) (l new : LineValue)
+pub poll_delivers_blocks : (laws : VisitLaws) (n at more count : ℕ) (l new : LineValue)
     (r : Result (Unit {0}) Stopped) → IsGood l → Calls l l.control.place FromTerminal
     → is_in_doubt (terminal_at l (current l.control)).sender.phase ≡ false → (peer l.control).urgent
     ≡ false →
     block_count (terminal_at l (current l.control)).queue ≡ n → count ≡ 2 + 2 * n + more
     → Walks at count l r new
     → Comes (IsPollDone (current l.control) l.control.place l) more r new
-poll laws n at more count l new r g h sure calm number is w =
+poll_delivers_blocks laws n at more count l new r g h sure visit_ready number is w =
     let c : ControlValue = l.control in
     let e : ℕ = current c in
     let a : List ℕ = (peer c).terminal.poll in
@@ -450,12 +452,12 @@ poll laws n at more count l new r g h sure calm number is w =
     one_step at (2 * n + 1 + more) count (record { speaker = sp.Control; message = msg.Call a }) l
     new r calls left w in
     let y : IsInPoll one.mid e c.place n × Stays e FromTerminal l one.mid =
-    call_up laws l one.mid n g h.called.task sure number calls one.carried in
+    poll_call_is_answered laws l one.mid n g h.called.task sure number calls one.carried in
     let cur : current one.mid.control ≡ e =
-    current_same c one.mid.control y.1.control.poll_list y.0.polled.place_is in
+    current_of_same_place c one.mid.control y.1.control.poll_list y.0.polled.place_is in
     let z : Comes (IsPollDone e c.place one.mid) more r new =
-    blocks_up laws n (at + 1) more (2 * n + 1 + more) e c.place one.mid new r one.good cur y.0
-    ((y.1.control.peers e).urgent calm) refl one.rest in
+    poll_delivers_all_blocks laws n (at + 1) more (2 * n + 1 + more) e c.place one.mid new r one.good cur y.0
+    ((y.1.control.peers e).urgent visit_ready) refl one.rest in
     record {
       at = z.at;
       line = z.line;

@@ -5,9 +5,9 @@ use Rattle.std.proofs.lemmas.Bool.Decides.{nat_tests}
 use Rattle.std.specs.List.{position_or_len}
 
 -- the element at the front passes
-pub position_first : {X : Type 0} → (p : X → Bool) (x : X) (xs : List X) → p x ≡ true
+pub position_at_front : {X : Type 0} → (p : X → Bool) (x : X) (xs : List X) → p x ≡ true
     → position p (x ∷ xs) ≡ Some 0
-position_first p x xs e =
+position_at_front p x xs e =
     let first : position_or_len p (x ∷ xs) ≡ 0 =
     ap (λ (b : Bool). if not b then 1 + position_or_len p xs else 0) e in
     let within : nat_lt 0 (length (x ∷ xs)) ≡ true = grind (arith, nat_tests) in

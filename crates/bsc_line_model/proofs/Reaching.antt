@@ -14,10 +14,10 @@ use Rattle.bsc_line_model.specs.Headline.{spooled_on, ReachesAddressed}
 use Rattle.bsc_line_model.proofs.OfferedGrows.{same_channel_or_not}
 
 -- if the channel that moves keeps the records that arrived, all channels do
-one_keeps : (old new : LineValue) (t : ℕ) (mine : Way) (move : Move) → MovesOne t mine move old new
+all_keep_if_moved_keeps : (old new : LineValue) (t : ℕ) (mine : Way) (move : Move) → MovesOne t mine move old new
     → spooled_on new t mine ≡ spooled_on old t mine → (u : ℕ) (way : Way) → IsChannel old u way
     → spooled_on new u way ≡ spooled_on old u way
-one_keeps old new t mine move moves same u way is =
+all_keep_if_moved_keeps old new t mine move moves same u way is =
     elim (same_channel_or_not u t way mine) [
       | inl this ↦
           subst (λ (n : ℕ). spooled_on new n way ≡ spooled_on old n way) (sym this.0)
@@ -26,10 +26,10 @@ one_keeps old new t mine move moves same u way is =
     ]
 
 -- records arrive on the addressed channel
-lands_there : (a : ℕ × Way) (old new : LineValue) (k : ℕ) → MovesOne a.0 a.1 (Land k) old new
+lands_on_addressed_channel : (a : ℕ × Way) (old new : LineValue) (k : ℕ) → MovesOne a.0 a.1 (Land k) old new
     → (t : ℕ) (way : Way) → IsChannel old t way → (spooled_on new t way ≡ spooled_on old t way)
     ⊎ (Some a ≡ Some (t, way))
-lands_there a old new k moves t way is =
+lands_on_addressed_channel a old new k moves t way is =
     elim (same_channel_or_not t a.0 way a.1) [
       | inl this ↦
           (let first : (n : ℕ) → Option (ℕ × Way) = λ n. Some (n, a.1) in
@@ -46,18 +46,18 @@ addressed_reached None old new moves t way is =
 addressed_reached (Some a) old new (inl nothing) t way is =
     inl (ap (λ (c : Channel). c.spooled) (nothing t way is))
 addressed_reached (Some a) old new (inr (inl lands)) t way is =
-    lands_there a old new lands.count lands.moves t way is
+    lands_on_addressed_channel a old new lands.count lands.moves t way is
 addressed_reached (Some a) old new (inr (inr learns)) t way is =
-    inl (one_keeps old new a.0 a.1 Learn learns (ap (λ (c : Channel). c.spooled) learns.this) t way
+    inl (all_keep_if_moved_keeps old new a.0 a.1 Learn learns (ap (λ (c : Channel). c.spooled) learns.this) t way
     is)
 
 pub reaches : (event : Event) (old new : LineValue) → StepsChannels event old new
     → ReachesAddressed old new
 reaches (OfferAt u r) old new moves t way is =
-    inl (one_keeps old new u FromTerminal (Offer r.now) moves
+    inl (all_keep_if_moved_keeps old new u FromTerminal (Offer r.now) moves
     (ap (λ (c : Channel). c.spooled) moves.this) t way is)
 reaches (OfferFor u k r) old new moves t way is =
-    inl (one_keeps old new u (ToTerminal k) (Offer r.now) moves
+    inl (all_keep_if_moved_keeps old new u (ToTerminal k) (Offer r.now) moves
     (ap (λ (c : Channel). c.spooled) moves.this) t way is)
 reaches (Carry item) old new moves t way is = addressed_reached old.addressed old new moves t way is
 reaches (CarryEach items) old new moves t way is =
@@ -70,4 +70,4 @@ reaches (UrgentAt u) old new moves t way is = inl (ap (λ (c : Channel). c.spool
 reaches (UrgentFor u) old new moves t way is =
     inl (ap (λ (c : Channel). c.spooled) (moves t way is))
 reaches (Release u mine) old new moves t way is =
-    inl (one_keeps old new u mine Learn moves (ap (λ (c : Channel). c.spooled) moves.this) t way is)
+    inl (all_keep_if_moved_keeps old new u mine Learn moves (ap (λ (c : Channel). c.spooled) moves.this) t way is)

@@ -81,18 +81,18 @@ pub record LeavesAll (s : SenderValue) (q : QueueValue) (step : ReleaseStep) : T
   pub sender : step.sender ≡ s
   pub queue : step.queue ≡ q
 
-leaves : (s : SenderValue) (q : QueueValue) (n : ℕ) (why : LineError) (phase : Phase) → Err why
+refused_release_leaves_all : (s : SenderValue) (q : QueueValue) (n : ℕ) (why : LineError) (phase : Phase) → Err why
     ≡ told (release_in s q phase n).answer → LeavesAll s q (release_in s q phase n)
-leaves s q n why Idle h = record { sender = refl; queue = refl }
-leaves s q n why (Unanswered b) h = record { sender = refl; queue = refl }
-leaves s q n why (Held end x) h = record { sender = refl; queue = refl }
-leaves s q n why (InDoubt k) h = by_test ((n == q.known) || (n == (q.known + k))) h
+refused_release_leaves_all s q n why Idle h = record { sender = refl; queue = refl }
+refused_release_leaves_all s q n why (Unanswered b) h = record { sender = refl; queue = refl }
+refused_release_leaves_all s q n why (Held end x) h = record { sender = refl; queue = refl }
+refused_release_leaves_all s q n why (InDoubt k) h = mismatch_leaves_all ((n == q.known) || (n == (q.known + k))) h
   where
-    by_test : (b : Bool)
+    mismatch_leaves_all : (b : Bool)
         → Err why ≡ told (if b then released s q n else not_released s q r.CountMismatch).answer
         → LeavesAll s q (if b then released s q n else not_released s q r.CountMismatch)
-    by_test true f = absurd (cc)
-    by_test false f = record { sender = refl; queue = refl }
+    mismatch_leaves_all true f = absurd (cc)
+    mismatch_leaves_all false f = record { sender = refl; queue = refl }
 
 release_refused : (old : LineValue) (t : ℕ) (way : Way) (why : LineError) (new : LineValue)
     → ReleasesWay old t way (Err why) new → new ≡ old
@@ -100,7 +100,7 @@ release_refused old t FromTerminal why new d =
     let x : TributaryValue = terminal_at old t in
     let n : ℕ = length (peer_at old.control t).spool.records in
     let same : LeavesAll x.sender x.queue (release_step x.sender x.queue n) =
-    leaves x.sender x.queue n why x.sender.phase d.answer in
+    refused_release_leaves_all x.sender x.queue n why x.sender.phase d.answer in
     let this : after_release x n ≡ x =
     ap (λ (z : SenderValue). record x {
       sender = z;
@@ -117,7 +117,7 @@ release_refused old t (ToTerminal s) why new d =
     let o : OutboundValue = outbound_at p s in
     let n : ℕ = length (spool_at (terminal_at old t).spools s).records in
     let same : LeavesAll o.sender o.queue (release_step o.sender o.queue n) =
-    leaves o.sender o.queue n why o.sender.phase d.answer in
+    refused_release_leaves_all o.sender o.queue n why o.sender.phase d.answer in
     let this : outbound_released o n ≡ o =
     ap (λ (z : SenderValue). record o {
       sender = z;

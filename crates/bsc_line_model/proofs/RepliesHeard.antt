@@ -11,7 +11,7 @@ use Rattle.bsc_spool.specs.Spool.{SpoolValue, room_asked}
 use Rattle.bsc_bid.specs.declared.alternation.Alternation.{Alternation}
 use Rattle.bsc_bid.specs.declared.alternation.Alternation.TheVariants.{Even}
 use Rattle.bsc_frame.specs.declared.reply.Reply.{Reply}
-use Rattle.bsc_frame.specs.declared.reply.Reply.TheVariants.{Ack0, Ack1, Nak, Wack, Rvi}
+use Rattle.bsc_frame.specs.declared.reply.Reply.TheVariants.{Ack0, Wack}
 use Rattle.bsc_frame.specs.Replies.{reply_in}
 use Rattle.bsc_bid.specs.Answer.{ack}
 use Rattle.bsc_bid.specs.Receiver.{Rooms, replied, is_wack}
@@ -37,13 +37,14 @@ use Rattle.bsc_line_model.specs.Terminals.{answer_of, EachHears, EachKeeps, firs
 use Rattle.bsc_line_model.specs.Trust.{EachOf}
 use Rattle.bsc_line_model.specs.Kept.{IsTuned, AreTuned, AreStations}
 use Rattle.bsc_line_model.specs.Together.{HasNoBid, NoBids, NoOtherBids, AllInControlMode, IsFresh}
-use Rattle.bsc_line_model.specs.Together.{IsSelectedWith, IsSelecting, IsInBidUp, IsPolling}
+use Rattle.bsc_line_model.specs.Together.{selected, IsSelectedWith, IsSelecting, IsInBidUp, IsPolling}
 use Rattle.bsc_line_model.specs.BidLaws.{BidLaws}
 use Rattle.bsc_line_model.proofs.Stations.{same_or_not, receiving_into}
-use Rattle.bsc_line_model.proofs.SendingDown.{others_in_control, OneHears, one_hears}
-use Rattle.bsc_line_model.proofs.SendingUp.{keeps_going, going_in}
-use Rattle.bsc_line_model.proofs.ActingUp.{HasActedUp, acts_up, present_after}
-use Rattle.bsc_line_model.proofs.CallsHeard.{with_others}
+use Rattle.bsc_line_model.proofs.SendingDown.{others_in_control, OneHears}
+use Rattle.bsc_line_model.proofs.SendingDown.{only_addressed_terminal_hears}
+use Rattle.bsc_line_model.proofs.SendingUp.{keeps_going, going_in_bid}
+use Rattle.bsc_line_model.proofs.ActingUp.{HasActedUp, bid_up_after_act, present_terminal_after_act}
+use Rattle.bsc_line_model.proofs.CallsHeard.{no_bids_if_none_with_each}
 use Rattle.bsc_bid.specs.Station.{StaysQuiet}
 
 reply_no_call : (r : Reply) → IsNoCall (Whole (m.Reply r))
@@ -57,11 +58,11 @@ reply_heard_whole r Failed f = tt
 reply_heard_whole r Noise f = tt
 
 -- the terminal that sends has heard the reply
-pub replied_up : (laws : BidLaws) (p : PeerValue) (e : ℕ) (r : Reply) (h : Heard)
+pub sender_up_heard_reply : (laws : BidLaws) (p : PeerValue) (e : ℕ) (r : Reply) (h : Heard)
     (x u : TributaryValue) (out : Option Message)
     → (b : IsInBidUp (Some (record { speaker = sp.Control; message = m.Reply r })) p e x)
     → b.flight ≡ Back r → IsFairlyHeard (m.Reply r) h → Hears x h u out → HasActedUp p e u out
-replied_up laws p e r h x u out b is fair row =
+sender_up_heard_reply laws p e r h x u out b is fair row =
     let step : SenderStep = reply_step x.sender x.queue (reply_in h) in
     let bid : InBid x.sender.phase x.queue p.receiver.alternation p.receiver.last p.spool.records
     (Back r) =
@@ -74,22 +75,22 @@ replied_up laws p e r h x u out b is fair row =
     laws.answering x.sender x.queue p.receiver.alternation p.receiver.last p.spool.records (Some r)
     (Some h) bid fair in
     subst (λ (o : TributaryStep). HasActedUp p e o.tributary o.sent) (sym becomes)
-    (acts_up laws p e x step step.act refl
+    (bid_up_after_act laws p e x step step.act refl
     (record { down = b.down; continues = agrees.continues; ended = agrees.ended })
     (λ quiet. inl (
       b.mode,
       keeps_going step.act x.sender.phase step.sender.phase
           (laws.fits.reply x.sender x.queue (reply_in h)) quiet
-          (going_in x.sender.phase x.queue p.receiver.alternation p.receiver.last p.spool.records
+          (going_in_bid x.sender.phase x.queue p.receiver.alternation p.receiver.last p.spool.records
           (Back r) bid),
     )))
 
 -- if only one terminal hears, and is then in control mode, all are
-pub one_modes : (old : List TributaryValue) (hears : ℕ → Heard) (new : List TributaryValue)
+pub all_in_control_mode_after_one : (old : List TributaryValue) (hears : ℕ → Heard) (new : List TributaryValue)
     (addressed : Option (ℕ × Way)) (e : ℕ) (way : Way) → length new ≡ length old → addressed
     ≡ Some (e, way) → AreTuned addressed old → OneHears old hears new e → (terminal_in new e).mode
     ≡ Control → AllInControlMode new
-one_modes old hears new addressed e way count is tuned one here t less =
+all_in_control_mode_after_one old hears new addressed e way count is tuned one here t less =
     elim (same_or_not t e) [
       | inl same ↦ subst (λ (n : ℕ). (terminal_in new n).mode ≡ Control) (sym same) here
       | inr differ ↦
@@ -100,10 +101,10 @@ one_modes old hears new addressed e way count is tuned one here t less =
     ]
 
 -- no bid with the others is in progress
-pub others_unheard : (c : ControlValue) (old : List TributaryValue) (hears : ℕ → Heard)
+pub no_other_bids_after_one_hears : (c : ControlValue) (old : List TributaryValue) (hears : ℕ → Heard)
     (new : List TributaryValue) (e : ℕ) → length new ≡ length old → OneHears old hears new e
     → NoOtherBids c old e → NoOtherBids c new e
-others_unheard c old hears new e count one others t less differ =
+no_other_bids_after_one_hears c old hears new e count one others t less differ =
     let before : t < length old = omega (arith, count) in
     subst (λ (y : TributaryValue). HasNoBid (peer_at c t) y) (sym (one.others t before differ))
     (others t before differ)
@@ -138,23 +139,23 @@ polling_replied laws c old addressed w hears new replied there tuned others b fa
     let is : addressed ≡ Some (e, FromTerminal) =
     subst (λ (n : Mode). IsTuned addressed e n) b.mode (tuned e there) in
     let one : OneHears old hears new e =
-    one_hears old hears new addressed e FromTerminal there is tuned
+    only_addressed_terminal_hears old hears new addressed e FromTerminal there is tuned
     (λ t less. reply_heard_whole r (hears t) (fairly t less)) keeps in
     let acted : HasActedUp (peer c) e u out =
-    replied_up laws (peer c) e r (hears e) x u out c0 b.flies.2 (fairly e there)
+    sender_up_heard_reply laws (peer c) e r (hears e) x u out c0 b.flies.2 (fairly e there)
     (each.each e there) in
     record {
-      others = others_unheard c old hears new e each.count one others;
+      others = no_other_bids_after_one_hears c old hears new e each.count one others;
       present =
-          rw (one.first) (present_after (peer c) e u out replied new acted
-          (one_modes old hears new addressed e FromTerminal each.count is tuned one));
+          rw (one.first) (present_terminal_after_act (peer c) e u out replied new acted
+          (all_in_control_mode_after_one old hears new addressed e FromTerminal each.count is tuned one));
     }
 
 -- a spool that is written with the records that it had
-pub same_records : (spools : List SpoolValue) (s k : ℕ) (z : SpoolValue) → s < length spools
+pub records_of_written_spool : (spools : List SpoolValue) (s k : ℕ) (z : SpoolValue) → s < length spools
     → z.records ≡ (spool_at spools s).records → (spool_at (slice_set spools s z) k).records
     ≡ (spool_at spools k).records
-same_records spools s k z there same =
+records_of_written_spool spools s k z there same =
     elim (same_or_not k s) [
       | inl this ↦ rw (this, get_or-set_same spools s z empty_spool there) same
       | inr differ ↦ ap (λ (y : SpoolValue). y.records)
@@ -173,7 +174,8 @@ enq_answer x s alternation last room =
 
 abbrev AnswersEnq : PeerValue → ℕ → ℕ → TributaryStep → List TributaryValue → Type 0
 AnswersEnq p e s step ts = HasNoBid p step.tributary × IsFresh step.tributary s
-    × IsSelectedWith (sent_by (sp.Terminal e) step.sent) true p e s step.tributary ts
+    × IsSelectedWith (sent_by (sp.Terminal e) step.sent) true
+    (selected p e s step.tributary ts)
 
 -- no bid with a selected terminal that replied is in progress, and the terminal stays fresh
 still_no_bid : (p : PeerValue) (x : TributaryValue) (s : ℕ) (z : SpoolValue) (u : TributaryValue)
@@ -188,7 +190,7 @@ still_no_bid p x s z u q mode there same um us uq up =
       down =
           λ k less. rw (up)
           (subst (λ (y : List (List ℕ)). IsResting (outbound_at p k).sender.phase
-          (outbound_at p k).queue y) (sym (same_records x.spools s k z there same))
+          (outbound_at p k).queue y) (sym (records_of_written_spool x.spools s k z there same))
           (q.down k less));
     }
 
@@ -220,12 +222,8 @@ enq_terminal p e s x ts Wack false k q mode there =
       f,
       (refl, (f, refl)),
     )
-enq_terminal p e s x ts Ack1 room (inl k) q mode there = absurd (cc)
-enq_terminal p e s x ts Ack1 room (inr k) q mode there = absurd (cc)
-enq_terminal p e s x ts Nak room (inl k) q mode there = absurd (cc)
-enq_terminal p e s x ts Nak room (inr k) q mode there = absurd (cc)
-enq_terminal p e s x ts Rvi room (inl k) q mode there = absurd (cc)
-enq_terminal p e s x ts Rvi room (inr k) q mode there = absurd (cc)
+enq_terminal p e s x ts _ room (inl k) q mode there = absurd (cc)
+enq_terminal p e s x ts _ room (inr k) q mode there = absurd (cc)
 
 -- ENQ is heard whole or as noise
 abbrev pub IsEnqHeard : Heard → Type 0
@@ -278,7 +276,7 @@ selecting_enquired c old addressed hears new s there stations tuned no_bids fres
     let is : addressed ≡ Some (e, ToTerminal s) =
     subst (λ (n : Mode). IsTuned addressed e n) fresh.mode (tuned e there) in
     let one : OneHears old hears new e =
-    one_hears old hears new addressed e (ToTerminal s) there is tuned
+    only_addressed_terminal_hears old hears new addressed e (ToTerminal s) there is tuned
     (λ t less. enq_no_call (hears t) (enq_heard (hears t) (fair t less))) keeps in
     let into : s < length x.spools =
     receiving_into x.mode x.sender.phase (length x.spools) s fresh.mode
@@ -288,7 +286,7 @@ selecting_enquired c old addressed hears new s there stations tuned no_bids fres
     (each.each e there) (keeps e there) (enq_heard (hears e) (fair e there)) in
     record {
       no_bids =
-          with_others c new e (others_unheard c old hears new e each.count one
+          no_bids_if_none_with_each c new e (no_other_bids_after_one_hears c old hears new e each.count one
           (λ t less differ. no_bids t less)) answers.0;
       with_pending = rw (one.first) answers.2;
       fresh = answers.1;

@@ -2,7 +2,8 @@
 -- for a terminal that was visited before.
 use Rattle.std.proofs.Common.{◌≡◌, ◌≢◌, inl, inr, ℕ, zero, suc, ◌+◌, ◌<◌, true, false, Bool}
 use Rattle.std.proofs.Common.{nat_eq, is_some, position, List, ◌∷◌, length, drop, get_or, Option}
-use Rattle.std.proofs.Common.{option_map, None, Some, Result, refl, sym, ◌∙◌, ap, subst, arith, if◌then◌else◌}
+use Rattle.std.proofs.Common.{option_map, None, Some, Result, refl, sym, ◌∙◌, ap, subst, arith}
+use Rattle.std.proofs.Common.{if◌then◌else◌}
 use Rattle.std.proofs.Math.Seq.{drop-cons}
 use Rattle.std.proofs.lemmas.Bool.Decides.{nat_tests}
 use Rattle.std.proofs.lemmas.List.{drop_all}
@@ -16,29 +17,30 @@ use Rattle.bsc_line_model.specs.declared.error.Stopped.{Stopped}
 use Rattle.bsc_line_model.specs.Line.{LineValue, terminal_at, terminal_count}
 use Rattle.bsc_line_model.specs.Rounds.{block_count, poll_length, visit_length, entries_length}
 use Rattle.bsc_line_model.specs.Rounds.{is_seen, entry_at}
-use Rattle.bsc_line_model.proofs.Positions.{position_first, position_later}
+use Rattle.bsc_line_model.proofs.Positions.{position_at_front, position_later}
 use Rattle.bsc_line_model.proofs.Stations.{same_or_not}
 use Rattle.bsc_line_model.proofs.Walking.{IsGood, Walks, good_places}
 use Rattle.bsc_line_model.proofs.Selections.{VisitLaws, Comes, Calls}
-use Rattle.bsc_line_model.proofs.Visits.{StaysBut, but_same, IsCalmAt, IsVisited, IsVisitDone}
+use Rattle.bsc_line_model.proofs.Visits.{StaysBut, but_same, IsReadyForVisitAt, IsVisited}
+use Rattle.bsc_line_model.proofs.Visits.{IsVisitDone}
 use Rattle.bsc_line_model.proofs.Visits.{selections_length, same_lengths, visit_from}
 use Rattle.bsc_line_model.proofs.VisitCounts.{visit_is, no_selections}
 
 -- one more terminal was visited
-pub seen_more : (t e : ℕ) (seen : List ℕ) → t ≢ e → is_seen t (e ∷ seen) ≡ is_seen t seen
-seen_more t e seen differ =
+pub seen_unless_visited_now : (t e : ℕ) (seen : List ℕ) → t ≢ e → is_seen t (e ∷ seen) ≡ is_seen t seen
+seen_unless_visited_now t e seen differ =
     let no : nat_eq t e ≡ false = grind (arith, nat_tests) in
     ap (is_some {T = ℕ}) (position_later (nat_eq t) e seen no)
-    ∙ still_some (position (nat_eq t) seen)
+    ∙ some_of_mapped (position (nat_eq t) seen)
   where
-    still_some : (o : Option ℕ) → is_some (option_map (λ (k : ℕ). 1 + k) o) ≡ is_some o
-    still_some None = refl
-    still_some (Some k) = refl
+    some_of_mapped : (o : Option ℕ) → is_some (option_map (λ (k : ℕ). 1 + k) o) ≡ is_some o
+    some_of_mapped None = refl
+    some_of_mapped (Some k) = refl
 
-pub seen_now : (t e : ℕ) (seen : List ℕ) → t ≡ e → is_seen t (e ∷ seen) ≡ true
-seen_now t e seen same =
+pub visited_now_is_seen : (t e : ℕ) (seen : List ℕ) → t ≡ e → is_seen t (e ∷ seen) ≡ true
+visited_now_is_seen t e seen same =
     let yes : nat_eq t e ≡ true = grind (arith, nat_tests) in
-    ap (is_some {T = ℕ}) (position_first (nat_eq t) e seen yes)
+    ap (is_some {T = ℕ}) (position_at_front (nat_eq t) e seen yes)
 
 -- no record waits on the channels of terminal t
 pub record IsEmptied (l : LineValue) (t : ℕ) : Type 0 where
@@ -52,8 +54,8 @@ pub record IsRoundAt (start l : LineValue) (k : ℕ) (seen : List ℕ) : Type 0 
   pub list : l.control.poll_list ≡ start.control.poll_list
   pub count : length l.terminals ≡ length start.terminals
   pub calls : Calls l (wrapped (length start.control.poll_list) k) (way_from (peer l.control) 0)
-  pub calm : (j : ℕ) → j < length start.control.poll_list
-      → IsCalmAt l (get_or start.control.poll_list j 0)
+  pub visit_ready : (j : ℕ) → j < length start.control.poll_list
+      → IsReadyForVisitAt l (get_or start.control.poll_list j 0)
   pub visited : (t : ℕ) → t < length start.terminals → is_seen t seen ≡ true → IsEmptied l t
   pub passed : (j : ℕ) → j < k → is_seen (get_or start.control.poll_list j 0) seen ≡ true
   pub fresh : (t : ℕ) → t < length start.terminals → is_seen t seen ≡ false → visit_length l t
@@ -67,9 +69,9 @@ emptied_length l t h =
     (omega arith) h.down)
     ∙ (let none : block_count (terminal_at l t).queue ≡ 0 = h.up in omega (arith, none))
 
-still_emptied : (e t : ℕ) (a l : LineValue) → t < length a.terminals → t ≢ e → StaysBut e a l
+other_terminal_stays_emptied : (e t : ℕ) (a l : LineValue) → t < length a.terminals → t ≢ e → StaysBut e a l
     → IsEmptied a t → IsEmptied l t
-still_emptied e t a l less differ h x =
+other_terminal_stays_emptied e t a l less differ h x =
     record {
       down = λ s inside.
           let before : s < length (peer_at a.control t).outbounds =
@@ -79,9 +81,9 @@ still_emptied e t a l less differ h x =
     }
 
 -- the lengths of the visits of other terminals
-other_length : (e t : ℕ) (a l : LineValue) → t < length a.terminals → t ≢ e → StaysBut e a l
+other_visit_length_unchanged : (e t : ℕ) (a l : LineValue) → t < length a.terminals → t ≢ e → StaysBut e a l
     → visit_length l t ≡ visit_length a t
-other_length e t a l less differ h =
+other_visit_length_unchanged e t a l less differ h =
     let p : PeerValue = peer_at a.control t in
     let q : PeerValue = peer_at l.control t in
     let sums : selections_length q 0 (length p.outbounds)
@@ -94,9 +96,9 @@ other_length e t a l less differ h =
     + poll_length (block_count x)) (h.queue t less differ) ∙ sym (visit_is a t)
 
 -- the other terminals stay ready for a visit
-pub still_calm : (e t : ℕ) (a l : LineValue) → t < length a.terminals → t ≢ e → StaysBut e a l
-    → IsCalmAt a t → IsCalmAt l t
-still_calm e t a l less differ h c =
+pub still_visit_ready : (e t : ℕ) (a l : LineValue) → t < length a.terminals → t ≢ e → StaysBut e a l
+    → IsReadyForVisitAt a t → IsReadyForVisitAt l t
+still_visit_ready e t a l less differ h c =
     record {
       ready = h.ready t less ∙ c.ready;
       urgent_at = h.urgent_at t less c.urgent_at;
@@ -107,9 +109,9 @@ still_calm e t a l less differ h c =
           ∙ c.sure_down s;
     }
 
-pub not_last : (k n : ℕ) → k < n → (b : Bool) → nat_eq k n ≡ b → (if b then 0 else k) ≡ k
-not_last k n less true e = absurd (grind (arith, nat_tests))
-not_last k n less false e = refl
+pub next_place_before_last : (k n : ℕ) → k < n → (b : Bool) → nat_eq k n ≡ b → (if b then 0 else k) ≡ k
+next_place_before_last k n less true e = absurd (grind (arith, nat_tests))
+next_place_before_last k n less false e = refl
 
 -- the visit of entry k
 visit_entry : (laws : VisitLaws) (at more count k : ℕ) (seen : List ℕ) (start l new : LineValue)
@@ -123,7 +125,7 @@ visit_entry laws at more count k seen start l new r h less there is w =
     let p : PeerValue = peer_at l.control e in
     let i : ℕ = block_count (terminal_at l e).queue in
     let wrap : wrapped (length start.control.poll_list) k ≡ k =
-    not_last k (length start.control.poll_list) less (nat_eq k (length start.control.poll_list))
+    next_place_before_last k (length start.control.poll_list) less (nat_eq k (length start.control.poll_list))
     refl in
     let here : l.control.place ≡ k = h.calls.called.place_is ∙ wrap in
     let cur : current l.control ≡ e = ap (λ (n : ℕ). get_or l.control.poll_list n 0) here
@@ -135,7 +137,7 @@ visit_entry laws at more count k seen start l new r h less there is w =
       present = cur;
       here = here;
       calls = subst (λ (z : ℕ). Calls l k (way_from (peer_at l.control z) 0)) cur calls;
-      calm = h.calm k less;
+      visit_ready = h.visit_ready k less;
       done = λ s never. absurd (omega arith);
       blocks_up = refl;
       stays = but_same e l;
@@ -146,9 +148,9 @@ visit_entry laws at more count k seen start l new r h less there is w =
     (omega (arith, is, number)) w
 
 -- an entry names a terminal
-pub entry_there : (l : LineValue) (j : ℕ) → IsGood l → j < length l.control.poll_list → entry_at l j
+pub entry_names_terminal : (l : LineValue) (j : ℕ) → IsGood l → j < length l.control.poll_list → entry_at l j
     < terminal_count l
-entry_there l j g less =
+entry_names_terminal l j g less =
     subst (λ (n : ℕ). entry_at l j < n) g.line.stations.count
     ((good_places l g).entries j 0 less)
 
@@ -187,7 +189,7 @@ round_from laws (suc m) at more count k seen start l new r h number is w =
     let less : k < length list = omega (arith, number) in
     let there : (j : ℕ) → j < length list → get_or list j 0 < length l.terminals =
     λ j inside. subst (λ (ts : List ℕ). get_or ts j 0 < length l.terminals) h.list
-    (entry_there l j h.good (subst (λ (ts : List ℕ). j < length ts) (sym h.list) inside)) in
+    (entry_names_terminal l j h.good (subst (λ (ts : List ℕ). j < length ts) (sym h.list) inside)) in
     let here : e < length l.terminals = there k less in
     let here_first : e < length start.terminals = subst (λ (n : ℕ). e < n) h.count here in
     let next : suc k ≡ k + 1 = omega arith in
@@ -210,34 +212,34 @@ round_from laws (suc m) at more count k seen start l new r h number is w =
       calls =
           subst (λ (ts : List ℕ). Calls x.line (wrapped (length ts) (k + 1))
           (way_from (peer x.line.control) 0)) h.list x.holds.calls;
-      calm = λ j inside.
+      visit_ready = λ j inside.
           elim (same_or_not (get_or list j 0) e) [
-            | inl same ↦ subst (λ (t : ℕ). IsCalmAt x.line t) (sym same) x.holds.calm
-            | inr differ ↦ still_calm e (get_or list j 0) l x.line (there j inside) differ
-                x.holds.stays (h.calm j inside)
+            | inl same ↦ subst (λ (t : ℕ). IsReadyForVisitAt x.line t) (sym same) x.holds.visit_ready
+            | inr differ ↦ still_visit_ready e (get_or list j 0) l x.line (there j inside) differ
+                x.holds.stays (h.visit_ready j inside)
           ];
       visited = λ t inside seen_it.
           elim (same_or_not t e) [
             | inl same ↦ subst (λ (z : ℕ). IsEmptied x.line z) (sym same)
                 (record { down = x.holds.down; up = x.holds.up })
-            | inr differ ↦ still_emptied e t l x.line
+            | inr differ ↦ other_terminal_stays_emptied e t l x.line
                 (subst (λ (n : ℕ). t < n) (sym h.count) inside) differ x.holds.stays
-                (h.visited t inside (sym (seen_more t e seen differ) ∙ seen_it))
+                (h.visited t inside (sym (seen_unless_visited_now t e seen differ) ∙ seen_it))
           ];
       passed = λ j before.
           elim (same_or_not (get_or list j 0) e) [
-            | inl same ↦ seen_now (get_or list j 0) e seen same
+            | inl same ↦ visited_now_is_seen (get_or list j 0) e seen same
             | inr differ ↦
                 (let other : j ≢ k = λ same. differ (ap (λ (n : ℕ). get_or list n 0) same) in
-                seen_more (get_or list j 0) e seen differ
+                seen_unless_visited_now (get_or list j 0) e seen differ
                 ∙ h.passed j (omega (arith, before, other)))
           ];
       fresh = λ t inside not_seen.
           elim (same_or_not t e) [
-            | inl same ↦ absurd (let now : is_seen t (e ∷ seen) ≡ true = seen_now t e seen same in
+            | inl same ↦ absurd (let now : is_seen t (e ∷ seen) ≡ true = visited_now_is_seen t e seen same in
                 let both : true ≡ false = sym now ∙ not_seen in cc)
-            | inr differ ↦ other_length e t l x.line (subst (λ (n : ℕ). t < n) (sym h.count) inside)
-                differ x.holds.stays ∙ h.fresh t inside (sym (seen_more t e seen differ) ∙ not_seen)
+            | inr differ ↦ other_visit_length_unchanged e t l x.line (subst (λ (n : ℕ). t < n) (sym h.count) inside)
+                differ x.holds.stays ∙ h.fresh t inside (sym (seen_unless_visited_now t e seen differ) ∙ not_seen)
           ];
     } in
     round_from laws m x.at more rest (k + 1) (e ∷ seen) start x.line new r on

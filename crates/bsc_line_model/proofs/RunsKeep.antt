@@ -17,7 +17,7 @@ use Rattle.bsc_line_model.specs.Headline.{offered_in, accepted_in, IsSettled, Re
 use Rattle.bsc_line_model.specs.Headline.{KeepsRecords}
 use Rattle.bsc_line_model.specs.StepLaws.{offered_on, offered_by}
 use Rattle.bsc_line_model.specs.BidLaws.{BidLaws}
-use Rattle.bsc_line_model.proofs.Soundness.{sound}
+use Rattle.bsc_line_model.proofs.Soundness.{sound_of_together}
 use Rattle.bsc_line_model.proofs.Refusals.{nothing_changed, was_trusted}
 use Rattle.bsc_line_model.proofs.OfferedGrows.{grows_by_offers, channel_stays}
 use Rattle.bsc_line_model.proofs.EventMoves.{event_moves}
@@ -39,14 +39,14 @@ stops_past at old new (x ∷ xs) s (inl stop) = let here : s.at ≡ at = stop.pl
 stops_past at old new (x ∷ xs) s (inr go) = let later : at + 1 ≤ s.at =
     stops_past (at + 1) go.mid new xs s go.rest in omega arith
 
-one_accepted : (at : ℕ) (x : Event) (xs : List Event) (s : Stopped) → at + 1 ≤ s.at
+accepted_with_first : (at : ℕ) (x : Event) (xs : List Event) (s : Stopped) → at + 1 ≤ s.at
     → accepted_from at (x ∷ xs) (Err s) ≡ x ∷ accepted_from (at + 1) xs (Err s)
-one_accepted at x xs s later = let count : s.at - at ≡ suc (s.at - (at + 1)) = omega arith in
+accepted_with_first at x xs s later = let count : s.at - at ≡ suc (s.at - (at + 1)) = omega arith in
     ap (λ (n : ℕ). take n (x ∷ xs)) count
 
-none_accepted : (at : ℕ) (x : Event) (xs : List Event) (s : Stopped) → s.at ≡ at
+none_accepted_at_stop : (at : ℕ) (x : Event) (xs : List Event) (s : Stopped) → s.at ≡ at
     → accepted_from at (x ∷ xs) (Err s) ≡ []
-none_accepted at x xs s here = let count : s.at - at ≡ 0 = omega arith in
+none_accepted_at_stop at x xs s here = let count : s.at - at ≡ 0 = omega arith in
     ap (λ (n : ℕ). take n (x ∷ xs)) count
 
 -- a run leaves a line that keeps the invariant, and was trusted all along if it is trusted at the
@@ -90,37 +90,37 @@ run_channel at old new (x ∷ xs) (Err s) t way (inr go) is =
     (channel_stays x old go.mid t way go.done is)
 
 -- the offered records grow by the accepted offers
-nothing_more : (old new : LineValue) (t : ℕ) (way : Way) → new ≡ old → offered_on new t way
+nothing_offered_if_same : (old new : LineValue) (t : ℕ) (way : Way) → new ≡ old → offered_on new t way
     ≡ offered_on old t way ++ []
-nothing_more old new t way same = ap (λ (l : LineValue). offered_on l t way) same
+nothing_offered_if_same old new t way same = ap (λ (l : LineValue). offered_on l t way) same
     ∙ sym (append-nil (offered_on old t way))
 
-offered_before : (x : Event) (old mid new : LineValue) (t : ℕ) (way : Way) (rest : List (List ℕ))
+offered_by_event_and_rest : (x : Event) (old mid new : LineValue) (t : ℕ) (way : Way) (rest : List (List ℕ))
     → offered_on mid t way ≡ offered_on old t way ++ offered_by x t way → offered_on new t way
     ≡ offered_on mid t way ++ rest →
     offered_on new t way ≡ offered_on old t way ++ (offered_by x t way ++ rest)
-offered_before x old mid new t way rest here later =
+offered_by_event_and_rest x old mid new t way rest here later =
     later ∙ ap (λ (rs : List (List ℕ)). rs ++ rest) here
     ∙ append_assoc (offered_on old t way) (offered_by x t way) rest
 
 run_offers : (at : ℕ) (old new : LineValue) (xs : List Event) (r : Answer) → IsLine old
     → RunsFrom at old xs r new → (t : ℕ) (way : Way) → IsChannel old t way →
     offered_on new t way ≡ offered_on old t way ++ offered_in (accepted_from at xs r) t way
-run_offers at old new [] (Ok done) line k t way is = nothing_more old new t way k
+run_offers at old new [] (Ok done) line k t way is = nothing_offered_if_same old new t way k
 run_offers at old new [] (Err s) line k t way is = absurd k
 run_offers at old new (x ∷ xs) (Ok done) line go t way is =
-    offered_before x old go.mid new t way (offered_in xs t way)
+    offered_by_event_and_rest x old go.mid new t way (offered_in xs t way)
     (grows_by_offers x old go.mid line go.done t way is)
     (run_offers (at + 1) go.mid new xs (Ok done) go.line go.rest t way
     (channel_stays x old go.mid t way go.done is))
 run_offers at old new (x ∷ xs) (Err s) line (inl stop) t way is =
     subst (λ (es : List Event). offered_on new t way ≡ offered_on old t way ++ offered_in es t way)
-    (sym (none_accepted at x xs s stop.place))
-    (nothing_more old new t way (nothing_changed x old new s.why stop.refused))
+    (sym (none_accepted_at_stop at x xs s stop.place))
+    (nothing_offered_if_same old new t way (nothing_changed x old new s.why stop.refused))
 run_offers at old new (x ∷ xs) (Err s) line (inr go) t way is =
     subst (λ (es : List Event). offered_on new t way ≡ offered_on old t way ++ offered_in es t way)
-    (sym (one_accepted at x xs s (stops_past (at + 1) go.mid new xs s go.rest)))
-    (offered_before x old go.mid new t way (offered_in (accepted_from (at + 1) xs (Err s)) t way)
+    (sym (accepted_with_first at x xs s (stops_past (at + 1) go.mid new xs s go.rest)))
+    (offered_by_event_and_rest x old go.mid new t way (offered_in (accepted_from (at + 1) xs (Err s)) t way)
     (grows_by_offers x old go.mid line go.done t way is)
     (run_offers (at + 1) go.mid new xs (Err s) go.line go.rest t way
     (channel_stays x old go.mid t way go.done is)))
@@ -140,10 +140,10 @@ pub record PassesFrom (at : ℕ) (old : LineValue) (events : List Event) (result
   pub moves : StepsChannels event before after
   pub reaches : ReachesAddressed before after
 
-first_passes : (laws : BidLaws) (at : ℕ) (old mid new : LineValue) (x : Event) (xs : List Event)
+step_kept_before_rest : (laws : BidLaws) (at : ℕ) (old mid new : LineValue) (x : Event) (xs : List Event)
     (r : Answer) → IsLine old → Does x old (Ok tt) mid → RunsFrom (at + 1) mid xs r new
     → IsTrue new.trusted → PassesFrom at old (x ∷ xs) r new 0
-first_passes laws at old mid new x xs r line d rest now =
+step_kept_before_rest laws at old mid new x xs r line d rest now =
     let trusted : IsTrue mid.trusted = run_trusted (at + 1) mid new xs r rest now in
     let steps : StepsChannels x old mid = event_moves laws x old mid line d trusted in
     let place : at + 1 ≡ at + 0 + 1 = omega arith in
@@ -183,42 +183,42 @@ later_passes at old mid new x xs r i d line p =
       reaches = p.reaches;
     }
 
-passes : (laws : BidLaws) (at : ℕ) (old new : LineValue) (xs : List Event) (r : Answer) → IsLine old
+runs_keep_each_step : (laws : BidLaws) (at : ℕ) (old new : LineValue) (xs : List Event) (r : Answer) → IsLine old
     → RunsFrom at old xs r new → IsTrue new.trusted → (i : ℕ) → i < length (accepted_from at xs r)
     → PassesFrom at old xs r new i
-passes laws at old new [] (Ok done) line k now i less = absurd (omega arith)
-passes laws at old new [] (Err s) line k now i less = absurd k
-passes laws at old new (x ∷ xs) (Ok done) line go now zero less =
-    first_passes laws at old go.mid new x xs (Ok done) line go.done go.rest now
-passes laws at old new (x ∷ xs) (Ok done) line go now (suc i) less =
+runs_keep_each_step laws at old new [] (Ok done) line k now i less = absurd (omega arith)
+runs_keep_each_step laws at old new [] (Err s) line k now i less = absurd k
+runs_keep_each_step laws at old new (x ∷ xs) (Ok done) line go now zero less =
+    step_kept_before_rest laws at old go.mid new x xs (Ok done) line go.done go.rest now
+runs_keep_each_step laws at old new (x ∷ xs) (Ok done) line go now (suc i) less =
     later_passes at old go.mid new x xs (Ok done) i go.done go.line
-    (passes laws (at + 1) go.mid new xs (Ok done) go.line go.rest now i (omega arith))
-passes laws at old new (x ∷ xs) (Err s) line (inl stop) now i less =
+    (runs_keep_each_step laws (at + 1) go.mid new xs (Ok done) go.line go.rest now i (omega arith))
+runs_keep_each_step laws at old new (x ∷ xs) (Err s) line (inl stop) now i less =
     let none : i < 0 =
-    subst (λ (es : List Event). i < length es) (none_accepted at x xs s stop.place) less in
+    subst (λ (es : List Event). i < length es) (none_accepted_at_stop at x xs s stop.place) less in
     absurd (omega arith)
-passes laws at old new (x ∷ xs) (Err s) line (inr go) now zero less =
-    first_passes laws at old go.mid new x xs (Err s) line go.done go.rest now
-passes laws at old new (x ∷ xs) (Err s) line (inr go) now (suc i) less =
+runs_keep_each_step laws at old new (x ∷ xs) (Err s) line (inr go) now zero less =
+    step_kept_before_rest laws at old go.mid new x xs (Err s) line go.done go.rest now
+runs_keep_each_step laws at old new (x ∷ xs) (Err s) line (inr go) now (suc i) less =
     let more : suc i < length (x ∷ accepted_from (at + 1) xs (Err s)) =
     subst (λ (es : List Event). suc i < length es)
-    (one_accepted at x xs s (stops_past (at + 1) go.mid new xs s go.rest)) less in
+    (accepted_with_first at x xs s (stops_past (at + 1) go.mid new xs s go.rest)) less in
     later_passes at old go.mid new x xs (Err s) i go.done go.line
-    (passes laws (at + 1) go.mid new xs (Err s) go.line go.rest now i (omega arith))
+    (runs_keep_each_step laws (at + 1) go.mid new xs (Err s) go.line go.rest now i (omega arith))
 
 -- a run from its first event
-all_accepted : (events : List Event) (r : Answer) → accepted_from 0 events r ≡ accepted_in events r
-all_accepted events (Ok done) = refl
-all_accepted events (Err s) = let count : s.at - 0 ≡ s.at = omega arith in
+accepted_from_start : (events : List Event) (r : Answer) → accepted_from 0 events r ≡ accepted_in events r
+accepted_from_start events (Ok done) = refl
+accepted_from_start events (Err s) = let count : s.at - 0 ≡ s.at = omega arith in
     ap (λ (n : ℕ). take n events) count
 
 -- all that arrived is known if no block is unanswered or in doubt
-settled : (phase : Phase) (known spooled : ℕ) → IsSpooled phase known spooled → IsSettled phase
+all_known_if_settled : (phase : Phase) (known spooled : ℕ) → IsSpooled phase known spooled → IsSettled phase
     → known ≡ spooled
-settled Idle known spooled is k = sym is
-settled (Held end x) known spooled is k = sym is
-settled (Unanswered b) known spooled is k = absurd k
-settled (InDoubt n) known spooled is k = absurd k
+all_known_if_settled Idle known spooled is k = sym is
+all_known_if_settled (Held end x) known spooled is k = sym is
+all_known_if_settled (Unanswered b) known spooled is k = absurd k
+all_known_if_settled (InDoubt n) known spooled is k = absurd k
 
 pub runs_keep : (laws : BidLaws) (old new : LineValue) (events : List Event) (r : Answer)
     → IsLine old → Runs old events r new → IsTrue new.trusted → KeepsRecords old events r new
@@ -228,23 +228,23 @@ runs_keep laws old new events r line run now =
       channels = λ t way is.
           let after : IsLine new = run_line 0 old new events r line run in
           let sounds : IsSound (phase_of new t way) (channel_of new t way) =
-          sound laws new after.stations (after.together now) t way
+          sound_of_together laws new after.stations (after.together now) t way
           (run_channel 0 old new events r t way run is) in
           record {
             offered =
                 subst (λ (es : List Event). offered_on new t way ≡ offered_on old t way
-                ++ offered_in es t way) (all_accepted events r)
+                ++ offered_in es t way) (accepted_from_start events r)
                 (run_offers 0 old new events r line run t way is);
             arrived = sounds.front;
             known = sounds.known;
             all_known =
-                settled (phase_of new t way) (channel_of new t way).known
+                all_known_if_settled (phase_of new t way) (channel_of new t way).known
                 (length (channel_of new t way).spooled) sounds.spooled;
           };
       steps = λ i less.
           let p : PassesFrom 0 old events r new i =
-          passes laws 0 old new events r line run now i
-          (subst (λ (es : List Event). i < length es) (sym (all_accepted events r)) less) in
+          runs_keep_each_step laws 0 old new events r line run now i
+          (subst (λ (es : List Event). i < length es) (sym (accepted_from_start events r)) less) in
           let place : 0 + i + 1 ≡ i + 1 = omega arith in
           record {
             event = p.event;

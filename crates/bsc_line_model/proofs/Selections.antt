@@ -31,17 +31,17 @@ use Rattle.bsc_line_model.specs.Transmission.{sent_by}
 use Rattle.bsc_line_model.specs.Line.{LineValue, terminal_at}
 use Rattle.bsc_line_model.specs.Carries.{IsCarriedUp}
 use Rattle.bsc_line_model.specs.Rounds.{block_count}
-use Rattle.bsc_control.proofs.Calls.{current_there}
+use Rattle.bsc_control.proofs.Calls.{current_within_peers}
 use Rattle.bsc_line_model.proofs.Stations.{current_terminal_there}
 use Rattle.bsc_line_model.proofs.Tuning.{NamesOwn}
 use Rattle.bsc_line_model.proofs.BlockCounts.{CutLaws}
 use Rattle.bsc_line_model.proofs.Staying.{Stays, ControlStays, terminals_same, terminals_then}
 use Rattle.bsc_line_model.proofs.Staying.{stays_then}
 use Rattle.bsc_line_model.proofs.DownControl.{HasCalled, SendsDown, EndsDown, GoesOnDown}
-use Rattle.bsc_line_model.proofs.DownControl.{begins_bid_down, learns}
-use Rattle.bsc_line_model.proofs.DownSteps.{OneAnswers, text_down}
-use Rattle.bsc_line_model.proofs.DownSteps.{call_down}
-use Rattle.bsc_line_model.proofs.OutboundSteps.{selected_there, sending_there}
+use Rattle.bsc_line_model.proofs.DownControl.{begins_bid_down, block_known_after_ack}
+use Rattle.bsc_line_model.proofs.DownSteps.{OneAnswers, text_down_is_acknowledged}
+use Rattle.bsc_line_model.proofs.DownSteps.{selection_call_is_answered}
+use Rattle.bsc_line_model.proofs.OutboundSteps.{selected_outbound_exists, sending_outbound_exists}
 use Rattle.bsc_line_model.proofs.Walking.{IsGood, good_places, Walks, Stepped, one_step}
 
 -- the laws on which a visit rests
@@ -73,16 +73,16 @@ pub record IsSelectionDone (e place s : ℕ) (old new : LineValue) : Type 0 wher
   pub stays : Stays e (ToTerminal s) old new
 
 -- the queue once a block is known
-enough : (b : SentBlock) (n k : ℕ) (end : End) → AreWaiting k end n → k ≤ n
-enough b n k Etb h = omega (arith, h)
-enough b n k Etx h = h
+known_block_within_queue : (b : SentBlock) (n k : ℕ) (end : End) → AreWaiting k end n → k ≤ n
+known_block_within_queue b n k Etb h = omega (arith, h)
+known_block_within_queue b n k Etx h = h
 
 pub known_queue : (q : QueueValue) (phase : Phase) (b : SentBlock) → IsQueue q → phase
     ≡ Unanswered b → CountsOn phase (length (waiting q)) → IsQueue (with_known q b.count)
 known_queue q phase b is e counts =
     let on : AreWaiting b.count b.end (length (waiting q)) =
     subst (λ (z : Phase). CountsOn z (length (waiting q))) e counts in
-    let within : b.count ≤ length (waiting q) = enough b (length (waiting q)) b.count b.end on in
+    let within : b.count ≤ length (waiting q) = known_block_within_queue b (length (waiting q)) b.count b.end on in
     record {
       format = is.format;
       known =
@@ -96,13 +96,13 @@ outbound_ready : (l : LineValue) (s : ℕ) → IsGood l → s < length (peer l.c
 outbound_ready l s g select =
     let is : IsPeer (peer l.control) =
     All-get_or IsPeer l.control.peers (current l.control) no_peer
-    (current_there l.control (good_places l g))
+    (current_within_peers l.control (good_places l g))
     g.line.stations.control.entries.peers in
     All-get_or IsOutbound (peer l.control).outbounds s no_outbound select is.ready
 
-pub current_same : (c d : ControlValue) → d.poll_list ≡ c.poll_list → d.place ≡ c.place → current d
+pub current_of_same_place : (c d : ControlValue) → d.poll_list ≡ c.poll_list → d.place ≡ c.place → current d
     ≡ current c
-current_same c d list place = ap (λ (ps : List ℕ). current (record d { poll_list = ps })) list
+current_of_same_place c d list place = ap (λ (ps : List ℕ). current (record d { poll_list = ps })) list
     ∙ ap (λ (n : ℕ). current (record c { place = n })) place
 
 -- what one exchange leaves: the terminal took a block, and the control station learnt of it
@@ -119,11 +119,11 @@ pub record SendsBlocks (l : LineValue) (place s n : ℕ) : Type 0 where
   pub pending : l.pending ≡ sent_by sp.Control sent
   pub sends : SendsDown l.control sent place s n
 
-exchange : (laws : VisitLaws) (at m : ℕ) (l new : LineValue) (r : Result (Unit {0}) Stopped)
+exchange_of_one_block : (laws : VisitLaws) (at m : ℕ) (l new : LineValue) (r : Result (Unit {0}) Stopped)
     (s n : ℕ) → IsGood l → SendsBlocks l l.control.place s n
     → (terminal_at l (current l.control)).urgent ≡ false → Walks at (suc (suc m)) l r new →
     Comes (Exchanged (current l.control) l.control.place s n l) m r new
-exchange laws at m l new r s n g h calm w =
+exchange_of_one_block laws at m l new r s n g h visit_ready w =
     let c : ControlValue = l.control in
     let e : ℕ = current c in
     let b : SentBlock = h.sends.block in
@@ -136,7 +136,7 @@ exchange laws at m l new r s n g h calm w =
     one_step at (suc m) (suc (suc m)) (record { speaker = sp.Control; message = msg.Text t }) l
     new r is refl w in
     let answered : OneAnswers e (ToTerminal s) (msg.Reply (ack b.alternation)) l one.mid =
-    text_down l one.mid s n b g h.sends.in_block calm one.delays is one.carried in
+    text_down_is_acknowledged l one.mid s n b g h.sends.in_block visit_ready one.delays is one.carried in
     let two : Stepped (record { speaker = sp.Terminal e; message = msg.Reply (ack b.alternation) })
     one.mid (λ mid. Walks (at + 1 + 1) m mid r new) =
     one_step (at + 1) m (suc m) (record {
@@ -150,11 +150,11 @@ exchange laws at m l new r s n g h calm w =
     subst (λ (d : ControlValue). Hears d (Whole (msg.Reply (ack b.alternation)))
     two.mid.control up.sent) answered.control up.control in
     let select : s < length (peer c).outbounds =
-    sending_there c s g.line.stations.control h.sends.in_block.task in
+    sending_outbound_exists c s g.line.stations.control h.sends.in_block.task in
     let ready : IsOutbound o = outbound_ready l s g select in
     let learnt : GoesOnDown two.mid.control up.sent c.place s n
     × ControlStays e (ToTerminal s) c two.mid.control =
-    learns laws.cuts c two.mid.control up.sent s n b (current_there c (good_places l g))
+    block_known_after_ack laws.cuts c two.mid.control up.sent s n b (current_within_peers c (good_places l g))
     select h.sends.in_block
     (known_queue o.queue o.sender.phase b ready.queue h.sends.in_block.phase ready.counts)
     heard in
@@ -178,16 +178,16 @@ exchange laws at m l new r s n g h calm w =
       rest = two.rest;
     }
 
-exchange_at : (laws : VisitLaws) (at m e place : ℕ) (l new : LineValue)
+exchange_of_block_at_entry : (laws : VisitLaws) (at m e place : ℕ) (l new : LineValue)
     (r : Result (Unit {0}) Stopped) (s n : ℕ) → IsGood l → current l.control ≡ e → l.control.place
     ≡ place → SendsBlocks l place s n → (terminal_at l e).urgent ≡ false
     → Walks at (suc (suc m)) l r new →
     Comes (Exchanged e place s n l) m r new
-exchange_at laws at m e place l new r s n g is here h calm w =
+exchange_of_block_at_entry laws at m e place l new r s n g is here h visit_ready w =
     subst (λ (p : ℕ). Comes (Exchanged e p s n l) m r new) here
     (subst (λ (z : ℕ). Comes (Exchanged z l.control.place s n l) m r new) is
-    (exchange laws at m l new r s n g (subst (λ (p : ℕ). SendsBlocks l p s n) (sym here) h)
-    (subst (λ (z : ℕ). (terminal_at l z).urgent ≡ false) (sym is) calm) w))
+    (exchange_of_one_block laws at m l new r s n g (subst (λ (p : ℕ). SendsBlocks l p s n) (sym here) h)
+    (subst (λ (z : ℕ). (terminal_at l z).urgent ≡ false) (sym is) visit_ready) w))
 
 -- a channel that moved before, too
 done_since : (e place s : ℕ) (a b c : LineValue) → Stays e (ToTerminal s) a b
@@ -203,15 +203,15 @@ done_since e place s a b c x y =
     }
 
 -- n + 1 blocks, two transmissions for each
-pub blocks_down : (laws : VisitLaws) (n at m count e place : ℕ) (l new : LineValue)
+pub selection_delivers_all_blocks : (laws : VisitLaws) (n at m count e place : ℕ) (l new : LineValue)
     (r : Result (Unit {0}) Stopped) (s : ℕ) → IsGood l → current l.control ≡ e → l.control.place
     ≡ place → SendsBlocks l place s n → (terminal_at l e).urgent ≡ false → count ≡ 2 * (n + 1) + m
     → Walks at count l r new →
     Comes (IsSelectionDone e place s l) m r new
-blocks_down laws zero at m count e place l new r s g is here h calm number w =
+selection_delivers_all_blocks laws zero at m count e place l new r s g is here h visit_ready number w =
     let left : count ≡ suc (suc m) = omega (arith, number) in
     let x : Comes (Exchanged e place s 0 l) m r new =
-    exchange_at laws at m e place l new r s 0 g is here h calm
+    exchange_of_block_at_entry laws at m e place l new r s 0 g is here h visit_ready
     (subst (λ (j : ℕ). Walks at j l r new) left w) in
     let y : Exchanged e place s 0 l x.line = x.holds in
     let ends : EndsDown x.line.control y.sent place s = y.goes_on in
@@ -227,10 +227,10 @@ blocks_down laws zero at m count e place l new r s g is here h calm number w =
       };
       rest = x.rest;
     }
-blocks_down laws (suc n) at m count e place l new r s g is here h calm number w =
+selection_delivers_all_blocks laws (suc n) at m count e place l new r s g is here h visit_ready number w =
     let left : count ≡ suc (suc (2 * (n + 1) + m)) = omega (arith, number) in
     let x : Comes (Exchanged e place s (suc n) l) (2 * (n + 1) + m) r new =
-    exchange_at laws at (2 * (n + 1) + m) e place l new r s (suc n) g is here h calm
+    exchange_of_block_at_entry laws at (2 * (n + 1) + m) e place l new r s (suc n) g is here h visit_ready
     (subst (λ (j : ℕ). Walks at j l r new) left w) in
     let y : Exchanged e place s (suc n) l x.line = x.holds in
     let sends : SendsDown x.line.control y.sent place s n = y.goes_on in
@@ -238,11 +238,11 @@ blocks_down laws (suc n) at m count e place l new r s g is here h calm number w 
     subst (λ (z : ℕ). z < length l.terminals) is
     (current_terminal_there l.control l.terminals g.line.stations) in
     let z : Comes (IsSelectionDone e place s x.line) m r new =
-    blocks_down laws n x.at m (2 * (n + 1) + m) e place x.line new r s y.good
-    (current_same l.control x.line.control y.stays.control.poll_list (sends.place_is ∙ sym here)
+    selection_delivers_all_blocks laws n x.at m (2 * (n + 1) + m) e place x.line new r s y.good
+    (current_of_same_place l.control x.line.control y.stays.control.poll_list (sends.place_is ∙ sym here)
     ∙ is) sends.place_is
     (record { sent = y.sent; pending = y.pending; sends = sends })
-    ((y.stays.terminals.terminals e there).urgent calm) refl x.rest in
+    ((y.stays.terminals.terminals e there).urgent visit_ready) refl x.rest in
     record {
       at = z.at;
       line = z.line;
@@ -251,14 +251,14 @@ blocks_down laws (suc n) at m count e place l new r s g is here h calm number w 
     }
 
 -- a selection with n + 1 blocks
-pub selection : (laws : VisitLaws) (n at m count : ℕ) (l new : LineValue)
+pub selection_delivers_blocks : (laws : VisitLaws) (n at m count : ℕ) (l new : LineValue)
     (r : Result (Unit {0}) Stopped) (s : ℕ) → IsGood l → Calls l l.control.place (ToTerminal s)
     → IsTrue (terminal_at l (current l.control)).ready → (terminal_at l (current l.control)).urgent
     ≡ false →
     block_count (outbound_at (peer l.control) s).queue ≡ suc n → count ≡ 2 + 2 * suc n + m
     → Walks at count l r new
     → Comes (IsSelectionDone (current l.control) l.control.place s l) m r new
-selection laws n at m count l new r s g h ready calm number is w =
+selection_delivers_blocks laws n at m count l new r s g h ready visit_ready number is w =
     let c : ControlValue = l.control in
     let e : ℕ = current c in
     let o : OutboundValue = outbound_at (peer c) s in
@@ -267,13 +267,13 @@ selection laws n at m count l new r s g h ready calm number is w =
     let calls : l.pending ≡ Some (record { speaker = sp.Control; message = msg.Call a }) = h.pending
     ∙ ap (λ (z : Option Message). sent_by sp.Control z) h.called.call in
     let select : s < length (peer c).outbounds =
-    selected_there c s false g.line.stations.control h.called.task in
+    selected_outbound_exists c s false g.line.stations.control h.called.task in
     let one : Stepped (record { speaker = sp.Control; message = msg.Call a }) l
     (λ mid. Walks (at + 1) (suc (2 * (n + 1) + m)) mid r new) =
     one_step at (suc (2 * (n + 1) + m)) count
     (record { speaker = sp.Control; message = msg.Call a }) l new r calls left w in
     let answered : OneAnswers e (ToTerminal s) (msg.Reply Ack0) l one.mid =
-    call_down laws.names l one.mid s g h.called.task select ready one.delays one.carried in
+    selection_call_is_answered laws.names l one.mid s g h.called.task select ready one.delays one.carried in
     let two : Stepped (record { speaker = sp.Terminal e; message = (msg.Reply Ack0) }) one.mid
     (λ mid. Walks (at + 1 + 1) (2 * (n + 1) + m) mid r new) =
     one_step (at + 1) (2 * (n + 1) + m) (suc (2 * (n + 1) + m))
@@ -286,7 +286,7 @@ selection laws n at m count l new r s g h ready calm number is w =
     let begun : SendsDown two.mid.control up.sent c.place s n
     × ControlStays e (ToTerminal s) c two.mid.control =
     begins_bid_down laws.cuts c two.mid.control up.sent s n false
-    (current_there c (good_places l g)) select
+    (current_within_peers c (good_places l g)) select
     h.called.task (outbound_ready l s g select).queue number heard in
     let stays : Stays e (ToTerminal s) l two.mid =
     record {
@@ -297,11 +297,11 @@ selection laws n at m count l new r s g h ready calm number is w =
           up.terminals);
     } in
     let z : Comes (IsSelectionDone e c.place s two.mid) m r new =
-    blocks_down laws n (at + 1 + 1) m (2 * (n + 1) + m) e c.place two.mid new r s two.good
-    (current_same c two.mid.control begun.1.poll_list begun.0.place_is) begun.0.place_is
+    selection_delivers_all_blocks laws n (at + 1 + 1) m (2 * (n + 1) + m) e c.place two.mid new r s two.good
+    (current_of_same_place c two.mid.control begun.1.poll_list begun.0.place_is) begun.0.place_is
     (record { sent = up.sent; pending = up.pending; sends = begun.0 })
     ((stays.terminals.terminals e
-    (current_terminal_there l.control l.terminals g.line.stations)).urgent calm) refl
+    (current_terminal_there l.control l.terminals g.line.stations)).urgent visit_ready) refl
     two.rest in
     record {
       at = z.at;

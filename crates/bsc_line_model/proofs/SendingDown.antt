@@ -48,18 +48,18 @@ never_cut m.Enq v b f = f
 never_cut (m.Reply r) v b f = f
 
 -- and is heard neither as a call nor as EOT
-pub no_call : (w : Message) → IsBidMessage w → IsNoCall (Whole w)
-no_call (m.Text z) b = tt
-no_call m.Enq b = tt
-no_call (m.Call z) (inl b) = absurd b
-no_call (m.Call z) (inr b) = absurd (cc)
-no_call m.Eot (inl b) = absurd b
-no_call m.Eot (inr b) = absurd (cc)
-no_call (m.Reply r) b = tt
+pub bid_message_is_no_call : (w : Message) → IsBidMessage w → IsNoCall (Whole w)
+bid_message_is_no_call (m.Text z) b = tt
+bid_message_is_no_call m.Enq b = tt
+bid_message_is_no_call (m.Call z) (inl b) = absurd b
+bid_message_is_no_call (m.Call z) (inr b) = absurd (cc)
+bid_message_is_no_call m.Eot (inl b) = absurd b
+bid_message_is_no_call m.Eot (inr b) = absurd (cc)
+bid_message_is_no_call (m.Reply r) b = tt
 
 pub no_call_heard : (w : Message) (h : Heard) → IsBidMessage w → IsFairlyHeard w h → IsNoCall h
 no_call_heard w (Whole v) b (inl e) =
-    subst (λ (x : Message). IsNoCall (Whole x)) (sym e) (no_call w b)
+    subst (λ (x : Message). IsNoCall (Whole x)) (sym e) (bid_message_is_no_call w b)
 no_call_heard w (Whole v) b (inr f) = absurd (never_cut w v b f)
 no_call_heard w Failed b f = tt
 no_call_heard w Noise b f = tt
@@ -69,9 +69,9 @@ place_of None = 0
 place_of (Some a) = a.0
 
 -- the addressed channel is that of one terminal
-pub same_terminal : (addressed : Option (ℕ × Way)) (t u : ℕ) (way other : Way) → addressed
+pub one_terminal_of_address : (addressed : Option (ℕ × Way)) (t u : ℕ) (way other : Way) → addressed
     ≡ Some (t, way) → addressed ≡ Some (u, other) → t ≡ u
-same_terminal addressed t u way other a b = ap place_of (sym a ∙ b)
+one_terminal_of_address addressed t u way other a b = ap place_of (sym a ∙ b)
 
 -- any terminal but the addressed one is in control mode
 pub others_in_control : (addressed : Option (ℕ × Way)) (e t : ℕ) (way : Way) (mode : Mode)
@@ -82,24 +82,24 @@ others_in_control addressed e t way (Receiving s) is differ k =
 others_in_control addressed e t way Sending is differ k = absurd (differ (ap place_of (sym k ∙ is)))
 
 -- if no other terminal answers, the first answer is that of one terminal
-pub none_before : (old : List TributaryValue) (hears : ℕ → Heard) (new : List TributaryValue)
+pub no_answer_before_terminal : (old : List TributaryValue) (hears : ℕ → Heard) (new : List TributaryValue)
     (e n : ℕ) → n ≤ e → ((k : ℕ) → k < n → k ≢ e → answer_of old hears new k ≡ None)
     → first_answer old hears new n ≡ None
-none_before old hears new e zero less f = refl
-none_before old hears new e (suc n) less f =
+no_answer_before_terminal old hears new e zero less f = refl
+no_answer_before_terminal old hears new e (suc n) less f =
     let differ : n ≢ e = omega arith in
     rw (
-      none_before old hears new e n (omega arith) (λ k l ne. f k (omega arith) ne),
+      no_answer_before_terminal old hears new e n (omega arith) (λ k l ne. f k (omega arith) ne),
       f n (omega arith) differ,
     ) refl
 
 same_or_before : (e n : ℕ) → e < n + 1 → (e ≡ n) ⊎ (e < n)
 same_or_before e n less = grind (arith)
 
-pub first_stays : (e n : ℕ) (out : Option Message) → or_first (sent_by (sp.Terminal e) out) None
+pub first_answer_of_one : (e n : ℕ) (out : Option Message) → or_first (sent_by (sp.Terminal e) out) None
     ≡ sent_by (sp.Terminal e) out
-first_stays e n None = refl
-first_stays e n (Some w) = refl
+first_answer_of_one e n None = refl
+first_answer_of_one e n (Some w) = refl
 
 pub first_answer_is : (old : List TributaryValue) (hears : ℕ → Heard) (new : List TributaryValue)
     (e n : ℕ) → e < n → ((k : ℕ) → k < n → k ≢ e → answer_of old hears new k ≡ None)
@@ -108,14 +108,14 @@ first_answer_is old hears new e zero less f = absurd (omega arith)
 first_answer_is old hears new e (suc n) less f =
     elim (same_or_before e n (omega arith)) [
       | inl same ↦
-          rw (none_before old hears new e n (omega arith) (λ k l ne. f k (omega arith) ne), ← same)
+          rw (no_answer_before_terminal old hears new e n (omega arith) (λ k l ne. f k (omega arith) ne), ← same)
           refl
       | inr before ↦
           (let differ : n ≢ e = omega arith in
           rw (
             first_answer_is old hears new e n before (λ k l ne. f k (omega arith) ne),
             f n (omega arith) differ,
-          ) (first_stays e n (answer_of old hears new e)))
+          ) (first_answer_of_one e n (answer_of old hears new e)))
     ]
 
 -- a terminal in control mode does nothing with such a message
@@ -131,12 +131,12 @@ pub record OneHears (old : List TributaryValue) (hears : ℕ → Heard) (new : L
   pub first : first_answer old hears new (length old)
       ≡ sent_by (sp.Terminal e) (answer_of old hears new e)
 
-pub one_hears : (old : List TributaryValue) (hears : ℕ → Heard) (new : List TributaryValue)
+pub only_addressed_terminal_hears : (old : List TributaryValue) (hears : ℕ → Heard) (new : List TributaryValue)
     (addressed : Option (ℕ × Way)) (e : ℕ) (way : Way) → e < length old → addressed ≡ Some (e, way)
     → AreTuned addressed old →
     EachOf (length old) (λ t. IsNoCall (hears t)) → EachKeeps old hears new
     → OneHears old hears new e
-one_hears old hears new addressed e way there is tuned never keeps =
+only_addressed_terminal_hears old hears new addressed e way there is tuned never keeps =
     let quiet : (t : ℕ) → t < length old → t ≢ e → (terminal_in new t ≡ terminal_in old t)
     × (answer_of old hears new t ≡ None) =
     λ t less differ. control_mode_stays (terminal_in old t) (hears t) (terminal_in new t)
@@ -157,12 +157,12 @@ reply_flies e None = refl
 reply_flies e (Some r) = (refl, (r, refl, refl))
 
 -- the terminal to which it is sent has heard it
-pub receives_down : (laws : BidLaws) (p : PeerValue) (e s : ℕ) (w : Message) (h : Heard)
+pub receiver_down_heard_text : (laws : BidLaws) (p : PeerValue) (e s : ℕ) (w : Message) (h : Heard)
     (t u : TributaryValue) (out : Option Message) → s < length t.spools →
     IsInBidDown (Some (record { speaker = sp.Control; message = w })) p e s t → IsBidMessage w
     → IsFairlyHeard w h → Hears t h u out → AfterHearing t h u out →
     IsInBidDown (sent_by (sp.Terminal e) out) p e s u
-receives_down laws p e s w h t u out there b bid fair x after =
+receiver_down_heard_text laws p e s w h t u out there b bid fair x after =
     let spool : SpoolValue = spool_at t.spools s in
     let rooms : Rooms = rooms_after h u in
     let r : ReceiverStep = heard_step t.receiver spool h t.urgent rooms in
@@ -206,7 +206,7 @@ receives_down laws p e s w h t u out there b bid fair x after =
     (sym row) made
 
 -- the control station continues to send
-pub sends_down : (laws : BidLaws) (c : ControlValue) (old : List TributaryValue)
+pub bid_down_continues : (laws : BidLaws) (c : ControlValue) (old : List TributaryValue)
     (addressed : Option (ℕ × Way)) (s : ℕ) (w : Message) (hears : ℕ → Heard)
     (new : List TributaryValue) → current c < length old →
     AreStations c old → AreTuned addressed old
@@ -214,7 +214,7 @@ pub sends_down : (laws : BidLaws) (c : ControlValue) (old : List TributaryValue)
     → EachOf (length old) (λ t. IsFairlyHeard w (hears t)) →
     EachHears old hears new → EachKeeps old hears new
     → IsSending (first_answer old hears new (length old)) c new s
-sends_down laws c old addressed s w hears new there stations tuned sending fair each keeps =
+bid_down_continues laws c old addressed s w hears new there stations tuned sending fair each keeps =
     let e : ℕ = current c in
     let x : TributaryValue = terminal_in old e in
     let b : IsInBidDown (Some (record { speaker = sp.Control; message = w })) (peer c) e s x =
@@ -228,7 +228,7 @@ sends_down laws c old addressed s w hears new there stations tuned sending fair 
     let is : addressed ≡ Some (e, ToTerminal s) =
     subst (λ (n : Mode). IsTuned addressed e n) b.mode (tuned e there) in
     let one : OneHears old hears new e =
-    one_hears old hears new addressed e (ToTerminal s) there is tuned
+    only_addressed_terminal_hears old hears new addressed e (ToTerminal s) there is tuned
     (λ t less. no_call_heard w (hears t) bid (fair t less)) keeps in
     let into : s < length x.spools =
     receiving_into x.mode x.sender.phase (length x.spools) s b.mode
@@ -242,7 +242,7 @@ sends_down laws c old addressed s w hears new there stations tuned sending fair 
       bid =
           subst (λ (q : Option Transmission). IsInBidDown q (peer c) e s (terminal_in new e))
           (sym one.first)
-          (receives_down laws (peer c) e s w (hears e) x (terminal_in new e)
+          (receiver_down_heard_text laws (peer c) e s w (hears e) x (terminal_in new e)
           (answer_of old hears new e) into b bid (fair e there) (each.each e there)
           (keeps e there));
     }

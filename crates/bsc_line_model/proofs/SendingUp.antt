@@ -36,29 +36,30 @@ use Rattle.bsc_line_model.specs.Line.{terminal_in}
 use Rattle.bsc_line_model.specs.Together.{HasNoBid, NoBids, NoOtherBids, RestsUp, RestsDown}
 use Rattle.bsc_line_model.specs.Together.{IsInBidDown, FliesDown, IsSending, InTask}
 use Rattle.bsc_line_model.proofs.Stations.{same_or_not}
-use Rattle.bsc_line_model.proofs.Calling.{called_next}
+use Rattle.bsc_line_model.proofs.Calling.{no_bids_after_call}
 use Rattle.bsc_line_model.specs.BidLaws.{BidLaws}
-use Rattle.bsc_control.proofs.Calls.{HasPlaces, places, same_places, current_there, next_there}
+use Rattle.bsc_control.proofs.Calls.{HasPlaces, places, places_of_same_list, current_within_peers}
+use Rattle.bsc_control.proofs.Calls.{next_call_within_peers}
 use Rattle.bsc_line_model.specs.Kept.{AreStations}
 use Rattle.bsc_control.specs.Kept.{SuitsTask, IsInBid}
 
 -- a bid is over if the sender is at rest
-pub rests : (phase : Phase) (q : QueueValue) (alternation : Alternation) (last : Reply)
+pub bid_over_at_rest : (phase : Phase) (q : QueueValue) (alternation : Alternation) (last : Reply)
     (spooled : List (List ℕ)) (f : Flight) → IsAtRest phase
     → Continues phase q alternation last spooled f → IsResting phase q spooled
-rests Idle q alternation last spooled f n h = h.0
-rests (InDoubt k) q alternation last spooled f n h = h.0
-rests (Unanswered b) q alternation last spooled f n h = absurd n
-rests (Held end x) q alternation last spooled f n h = absurd n
+bid_over_at_rest Idle q alternation last spooled f n h = h.0
+bid_over_at_rest (InDoubt k) q alternation last spooled f n h = h.0
+bid_over_at_rest (Unanswered b) q alternation last spooled f n h = absurd n
+bid_over_at_rest (Held end x) q alternation last spooled f n h = absurd n
 
 -- and continues if the sender is not
-pub stays : (phase : Phase) (q : QueueValue) (alternation : Alternation) (last : Reply)
+pub in_bid_while_going : (phase : Phase) (q : QueueValue) (alternation : Alternation) (last : Reply)
     (spooled : List (List ℕ)) (f : Flight) → IsGoing phase
     → Continues phase q alternation last spooled f → InBid phase q alternation last spooled f
-stays Idle q alternation last spooled f n h = absurd n
-stays (InDoubt k) q alternation last spooled f n h = absurd n
-stays (Unanswered b) q alternation last spooled f n h = h
-stays (Held end x) q alternation last spooled f n h = h
+in_bid_while_going Idle q alternation last spooled f n h = absurd n
+in_bid_while_going (InDoubt k) q alternation last spooled f n h = absurd n
+in_bid_while_going (Unanswered b) q alternation last spooled f n h = h
+in_bid_while_going (Held end x) q alternation last spooled f n h = h
 
 -- the control station after a step of the sender to selection address s, and the terminal to which
 -- it sends
@@ -86,42 +87,42 @@ replaced_outbound : (p : PeerValue) (s : ℕ) (o : OutboundValue) → s < length
     → outbound_at (with_outbound p s o) s ≡ o
 replaced_outbound p s o there = get_or-set_same p.outbounds s o no_outbound there
 
-outbound_other : (p : PeerValue) (s k : ℕ) (o : OutboundValue) → k ≢ s
+other_outbound_kept : (p : PeerValue) (s k : ℕ) (o : OutboundValue) → k ≢ s
     → outbound_at (with_outbound p s o) k ≡ outbound_at p k
-outbound_other p s k o differ = get_or-set_other p.outbounds s k o no_outbound differ
+other_outbound_kept p s k o differ = get_or-set_other p.outbounds s k o no_outbound differ
 
-others_after : (c : ControlValue) (ts : List TributaryValue) (s : ℕ) (step : SenderStep)
+no_other_bids_after_step : (c : ControlValue) (ts : List TributaryValue) (s : ℕ) (step : SenderStep)
     → NoOtherBids c ts (current c) → NoOtherBids (after_step c s step) ts (current c)
-others_after c ts s step no_bids t less differ =
+no_other_bids_after_step c ts s step no_bids t less differ =
     subst (λ (q : PeerValue). HasNoBid q (terminal_in ts t))
     (sym (get_or-set_other c.peers (current c) t
     (with_outbound (peer c) s (outbound_after step)) no_peer differ)) (no_bids t less differ)
 
 -- the other selection addresses rest as they did
-down_after : (p : PeerValue) (s : ℕ) (o : OutboundValue) (x : TributaryValue)
+other_selects_rest_after_step : (p : PeerValue) (s : ℕ) (o : OutboundValue) (x : TributaryValue)
     → ((k : ℕ) → k < length p.outbounds → k ≢ s → RestsDown p x k) → (k : ℕ) → k
     < length (with_outbound p s o).outbounds → k ≢ s → RestsDown (with_outbound p s o) x k
-down_after p s o x down k less differ =
+other_selects_rest_after_step p s o x down k less differ =
     let before : k < length p.outbounds = omega (arith, length-set p.outbounds s o) in
     subst (λ (z : OutboundValue). IsResting z.sender.phase z.queue (spool_at x.spools k).records)
-    (sym (outbound_other p s k o differ)) (down k before differ)
+    (sym (other_outbound_kept p s k o differ)) (down k before differ)
 
 -- the bid continues with this message under way
-bid_after : (c : ControlValue) (ts : List TributaryValue) (s : ℕ) (step : SenderStep)
+bid_continues_after_step : (c : ControlValue) (ts : List TributaryValue) (s : ℕ) (step : SenderStep)
     (pending : Option Transmission) (f : Flight) → HasActed c ts s step
     → FliesDown pending (current c) f →
     InBid step.sender.phase step.queue (terminal_in ts (current c)).receiver.alternation
     (terminal_in ts (current c)).receiver.last
     (spool_at (terminal_in ts (current c)).spools s).records f →
     IsSending pending (record (after_step c s step) { task = Sending s }) ts s
-bid_after c ts s step pending f h flies bid =
+bid_continues_after_step c ts s step pending f h flies bid =
     let e : ℕ = current c in
     let x : TributaryValue = terminal_in ts e in
     let o : OutboundValue = outbound_after step in
     let made : IsInBidDown pending (with_outbound (peer c) s o) e s x = record {
       mode = h.mode;
       up = h.up;
-      down = down_after (peer c) s o x h.down;
+      down = other_selects_rest_after_step (peer c) s o x h.down;
       flight = f;
       flies = flies;
       bid =
@@ -130,7 +131,7 @@ bid_after c ts s step pending f h flies bid =
           (sym (replaced_outbound (peer c) s o h.select)) bid;
     } in
     record {
-      others = others_after c ts s step h.others;
+      others = no_other_bids_after_step c ts s step h.others;
       bid =
           subst (λ (q : PeerValue). IsInBidDown pending q e s x) (sym (peer_is c s step h.there))
           made;
@@ -157,62 +158,62 @@ no_bids_after c ts s step h at_rest t less =
                       (subst (λ (z : OutboundValue). IsResting z.sender.phase z.queue
                       (spool_at (terminal_in ts (current c)).spools s).records)
                       (sym (replaced_outbound (peer c) s (outbound_after step) h.select))
-                      (rests step.sender.phase step.queue _ _ _ _ at_rest h.continues))
-                  | inr other ↦ down_after (peer c) s (outbound_after step)
+                      (bid_over_at_rest step.sender.phase step.queue _ _ _ _ at_rest h.continues))
+                  | inr other ↦ other_selects_rest_after_step (peer c) s (outbound_after step)
                       (terminal_in ts (current c)) h.down k within other
                 ];
           }))
-      | inr differ ↦ others_after c ts s step h.others t less differ
+      | inr differ ↦ no_other_bids_after_step c ts s step h.others t less differ
     ]
 
 -- the poll list and the present entry are the same
-pub places_after : (c : ControlValue) (s : ℕ) (step : SenderStep) → HasPlaces c
+pub places_after_sender_step : (c : ControlValue) (s : ℕ) (step : SenderStep) → HasPlaces c
     → HasPlaces (after_step c s step)
-places_after c s step h =
-    same_places c (after_step c s step) refl refl
+places_after_sender_step c s step h =
+    places_of_same_list c (after_step c s step) refl refl
     (length-set c.peers (current c) (with_outbound (peer c) s (outbound_after step))) h
 
 -- the control station acts as its sender says
-pub performed : (laws : BidLaws) (c : ControlValue) (ts : List TributaryValue) (s : ℕ)
+pub control_acts_as_sender : (laws : BidLaws) (c : ControlValue) (ts : List TributaryValue) (s : ℕ)
     (step : SenderStep) (after : After) (act : Act) → step.act ≡ act → HasActed c ts s step
     → (act ≡ a.Quiet → (c.task ≡ Sending s) × IsGoing step.sender.phase) →
     length c.peers ≡ length ts → HasPlaces (after_step c s step) →
     InTask (act_step (after_step c s step) s act after).control.task
     (sent_by sp.Control (act_step (after_step c s step) s act after).sent)
     (act_step (after_step c s step) s act after).control ts
-performed laws c ts s step after (a.Send text) is h keeps count entries =
+control_acts_as_sender laws c ts s step after (a.Send text) is h keeps count entries =
     let x : TributaryValue = terminal_in ts (current c) in
-    bid_after c ts s step (Some (record { speaker = sp.Control; message = m.Text text }))
+    bid_continues_after_step c ts s step (Some (record { speaker = sp.Control; message = m.Text text }))
     (Outward (m.Text text)) h refl
     (laws.goes_on step.sender.phase step.queue x.receiver.alternation x.receiver.last
     (spool_at x.spools s).records (m.Text text)
     (subst (λ (z : Act). Continues step.sender.phase step.queue x.receiver.alternation
     x.receiver.last (spool_at x.spools s).records (sent_flight z)) is h.continues))
-performed laws c ts s step after a.Enq is h keeps count entries =
+control_acts_as_sender laws c ts s step after a.Enq is h keeps count entries =
     let x : TributaryValue = terminal_in ts (current c) in
-    bid_after c ts s step (Some (record { speaker = sp.Control; message = m.Enq })) (Outward m.Enq)
+    bid_continues_after_step c ts s step (Some (record { speaker = sp.Control; message = m.Enq })) (Outward m.Enq)
     h refl
     (laws.goes_on step.sender.phase step.queue x.receiver.alternation x.receiver.last
     (spool_at x.spools s).records m.Enq
     (subst (λ (z : Act). Continues step.sender.phase step.queue x.receiver.alternation
     x.receiver.last (spool_at x.spools s).records (sent_flight z)) is h.continues))
-performed laws c ts s step after a.Over is h keeps count entries =
+control_acts_as_sender laws c ts s step after a.Over is h keeps count entries =
     let d : ControlValue = after_step c s step in
     let at_rest : IsAtRest step.sender.phase =
     subst (λ (z : Act). IsEnded z step.sender.phase) is h.ended in
     let peers : length d.peers ≡ length ts =
     length-set c.peers (current c) (with_outbound (peer c) s (outbound_after step)) ∙ count in
-    called_next d ts (next_call d after).place (next_call d after).way (next_there d after entries)
+    no_bids_after_call d ts (next_call d after).place (next_call d after).way (next_call_within_peers d after entries)
     peers (no_bids_after c ts s step h at_rest)
-performed laws c ts s step after a.Quiet is h keeps count entries =
+control_acts_as_sender laws c ts s step after a.Quiet is h keeps count entries =
     let x : TributaryValue = terminal_in ts (current c) in
     let d : ControlValue = after_step c s step in
     let same : record d { task = Sending s } ≡ d =
     ap (λ (t : Task). record d { task = t }) (sym (keeps refl).0) in
     subst (λ (t : Task). InTask t None d ts) (sym (keeps refl).0)
     (subst (λ (k : ControlValue). IsSending None k ts s) same
-    (bid_after c ts s step None Still h refl
-    (stays step.sender.phase step.queue x.receiver.alternation x.receiver.last
+    (bid_continues_after_step c ts s step None Still h refl
+    (in_bid_while_going step.sender.phase step.queue x.receiver.alternation x.receiver.last
     (spool_at x.spools s).records Still (keeps refl).1
     (subst (λ (z : Act). Continues step.sender.phase step.queue x.receiver.alternation
     x.receiver.last (spool_at x.spools s).records (sent_flight z)) is h.continues))))
@@ -224,16 +225,16 @@ keeps_going act old new fits is going =
     subst IsGoing (sym (subst (λ (z : Act). FitsAct z old new) is fits)) going
 
 -- the phase of a bid in progress
-pub going_in : (phase : Phase) (q : QueueValue) (alternation : Alternation) (last : Reply)
+pub going_in_bid : (phase : Phase) (q : QueueValue) (alternation : Alternation) (last : Reply)
     (spooled : List (List ℕ)) (f : Flight) → InBid phase q alternation last spooled f
     → IsGoing phase
-going_in Idle q alternation last spooled f b = absurd b.agree
-going_in (InDoubt k) q alternation last spooled f b = absurd b.agree
-going_in (Unanswered b) q alternation last spooled f i = tt
-going_in (Held end x) q alternation last spooled f i = tt
+going_in_bid Idle q alternation last spooled f b = absurd b.agree
+going_in_bid (InDoubt k) q alternation last spooled f b = absurd b.agree
+going_in_bid (Unanswered b) q alternation last spooled f i = tt
+going_in_bid (Held end x) q alternation last spooled f i = tt
 
 -- the sender of the control station made a step in its bid: what the station then does
-pub stepped_down : (laws : BidLaws) (c : ControlValue) (ts : List TributaryValue) (s : ℕ)
+pub together_after_sender_step : (laws : BidLaws) (c : ControlValue) (ts : List TributaryValue) (s : ℕ)
     (pending : Option Transmission) (step : SenderStep) (after : After) → AreStations c ts → c.task
     ≡ Sending s → IsSending pending c ts s →
     SenderAgrees (outbound_at (peer c) s).queue (terminal_in ts (current c)).receiver.alternation
@@ -242,11 +243,11 @@ pub stepped_down : (laws : BidLaws) (c : ControlValue) (ts : List TributaryValue
     FitsAct step.act (outbound_at (peer c) s).sender.phase step.sender.phase →
     InTask (bid_step c s step after).control.task
     (sent_by sp.Control (bid_step c s step after).sent) (bid_step c s step after).control ts
-stepped_down laws c ts s pending step after stations task sending agrees fits =
+together_after_sender_step laws c ts s pending step after stations task sending agrees fits =
     let b : IsInBidDown pending (peer c) (current c) s (terminal_in ts (current c)) = sending.bid in
     let suits : IsInBid (peer c) s =
     subst (λ (t : Task). SuitsTask t (peer c)) task stations.control.orderly.suits in
-    let there : current c < length c.peers = current_there c (places c stations.control.entries) in
+    let there : current c < length c.peers = current_within_peers c (places c stations.control.entries) in
     let has : HasActed c ts s step = record {
       there = there;
       select = suits.there;
@@ -257,16 +258,16 @@ stepped_down laws c ts s pending step after stations task sending agrees fits =
       continues = agrees.continues;
       ended = agrees.ended;
     } in
-    performed laws c ts s step after step.act refl has
+    control_acts_as_sender laws c ts s step after step.act refl has
     (λ is. (
       task,
       keeps_going step.act (outbound_at (peer c) s).sender.phase step.sender.phase
           fits is suits.going,
     )) stations.count
-    (places_after c s step (places c stations.control.entries))
+    (places_after_sender_step c s step (places c stations.control.entries))
 
 -- the control station hears the terminal's reply, or noise
-pub answers_down : (laws : BidLaws) (c : ControlValue) (ts : List TributaryValue) (s t : ℕ)
+pub together_after_reply : (laws : BidLaws) (c : ControlValue) (ts : List TributaryValue) (s t : ℕ)
     (w : Message) (h : Heard) → AreStations c ts → c.task ≡ Sending s
     → IsSending (Some (record { speaker = sp.Terminal t; message = w })) c ts s → IsFairlyHeard w h
     →
@@ -274,7 +275,7 @@ pub answers_down : (laws : BidLaws) (c : ControlValue) (ts : List TributaryValue
     reply_step (outbound_at (peer c) s).sender (outbound_at (peer c) s).queue (reply_in h) in
     let new : ControlStep = bid_step c s step (after_bid s (reply_in h)) in
     InTask new.control.task (sent_by sp.Control new.sent) new.control ts
-answers_down laws c ts s t w h stations task sending fair =
+together_after_reply laws c ts s t w h stations task sending fair =
     let b : IsInBidDown (Some (record { speaker = sp.Terminal t; message = w })) (peer c)
     (current c) s (terminal_in ts (current c)) = sending.bid in
     let x : TributaryValue = terminal_in ts (current c) in
@@ -286,7 +287,7 @@ answers_down laws c ts s t w h stations task sending fair =
     (spool_at x.spools s).records f) b.flies.1.2 b.bid in
     let heard : IsFairlyHeard (m.Reply r) h =
     subst (λ (v : Message). IsFairlyHeard v h) b.flies.1.1 fair in
-    stepped_down laws c ts s (Some (record { speaker = sp.Terminal t; message = w }))
+    together_after_sender_step laws c ts s (Some (record { speaker = sp.Terminal t; message = w }))
     (reply_step o.sender o.queue (reply_in h)) (after_bid s (reply_in h)) stations task
     sending
     (laws.answering o.sender o.queue x.receiver.alternation x.receiver.last
@@ -308,7 +309,7 @@ times_out_down laws c ts s stations task sending =
     (spool_at x.spools s).records Still =
     subst (λ (f : Flight). InBid o.sender.phase o.queue x.receiver.alternation x.receiver.last
     (spool_at x.spools s).records f) b.flies b.bid in
-    stepped_down laws c ts s None (silence_step o.sender o.queue) (Selection s) stations task
+    together_after_sender_step laws c ts s None (silence_step o.sender o.queue) (Selection s) stations task
     sending
     (laws.silence o.sender o.queue x.receiver.alternation x.receiver.last
     (spool_at x.spools s).records (laws.continues o.sender.phase o.queue x.receiver.alternation

@@ -31,14 +31,14 @@ use Rattle.bsc_line_model.specs.Kept.{IsTuned, AreTuned, AreStations}
 use Rattle.bsc_line_model.specs.Together.{HasNoBid, NoBids, NoOtherBids, AllInControlMode}
 use Rattle.bsc_line_model.specs.Together.{IsSelecting, IsPolling, IsInBidUp, IsPolledWith, InTask}
 use Rattle.bsc_line_model.specs.BidLaws.{BidLaws}
-use Rattle.bsc_control.proofs.Calls.{places, current_there}
+use Rattle.bsc_control.proofs.Calls.{places, current_within_peers}
 use Rattle.bsc_line_model.proofs.Stations.{same_or_not, current_terminal_there}
-use Rattle.bsc_line_model.proofs.Calling.{polled_next}
+use Rattle.bsc_line_model.proofs.Calling.{no_bids_after_poll_call}
 use Rattle.bsc_line_model.proofs.SendingDown.{others_in_control}
-use Rattle.bsc_line_model.proofs.SendingUp.{keeps_going, going_in, times_out_down}
-use Rattle.bsc_line_model.proofs.ActingUp.{HasActedUp, acts_up, present_after}
-use Rattle.bsc_line_model.proofs.CallsHeard.{with_others}
-use Rattle.bsc_line_model.proofs.AnswersHeard.{StepsTo, next_made}
+use Rattle.bsc_line_model.proofs.SendingUp.{keeps_going, going_in_bid, times_out_down}
+use Rattle.bsc_line_model.proofs.ActingUp.{HasActedUp, bid_up_after_act, present_terminal_after_act}
+use Rattle.bsc_line_model.proofs.CallsHeard.{no_bids_if_none_with_each}
+use Rattle.bsc_line_model.proofs.AnswersHeard.{StepsTo, together_after_next_call}
 
 -- a selection is called again, or given up after too many tries
 selects_again : (c : ControlValue) (ts : List TributaryValue) (s : ℕ) (enquired over : Bool)
@@ -49,7 +49,7 @@ selects_again : (c : ControlValue) (ts : List TributaryValue) (s : ℕ) (enquire
       sent =
           Some (repeated c s enquired);
     }) ts
-selects_again c ts s enquired true stations is k = next_made c ts (Selection s) stations k.no_bids
+selects_again c ts s enquired true stations is k = together_after_next_call c ts (Selection s) stations k.no_bids
 selects_again c ts s true false stations is k =
     subst (λ (t : Task). InTask t (Some
     (record { speaker = sp.Control; message = repeated c s true }))
@@ -66,9 +66,9 @@ polls_again : (c : ControlValue) (ts : List TributaryValue) (over : Bool) → Ar
     → NoBids c ts
     → StepsTo (if over then next_call_step c (Poll false) else poll_call_step c c.place
     (c.failures + 1)) ts
-polls_again c ts true stations all = next_made c ts (Poll false) stations all
+polls_again c ts true stations all = together_after_next_call c ts (Poll false) stations all
 polls_again c ts false stations all =
-    polled_next c ts c.place (c.failures + 1) (current_there c (places c stations.control.entries))
+    no_bids_after_poll_call c ts c.place (c.failures + 1) (current_within_peers c (places c stations.control.entries))
     stations.count all
 
 -- the control station acts on a silence while no terminal sends
@@ -89,14 +89,14 @@ silent_control laws c d ts out stations nobody together row = by_task c.task ref
     no_bids : (replied : Replied) → IsPolling None c ts replied → NoBids c ts
     no_bids replied k =
         elim k.present [
-          | inl q ↦ with_others c ts (current c) k.others q.0
+          | inl q ↦ no_bids_if_none_with_each c ts (current c) k.others q.0
           | inr b ↦ absurd (nobody (current c)
               (current_terminal_there c ts stations) b.mode)
         ]
 
     by_task : (task : Task) → c.task ≡ task → InTask task None c ts
         → InTask d.task (sent_by sp.Control out) d ts
-    by_task AtRest is k = by_row AtRest is (next_made c ts Start stations k.no_bids)
+    by_task AtRest is k = by_row AtRest is (together_after_next_call c ts Start stations k.no_bids)
     by_task (Selecting s enquired) is k =
         by_row (Selecting s enquired) is (selects_again c ts s enquired
         (nat_lt c.setup.tries (c.failures + 1)) stations is k)
@@ -105,10 +105,10 @@ silent_control laws c d ts out stations nobody together row = by_task c.task ref
         by_row (Polling Nothing) is (polls_again c ts (nat_lt c.setup.tries (c.failures + 1))
         stations (no_bids Nothing k))
     by_task (Polling Uninterrupted) is k =
-        by_row (Polling Uninterrupted) is (next_made c ts (Poll false) stations
+        by_row (Polling Uninterrupted) is (together_after_next_call c ts (Poll false) stations
         (no_bids Uninterrupted k))
     by_task (Polling Interrupted) is k =
-        by_row (Polling Interrupted) is (next_made c ts (Poll true) stations (no_bids Interrupted k))
+        by_row (Polling Interrupted) is (together_after_next_call c ts (Poll true) stations (no_bids Interrupted k))
 
 -- the sending terminal, which is the polled one, acts on a silence
 times_out_up : (laws : BidLaws) (c : ControlValue) (ts : List TributaryValue)
@@ -135,13 +135,13 @@ times_out_up laws c ts addressed u out replied there tuned others b row =
     ∙ ap (λ (n : Mode). terminal_silence x n) b.mode in
     let acted : HasActedUp p e u out =
     subst (λ (o : TributaryStep). HasActedUp p e o.tributary o.sent) (sym becomes)
-    (acts_up laws p e x step step.act refl
+    (bid_up_after_act laws p e x step step.act refl
     (record { down = b.down; continues = agrees.continues; ended = agrees.ended })
     (λ quiet. inl (
       b.mode,
       keeps_going step.act x.sender.phase step.sender.phase
           (laws.fits.silence x.sender x.queue) quiet
-          (going_in x.sender.phase x.queue p.receiver.alternation p.receiver.last p.spool.records
+          (going_in_bid x.sender.phase x.queue p.receiver.alternation p.receiver.last p.spool.records
           Still bid),
     ))) in
     let is : addressed ≡ Some (e, FromTerminal) =
@@ -166,7 +166,7 @@ times_out_up laws c ts addressed u out replied there tuned others b row =
           subst (λ (y : TributaryValue). (HasNoBid p y
           × IsPolledWith (sent_by (sp.Terminal e) out) replied p e us)
           ⊎ IsInBidUp (sent_by (sp.Terminal e) out) p e y) (sym this)
-          (present_after p e u out replied us acted modes);
+          (present_terminal_after_act p e u out replied us acted modes);
     }
 
 pub silent_terminal : (laws : BidLaws) (c : ControlValue) (ts : List TributaryValue)

@@ -59,14 +59,14 @@ bid_up_sound laws pending p e x FromTerminal w b =
     p.spool.records b.flight b.bid)
 bid_up_sound laws pending p e x (ToTerminal s) w b = (b.down s w).sound
 
-each_sound : (laws : BidLaws) (task : Task) (pending : Option Transmission) (c : ControlValue)
+each_channel_sound : (laws : BidLaws) (task : Task) (pending : Option Transmission) (c : ControlValue)
     (ts : List TributaryValue) (t : ℕ) (way : Way) → t < length ts → HasWay (peer_at c t) way
     → InTask task pending c ts → IsSoundWith (peer_at c t) (terminal_in ts t) way
-each_sound laws AtRest pending c ts t way less w h =
+each_channel_sound laws AtRest pending c ts t way less w h =
     no_bid_sound (peer_at c t) (terminal_in ts t) way w (h.no_bids t less)
-each_sound laws (Selecting s enquired) pending c ts t way less w h =
+each_channel_sound laws (Selecting s enquired) pending c ts t way less w h =
     no_bid_sound (peer_at c t) (terminal_in ts t) way w (h.no_bids t less)
-each_sound laws (Sending s) pending c ts t way less w h =
+each_channel_sound laws (Sending s) pending c ts t way less w h =
     elim (same_or_not t (current c)) [
       | inl same ↦
           subst (λ (n : ℕ). IsSoundWith (peer_at c n) (terminal_in ts n) way) (sym same)
@@ -74,7 +74,7 @@ each_sound laws (Sending s) pending c ts t way less w h =
           (subst (λ (n : ℕ). HasWay (peer_at c n) way) same w) h.bid)
       | inr differ ↦ no_bid_sound (peer_at c t) (terminal_in ts t) way w (h.others t less differ)
     ]
-each_sound laws (Polling replied) pending c ts t way less w h =
+each_channel_sound laws (Polling replied) pending c ts t way less w h =
     elim (same_or_not t (current c)) [
       | inl same ↦
           (let here : HasWay (peer c) way = subst (λ (n : ℕ). HasWay (peer_at c n) way) same w in
@@ -88,24 +88,24 @@ each_sound laws (Polling replied) pending c ts t way less w h =
     ]
 
 -- a selection address of a terminal is one that the control station has
-pub way_there : (c : ControlValue) (ts : List TributaryValue) (t : ℕ) (way : Way) → AreStations c ts
+pub peer_has_way : (c : ControlValue) (ts : List TributaryValue) (t : ℕ) (way : Way) → AreStations c ts
     → t < length ts → IsWay (terminal_in ts t) way → HasWay (peer_at c t) way
-way_there c ts t FromTerminal stations less w = tt
-way_there c ts t (ToTerminal s) stations less w =
+peer_has_way c ts t FromTerminal stations less w = tt
+peer_has_way c ts t (ToTerminal s) stations less w =
     let before : t < length c.peers = omega (arith, stations.count) in
     let of_peer : IsPeer (peer_at c t) = stations.control.entries.peers t no_peer before in
     let here : s < length (peer_at c t).terminal.selects =
     subst (λ (y : TerminalValue). s < length y.selects) (stations.members t less).addresses w in
     subst (λ (n : ℕ). s < n) (sym of_peer.outbounds) here
 
-sound_of : (l : LineValue) (t : ℕ) (way : Way)
+channel_sound_of_ends : (l : LineValue) (t : ℕ) (way : Way)
     → IsSoundWith (peer_at l.control t) (terminal_at l t) way
     → IsSound (phase_of l t way) (channel_of l t way)
-sound_of l t FromTerminal h = h
-sound_of l t (ToTerminal s) h = h
+channel_sound_of_ends l t FromTerminal h = h
+channel_sound_of_ends l t (ToTerminal s) h = h
 
-pub sound : (laws : BidLaws) (l : LineValue) → AreStations l.control l.terminals → AreTogether l
+pub sound_of_together : (laws : BidLaws) (l : LineValue) → AreStations l.control l.terminals → AreTogether l
     → AreSound l
-sound laws l stations together t way is =
-    sound_of l t way (each_sound laws l.control.task l.pending l.control l.terminals t way is.there
-    (way_there l.control l.terminals t way stations is.there is.its_way) together)
+sound_of_together laws l stations together t way is =
+    channel_sound_of_ends l t way (each_channel_sound laws l.control.task l.pending l.control l.terminals t way is.there
+    (peer_has_way l.control l.terminals t way stations is.there is.its_way) together)

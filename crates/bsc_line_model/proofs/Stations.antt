@@ -15,7 +15,7 @@ use Rattle.bsc_directory.specs.declared.way.Way.{Way}
 use Rattle.bsc_control.specs.Peer.{PeerValue, no_peer}
 use Rattle.bsc_control.specs.Control.{ControlValue, terminals, peer_at, current}
 use Rattle.bsc_control.specs.Kept.{IsControl, Keeps as ControlKeeps}
-use Rattle.bsc_control.proofs.Calls.{places, current_there}
+use Rattle.bsc_control.proofs.Calls.{places, current_within_peers}
 use Rattle.bsc_line_model.specs.Line.{no_terminal, terminal_in}
 use Rattle.bsc_line_model.specs.Terminals.{EachHears, EachKeeps}
 use Rattle.bsc_line_model.specs.Kept.{IsMember, AreStations, IsTuned, AreTuned}
@@ -32,12 +32,12 @@ peer_terminal c t less =
 pub current_terminal_there : (c : ControlValue) (ts : List TributaryValue) → AreStations c ts
     → current c < length ts
 current_terminal_there c ts s =
-    subst (λ (n : ℕ). current c < n) s.count (current_there c (places c s.control.entries))
+    subst (λ (n : ℕ). current c < n) s.count (current_within_peers c (places c s.control.entries))
 
 -- the addresses of a terminal are in the control station's list
-pub terminal_there : (c : ControlValue) (ts : List TributaryValue) (t : ℕ) → AreStations c ts → t
+pub terminal_in_directory : (c : ControlValue) (ts : List TributaryValue) (t : ℕ) → AreStations c ts → t
     < length ts → slice_get (terminals c) t ≡ Some (terminal_in ts t).terminal
-terminal_there c ts t s less =
+terminal_in_directory c ts t s less =
     let before : t < length c.peers = omega (arith, s.count) in
     let there : t < length (terminals c) =
     rw (length-map c.peers (λ (p : PeerValue). p.terminal)) before in
@@ -89,11 +89,11 @@ stations_up c d ts s is k =
 
 -- two numbers are equal or not
 pub same_or_not : (a b : ℕ) → (a ≡ b) ⊎ (a ≢ b)
-same_or_not a b = by_test (nat_eq a b) refl
+same_or_not a b = same_or_other_number (nat_eq a b) refl
   where
-    by_test : (same : Bool) → nat_eq a b ≡ same → (a ≡ b) ⊎ (a ≢ b)
-    by_test true is = inl (grind (arith, nat_tests))
-    by_test false is = inr (grind (arith, nat_tests))
+    same_or_other_number : (same : Bool) → nat_eq a b ≡ same → (a ≡ b) ⊎ (a ≢ b)
+    same_or_other_number true is = inl (grind (arith, nat_tests))
+    same_or_other_number false is = inr (grind (arith, nat_tests))
 
 -- what holds of one terminal that changed, and of the others, which did not
 pub one_changed : (P : ℕ → TributaryValue → Type 0) (ts : List TributaryValue) (e : ℕ)

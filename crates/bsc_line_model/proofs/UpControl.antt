@@ -26,7 +26,7 @@ use Rattle.bsc_control.specs.Table.{Hears, task_step, receive_step, make_call_st
 use Rattle.bsc_control.specs.Table.{next_call_step, replied_after, is_interrupted, rooms_after}
 use Rattle.bsc_line_model.proofs.Staying.{ControlStays, peer_written, call_stays}
 use Rattle.bsc_line_model.proofs.DownControl.{HasCalled, call_is, call_lists}
-use Rattle.bsc_line_model.proofs.DownTerminals.{calm, twice_other, taken_exact}
+use Rattle.bsc_line_model.proofs.DownTerminals.{flag_stays_down, other_of_other, taken_exact}
 
 -- a poll that was not interrupted is in progress
 pub record IsPolled (c : ControlValue) (place : ℕ) : Type 0 where
@@ -36,13 +36,13 @@ pub record IsPolled (c : ControlValue) (place : ℕ) : Type 0 where
   pub uninterrupted : is_interrupted replied ≡ false
 
 -- an acknowledgement is no interrupt
-without : (r : Replied) (p : Alternation) → is_interrupted r ≡ false
+no_interrupt_after_ack : (r : Replied) (p : Alternation) → is_interrupted r ≡ false
     → is_interrupted (replied_after r (Some (ack p))) ≡ false
-without Nothing Even e = refl
-without Nothing Odd e = refl
-without Uninterrupted Even e = refl
-without Uninterrupted Odd e = refl
-without Interrupted p e = absurd (cc)
+no_interrupt_after_ack Nothing Even e = refl
+no_interrupt_after_ack Nothing Odd e = refl
+no_interrupt_after_ack Uninterrupted Even e = refl
+no_interrupt_after_ack Uninterrupted Odd e = refl
+no_interrupt_after_ack Interrupted p e = absurd (cc)
 
 -- a block is taken
 pub takes_up : (c d : ControlValue) (sent : Option Message) (t : TextValue)
@@ -73,7 +73,7 @@ takes_up c d sent t alternation place there i not_urgent counted same less h =
     let delays : r.spool.delays ≡ p.spool.delays = ap (λ (z : PeerValue). z.spool.delays) (sym now)
     ∙ same in
     let parity_is : other p.receiver.alternation ≡ alternation = ap other counted
-    ∙ twice_other alternation in
+    ∙ other_of_other alternation in
     let reply : r.reply ≡ Some (ack alternation) =
     taken_exact p.receiver p.spool t rooms.first rooms.after delays less
     ∙ ap (λ (z : Alternation). Some (ack z)) parity_is in (
@@ -84,12 +84,12 @@ takes_up c d sent t alternation place there i not_urgent counted same less h =
         replied = replied_after i.replied (Some (ack alternation));
         task = ap (λ (o : ControlStep). o.control.task) row
             ∙ ap (λ (z : Option Reply). Polling (replied_after i.replied z)) reply;
-        uninterrupted = without i.replied alternation i.uninterrupted;
+        uninterrupted = no_interrupt_after_ack i.replied alternation i.uninterrupted;
       },
       peer_written e FromTerminal c d e q there
           (record {
             terminal = refl;
-            urgent = λ k. calm (sends_interrupt r.reply) p.urgent k;
+            urgent = λ k. flag_stays_down (sends_interrupt r.reply) p.urgent k;
             count =
                 refl;
             down = λ s k. refl;

@@ -37,7 +37,7 @@ use Rattle.bsc_line_model.specs.Carries.{IsCarriedUp}
 use Rattle.bsc_line_model.specs.Kept.{IsTuned, IsLine}
 use Rattle.bsc_line_model.specs.Together.{IsInBidDown, IsInBidUp, IsPolling, IsSending, InTask}
 use Rattle.bsc_line_model.specs.BidLaws.{BidLaws}
-use Rattle.bsc_control.proofs.Calls.{places, current_there}
+use Rattle.bsc_control.proofs.Calls.{places, current_within_peers}
 use Rattle.bsc_line_model.proofs.OutboundSteps.{LearnsDown, outbound_queue}
 use Rattle.bsc_line_model.proofs.DownMoves.{text_sent, if_lands, if_learns}
 use Rattle.bsc_line_model.proofs.Moving.{MovesIfAddressed, EachMoves}
@@ -64,7 +64,7 @@ together_up old new from w h k =
 present_there : (l : LineValue) → IsLine l → current l.control < terminal_count l
 present_there l is =
     subst (λ (n : ℕ). current l.control < n) is.stations.count
-    (current_there l.control (places l.control is.stations.control.entries))
+    (current_within_peers l.control (places l.control is.stations.control.entries))
 
 -- a text in a poll belongs to the bid of the polled terminal
 bid_from : (c : ControlValue) (ts : List TributaryValue) (from : ℕ) (t : TextValue)
@@ -108,15 +108,15 @@ up_moves_from : (laws : BidLaws) (old new : LineValue) (from : ℕ) (w : Message
 up_moves_from laws old new from w h t k =
     elim (k.carried.kept.spools t) [
       | inl same ↦ inl (ap (λ (rs : List (List ℕ)). channel (terminal_at old t).queue rs) same)
-      | inr stores ↦ landed stores
+      | inr stores ↦ moves_if_up_is_landed stores
     ]
   where
-    landed : Stores old.control h t (peer_at old.control t).spool.records
+    moves_if_up_is_landed : Stores old.control h t (peer_at old.control t).spool.records
         (peer_at new.control t).spool.records →
         MovesIfAddressed old.addressed t FromTerminal
         (channel (terminal_at old t).queue (peer_at old.control t).spool.records)
         (channel (terminal_at old t).queue (peer_at new.control t).spool.records)
-    landed l =
+    moves_if_up_is_landed l =
         let c : ControlValue = old.control in
         let d : ControlValue = new.control in
         let e : ℕ = current c in
@@ -147,7 +147,7 @@ up_moves_from laws old new from w h t k =
         let row : Hears c (Whole (m.Text l.text)) d k.carried.sent =
         subst (λ (g : Heard). Hears c g d k.carried.sent) l.heard k.carried.control in
         let there : e < length c.peers =
-        current_there c (places c k.line.stations.control.entries) in
+        current_within_peers c (places c k.line.stations.control.entries) in
         let stored : (peer_at d e).spool ≡ step.spool =
         spool_after c d l.text k.carried.sent l.replied row l.polling there in
         let moves : MovesAtReceiver x.sender.phase (channel x.queue p.spool.records)
@@ -176,16 +176,16 @@ up_moves_to laws old new from w h t s k =
     k.carried.control) [
       | inl same ↦ inl
           (ap (λ (q : QueueValue). channel q (spool_at (terminal_at old t).spools s).records) same)
-      | inr learns ↦ learnt learns
+      | inr learns ↦ moves_if_down_is_learnt learns
     ]
   where
-    learnt : LearnsDown old.control h new.control t s →
+    moves_if_down_is_learnt : LearnsDown old.control h new.control t s →
         MovesIfAddressed old.addressed t (ToTerminal s)
         (channel (outbound_of old.control t s).queue
         (spool_at (terminal_at old t).spools s).records)
         (channel (outbound_of new.control t s).queue
         (spool_at (terminal_at old t).spools s).records)
-    learnt l =
+    moves_if_down_is_learnt l =
         let c : ControlValue = old.control in
         let d : ControlValue = new.control in
         let e : ℕ = current c in

@@ -31,7 +31,8 @@ use Rattle.bsc_tributary.specs.Kept.{IsNoCall}
 use Rattle.bsc_directory.specs.declared.way.Way.TheVariants.{FromTerminal}
 use Rattle.bsc_tributary.proofs.InMode.{hear_step_no_call}
 use Rattle.bsc_line_model.specs.Rounds.{block_count}
-use Rattle.bsc_line_model.proofs.BlockCounts.{CutLaws, HasFirstBlock, IsEnd, has_first, no_block}
+use Rattle.bsc_line_model.proofs.BlockCounts.{CutLaws, HasFirstBlock, IsEnd, first_block_of_queue}
+use Rattle.bsc_line_model.proofs.BlockCounts.{nothing_waits_without_block}
 use Rattle.bsc_line_model.proofs.BlockCounts.{a_block}
 use Rattle.bsc_line_model.proofs.Staying.{TerminalStays}
 use Rattle.bsc_line_model.proofs.DownControl.{ack_step}
@@ -79,7 +80,7 @@ sends_up : (laws : CutLaws) (x u : TributaryValue) (out : Option Message) (n : �
     → record { tributary = u; sent = out } ≡ act_step x (sent_next y q alternation (next_block q))
     → SendsUp u out n
 sends_up laws x u out n y q alternation is count row =
-    let h : HasFirstBlock q n = has_first laws q n is count in
+    let h : HasFirstBlock q n = first_block_of_queue laws q n is count in
     let b : SentBlock =
     record { count = h.next.count; end = h.next.end; alternation = alternation } in
     let exact : record { tributary = u; sent = out }
@@ -152,7 +153,7 @@ poll_exact : (laws : CutLaws) (e : ℕ) (x u : TributaryValue) (out : Option Mes
     × TerminalStays e FromTerminal e x u
 poll_exact laws e x u out zero is sure count row =
     let exact : record { tributary = u; sent = out } ≡ answer_step (called_up x) m.Eot = row
-    ∙ by_tests x false true sure (no_block laws x.queue is count) in
+    ∙ by_tests x false true sure (nothing_waits_without_block laws x.queue is count) in
     subst (λ (o : TributaryStep). EndsUp o.tributary o.sent
     × TerminalStays e FromTerminal e x o.tributary) (sym exact) (
       record { eot = refl; idle = sure; rest = count },

@@ -17,7 +17,7 @@ use Rattle.bsc_line_model.specs.declared.transmission.Speaker.TheVariants as sp
 use Rattle.bsc_line_model.specs.Line.{LineValue, terminal_at}
 use Rattle.bsc_line_model.specs.Rounds.{block_count, poll_length, visit_length}
 use Rattle.bsc_line_model.specs.Rounds.{HasMadeCall, outbound_length}
-use Rattle.bsc_line_model.proofs.Stations.{terminal_there, current_terminal_there}
+use Rattle.bsc_line_model.proofs.Stations.{terminal_in_directory, current_terminal_there}
 use Rattle.bsc_line_model.proofs.DownControl.{address_at}
 use Rattle.bsc_line_model.proofs.Walking.{IsGood}
 use Rattle.bsc_line_model.proofs.Selections.{Calls}
@@ -76,7 +76,7 @@ pub calls_where_made : (l : LineValue) (place : ℕ) (address : List ℕ) (way :
 calls_where_made l place address way g h is within =
     let e : ℕ = current l.control in
     let there : slice_get (terminals l.control) e ≡ Some (terminal_at l e).terminal =
-    terminal_there l.control l.terminals e g.line.stations
+    terminal_in_directory l.control l.terminals e g.line.stations
     (current_terminal_there l.control l.terminals g.line.stations) in
     let both : Some h.called.terminal ≡ Some (peer l.control).terminal = sym h.called.there ∙ there
     ∙ ap (λ (x : TerminalValue). Some x)

@@ -22,13 +22,14 @@ use Rattle.bsc_line_model.specs.declared.error.Stopped.{Stopped}
 use Rattle.bsc_line_model.specs.Line.{LineValue, terminal_at}
 use Rattle.bsc_line_model.specs.Rounds.{block_count, selection_length, poll_length}
 use Rattle.bsc_line_model.proofs.Stations.{same_or_not}
-use Rattle.bsc_line_model.proofs.BlockCounts.{CutLaws, some_blocks}
+use Rattle.bsc_line_model.proofs.BlockCounts.{CutLaws, blocks_of_some_records}
 use Rattle.bsc_line_model.proofs.Staying.{Stays, IsElsewhere}
-use Rattle.bsc_control.proofs.Calls.{current_there}
+use Rattle.bsc_control.proofs.Calls.{current_within_peers}
 use Rattle.bsc_line_model.proofs.Walking.{IsGood, good_places, Walks}
-use Rattle.bsc_line_model.proofs.Selections.{VisitLaws, Comes, Calls, IsSelectionDone, selection}
-use Rattle.bsc_line_model.proofs.Selections.{current_same}
-use Rattle.bsc_line_model.proofs.Polls.{IsPollDone, poll}
+use Rattle.bsc_line_model.proofs.Selections.{VisitLaws, Comes, Calls, IsSelectionDone}
+use Rattle.bsc_line_model.proofs.Selections.{selection_delivers_blocks}
+use Rattle.bsc_line_model.proofs.Selections.{current_of_same_place}
+use Rattle.bsc_line_model.proofs.Polls.{IsPollDone, poll_delivers_blocks}
 use Rattle.bsc_line_model.proofs.VisitWays.{way_in, first_way, later_way}
 
 -- all but the channels of terminal e is unchanged
@@ -132,7 +133,7 @@ same_lengths p q from (suc k) same =
     rw (same from (omega arith), rest) refl
 
 -- terminal e is ready for a visit
-pub record IsCalmAt (l : LineValue) (e : ℕ) : Type 0 where
+pub record IsReadyForVisitAt (l : LineValue) (e : ℕ) : Type 0 where
   pub ready : IsTrue (terminal_at l e).ready
   pub urgent_at : (terminal_at l e).urgent ≡ false
   pub urgent_for : (peer_at l.control e).urgent ≡ false
@@ -145,7 +146,7 @@ pub record IsVisited (e place from i : ℕ) (start l : LineValue) : Type 0 where
   pub present : current l.control ≡ e
   pub here : l.control.place ≡ place
   pub calls : Calls l place (way_from (peer_at l.control e) from)
-  pub calm : IsCalmAt l e
+  pub visit_ready : IsReadyForVisitAt l e
   pub done : (s : ℕ) → s < from → block_count (outbound_of l.control e s).queue ≡ 0
   pub blocks_up : block_count (terminal_at l e).queue ≡ i
   pub stays : StaysBut e start l
@@ -154,7 +155,7 @@ pub record IsVisited (e place from i : ℕ) (start l : LineValue) : Type 0 where
 pub record IsVisitDone (e place : ℕ) (start l : LineValue) : Type 0 where
   pub good : IsGood l
   pub calls : Calls l (place_after start.control.poll_list place) (way_from (peer l.control) 0)
-  pub calm : IsCalmAt l e
+  pub visit_ready : IsReadyForVisitAt l e
   pub down : (s : ℕ) → s < length (peer_at l.control e).outbounds
       → block_count (outbound_of l.control e s).queue ≡ 0
   pub up : block_count (terminal_at l e).queue ≡ 0
@@ -162,32 +163,32 @@ pub record IsVisitDone (e place : ℕ) (start l : LineValue) : Type 0 where
 
 selection_at : (laws : VisitLaws) (n at more count e place : ℕ) (l new : LineValue)
     (r : Result (Unit {0}) Stopped) (s : ℕ) → IsGood l → current l.control ≡ e → l.control.place
-    ≡ place → Calls l place (ToTerminal s) → IsCalmAt l e →
+    ≡ place → Calls l place (ToTerminal s) → IsReadyForVisitAt l e →
     block_count (outbound_of l.control e s).queue ≡ suc n → count ≡ 2 + 2 * suc n + more
     → Walks at count l r new → Comes (IsSelectionDone e place s l) more r new
-selection_at laws n at more count e place l new r s g present here calls calm number is w =
+selection_at laws n at more count e place l new r s g present here calls visit_ready number is w =
     subst (λ (p : ℕ). Comes (IsSelectionDone e p s l) more r new) here
     (subst (λ (z : ℕ). Comes (IsSelectionDone z l.control.place s l) more r new) present
-    (selection laws n at more count l new r s g
+    (selection_delivers_blocks laws n at more count l new r s g
     (subst (λ (p : ℕ). Calls l p (ToTerminal s)) (sym here) calls)
-    (subst (λ (z : ℕ). IsTrue (terminal_at l z).ready) (sym present) calm.ready)
-    (subst (λ (z : ℕ). (terminal_at l z).urgent ≡ false) (sym present) calm.urgent_at)
+    (subst (λ (z : ℕ). IsTrue (terminal_at l z).ready) (sym present) visit_ready.ready)
+    (subst (λ (z : ℕ). (terminal_at l z).urgent ≡ false) (sym present) visit_ready.urgent_at)
     (subst (λ (z : ℕ). block_count (outbound_of l.control z s).queue ≡ suc n) (sym present) number)
     is w))
 
 poll_at : (laws : VisitLaws) (n at more count e place : ℕ) (l new : LineValue)
     (r : Result (Unit {0}) Stopped) → IsGood l → current l.control ≡ e → l.control.place ≡ place
-    → Calls l place FromTerminal → IsCalmAt l e →
+    → Calls l place FromTerminal → IsReadyForVisitAt l e →
     block_count (terminal_at l e).queue ≡ n → count ≡ 2 + 2 * n + more → Walks at count l r new
     → Comes (IsPollDone e place l) more r new
-poll_at laws n at more count e place l new r g present here calls calm number is w =
+poll_at laws n at more count e place l new r g present here calls visit_ready number is w =
     subst (λ (p : ℕ). Comes (IsPollDone e p l) more r new) here
     (subst (λ (z : ℕ). Comes (IsPollDone z l.control.place l) more r new) present
-    (poll laws n at more count l new r g
+    (poll_delivers_blocks laws n at more count l new r g
     (subst (λ (p : ℕ). Calls l p FromTerminal) (sym here) calls)
     (subst (λ (z : ℕ). is_in_doubt (terminal_at l z).sender.phase ≡ false) (sym present)
-    calm.sure_up) (subst (λ (z : ℕ). (peer_at l.control z).urgent ≡ false) (sym present)
-    calm.urgent_for)
+    visit_ready.sure_up) (subst (λ (z : ℕ). (peer_at l.control z).urgent ≡ false) (sym present)
+    visit_ready.urgent_for)
     (subst (λ (z : ℕ). block_count (terminal_at l z).queue ≡ n) (sym present) number) is w))
 
 -- after the poll
@@ -202,13 +203,13 @@ visit_ends e place from i start l new there all v h =
       calls =
           subst (λ (list : List ℕ). Calls new (place_after list place)
           (way_from (peer new.control) 0)) v.stays.poll_list h.calls;
-      calm = record {
-        ready = (h.stays.terminals.terminals e there).ready ∙ v.calm.ready;
-        urgent_at = (h.stays.terminals.terminals e there).urgent v.calm.urgent_at;
-        urgent_for = (h.stays.control.peers e).urgent v.calm.urgent_for;
+      visit_ready = record {
+        ready = (h.stays.terminals.terminals e there).ready ∙ v.visit_ready.ready;
+        urgent_at = (h.stays.terminals.terminals e there).urgent v.visit_ready.urgent_at;
+        urgent_for = (h.stays.control.peers e).urgent v.visit_ready.urgent_for;
         sure_up = h.sure;
         sure_down = λ s. ap (λ (o : OutboundValue). is_in_doubt o.sender.phase) (down s)
-            ∙ v.calm.sure_down s;
+            ∙ v.visit_ready.sure_down s;
       };
       down = λ s less.
           let before : s < from = let count : length (peer_at new.control e).outbounds
@@ -229,7 +230,7 @@ selection_ends e place from i start l new there v h =
     (λ same way. differ (let both : ToTerminal s ≡ ToTerminal from = way in let it : s
     ≡ from = cc in it)) in
     let cur : current new.control ≡ e =
-    current_same l.control new.control h.stays.control.poll_list
+    current_of_same_place l.control new.control h.stays.control.poll_list
     (h.calls.called.place_is ∙ sym v.here) ∙ v.present in
     let idle : (outbound_of new.control e from).sender.phase ≡ Idle =
     subst (λ (z : ℕ). (outbound_of new.control z from).sender.phase ≡ Idle) cur h.idle in
@@ -243,18 +244,18 @@ selection_ends e place from i start l new there v h =
       calls =
           subst (λ (z : ℕ). Calls new place (way_from (peer_at new.control z) (from + 1))) cur
           h.calls;
-      calm = record {
-        ready = (h.stays.terminals.terminals e there).ready ∙ v.calm.ready;
-        urgent_at = (h.stays.terminals.terminals e there).urgent v.calm.urgent_at;
-        urgent_for = (h.stays.control.peers e).urgent v.calm.urgent_for;
+      visit_ready = record {
+        ready = (h.stays.terminals.terminals e there).ready ∙ v.visit_ready.ready;
+        urgent_at = (h.stays.terminals.terminals e there).urgent v.visit_ready.urgent_at;
+        urgent_for = (h.stays.control.peers e).urgent v.visit_ready.urgent_for;
         sure_up = ap is_in_doubt ((h.stays.terminals.terminals e there).phase else_where)
-            ∙ v.calm.sure_up;
+            ∙ v.visit_ready.sure_up;
         sure_down = λ s.
             elim (same_or_not s from) [
               | inl same ↦ subst (λ (z : ℕ). is_in_doubt (outbound_of new.control e z).sender.phase
                   ≡ false) (sym same) (ap is_in_doubt idle)
               | inr differ ↦ ap (λ (o : OutboundValue). is_in_doubt o.sender.phase) (down s differ)
-                  ∙ v.calm.sure_down s
+                  ∙ v.visit_ready.sure_down s
             ];
       };
       done = λ s less.
@@ -282,12 +283,12 @@ none_by : (n : ℕ) (c : Bool) → nat_eq n 0 ≡ c → not c ≡ false → n �
 none_by n true e k = grind (arith, nat_tests)
 none_by n false e k = absurd (cc)
 
-waits : (o : OutboundValue) (b : Bool) → is_in_doubt o.sender.phase ≡ b → is_selectable o ≡ true → 0
+selectable_has_waiting : (o : OutboundValue) (b : Bool) → is_in_doubt o.sender.phase ≡ b → is_selectable o ≡ true → 0
     < length (waiting o.queue)
-waits o true e some = let never : is_selectable o ≡ false =
+selectable_has_waiting o true e some = let never : is_selectable o ≡ false =
     ap (λ (c : Bool). if c then false else not (nat_eq (length (waiting o.queue)) 0)) e in
     absurd (cc)
-waits o false e some =
+selectable_has_waiting o false e some =
     some_by (length (waiting o.queue)) (nat_eq (length (waiting o.queue)) 0) refl
     (sym (ap (λ (c : Bool). if c then false else not (nat_eq (length (waiting o.queue)) 0)) e)
     ∙ some)
@@ -320,13 +321,13 @@ passes_over laws e place from i start l there none v =
     ∙ ap (λ (k : ℕ). way_in (from + 1) (drop k os)) more in
     let nothing : block_count o.queue ≡ 0 =
     no_blocks laws.cuts o.queue (waiting o.queue) refl
-    (none_waits o (v.calm.sure_down from) none) in
+    (none_waits o (v.visit_ready.sure_down from) none) in
     record {
       good = v.good;
       present = v.present;
       here = v.here;
       calls = subst (λ (w : Way). Calls l place w) way v.calls;
-      calm = v.calm;
+      visit_ready = v.visit_ready;
       done = λ s less.
           elim (same_or_not s from) [
             | inl same ↦ subst (λ (z : ℕ). block_count (outbound_of l.control e z).queue ≡ 0)
@@ -345,14 +346,14 @@ some_to_send laws e from l g present there some =
     let o : OutboundValue = outbound_of l.control e from in
     let inside : e < length l.control.peers =
     subst (λ (z : ℕ). z < length l.control.peers) present
-    (current_there l.control (good_places l g)) in
+    (current_within_peers l.control (good_places l g)) in
     let is : IsPeer (peer_at l.control e) =
     All-get_or IsPeer l.control.peers e no_peer inside g.line.stations.control.entries.peers in
     let ready : IsOutbound o =
     All-get_or IsOutbound (peer_at l.control e).outbounds from no_outbound there is.ready in
-    some_blocks laws.cuts o.queue.format (waiting o.queue) ready.queue.format
+    blocks_of_some_records laws.cuts o.queue.format (waiting o.queue) ready.queue.format
     (laws.cuts.rest o.queue.format.full o.queue.known o.queue.offered ready.queue.short)
-    (waits o (is_in_doubt o.sender.phase) refl some)
+    (selectable_has_waiting o (is_in_doubt o.sender.phase) refl some)
 
 calls_it : (e place from i : ℕ) (start l : LineValue) → from
     < length (peer_at l.control e).outbounds → is_selectable (outbound_of l.control e from) ≡ true
@@ -383,7 +384,7 @@ visit_from laws zero at more count e place from i start l new r v there number i
     let all : length (peer_at l.control e).outbounds ≤ from = omega (arith, number) in
     let x : Comes (IsPollDone e place l) more r new =
     poll_at laws i at more count e place l new r v.good v.present v.here
-    (polls_it e place from i start l all v) v.calm v.blocks_up (omega (arith, is)) w in
+    (polls_it e place from i start l all v) v.visit_ready v.blocks_up (omega (arith, is)) w in
     record {
       at = x.at;
       line = x.line;
@@ -405,7 +406,7 @@ visit_from laws (suc k) at more count e place from i start l new r v there numbe
           + poll_length i + more) n.1 is in
           let x : Comes (IsSelectionDone e place from l) rest r new =
           selection_at laws n.0 at rest count e place l new r from v.good v.present v.here
-          (calls_it e place from i start l inside some v) v.calm n.1 (omega (arith, sum)) w in
+          (calls_it e place from i start l inside some v) v.visit_ready n.1 (omega (arith, sum)) w in
           let q : PeerValue = peer_at x.line.control e in
           let same : selections_length q (from + 1) k ≡ selections_length p (from + 1) k =
           same_lengths p q (from + 1) k (λ s less. (x.holds.stays.control.peers e).down s

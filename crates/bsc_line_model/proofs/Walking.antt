@@ -66,9 +66,9 @@ pub record Stepped (s : Transmission) (old : LineValue) (Rest : LineValue → Ty
   pub good : IsGood mid
   pub rest : Rest mid
 
-stepped : (s : Transmission) (old : LineValue) (Rest : LineValue → Type 0) → old.pending ≡ Some s
+stepped_of_pending : (s : Transmission) (old : LineValue) (Rest : LineValue → Type 0) → old.pending ≡ Some s
     → Goes old Rest → Stepped s old Rest
-stepped s old Rest is g =
+stepped_of_pending s old Rest is g =
     let h : CarriesAs (λ (sent : Transmission). Whole sent.message) old g.mid = g.carried in
     let both : Some h.sent ≡ Some s = sym h.pending ∙ is in
     let same : h.sent ≡ s = cc in
@@ -90,7 +90,7 @@ one_step at n k s old new r is count w =
   where
     by_result : (r : Result (Unit {0}) Stopped) → Walks at (suc n) old r new
         → Stepped s old (λ mid. Walks (at + 1) n mid r new)
-    by_result (Ok done) g = stepped s old (λ mid. Walks (at + 1) n mid (Ok done) new) is g
+    by_result (Ok done) g = stepped_of_pending s old (λ mid. Walks (at + 1) n mid (Ok done) new) is g
     by_result (Err stopped) (inl h) = absurd (never_refused old new stopped.why s is h.refused)
     by_result (Err stopped) (inr g) =
-        stepped s old (λ mid. Walks (at + 1) n mid (Err stopped) new) is g
+        stepped_of_pending s old (λ mid. Walks (at + 1) n mid (Err stopped) new) is g

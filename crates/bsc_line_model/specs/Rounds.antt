@@ -73,7 +73,7 @@ entry_at l place = slice_index l.control.poll_list place
 
 -- terminal t is ready for a visit: it accepts selections, neither end asks for the line, and no
 -- channel of it is in doubt
-pub record IsCalm (l : LineValue) (t : ℕ) : Type 0 where
+pub record IsReadyForVisit (l : LineValue) (t : ℕ) : Type 0 where
   pub ready : IsTrue (terminal_at l t).ready
   pub not_urgent_at : (terminal_at l t).urgent ≡ false
   pub not_urgent_for : (peer_at l.control t).urgent ≡ false
@@ -94,7 +94,7 @@ pub record BeginsVisit (l : LineValue) (place : ℕ) : Type 0 where
   pub pending : l.pending ≡ Some (record { speaker = Control; message = m.Call address })
   pub called : HasMadeCall l.control (first_call l.control place) address
   pub trusted : IsTrue l.trusted
-  pub calm : (k : ℕ) → k < length l.control.poll_list → IsCalm l (entry_at l k)
+  pub visit_ready : (k : ℕ) → k < length l.control.poll_list → IsReadyForVisit l (entry_at l k)
 
 -- all records that were offered on a channel arrived, and are known to have arrived
 pub record IsAllDelivered (channel : Channel) : Type 0 where

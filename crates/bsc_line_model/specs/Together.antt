@@ -65,19 +65,31 @@ IsAnswer (m.Reply Ack0) x s ts = IsFresh x s × (x.receiver.last ≡ Ack0)
 IsAnswer (m.Reply Wack) x s ts = IsFresh x s × (x.receiver.last ≡ Wack)
 IsAnswer _ x s ts = ⊥
 
+-- a terminal whose selection address is called: what the control station has of it, its number, the
+-- address, the terminal, and all terminals of the line
+pub record Selected : Type 0 where
+  pub peer : PeerValue
+  pub number : ℕ
+  pub select : ℕ
+  pub terminal : TributaryValue
+  pub terminals : List TributaryValue
+
+abbrev pub selected : PeerValue → ℕ → ℕ → TributaryValue → List TributaryValue → Selected
+selected p e s x ts =
+    record { peer = p; number = e; select = s; terminal = x; terminals = ts }
+
 -- the message that is pending while a selection address is called: the call, or ENQ if ENQ was sent
 -- last; or the answer
-abbrev pub IsSelectedBy : Speaker → Message → Bool → PeerValue → ℕ → ℕ → TributaryValue →
-    List TributaryValue → Type 0
-IsSelectedBy Control w true p e s x ts = w ≡ m.Enq
-IsSelectedBy Control w false p e s x ts = w ≡ m.Call (select_address p.terminal s)
-IsSelectedBy (Terminal t) w enquired p e s x ts = (t ≡ e) × IsAnswer w x s ts
+abbrev pub IsSelectedBy : Speaker → Message → Bool → Selected → Type 0
+IsSelectedBy Control w true called = w ≡ m.Enq
+IsSelectedBy Control w false called = w ≡ m.Call (select_address called.peer.terminal called.select)
+IsSelectedBy (Terminal t) w enquired called =
+    (t ≡ called.number) × IsAnswer w called.terminal called.select called.terminals
 
-abbrev pub IsSelectedWith : Option Transmission → Bool → PeerValue → ℕ → ℕ → TributaryValue →
-    List TributaryValue → Type 0
-IsSelectedWith None enquired p e s x ts = Unit {0}
-IsSelectedWith (Some sent) enquired p e s x ts =
-    IsSelectedBy sent.speaker sent.message enquired p e s x ts
+abbrev pub IsSelectedWith : Option Transmission → Bool → Selected → Type 0
+IsSelectedWith None enquired called = Unit {0}
+IsSelectedWith (Some sent) enquired called =
+    IsSelectedBy sent.speaker sent.message enquired called
 
 -- if ENQ was sent last, the terminal is fresh
 abbrev pub IsFreshAfter : Bool → TributaryValue → ℕ → Type 0
@@ -138,8 +150,8 @@ IsPolledWith (Some sent) replied p e ts = IsPolledBy sent.speaker sent.message r
 pub record IsSelecting (pending : Option Transmission) (c : ControlValue)
     (ts : List TributaryValue) (s : ℕ) (enquired : Bool) : Type 0 where
   pub no_bids : NoBids c ts
-  pub with_pending : IsSelectedWith pending enquired (peer c) (current c) s
-      (terminal_in ts (current c)) ts
+  pub with_pending : IsSelectedWith pending enquired
+      (selected (peer c) (current c) s (terminal_in ts (current c)) ts)
   pub fresh : IsFreshAfter enquired (terminal_in ts (current c)) s
 
 pub record IsSending (pending : Option Transmission) (c : ControlValue)

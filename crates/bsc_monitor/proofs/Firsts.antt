@@ -7,20 +7,20 @@ use Rattle.std.proofs.lemmas.List.Splits.{length-slice_split}
 use borrow.Author.Tests.{ne_eqb}
 use Rattle.bsc_input.specs.Lines.{parts_of}
 
-more_parts : (x : List ℕ) (parts : List (List ℕ)) → 0 < length parts → lines_of_parts (x ∷ parts)
+lines_of_one_more_part : (x : List ℕ) (parts : List (List ℕ)) → 0 < length parts → lines_of_parts (x ∷ parts)
     ≡ strip_carriage_return x ∷ lines_of_parts parts
-more_parts x [] l = absurd (omega arith)
-more_parts x (y ∷ more) l = refl
+lines_of_one_more_part x [] l = absurd (omega arith)
+lines_of_one_more_part x (y ∷ more) l = refl
 
 -- a line followed by others
-pub lines_more : (text line rest : List ℕ) → parts_of text ≡ line ∷ parts_of rest → lines text
+pub lines_with_line_first : (text line rest : List ℕ) → parts_of text ≡ line ∷ parts_of rest → lines text
     ≡ strip_carriage_return line ∷ lines rest
-lines_more text line rest e =
-    ap lines_of_parts e ∙ more_parts line (parts_of rest)
+lines_with_line_first text line rest e =
+    ap lines_of_parts e ∙ lines_of_one_more_part line (parts_of rest)
     (omega (arith, length-slice_split (λ octet. octet == 10) rest))
 
-one_part : (line : List ℕ) → 0 < length line → lines_of_parts (line ∷ []) ≡ line ∷ []
-one_part line h = ap (λ t. cond t [] (line ∷ [])) (ne_eqb (length line) 0 (λ z. omega arith))
+lines_of_one_part : (line : List ℕ) → 0 < length line → lines_of_parts (line ∷ []) ≡ line ∷ []
+lines_of_one_part line h = ap (λ t. cond t [] (line ∷ [])) (ne_eqb (length line) 0 (λ z. omega arith))
 
 has_octet : (b : Bool) (x : ℕ) (parts : List (List ℕ)) (line : List ℕ) → 0 < length parts
     → cond b ([] ∷ parts) (onto_first x parts) ≡ line ∷ [] → 0 < length line
@@ -30,10 +30,10 @@ has_octet false x (part ∷ parts) line some e = let same : line ≡ x ∷ part 
     rw same (omega arith)
 
 -- the only line of a non-empty text
-pub lines_one : (text line : List ℕ) → 0 < length text → parts_of text ≡ line ∷ [] → lines text
+pub lines_of_one_line : (text line : List ℕ) → 0 < length text → parts_of text ≡ line ∷ [] → lines text
     ≡ line ∷ []
-lines_one [] line some e = absurd (omega arith)
-lines_one (x ∷ xs) line some e =
+lines_of_one_line [] line some e = absurd (omega arith)
+lines_of_one_line (x ∷ xs) line some e =
     ap lines_of_parts e
-    ∙ one_part line (has_octet (x == 10) x (slice_split (λ octet. octet == 10) xs) line
+    ∙ lines_of_one_part line (has_octet (x == 10) x (slice_split (λ octet. octet == 10) xs) line
     (omega (arith, length-slice_split (λ octet. octet == 10) xs)) e)

@@ -15,7 +15,7 @@ use Rattle.bsc_bid.specs.declared.outcome.Outcome.TheVariants as o
 use Rattle.bsc_bid.specs.Act.{message_for, outcome_of}
 use Rattle.bsc_bid.specs.Receiver.{ReceiverStep, Rooms, heard_step}
 use Rattle.bsc_bid.specs.Sender.{SenderStep, begin_step, reply_step, silence_step}
-use Rattle.bsc_bid.proofs.Choice.{choose}
+use Rattle.bsc_bid.proofs.Choice.{either_branch}
 use Rattle.bsc_directory.specs.declared.way.Way.{Way}
 use Rattle.bsc_directory.specs.declared.way.Way.TheVariants.{FromTerminal, ToTerminal}
 use Rattle.bsc_bid.specs.Setup.{SetupValue}
@@ -36,30 +36,30 @@ use Rattle.bsc_monitor.specs.Visits.{is_begun, calls_anew, polled_in, polled_by,
 use Rattle.bsc_monitor.specs.Visits.{FollowsStep}
 
 -- a call of the call order is sent, and repeats none
-calls : (c : ControlValue) (place : ℕ) (way : Way)
+way_call_is_sent : (c : ControlValue) (place : ℕ) (way : Way)
     → (address : List ℕ) × ((way_call_step c place way).sent ≡ Some (m.Call address))
-calls c place FromTerminal = (_, refl)
-calls c place (ToTerminal s) = (_, refl)
+way_call_is_sent c place FromTerminal = (_, refl)
+way_call_is_sent c place (ToTerminal s) = (_, refl)
 
-calls_first : (c : ControlValue) (place : ℕ) (way : Way)
+way_call_calls_anew : (c : ControlValue) (place : ℕ) (way : Way)
     → calls_anew (way_call_step c place way).control ≡ true
-calls_first c place FromTerminal = refl
-calls_first c place (ToTerminal s) = refl
+way_call_calls_anew c place FromTerminal = refl
+way_call_calls_anew c place (ToTerminal s) = refl
 
-ends_it : (polled : Option ℕ) (c : ControlValue) (place : ℕ) (way : Way)
+way_call_ends_poll : (polled : Option ℕ) (c : ControlValue) (place : ℕ) (way : Way)
     → ended_by polled (way_call_step c place way) ≡ polled
-ends_it polled c place FromTerminal = refl
-ends_it polled c place (ToTerminal s) = refl
+way_call_ends_poll polled c place FromTerminal = refl
+way_call_ends_poll polled c place (ToTerminal s) = refl
 
 -- the next call is made after a poll
-follows_next : (c : ControlValue) (replied : Replied) → c.task ≡ Polling replied
+follows_next_call_after_poll : (c : ControlValue) (replied : Replied) → c.task ≡ Polling replied
     → FollowsStep c (next_call_step c (Poll (is_interrupted replied)))
-follows_next c replied e =
+follows_next_call_after_poll c replied e =
     let call = next_call c (Poll (is_interrupted replied)) in
-    let made = calls c call.place call.way in
+    let made = way_call_is_sent c call.place call.way in
     let polled : polled_by c ≡ Some c.place = ap (λ (t : Task). polled_in t c.place) e in
     let ended : ended_by (polled_by c) (next_call_step c (Poll (is_interrupted replied)))
-    ≡ Some c.place = ends_it (polled_by c) c call.place call.way ∙ polled in
+    ≡ Some c.place = way_call_ends_poll (polled_by c) c call.place call.way ∙ polled in
     record {
       quiet = λ none. absurd (let h = made.1 in cc);
       ended = λ entry. (
@@ -69,13 +69,13 @@ follows_next c replied e =
     }
 
 -- no visit ends, and the station does not go on
-follows_same : (c : ControlValue) (step : ControlStep)
+follows_while_no_visit_ends : (c : ControlValue) (step : ControlStep)
     → (step.sent ≡ None → polled_by step.control ≡ polled_by c)
     → ((entry : ℕ) → ended_by (polled_by c) step ≡ Some entry → ⊥)
     → ((replied : Replied) → c.task ≡ Polling replied
     → step ≡ next_call_step c (Poll (is_interrupted replied)) → ⊥)
     → FollowsStep c step
-follows_same c step quiet ends goes =
+follows_while_no_visit_ends c step quiet ends goes =
     record {
       quiet = quiet;
       ended = λ entry. (
@@ -84,19 +84,19 @@ follows_same c step quiet ends goes =
       );
     }
 
-none_ends : (a b : Bool) (entry : ℕ) → (if a then (if b then None else None) else None) ≡ Some entry
+no_end_of_any_test : (a b : Bool) (entry : ℕ) → (if a then (if b then None else None) else None) ≡ Some entry
     → ⊥
-none_ends true true entry is = cc
-none_ends true false entry is = cc
-none_ends false b entry is = cc
+no_end_of_any_test true true entry is = cc
+no_end_of_any_test true false entry is = cc
+no_end_of_any_test false b entry is = cc
 
 -- no entry is polled before the step
 follows_unpolled : (c : ControlValue) (step : ControlStep) → polled_by c ≡ None
     → ((replied : Replied) → c.task ≡ Polling replied → ⊥)
     → (step.sent ≡ None → polled_by step.control ≡ None) → FollowsStep c step
 follows_unpolled c step unpolled other quiet =
-    follows_same c step (λ none. quiet none ∙ sym unpolled)
-    (λ entry is. none_ends (is_some step.sent) (calls_anew step.control) entry
+    follows_while_no_visit_ends c step (λ none. quiet none ∙ sym unpolled)
+    (λ entry is. no_end_of_any_test (is_some step.sent) (calls_anew step.control) entry
     (subst (λ (p : Option ℕ). ended_by p step ≡ Some entry) unpolled is))
     (λ replied e row. other replied e)
 
@@ -106,7 +106,7 @@ performs_quiet : (c : ControlValue) (s : ℕ) (outcome : Outcome) (message : Opt
     → polled_by (performed c s outcome message after).control ≡ None
 performs_quiet c s o.Sends message after unpolled none = refl
 performs_quiet c s o.Over message after unpolled none =
-    let h = (calls c (next_call c after).place (next_call c after).way).1 in absurd (cc)
+    let h = (way_call_is_sent c (next_call c after).place (next_call c after).way).1 in absurd (cc)
 performs_quiet c s o.Quiet message after unpolled none = unpolled
 
 follows_bid : (c : ControlValue) (task : Task) (s : ℕ) (step : SenderStep) (after : After)
@@ -122,15 +122,15 @@ follows_call : (c : ControlValue) (task : Task) (after : After) → c.task ≡ t
     → FollowsStep c (next_call_step c after)
 follows_call c task after e unpolled other =
     let is : polled_by c ≡ None = ap (λ (t : Task). polled_in t c.place) e ∙ unpolled in
-    let h = (calls c (next_call c after).place (next_call c after).way).1 in
+    let h = (way_call_is_sent c (next_call c after).place (next_call c after).way).1 in
     follows_unpolled c (next_call_step c after) is (λ replied f. other replied (sym e ∙ f))
     (λ none. absurd (cc))
 
 -- something else is sent, or nothing, and the task stays one without a poll
-follows_other : (c : ControlValue) (task : Task) (step : ControlStep) → c.task ≡ task
+follows_outside_of_polls : (c : ControlValue) (task : Task) (step : ControlStep) → c.task ≡ task
     → polled_in task c.place ≡ None → ((replied : Replied) → task ≡ Polling replied → ⊥)
     → polled_by step.control ≡ None → FollowsStep c step
-follows_other c task step e unpolled other after =
+follows_outside_of_polls c task step e unpolled other after =
     follows_unpolled c step (ap (λ (t : Task). polled_in t c.place) e ∙ unpolled)
     (λ replied f. other replied (sym e ∙ f)) (λ none. after)
 
@@ -144,18 +144,18 @@ follows_selecting c s enquired (Some Ack0) e =
 follows_selecting c s enquired (Some Nak) e =
     follows_call c (Selecting s enquired) (Selection s) e refl (λ replied f. cc)
 follows_selecting c s enquired (Some Wack) e =
-    choose (FollowsStep c) (nat_lt c.setup.waits (c.wacks + 1)) (next_call_step c (Selection s))
+    either_branch (FollowsStep c) (nat_lt c.setup.waits (c.wacks + 1)) (next_call_step c (Selection s))
     (answer_step (record c { task = Selecting s true; failures = 0; wacks = c.wacks + 1 }) m.Enq)
     (follows_call c (Selecting s enquired) (Selection s) e refl (λ replied f. cc))
-    (follows_other c (Selecting s enquired) _ e refl (λ replied f. cc) refl)
+    (follows_outside_of_polls c (Selecting s enquired) _ e refl (λ replied f. cc) refl)
 follows_selecting c s enquired (Some Ack1) e =
-    follows_other c (Selecting s enquired) (quiet_step c) e refl (λ replied f. cc)
+    follows_outside_of_polls c (Selecting s enquired) (quiet_step c) e refl (λ replied f. cc)
     (ap (λ (t : Task). polled_in t c.place) e)
 follows_selecting c s enquired (Some Rvi) e =
-    follows_other c (Selecting s enquired) (quiet_step c) e refl (λ replied f. cc)
+    follows_outside_of_polls c (Selecting s enquired) (quiet_step c) e refl (λ replied f. cc)
     (ap (λ (t : Task). polled_in t c.place) e)
 follows_selecting c s enquired None e =
-    follows_other c (Selecting s enquired) (quiet_step c) e refl (λ replied f. cc)
+    follows_outside_of_polls c (Selecting s enquired) (quiet_step c) e refl (λ replied f. cc)
     (ap (λ (t : Task). polled_in t c.place) e)
 
 -- after a reply a poll is not as its call begins it
@@ -188,22 +188,22 @@ reply_ends_none replied (Some r) first polled entry is =
     (replied_not_begun replied r) is in
     cc
 
-no_call : (r : Option Reply) (address : List ℕ) → option_map m.Reply r ≡ Some (m.Call address)
+reply_is_no_call : (r : Option Reply) (address : List ℕ) → option_map m.Reply r ≡ Some (m.Call address)
     → ⊥
-no_call None address e = cc
-no_call (Some r) address e = cc
+reply_is_no_call None address e = cc
+reply_is_no_call (Some r) address e = cc
 
 -- the receiver replies, or keeps silent
 follows_receiving : (c : ControlValue) (replied : Replied) (step : ReceiverStep) → c.task
     ≡ Polling replied → FollowsStep c (receive_step c replied step)
 follows_receiving c replied step e =
-    follows_same c (receive_step c replied step)
+    follows_while_no_visit_ends c (receive_step c replied step)
     (λ none. sym (ap (λ (t : Task). polled_in t c.place) e))
     (λ entry is. reply_ends_none replied step.reply (nat_eq c.failures 0) (polled_by c) entry is)
     (λ other f row.
     let call = next_call c (Poll (is_interrupted other)) in
-    let made = calls c call.place call.way in
-    no_call step.reply made.0 (ap (λ (x : ControlStep). x.sent) row ∙ made.1))
+    let made = way_call_is_sent c call.place call.way in
+    reply_is_no_call step.reply made.0 (ap (λ (x : ControlStep). x.sent) row ∙ made.1))
 
 follows_heard : (c : ControlValue) (h : Heard) (replied : Replied) (rooms : Rooms) → c.task
     ≡ Polling replied → FollowsStep c (receive_step c replied
@@ -215,7 +215,7 @@ follows_heard c h replied rooms e =
 -- a poll is answered
 follows_polling : (c : ControlValue) (replied : Replied) (h : Heard) (rooms : Rooms) → c.task
     ≡ Polling replied → FollowsStep c (polling_step c replied h rooms)
-follows_polling c replied (Whole m.Eot) rooms e = follows_next c replied e
+follows_polling c replied (Whole m.Eot) rooms e = follows_next_call_after_poll c replied e
 follows_polling c replied Noise rooms e = follows_heard c Noise replied rooms e
 follows_polling c replied Failed rooms e = follows_heard c Failed replied rooms e
 follows_polling c replied (Whole (m.Call x)) rooms e =
@@ -229,7 +229,7 @@ follows_polling c replied (Whole (m.Text x)) rooms e =
 follows_task : (c : ControlValue) (task : Task) (h : Heard) (rooms : Rooms) → c.task ≡ task
     → FollowsStep c (task_step c task h rooms)
 follows_task c AtRest h rooms e =
-    follows_other c AtRest (quiet_step c) e refl (λ replied f. cc)
+    follows_outside_of_polls c AtRest (quiet_step c) e refl (λ replied f. cc)
     (ap (λ (t : Task). polled_in t c.place) e)
 follows_task c (Selecting s enquired) h rooms e = follows_selecting c s enquired (reply_in h) e
 follows_task c (Sending s) h rooms e =
@@ -246,7 +246,7 @@ follows_repeat : (c : ControlValue) → c.task ≡ Polling Nothing
     → FollowsStep c (poll_call_step c c.place (c.failures + 1))
 follows_repeat c e =
     let failed : nat_eq (c.failures + 1) 0 ≡ false = one_more_failure c.failures in
-    follows_same c (poll_call_step c c.place (c.failures + 1))
+    follows_while_no_visit_ends c (poll_call_step c c.place (c.failures + 1))
     (λ none. sym (ap (λ (t : Task). polled_in t c.place) e))
     (λ entry is.
     let no : None ≡ Some entry =
@@ -254,7 +254,7 @@ follows_repeat c e =
     cc)
     (λ replied f row.
     let call = next_call c (Poll (is_interrupted replied)) in
-    let anew = calls_first c call.place call.way in
+    let anew = way_call_calls_anew c call.place call.way in
     let same = ap (λ (x : ControlStep). calls_anew x.control) row in
     cc)
 
@@ -262,20 +262,20 @@ follows_silence_in : (c : ControlValue) (task : Task) → c.task ≡ task
     → FollowsStep c (silence_in c task)
 follows_silence_in c AtRest e = follows_call c AtRest Start e refl (λ replied f. cc)
 follows_silence_in c (Selecting s enquired) e =
-    choose (FollowsStep c) (nat_lt c.setup.tries (c.failures + 1)) (next_call_step c (Selection s))
+    either_branch (FollowsStep c) (nat_lt c.setup.tries (c.failures + 1)) (next_call_step c (Selection s))
     (answer_step (record c { failures = c.failures + 1 }) (repeated c s enquired))
     (follows_call c (Selecting s enquired) (Selection s) e refl (λ replied f. cc))
-    (follows_other c (Selecting s enquired) _ e refl (λ replied f. cc)
+    (follows_outside_of_polls c (Selecting s enquired) _ e refl (λ replied f. cc)
     (ap (λ (t : Task). polled_in t c.place) e))
 follows_silence_in c (Sending s) e =
     follows_bid c (Sending s) s
     (silence_step (outbound_at (peer c) s).sender (outbound_at (peer c) s).queue) (Selection s) e
     refl (λ replied f. cc)
 follows_silence_in c (Polling Nothing) e =
-    choose (FollowsStep c) (nat_lt c.setup.tries (c.failures + 1)) (next_call_step c (Poll false))
-    (poll_call_step c c.place (c.failures + 1)) (follows_next c Nothing e) (follows_repeat c e)
-follows_silence_in c (Polling Uninterrupted) e = follows_next c Uninterrupted e
-follows_silence_in c (Polling Interrupted) e = follows_next c Interrupted e
+    either_branch (FollowsStep c) (nat_lt c.setup.tries (c.failures + 1)) (next_call_step c (Poll false))
+    (poll_call_step c c.place (c.failures + 1)) (follows_next_call_after_poll c Nothing e) (follows_repeat c e)
+follows_silence_in c (Polling Uninterrupted) e = follows_next_call_after_poll c Uninterrupted e
+follows_silence_in c (Polling Interrupted) e = follows_next_call_after_poll c Interrupted e
 
 -- a new control station polls no entry
 pub follows_new : (setup : SetupValue) (terminals : List TerminalValue) (poll_list : List ℕ)

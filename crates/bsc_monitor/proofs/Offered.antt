@@ -6,10 +6,10 @@ use Rattle.bsc_control.specs.Peer.{PeerValue, OutboundValue, no_outbound, no_pee
 use Rattle.bsc_control.specs.Peer.{outbound_at}
 use Rattle.bsc_monitor.specs.Offers.{IsOffered}
 
-pub one_offered : (old : ControlValue) (t s : ℕ) (codes : List ℕ) (new : ControlValue) → t
+pub offer_of_one_record : (old : ControlValue) (t s : ℕ) (codes : List ℕ) (new : ControlValue) → t
     < length old.peers → s < length (peer_at old t).outbounds
     → new ≡ with_peer old t (offered_to (peer_at old t) s codes) → IsOffered old t s codes new
-one_offered old t s codes new less there e =
+offer_of_one_record old t s codes new less there e =
     let p = offered_to (peer_at old t) s codes in
     let peer_is : peer_at new t ≡ p = ap (λ (c : ControlValue). peer_at c t) e
     ∙ get_or-set_same old.peers t p no_peer less in

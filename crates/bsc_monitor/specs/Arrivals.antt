@@ -1,31 +1,36 @@
 -- The records that arrive at a station are printed once each.
 use Rattle.std.specs.Prelude.{◌≡◌, ℕ, ◌<◌, List, length, max, slice_index}
-use Rattle.bsc_directory.specs.declared.way.Way.{Way}
 use Rattle.bsc_report.specs.Channels.{channel_name}
-use Rattle.bsc_monitor.specs.Ends.{End}
 use Rattle.bsc_monitor.specs.Printed.{arrival_lines, records_at}
 use Rattle.bsc_monitor.specs.declared.arrivals.Form.{Form}
+use Rattle.bsc_monitor.specs.declared.party.Party as party_of
 
--- The lines for a channel's records after those that were printed before.
-abbrev pub channel_arrivals : Form → (ℕ → ℕ) → (ℕ → ℕ) → (ℕ → Way → End) → ℕ → Way → ℕ → List ℕ
-channel_arrivals form selects numbers ends t way printed =
-    arrival_lines form (channel_name (selects t) (numbers t) way) printed (records_at (ends t way))
+-- What is known of a station with memory of type M, and the station. Its channels are those on
+-- which it receives, each with a number.
+module _ {P M : Type 0} (party : party_of.Ghosts P M) (station : P) where
+  -- The records that have arrived on a channel.
+  abbrev pub arrived_on : ℕ → List (List ℕ)
+  arrived_on n = records_at (party.ends station (party.terminal_of n) (party.way_of n))
 
--- The lines for the new records of the channel with this number.
-abbrev pub arrivals_of : Form → (ℕ → ℕ) → (ℕ → ℕ) → (ℕ → Way → End) → (ℕ → ℕ) → (ℕ → Way) → List ℕ
-    → ℕ → List ℕ
-arrivals_of form selects numbers ends terminal_of way_of printed n =
-    channel_arrivals form selects numbers ends (terminal_of n) (way_of n) (slice_index printed n)
+  -- The lines for the records of a channel after those that were printed before.
+  abbrev pub channel_arrivals : Form → ℕ → ℕ → List ℕ
+  channel_arrivals form n printed =
+      arrival_lines form
+      (channel_name (party.selects station (party.terminal_of n))
+      (party.numbers station (party.terminal_of n)) (party.way_of n)) printed (arrived_on n)
 
--- The number of records of a channel that are printed, once the new ones are.
-abbrev pub counted : (ℕ → Way → End) → ℕ → Way → ℕ → ℕ
-counted ends t way printed = max printed (length (records_at (ends t way)))
+  -- The lines for the new records of a channel, by the number printed before on each.
+  abbrev pub arrivals_of : Form → List ℕ → ℕ → List ℕ
+  arrivals_of form printed n = channel_arrivals form n (slice_index printed n)
 
--- The number of printed records is updated for each channel.
-abbrev pub AreCounted : (ℕ → Way → End) → (ℕ → ℕ) → (ℕ → Way) → List ℕ → List ℕ → ℕ → Type 0
-AreCounted ends terminal_of way_of old new count =
-    (n : ℕ) → n < count → slice_index new n
-    ≡ counted ends (terminal_of n) (way_of n) (slice_index old n)
+  -- The number of records of a channel that are printed, once the new ones are.
+  abbrev pub counted : ℕ → ℕ → ℕ
+  counted n printed = max printed (length (arrived_on n))
+
+  -- The number of printed records is updated for each of the first channels.
+  abbrev pub AreCounted : List ℕ → List ℕ → ℕ → Type 0
+  AreCounted old new count =
+      (n : ℕ) → n < count → slice_index new n ≡ counted n (slice_index old n)
 
 -- More records of some channel are printed than before.
 pub record MoreArePrinted (old new : List ℕ) (count : ℕ) : Type 0 where

@@ -1,6 +1,6 @@
 //! Prints the records that arrive at a station.
 
-ghost use Rattle.std.specs.Prelude.{◌≡◌, ◌<◌, length, Ok, OnOk, false, true};
+ghost use Rattle.std.specs.Prelude.{◌≡◌, ◌<◌, length, drop, Ok, OnOk, false, true};
 ghost use Rattle.std.specs.List.{flat_map};
 ghost use Rattle.std.specs.Io.KnownBytes.{Appends};
 ghost use Rattle.bsc_report.specs.Channels.{channel_name, each_below};
@@ -10,7 +10,7 @@ ghost use Rattle.bsc_monitor.specs.Arrivals.{arrivals_of};
 ghost use Rattle.bsc_monitor.specs.Arrivals.{channel_arrivals, counted};
 
 use crate::{Party, Received};
-use bsc_block::Record;
+use bsc_block::Records;
 use bsc_control::Way;
 use bsc_print::{PrintError, put, write_chars};
 use bsc_report::write_channel_name;
@@ -47,12 +47,10 @@ pub(crate) fn print_arrivals<A: Allocator + Copy, P: Party, W: Write>(
     out: &mut W,
 ) -> Result<bool, PrintError>
     requires { length printed.old ≡ P.receives station.now }
-    ensures text { let s = station.now in OnOk result
-        (Appends (W.contents out.old) (W.contents out.new)
-        (each_below (arrivals_of form (P.selects s) (P.numbers s) (P.ends s) P.terminal_of P.way_of
-        printed.old) (P.receives s))) }
-    ensures counts { OnOk result (AreCounted (P.ends station.now) P.terminal_of P.way_of
-        printed.old printed.new (P.receives station.now)) }
+    ensures text { OnOk result (Appends (W.contents out.old) (W.contents out.new)
+        (each_below (arrivals_of P.Party station.now form printed.old) (P.receives station.now))) }
+    ensures counts { OnOk result
+        (AreCounted P.Party station.now printed.old printed.new (P.receives station.now)) }
     ensures some { result ≡ Ok true →
         MoreArePrinted printed.old printed.new (P.receives station.now) }
     ensures none { result ≡ Ok false →
@@ -78,12 +76,10 @@ fn print_channel<A: Allocator + Copy, P: Party, W: Write>(
     out: &mut W,
 ) -> Result<bool, PrintError>
     requires { number < P.receives station.now }
-    ensures text { let s = station.now in OnOk result
-        (Appends (W.contents out.old) (W.contents out.new)
-        (channel_arrivals form (P.selects s) (P.numbers s) (P.ends s) (P.terminal_of number)
-        (P.way_of number) printed.old)) }
-    ensures count { OnOk result (printed.new ≡ counted (P.ends station.now) (P.terminal_of number)
-        (P.way_of number) printed.old) }
+    ensures text { OnOk result (Appends (W.contents out.old) (W.contents out.new)
+        (channel_arrivals P.Party station.now form number printed.old)) }
+    ensures count { OnOk result
+        (printed.new ≡ counted P.Party station.now number printed.old) }
     ensures some { result ≡ Ok true → printed.old < printed.new }
     ensures none { result ≡ Ok false → printed.new ≡ printed.old }
 {
@@ -97,25 +93,26 @@ fn print_channel<A: Allocator + Copy, P: Party, W: Write>(
         number: station.number(received.terminal),
         way: received.way,
     };
-    print_records(alloc, form, channel, &records[*printed..], out)?;
+    print_records(alloc, form, channel, records, *printed, out)?;
     *printed = records.len();
     Ok(true)
 }
 
-/// Prints a line for each of these records.
-fn print_records<A: Allocator + Copy, W: Write>(
+/// Prints a line for each of these records from a place on.
+fn print_records<A: Allocator + Copy, B: Allocator, W: Write>(
     alloc: A,
     form: Form,
     channel: Channel,
-    records: &[Record],
+    records: &Records<B>,
+    from: usize,
     out: &mut W,
 ) -> Result<(), PrintError>
     ensures { OnOk result (Appends (W.contents out.old) (W.contents out.new)
         (flat_map (arrival_line form (channel_name channel.addresses channel.number channel.way))
-        records.now)) }
+        (drop from records.now.items))) }
 {
-    'records: for record in records {
-        print_record(alloc, form, channel, record.chars(), out)?;
+    'records: for place in from..records.len() {
+        print_record(alloc, form, channel, records.chars(place), out)?;
     }
     Ok(())
 }

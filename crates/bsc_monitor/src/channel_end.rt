@@ -4,13 +4,13 @@ ghost use Rattle.std.specs.Prelude.{◌≡◌};
 ghost use Rattle.bsc_monitor.specs.Ends.{queue_end};
 ghost use Rattle.bsc_monitor.specs.EndValues.{end_of};
 
-use bsc_block::Record;
+use bsc_block::Records;
 use bsc_spool::Queue;
 use std::alloc::Allocator;
 
 /// The state of a channel as known at the station where it ends.
-#[derive(Clone, Copy)]
-pub enum ChannelEnd<'a> {
+#[derive(Drop)]
+pub enum ChannelEnd<'a, A: Allocator> {
     /// The station sends on the channel: the number of records offered, the number known to have
     /// arrived, and whether the last block is in doubt.
     Sending {
@@ -21,12 +21,12 @@ pub enum ChannelEnd<'a> {
 
     /// The station receives on the channel: the records that arrived.
     Receiving {
-        records: &'a [Record],
+        records: &'a Records<A>,
     },
 }
 
 /// Returns the channel end of a queue.
-pub(crate) fn queue_end<'a, A: Allocator>(queue: &Queue<A>, doubt: bool) -> ChannelEnd<'a>
+pub(crate) fn queue_end<'a, A: Allocator>(queue: &Queue<A>, doubt: bool) -> ChannelEnd<'a, A>
     ensures { end_of result ≡ queue_end queue.now doubt }
 {
     ChannelEnd::Sending {

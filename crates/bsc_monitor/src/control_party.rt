@@ -14,6 +14,8 @@ impl<A: Allocator> Party for Control<A> {
     ghost use Rattle.bsc_directory.specs.declared.way.Way.TheVariants.{FromTerminal};
     ghost use Rattle.bsc_monitor.specs.Ends.{control_end};
 
+    type Memory = A;
+
     ghost count = { λ c. length c.peers };
 
     ghost numbers = { λ _ terminal. terminal };
@@ -40,14 +42,12 @@ impl<A: Allocator> Party for Control<A> {
         Control::addresses(self, terminal)
     }
 
-    fn end(&self, terminal: usize, way: Way) -> ChannelEnd<'_> {
-        match way {
-            Way::FromTerminal => ChannelEnd::Receiving {
-                records: self.spool(terminal).records(),
-            },
-            Way::ToTerminal(select) => {
-                queue_end(self.queue(terminal, select), self.in_doubt(terminal, way))
-            }
+    fn end(&self, terminal: usize, way: Way) -> ChannelEnd<'_, A> {
+        if let Way::ToTerminal(select) = way {
+            return queue_end(self.queue(terminal, select), self.in_doubt(terminal, way));
+        }
+        ChannelEnd::Receiving {
+            records: self.spool(terminal).records(),
         }
     }
 
@@ -55,7 +55,7 @@ impl<A: Allocator> Party for Control<A> {
         Control::terminals(self)
     }
 
-    fn received(&self, number: usize) -> Received<'_> {
+    fn received(&self, number: usize) -> Received<'_, A> {
         Received {
             terminal: number,
             way: Way::FromTerminal,

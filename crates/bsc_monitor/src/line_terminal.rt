@@ -115,6 +115,8 @@ impl<A: Allocator> Party for LineTerminal<A> {
     ghost use Rattle.bsc_directory.specs.declared.way.Way.TheVariants.{ToTerminal};
     ghost use Rattle.bsc_monitor.specs.Ends.{terminal_end};
 
+    type Memory = A;
+
     ghost count = { λ _. 1 };
 
     ghost numbers = { λ l _. l.number };
@@ -141,21 +143,21 @@ impl<A: Allocator> Party for LineTerminal<A> {
         self.terminal.selects()
     }
 
-    fn end(&self, _terminal: usize, way: Way) -> ChannelEnd<'_> {
+    fn end(&self, _terminal: usize, way: Way) -> ChannelEnd<'_, A> {
         let tributary = &self.tributary;
-        match way {
-            Way::FromTerminal => queue_end(tributary.queue(), tributary.in_doubt()),
-            Way::ToTerminal(select) => ChannelEnd::Receiving {
+        if let Way::ToTerminal(select) = way {
+            return ChannelEnd::Receiving {
                 records: tributary.spool(select).records(),
-            },
+            };
         }
+        queue_end(tributary.queue(), tributary.in_doubt())
     }
 
     fn spools(&self) -> usize {
         self.terminal.selects()
     }
 
-    fn received(&self, number: usize) -> Received<'_> {
+    fn received(&self, number: usize) -> Received<'_, A> {
         Received {
             terminal: 0,
             way: Way::ToTerminal(number),

@@ -6,12 +6,13 @@ ghost use Rattle.bsc_monitor.specs.Ends.{End, IsWay, receiving};
 ghost use Rattle.bsc_monitor.specs.EndValues.{end_of};
 
 use crate::ChannelEnd;
-use bsc_block::Record;
+use bsc_block::Records;
 use bsc_control::Way;
+use std::alloc::Allocator;
 
 /// A channel on which a station receives, and the records that arrived on it.
-#[derive(Clone, Copy)]
-pub struct Received<'a> {
+#[derive(Drop)]
+pub struct Received<'a, A: Allocator> {
     /// The terminal of the channel, counted from 0 among the terminals that the station knows.
     pub terminal: usize,
 
@@ -19,13 +20,16 @@ pub struct Received<'a> {
     pub way: Way,
 
     /// The records that arrived.
-    pub records: &'a [Record],
+    pub records: &'a Records<A>,
 }
 
 /// A station that knows the channels ending at it: the control station knows those of all
 /// terminals, a terminal knows its own. Terminals are counted from 0 among those that the station
 /// knows.
 pub trait Party {
+    /// The memory of its records.
+    type Memory: Allocator;
+
     /// The number of terminals that the station knows.
     ghost count: { Self → ℕ };
 
@@ -64,7 +68,7 @@ pub trait Party {
 
     /// Returns the end of a channel at this station. The station must know the terminal, and the
     /// terminal must have the address.
-    fn end(&self, terminal: usize, way: Way) -> ChannelEnd<'_>
+    fn end(&self, terminal: usize, way: Way) -> ChannelEnd<'_, Self::Memory>
         requires known { terminal < count self.now }
         requires its_way { IsWay way (selects self.now terminal) }
         ensures { end_of result ≡ ends self.now terminal way };
@@ -75,11 +79,11 @@ pub trait Party {
 
     /// Returns the channel with this number among those on which the station receives. The channel
     /// must exist.
-    fn received(&self, number: usize) -> Received<'_>
+    fn received(&self, number: usize) -> Received<'_, Self::Memory>
         requires { number < receives self.now }
         ensures terminal { result.terminal ≡ terminal_of number }
         ensures way { result.way ≡ way_of number }
         ensures known { result.terminal < count self.now }
         ensures records { ends self.now (terminal_of number) (way_of number)
-            ≡ receiving result.records.now };
+            ≡ receiving result.records.now.items };
 }

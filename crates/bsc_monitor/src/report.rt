@@ -11,7 +11,7 @@ ghost use Rattle.bsc_monitor.specs.Printed.{end_shown, channel_lines, terminal_l
 ghost use Rattle.bsc_monitor.specs.Printed.{station_report};
 
 use crate::{ChannelEnd, Party};
-use bsc_block::Record;
+use bsc_block::Records;
 use bsc_control::Way;
 use bsc_print::{PrintError, put};
 use bsc_report::{doubt_text, write_channel_name, write_records};
@@ -77,9 +77,9 @@ fn write_channel<A: Allocator + Copy, P: Party, W: Write>(
 }
 
 /// Writes the state of a channel at its end.
-fn write_end<A: Allocator + Copy, W: Write>(
+fn write_end<A: Allocator + Copy, B: Allocator, W: Write>(
     alloc: A,
-    end: ChannelEnd<'_>,
+    end: ChannelEnd<'_, B>,
     out: &mut W,
 ) -> Result<(), PrintError>
     ensures { OnOk result
@@ -124,15 +124,15 @@ fn write_counts<W: Write>(offered: usize, known: usize, out: &mut W) -> Result<(
 }
 
 /// Writes the records that arrived on a channel on which the station receives.
-fn write_receiving<A: Allocator + Copy, W: Write>(
+fn write_receiving<A: Allocator + Copy, B: Allocator, W: Write>(
     alloc: A,
-    records: &[Record],
+    records: &Records<B>,
     out: &mut W,
 ) -> Result<(), PrintError>
     ensures { OnOk result
         (Appends (W.contents out.old) (W.contents out.new)
-        (codes ": spooled " ++ decimal (length records.now) ++ codes "\n"
-        ++ flat_map record_line records.now)) }
+        (codes ": spooled " ++ decimal (length records.now.items) ++ codes "\n"
+        ++ flat_map record_line records.now.items)) }
 {
     write_count(records.len(), out)?;
     write_records(alloc, records, out)

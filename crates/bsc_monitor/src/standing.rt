@@ -4,6 +4,7 @@ ghost use Rattle.std.specs.Prelude.{◌≡◌, false};
 ghost use Rattle.bsc_monitor.specs.EndValues.{end_of};
 
 use crate::ChannelEnd;
+use std::alloc::Allocator;
 
 /// The state of the channels on which a station sends.
 #[derive(Clone, Copy, Debug, PartialEq, Eq)]
@@ -30,7 +31,7 @@ impl Standing {
     }
 
     /// Returns the state of the channel with this end.
-    pub(crate) fn of(end: ChannelEnd<'_>) -> Standing
+    pub(crate) fn of<A: Allocator>(end: ChannelEnd<'_, A>) -> Standing
         ensures { result ≡ standing_at (end_of end.entry) }
     {
         match end {

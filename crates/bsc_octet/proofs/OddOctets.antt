@@ -67,14 +67,14 @@ code_of_even o n =
 
 -- An octet that has a code is the octet that carries it.
 pub code_of_some : (o c : ℕ) → code_of o ≡ Some c → (c < 128) × (odd_octet c ≡ o)
-code_of_some o c e = by_test (odd_octet (o % 128) == o) refl e
+code_of_some o c e = from_line_of_odd_test (odd_octet (o % 128) == o) refl e
   where
-    by_test : (b : Bool) → (odd_octet (o % 128) == o) ≡ b → cond b (Some (o % 128)) None ≡ Some c
+    from_line_of_odd_test : (b : Bool) → (odd_octet (o % 128) == o) ≡ b → cond b (Some (o % 128)) None ≡ Some c
         → (c < 128) × (odd_octet c ≡ o)
-    by_test true t h =
+    from_line_of_odd_test true t h =
         let k : c ≡ o % 128 = cc in
         (omega arith, ap odd_octet k ∙ eqb-true (odd_octet (o % 128)) o t)
-    by_test false t h = cc
+    from_line_of_odd_test false t h = cc
 
 pub code_of_odd_octet : (c : ℕ) → c < 128 → code_of (odd_octet c) ≡ Some c
 code_of_odd_octet c h = rw (odd_octet_low c h, eq-eqb (odd_octet c) (odd_octet c) refl) refl

@@ -32,12 +32,12 @@ longitudinal_sum_from_bits s n lt h =
 -- Each bit of an exclusive or counts one more member.
 pub xor_counts : (t x i w : ℕ) → bit_at t i ≡ w % 2
     → bit_at (bit_xor t x) i ≡ (w + cond (bit_at x i == 1) 1 0) % 2
-xor_counts t x i w h = rw (bit_at_xor t x i, h) (counted (bit_at x i) (bit_at-lt x i))
+xor_counts t x i w h = rw (bit_at_xor t x i, h) (parity_of_one_more (bit_at x i) (bit_at-lt x i))
   where
-    counted : (b : ℕ) → b < 2 → (w % 2 + b) % 2 ≡ (w + cond (b == 1) 1 0) % 2
-    counted zero l = omega arith
-    counted (suc zero) l = omega arith
-    counted (suc (suc b)) l = absurd (omega arith)
+    parity_of_one_more : (b : ℕ) → b < 2 → (w % 2 + b) % 2 ≡ (w + cond (b == 1) 1 0) % 2
+    parity_of_one_more zero l = omega arith
+    parity_of_one_more (suc zero) l = omega arith
+    parity_of_one_more (suc (suc b)) l = absurd (omega arith)
 
 -- The sum is the low seven bits of the exclusive or of the members.
 pub longitudinal_sum_from_xor : (t : ℕ) (s : List ℕ) → ((i : ℕ) → bit_at t i ≡ with_bit i s % 2)

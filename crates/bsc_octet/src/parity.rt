@@ -2,7 +2,7 @@
 //! number of ones odd (GA27-3004: vertical redundancy checking in USASCII).
 ghost use Rattle.std.specs.Prelude.{◌≡◌, ◌≢◌, ℕ, ◌+◌, ◌*◌, ◌%◌, ◌<◌, ◌≤◌, nat_lt, if◌then◌else◌};
 ghost use Rattle.std.specs.Prelude.{Some, None, IsTrue, ◌↔◌, All, IfSome, IfNone};
-ghost use Rattle.bsc_octet.specs.Octet.{IsOdd, code_of, odd_octet};
+ghost use Rattle.bsc_octet.specs.Octet.{IsCode, IsOdd, code_in, code_of, odd_octet};
 
 use crate::lanes::are_odd;
 
@@ -23,6 +23,27 @@ pub fn to_line(code: u8) -> Option<u8>
     } else {
         None
     }
+}
+
+/// Returns the octet that carries the code, which is below 0x80. The parity is found by folding
+/// bits because a compiler vectorizes that; it does not vectorize a count of ones with a test.
+#[inline(always)]
+pub fn carried(code: u8) -> u8
+    requires { IsCode code }
+    ensures { result ≡ odd_octet code }
+{
+    let fours = code ^ (code >> 4);
+    let twos = fours ^ (fours >> 2);
+    let ones = twos ^ (twos >> 1);
+    code | ((!ones & 1) << 7)
+}
+
+/// Returns the code of an octet whose parity is right: its low seven bits.
+#[inline(always)]
+pub fn code_in(octet: u8) -> u8
+    ensures { result ≡ code_in octet }
+{
+    octet % 0x80
 }
 
 /// Returns the code that the octet carries, 0x00 to 0x7f, or `None` if its parity is even

@@ -5,7 +5,7 @@ ghost use Rattle.std.specs.List.{flat_map};
 ghost use Rattle.std.specs.Io.KnownBytes.{Appends};
 ghost use Rattle.bsc_report.specs.Channels.{channel_name, doubt_shown, record_line};
 
-use bsc_block::Record;
+use bsc_block::Records;
 use bsc_directory::Way;
 use bsc_print::{PrintError, put, write_chars};
 use std::alloc::Allocator;
@@ -41,16 +41,17 @@ pub fn doubt_text(doubt: bool) -> &'static [u8]
 }
 
 /// Writes a line for each record. After an error a part of the output may have been written.
-pub fn write_records<A: Allocator + Copy, W: Write>(
+pub fn write_records<A: Allocator + Copy, B: Allocator, W: Write>(
     alloc: A,
-    records: &[Record],
+    records: &Records<B>,
     out: &mut W,
 ) -> Result<(), PrintError>
     ensures { OnOk result
-        (Appends (W.contents out.old) (W.contents out.new) (flat_map record_line records.now)) }
+        (Appends (W.contents out.old) (W.contents out.new)
+        (flat_map record_line records.now.items)) }
 {
-    'records: for record in records {
-        write_record(alloc, record.chars(), out)?;
+    'records: for place in 0..records.len() {
+        write_record(alloc, records.chars(place), out)?;
     }
     Ok(())
 }

@@ -12,7 +12,7 @@ use Rattle.bsc_line_model.specs.Kept.{IsLine}
 use Rattle.bsc_line_model.specs.Offers.{OffersAt, OffersFor}
 use Rattle.bsc_line_model.specs.Runs.{Does}
 use Rattle.bsc_script.specs.Events.{Event as Asked, offer_at, offer_for, heard_each}
-use Rattle.bsc_run.specs.Crossing.{connection_count, ItemsCross}
+use Rattle.bsc_run.specs.Crossing.{connection_count, ItemsCross, Streams}
 use Rattle.bsc_run.specs.declared.error.StepError.{StepError}
 use Rattle.bsc_run.specs.declared.error.StepError.TheVariants as step
 use Rattle.bsc_run.specs.Faults.{told, IsFault}
@@ -20,15 +20,16 @@ use Rattle.bsc_run.specs.Speaking.{Fits}
 use Rattle.bsc_run.specs.Steps.{MayBe, Sends, HearsOctets, Crossing, Acts}
 use Rattle.bsc_run.proofs.Speaking.{fits_after}
 
-module _ {S : Type 0} (contents remaining : S → Option (List ℕ)) where
+module _ {S : Type 0} (streams : Streams S) where
   -- nothing crosses the cable, and a refusal holds for each event of the line that it may be
   acts_plainly : (asked : Asked) (e : Event) (old new : LineValue) (c : CableValue S)
       (r : Result (Unit {0}) LineError)
-      → Crossing contents remaining asked e old c c
+      → Crossing streams asked e old c c
       → ((x : Event) (w : LineError) → MayBe asked x → Does e old (Err w) new
       → Does x old (Err w) new)
       → Fits old c → Does e old r new → IsLine new
-      → Acts contents remaining asked old c (told r) new c
+      → Acts streams asked (record { line = old; cable = c }) (told r)
+      (record { line = new; cable = c })
   acts_plainly asked e old new c (Ok done) crossing alike f d line = record {
     accepted = record { event = e; crossing = crossing; done = d };
     fits = fits_after e old new c c f d line refl;
@@ -44,9 +45,10 @@ module _ {S : Type 0} (contents remaining : S → Option (List ℕ)) where
   -- only one event of the line corresponds to the event of the script
   pub acts_as : (asked : Asked) (e : Event) (old new : LineValue) (c : CableValue S)
       (r : Result (Unit {0}) LineError)
-      → Crossing contents remaining asked e old c c → ((x : Event) → MayBe asked x → x ≡ e)
+      → Crossing streams asked e old c c → ((x : Event) → MayBe asked x → x ≡ e)
       → Fits old c → Does e old r new → IsLine new
-      → Acts contents remaining asked old c (told r) new c
+      → Acts streams asked (record { line = old; cable = c }) (told r)
+      (record { line = new; cable = c })
   acts_as asked e old new c r crossing alike f d line =
       acts_plainly asked e old new c r crossing
       (λ x w m q. subst (λ (y : Event). Does y old (Err w) new) (sym (alike x m)) q) f d line
@@ -55,7 +57,8 @@ module _ {S : Type 0} (contents remaining : S → Option (List ℕ)) where
   pub offers_at : (t : ℕ) (codes : Bor (List ℕ)) (old new : LineValue) (c : CableValue S)
       (r : Result (Unit {0}) LineError)
       → Fits old c → Does (event.OfferAt t codes) old r new → IsLine new
-      → Acts contents remaining (offer_at t codes.now) old c (told r) new c
+      → Acts streams (offer_at t codes.now) (record { line = old; cable = c }) (told r)
+      (record { line = new; cable = c })
   offers_at t codes old new c r f d line =
       acts_plainly (offer_at t codes.now) (event.OfferAt t codes) old new c r
       ((codes, refl, refl), refl)
@@ -65,7 +68,8 @@ module _ {S : Type 0} (contents remaining : S → Option (List ℕ)) where
   pub offers_for : (t s : ℕ) (codes : Bor (List ℕ)) (old new : LineValue) (c : CableValue S)
       (r : Result (Unit {0}) LineError)
       → Fits old c → Does (event.OfferFor t s codes) old r new → IsLine new
-      → Acts contents remaining (offer_for t s codes.now) old c (told r) new c
+      → Acts streams (offer_for t s codes.now) (record { line = old; cable = c }) (told r)
+      (record { line = new; cable = c })
   offers_for t s codes old new c r f d line =
       acts_plainly (offer_for t s codes.now) (event.OfferFor t s codes) old new c r
       ((codes, refl, refl), refl)
@@ -75,12 +79,13 @@ module _ {S : Type 0} (contents remaining : S → Option (List ℕ)) where
   -- octets cross the cable, and the pending transmission is heard as those that were read
   pub hears_octets : (asked : Asked) (sent : Message → List ℕ) (old new : LineValue)
       (before after : CableValue S) (octets : Bor (List ℕ)) (read : List ℕ)
-      → ((e : Event) → HearsOctets contents remaining sent e old before after
-      → Crossing contents remaining asked e old before after)
-      → Fits old before → octets.now ≡ read → Sends contents remaining sent old read before after
+      → ((e : Event) → HearsOctets streams sent e old before after
+      → Crossing streams asked e old before after)
+      → Fits old before → octets.now ≡ read → Sends streams sent old read before after
       → connection_count after ≡ connection_count before
       → Does (event.Carry (Some octets)) old (Ok tt) new → IsLine new
-      → Acts contents remaining asked old before (Ok tt) new after
+      → Acts streams asked (record { line = old; cable = before }) (Ok tt)
+      (record { line = new; cable = after })
   hears_octets asked sent old new before after octets read crossing f same sends count d line =
       record {
         accepted = record {
@@ -97,10 +102,11 @@ module _ {S : Type 0} (contents remaining : S → Option (List ℕ)) where
   -- items cross the cable, and each terminal hears the octets that were read
   pub hears_items : (items : List (Option (List ℕ))) (old new : LineValue)
       (before after : CableValue S) (words : Bor (List (Option (Bor (List ℕ)))))
-      → Fits old before → ItemsCross contents remaining items (map octets_in words.now) before after
+      → Fits old before → ItemsCross streams items (map octets_in words.now) before after
       → connection_count after ≡ connection_count before
       → Does (event.CarryEach words) old (Ok tt) new → IsLine new
-      → Acts contents remaining (heard_each items) old before (Ok tt) new after
+      → Acts streams (heard_each items) (record { line = old; cable = before }) (Ok tt)
+      (record { line = new; cable = after })
   hears_items items old new before after words f crossed count d line = record {
     accepted =
         record {
@@ -114,13 +120,14 @@ module _ {S : Type 0} (contents remaining : S → Option (List ℕ)) where
   }
 
 -- a fault interrupts the event
-pub acts_fault : {S : Type 0} (contents remaining : S → Option (List ℕ)) (asked : Asked)
+pub acts_fault : {S : Type 0} (streams : Streams S) (asked : Asked)
     (old new : LineValue) (before after : CableValue S) (e : StepError)
-    → IsFault e → Acts contents remaining asked old before (Err e) new after
-acts_fault contents remaining asked old new before after (step.Refused w) h = absurd h
-acts_fault contents remaining asked old new before after step.Output h =
+    → IsFault e → Acts streams asked (record { line = old; cable = before })
+    (Err e) (record { line = new; cable = after })
+acts_fault streams asked old new before after (step.Refused w) h = absurd h
+acts_fault streams asked old new before after step.Output h =
     record { accepted = tt; fits = tt; refused = λ w q. cc }
-acts_fault contents remaining asked old new before after step.Socket h =
+acts_fault streams asked old new before after step.Socket h =
     record { accepted = tt; fits = tt; refused = λ w q. cc }
-acts_fault contents remaining asked old new before after step.Memory h =
+acts_fault streams asked old new before after step.Memory h =
     record { accepted = tt; fits = tt; refused = λ w q. cc }

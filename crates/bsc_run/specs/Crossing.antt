@@ -16,24 +16,30 @@ abbrev pub HasConnection : {S : Type 0} → Speaker → CableValue S → Type 0
 HasConnection Control c = Unit {0}
 HasConnection (Terminal t) c = t < connection_count c
 
--- For the streams of a cable, `contents` is what was written to a stream, and `remaining` is what
--- is left to read from it.
-module _ {S : Type 0} (contents remaining : S → Option (List ℕ)) where
+-- What was written to a stream of a cable, and what is left to read from it.
+pub record Streams (S : Type 0) : Type 0 where
+  pub contents : S → Option (List ℕ)
+  pub remaining : S → Option (List ℕ)
+
+abbrev pub streams_of : {S : Type 0} → (S → Option (List ℕ)) → (S → Option (List ℕ)) → Streams S
+streams_of contents remaining = record { contents = contents; remaining = remaining }
+
+module _ {S : Type 0} (streams : Streams S) where
   -- Every connection took these octets at the control station's end, as one record, and gave the
   -- heard octets at the terminal's end, as one record.
   pub record CrossesDown (sent heard : List ℕ) (old new : CableValue S) : Type 0 where
-    pub written : AllZip (Takes contents sent) old.control_ends new.control_ends
-    pub read : AllZip (Gives remaining heard) old.terminal_ends new.terminal_ends
+    pub written : AllZip (Takes streams.contents sent) old.control_ends new.control_ends
+    pub read : AllZip (Gives streams.remaining heard) old.terminal_ends new.terminal_ends
 
   -- Only the connection of terminal t carried octets, from the terminal to the control station.
   pub record CrossesUp (t : ℕ) (sent heard : List ℕ) (old new : CableValue S) : Type 0 where
-    pub written : ChangesAt t (Takes contents sent) old.terminal_ends new.terminal_ends
-    pub read : ChangesAt t (Gives remaining heard) old.control_ends new.control_ends
+    pub written : ChangesAt t (Takes streams.contents sent) old.terminal_ends new.terminal_ends
+    pub read : ChangesAt t (Gives streams.remaining heard) old.control_ends new.control_ends
 
   -- Only the connection of terminal t carried octets, from the control station to the terminal.
   pub record CrossesTo (t : ℕ) (sent heard : List ℕ) (old new : CableValue S) : Type 0 where
-    pub written : ChangesAt t (Takes contents sent) old.control_ends new.control_ends
-    pub read : ChangesAt t (Gives remaining heard) old.terminal_ends new.terminal_ends
+    pub written : ChangesAt t (Takes streams.contents sent) old.control_ends new.control_ends
+    pub read : ChangesAt t (Gives streams.remaining heard) old.terminal_ends new.terminal_ends
 
   -- Octets cross from the speaker to the stations that hear it.
   abbrev pub CrossesFrom : Speaker → List ℕ → List ℕ → CableValue S → CableValue S → Type 0

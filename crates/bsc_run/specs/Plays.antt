@@ -10,69 +10,83 @@ use Rattle.bsc_run.specs.declared.error.RunError.{RunError}
 use Rattle.bsc_run.specs.declared.error.RunError.TheVariants.{Refused}
 use Rattle.bsc_run.specs.Printed.{report_of}
 use Rattle.bsc_run.specs.Speaking.{Fits}
-use Rattle.bsc_run.specs.Steps.{Accepts, Refuses, trace_after}
+use Rattle.bsc_run.specs.Crossing.{Streams}
+use Rattle.bsc_run.specs.Steps.{OnCable, Accepts, Refuses, trace_after}
 
 -- The event is the first that is refused: nothing crosses the cable and nothing is printed.
-pub record Stops {S : Type 0} (step : NumberedEvent) (old : LineValue) (before : CableValue S)
-    (result : Result (Unit {0}) RunError) (new : LineValue) (after : CableValue S) (text : List ℕ)
-    : Type 0 where
+pub record Stops {S : Type 0} (step : NumberedEvent) (old : OnCable S)
+    (result : Result (Unit {0}) RunError) (new : OnCable S) (text : List ℕ) : Type 0 where
   pub why : LineError
   pub answer : result ≡ Err (Refused step.line why)
-  pub refused : Refuses step.event why old new
-  pub untouched : after ≡ before
+  pub refused : Refuses step.event why old.line new.line
+  pub untouched : new.cable ≡ old.cable
   pub nothing : text ≡ []
 
--- For the streams of a cable, `contents` is what was written to a stream, and `remaining` is what
--- is left to read from it.
-module _ {S : Type 0} (contents remaining : S → Option (List ℕ)) where
+-- A cable, and what the output holds.
+pub record Outside (S : Type 0) : Type 0 where
+  pub cable : CableValue S
+  pub held : Option (List ℕ)
+
+-- A line, its cable, and what the output holds.
+pub record Playing (S : Type 0) : Type 0 where
+  pub line : LineValue
+  pub outside : Outside S
+
+abbrev pub playing : {S : Type 0} → LineValue → CableValue S → Option (List ℕ) → Playing S
+playing line cable held =
+    record { line = line; outside = record { cable = cable; held = held } }
+
+-- The line and its cable, without the output.
+abbrev pub on_cable : {S : Type 0} → Playing S → OnCable S
+on_cable p = record { line = p.line; cable = p.outside.cable }
+
+module _ {S : Type 0} (streams : Streams S) where
   -- The event is accepted. The run of the remaining events continues with the line and the cable
   -- that it leaves, and prints the rest of the text.
-  pub record GoesOn (step : NumberedEvent) (old : LineValue) (before : CableValue S) (text : List ℕ)
-      (Rest : LineValue → CableValue S → List ℕ → Type 0) : Type 0 where
+  pub record GoesOn (step : NumberedEvent) (old : OnCable S) (text : List ℕ)
+      (Rest : OnCable S → List ℕ → Type 0) : Type 0 where
     pub mid : LineValue
     pub between : CableValue S
     pub rest : List ℕ
     pub line : IsLine mid
-    pub accepted : Accepts contents remaining step.event old before mid between
+    pub accepted : Accepts streams step.event old (record { line = mid; cable = between })
     pub printed : text ≡ trace_after step.event mid ++ rest
-    pub goes : Rest mid between rest
+    pub goes : Rest (record { line = mid; cable = between }) rest
 
   -- The events are performed in order, up to the first that is refused, and this text is printed.
-  abbrev pub Plays : List NumberedEvent → LineValue → CableValue S → Result (Unit {0}) RunError →
-      LineValue → CableValue S → List ℕ → Type 0
-  Plays [] old before (Ok done) new after text = (new ≡ old) × (after ≡ before) × (text ≡ [])
-  Plays [] old before (Err e) new after text = ⊥
-  Plays (step ∷ steps) old before result new after text =
-      Stops step old before result new after text
-      ⊎ GoesOn step old before text
-      (λ mid between rest. Plays steps mid between result new after rest)
+  abbrev pub Plays : List NumberedEvent → OnCable S → Result (Unit {0}) RunError → OnCable S
+      → List ℕ → Type 0
+  Plays [] old (Ok done) new text =
+      (new.line ≡ old.line) × (new.cable ≡ old.cable) × (text ≡ [])
+  Plays [] old (Err e) new text = ⊥
+  Plays (step ∷ steps) old result new text =
+      Stops step old result new text
+      ⊎ GoesOn step old text (λ mid rest. Plays steps mid result new rest)
 
   -- One event of a script is performed or refused, and the text for it is written.
-  pub record TakesStep (step : NumberedEvent) (old : LineValue) (before : CableValue S)
-      (result : Result (Unit {0}) RunError) (new : LineValue) (after : CableValue S)
-      (held holds : Option (List ℕ)) : Type 0 where
-    pub accepted : OnOk result (Accepts contents remaining step.event old before new after)
-    pub fits : OnOk result (Fits new after)
-    pub printed : OnOk result (Appends held holds (trace_after step.event new))
+  pub record TakesStep (step : NumberedEvent) (old : Playing S)
+      (result : Result (Unit {0}) RunError) (new : Playing S) : Type 0 where
+    pub accepted : OnOk result (Accepts streams step.event (on_cable old) (on_cable new))
+    pub fits : OnOk result (Fits new.line new.outside.cable)
+    pub printed : OnOk result
+        (Appends old.outside.held new.outside.held (trace_after step.event new.line))
     pub refused : (line : ℕ) (why : LineError) → result ≡ Err (Refused line why)
-        → (line ≡ step.line) × Refuses step.event why old new × (after ≡ before)
-        × Appends held holds []
+        → (line ≡ step.line) × Refuses step.event why old.line new.line
+        × (new.outside.cable ≡ old.outside.cable) × Appends old.outside.held new.outside.held []
 
   -- The text that a run of the events prints was written.
-  pub record Played (steps : List NumberedEvent) (old : LineValue) (before : CableValue S)
-      (result : Result (Unit {0}) RunError) (new : LineValue) (after : CableValue S)
-      (held holds : Option (List ℕ)) : Type 0 where
+  pub record Played (steps : List NumberedEvent) (old : Playing S)
+      (result : Result (Unit {0}) RunError) (new : Playing S) : Type 0 where
     pub text : List ℕ
-    pub plays : Plays steps old before result new after text
-    pub written : Appends held holds text
+    pub plays : Plays steps (on_cable old) result (on_cable new) text
+    pub written : Appends old.outside.held new.outside.held text
 
   -- The text that a run of the events prints was written, and then the report of the line after it.
-  pub record Runs (steps : List NumberedEvent) (old : LineValue) (before : CableValue S)
-      (result : Result (Unit {0}) RunError) (new : LineValue) (after : CableValue S)
-      (held holds : Option (List ℕ)) : Type 0 where
+  pub record Runs (steps : List NumberedEvent) (old : Playing S)
+      (result : Result (Unit {0}) RunError) (new : Playing S) : Type 0 where
     pub text : List ℕ
-    pub plays : Plays steps old before result new after text
-    pub written : Appends held holds (text ++ report_of new)
+    pub plays : Plays steps (on_cable old) result (on_cable new) text
+    pub written : Appends old.outside.held new.outside.held (text ++ report_of new.line)
 
 -- P holds of a run that no fault interrupted: it reached the end of the script, or a refused event.
 abbrev pub WhereWhole : Result (Unit {0}) RunError → Type 0 → Type 0

@@ -17,7 +17,7 @@ use Rattle.bsc_line_model.specs.declared.transmission.Transmission.{Transmission
 use Rattle.bsc_line_model.specs.Line.{LineValue, terminal_count, channel_of, phase_of}
 use Rattle.bsc_line_model.specs.Offers.{select_count}
 
--- The sender of a transmission.
+-- The name of a sender.
 abbrev pub speaker_name : Speaker → List ℕ
 speaker_name Control = codes "control"
 speaker_name (Terminal t) = codes "terminal " ++ decimal t
@@ -29,7 +29,7 @@ pending_line None = codes "quiet\n"
 pending_line (Some sent) =
     speaker_name sent.speaker ++ codes " " ++ name_line (Whole sent.message)
 
--- The numbers of records offered, known and spooled on a channel.
+-- The numbers of records that are offered, known and spooled on a channel.
 abbrev pub counts_shown : Channel → List ℕ
 counts_shown c =
     codes ": offered " ++ decimal (length c.offered) ++ codes ", known " ++ decimal c.known

@@ -16,7 +16,7 @@ use Rattle.bsc_script.specs.Events.{Event as Asked, offer_at, offer_for, carry, 
 use Rattle.bsc_script.specs.Events.{heard_each, silence, ready, urgent_at, urgent_for, release}
 use Rattle.bsc_run.specs.declared.error.StepError.{StepError}
 use Rattle.bsc_run.specs.declared.error.StepError.TheVariants.{Refused}
-use Rattle.bsc_run.specs.Crossing.{Crosses, ItemsCross}
+use Rattle.bsc_run.specs.Crossing.{Streams, Crosses, ItemsCross}
 use Rattle.bsc_run.specs.Printed.{pending_line}
 use Rattle.bsc_run.specs.Speaking.{Fits}
 
@@ -45,16 +45,19 @@ MayBe (release t way) e = e ≡ event.Release t way
 abbrev pub Refuses : Asked → LineError → LineValue → LineValue → Type 0
 Refuses asked why old new = (e : Event) → MayBe asked e → Does e old (Err why) new
 
--- For the streams of a cable, `contents` is what was written to a stream, and `remaining` is what
--- is left to read from it.
-module _ {S : Type 0} (contents remaining : S → Option (List ℕ)) where
+-- A line, and the cable that its transmissions cross.
+pub record OnCable (S : Type 0) : Type 0 where
+  pub line : LineValue
+  pub cable : CableValue S
+
+module _ {S : Type 0} (streams : Streams S) where
   -- Octets cross the cable from the sender of the pending transmission, and `read` are those that
   -- arrive. The octets are those of its message, or others in their place.
   pub record Sends (sent : Message → List ℕ) (l : LineValue) (read : List ℕ)
       (old new : CableValue S) : Type 0 where
     pub transmission : Transmission
     pub pending : l.pending ≡ Some transmission
-    pub crossed : Crosses contents remaining transmission.speaker (sent transmission.message) read
+    pub crossed : Crosses streams transmission.speaker (sent transmission.message) read
         old new
 
   -- Octets cross the cable in this way, and the pending transmission is heard as those that were
@@ -69,7 +72,7 @@ module _ {S : Type 0} (contents remaining : S → Option (List ℕ)) where
   pub record HearsItems (items : List (Option (List ℕ))) (e : Event) (old new : CableValue S)
       : Type 0 where
     pub words : Bor (List (Option (Bor (List ℕ))))
-    pub crossed : ItemsCross contents remaining items (map octets_in words.now) old new
+    pub crossed : ItemsCross streams items (map octets_in words.now) old new
     pub is : e ≡ event.CarryEach words
 
   -- The crossing of the cable for an event of a script that is accepted as this event of the line.
@@ -82,20 +85,19 @@ module _ {S : Type 0} (contents remaining : S → Option (List ℕ)) where
 
   -- An event of a script is accepted: its octets cross the cable, and the line performs the
   -- corresponding event.
-  pub record Accepts (asked : Asked) (old : LineValue) (before : CableValue S) (new : LineValue)
-      (after : CableValue S) : Type 0 where
+  pub record Accepts (asked : Asked) (old new : OnCable S) : Type 0 where
     pub event : Event
-    pub crossing : Crossing asked event old before after
-    pub done : Does event old (Ok tt) new
+    pub crossing : Crossing asked event old.line old.cable new.cable
+    pub done : Does event old.line (Ok tt) new.line
 
   -- The answer to an event of a script: it is accepted, or it is refused and nothing crosses the
   -- cable, or a fault interrupts it.
-  pub record Acts (asked : Asked) (old : LineValue) (before : CableValue S)
-      (result : Result (Unit {0}) StepError) (new : LineValue) (after : CableValue S) : Type 0 where
-    pub accepted : OnOk result (Accepts asked old before new after)
-    pub fits : OnOk result (Fits new after)
+  pub record Acts (asked : Asked) (old : OnCable S) (result : Result (Unit {0}) StepError)
+      (new : OnCable S) : Type 0 where
+    pub accepted : OnOk result (Accepts asked old new)
+    pub fits : OnOk result (Fits new.line new.cable)
     pub refused : (why : LineError) → result ≡ Err (Refused why)
-        → Refuses asked why old new × (after ≡ before)
+        → Refuses asked why old.line new.line × (new.cable ≡ old.cable)
 
 -- Whether the event is an event of hearing: `carry`, `lose`, `heard`, `heard-each` or `silence`.
 abbrev pub is_heard : Asked → Bool

@@ -11,7 +11,7 @@ ghost use Rattle.bsc_line_model.specs.Hearing.{octets_in};
 ghost use Rattle.bsc_line_model.specs.Kept.{IsLine};
 ghost use Rattle.bsc_line_model.specs.Runs.{Does};
 ghost use Rattle.bsc_script.specs.Actions.{event_in};
-ghost use Rattle.bsc_run.specs.Crossing.{connection_count};
+ghost use Rattle.bsc_run.specs.Crossing.{connection_count, streams_of};
 ghost use Rattle.bsc_script.specs.Events.{carry, heard as heard_event, heard_each};
 ghost use Rattle.bsc_run.specs.Faults.{told};
 ghost use Rattle.bsc_run.specs.Hearing.{IsRefusedEach, WasSent};
@@ -42,8 +42,9 @@ pub(crate) fn act<
     cable: &mut Cable<S, A>,
 ) -> Result<(), StepError>
     requires { Fits line.old cable.old }
-    ensures { Acts S.contents S.remaining (event_in action.now) line.old cable.old result line.new
-        cable.new }
+    ensures { Acts (streams_of S.contents S.remaining) (event_in action.now)
+        (record { line = line.old; cable = cable.old }) result
+        (record { line = line.new; cable = cable.new }) }
 {
     match action {
         Action::OfferAt { terminal, codes } => tell(line.offer_at(*terminal, codes)),
@@ -80,7 +81,9 @@ fn carry_pending<S: Read + Write + Drop, A: Allocator, B: Allocator>(
     cable: &mut Cable<S, A>,
 ) -> Result<(), StepError>
     requires { Fits line.old cable.old }
-    ensures { Acts S.contents S.remaining carry line.old cable.old result line.new cable.new }
+    ensures { Acts (streams_of S.contents S.remaining) carry
+        (record { line = line.old; cable = cable.old }) result
+        (record { line = line.new; cable = cable.new }) }
 {
     let mut read = Octets::new();
     send_pending(line, cable, &mut read)?;
@@ -96,8 +99,9 @@ fn carry_given<S: Read + Write + Drop, A: Allocator, B: Allocator, C: Allocator>
     cable: &mut Cable<S, A>,
 ) -> Result<(), StepError>
     requires { Fits line.old cable.old }
-    ensures { Acts S.contents S.remaining (heard_event octets.now) line.old cable.old result
-        line.new cable.new }
+    ensures { Acts (streams_of S.contents S.remaining) (heard_event octets.now)
+        (record { line = line.old; cable = cable.old }) result
+        (record { line = line.new; cable = cable.new }) }
 {
     let mut read = Octets::new();
     send_given(line, octets.as_slice(), cable, &mut read)?;
@@ -113,7 +117,8 @@ fn send_pending<S: Read + Write + Drop, A: Allocator, B: Allocator>(
 ) -> Result<(), StepError>
     requires { Fits line.now cable.old }
     ensures sends { OnOk result
-        (Sends S.contents S.remaining wire line.now read.new.items cable.old cable.new) }
+        (Sends (streams_of S.contents S.remaining) wire line.now read.new.items cable.old
+        cable.new) }
     ensures refused { (why : Why) → result ≡ Err (StepError.Refused why) →
         (why ≡ LineError.NothingSent) × (line.now.pending ≡ None) × (cable.new ≡ cable.old) }
     ensures count { connection_count cable.new ≡ connection_count cable.old }
@@ -139,7 +144,7 @@ fn send_given<S: Read + Write + Drop, A: Allocator, B: Allocator>(
 ) -> Result<(), StepError>
     requires fits { Fits line.now cable.old }
     requires carried { IsCarried octets.now }
-    ensures sends { OnOk result (Sends S.contents S.remaining
+    ensures sends { OnOk result (Sends (streams_of S.contents S.remaining)
         (λ (message : MessageValue). octets.now) line.now read.new.items cable.old cable.new) }
     ensures refused { (why : Why) → result ≡ Err (StepError.Refused why) →
         (why ≡ LineError.NothingSent) × (line.now.pending ≡ None) × (cable.new ≡ cable.old) }
@@ -175,8 +180,9 @@ fn carry_items<
     cable: &mut Cable<S, A>,
 ) -> Result<(), StepError>
     requires { Fits line.old cable.old }
-    ensures { Acts S.contents S.remaining (heard_each items.now) line.old cable.old result line.new
-        cable.new }
+    ensures { Acts (streams_of S.contents S.remaining) (heard_each items.now)
+        (record { line = line.old; cable = cable.old }) result
+        (record { line = line.new; cable = cable.new }) }
 {
     check_items(line, items.len())?;
     let words = cross_each(alloc, cable, items)?;

@@ -6,7 +6,7 @@ ghost use Rattle.bsc_carrier.specs.Record.{IsCarried};
 ghost use Rattle.bsc_line_model.specs.Hearing.{octets_in};
 ghost use Rattle.bsc_run.specs.Faults.{IsFault};
 ghost use Rattle.bsc_run.specs.Crossing.{connection_count, HasConnection, Crosses, ItemCrosses};
-ghost use Rattle.bsc_run.specs.Crossing.{ItemsCross};
+ghost use Rattle.bsc_run.specs.Crossing.{ItemsCross, streams_of};
 
 use crate::error::StepError;
 use bsc_carrier::{Cable, CarrierError, Octets};
@@ -26,7 +26,8 @@ pub(crate) fn cross<S: Read + Write + Drop, A: Allocator>(
     requires connected { HasConnection speaker cable.old }
     requires carried { IsCarried octets.now }
     ensures crossed { OnOk result
-        (Crosses S.contents S.remaining speaker octets.now heard.new.items cable.old cable.new) }
+        (Crosses (streams_of S.contents S.remaining) speaker octets.now heard.new.items
+        cable.old cable.new) }
     ensures count { connection_count cable.new ≡ connection_count cable.old }
     ensures fault { cable.new.fault ≡ result_err result }
 {
@@ -44,7 +45,7 @@ pub(crate) fn cross_each<S: Read + Write + Drop, A: Allocator, B: Allocator, C: 
     items: &[Option<HeardOctets<B>>],
 ) -> Result<Vec<Option<Octets>, C>, StepError>
     requires { length items.now ≤ connection_count cable.old }
-    ensures crossed { IfOk result (λ heard. ItemsCross S.contents S.remaining
+    ensures crossed { IfOk result (λ heard. ItemsCross (streams_of S.contents S.remaining)
         items.now (map (option_map (λ w. w.items)) heard.items) cable.old cable.new) }
     ensures faults { IfErr result IsFault }
     ensures count { connection_count cable.new ≡ connection_count cable.old }
@@ -64,8 +65,8 @@ fn cross_item<S: Read + Write + Drop, A: Allocator, B: Allocator>(
     item: &Option<HeardOctets<B>>,
 ) -> Result<Option<Octets>, CarrierError>
     requires { terminal < connection_count cable.old }
-    ensures crossed { IfOk result (λ word. ItemCrosses S.contents S.remaining terminal
-        item.now (option_map (λ w. w.items) word) cable.old cable.new) }
+    ensures crossed { IfOk result (λ word. ItemCrosses (streams_of S.contents S.remaining)
+        terminal item.now (option_map (λ w. w.items) word) cable.old cable.new) }
     ensures count { connection_count cable.new ≡ connection_count cable.old }
 {
     match item {

@@ -4,7 +4,8 @@ ghost use Rattle.std.specs.Prelude.{◌≡◌, map, OnOk};
 ghost use Rattle.std.specs.Io.KnownBytes.{Appends};
 ghost use Rattle.bsc_script.specs.Actions.{event_in, numbered};
 ghost use Rattle.bsc_run.specs.LineRuns.{RunsLine};
-ghost use Rattle.bsc_run.specs.Plays.{TakesStep, Played, Runs, WhereWhole};
+ghost use Rattle.bsc_run.specs.Crossing.{streams_of};
+ghost use Rattle.bsc_run.specs.Plays.{TakesStep, Played, Runs, WhereWhole, playing};
 ghost use Rattle.bsc_run.specs.Speaking.{Fits};
 ghost use Rattle.bsc_run.specs.Steps.{is_heard as is_heard_event, trace_after};
 
@@ -39,8 +40,9 @@ pub fn run_on<
     out: &mut W,
 ) -> Result<(), RunError>
     requires { Fits line.old cable.old }
-    ensures does { WhereWhole result (Runs S.contents S.remaining (map numbered steps.now)
-        line.old cable.old result line.new cable.new (W.contents out.old) (W.contents out.new)) }
+    ensures does { WhereWhole result (Runs (streams_of S.contents S.remaining)
+        (map numbered steps.now) (playing line.old cable.old (W.contents out.old)) result
+        (playing line.new cable.new (W.contents out.new))) }
 
     // The line went through a run of its own events, so the laws of every run of a line apply to
     // it.
@@ -72,8 +74,9 @@ fn play<
     out: &mut W,
 ) -> Result<(), RunError>
     requires { Fits line.old cable.old }
-    ensures { WhereWhole result (Played S.contents S.remaining (map numbered steps.now)
-        line.old cable.old result line.new cable.new (W.contents out.old) (W.contents out.new)) }
+    ensures { WhereWhole result (Played (streams_of S.contents S.remaining)
+        (map numbered steps.now) (playing line.old cable.old (W.contents out.old)) result
+        (playing line.new cable.new (W.contents out.new))) }
 {
     'steps: for step in steps {
         if let Err(error) = take(alloc, line, step, cable, out) {
@@ -99,8 +102,9 @@ fn take<
     out: &mut W,
 ) -> Result<(), RunError>
     requires { Fits line.old cable.old }
-    ensures { TakesStep S.contents S.remaining (numbered step.now) line.old cable.old result
-        line.new cable.new (W.contents out.old) (W.contents out.new) }
+    ensures { TakesStep (streams_of S.contents S.remaining) (numbered step.now)
+        (playing line.old cable.old (W.contents out.old)) result
+        (playing line.new cable.new (W.contents out.new)) }
 {
     match act(alloc, line, &step.action, cable) {
         Ok(()) => Ok(write_trace(&step.action, line, out)?),

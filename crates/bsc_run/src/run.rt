@@ -1,7 +1,7 @@
 //! Runs a script on the line of a configuration.
 
 ghost use Rattle.std.specs.Prelude.{◌≡◌, length};
-ghost use Rattle.bsc_run.specs.Crossing.{connection_count};
+ghost use Rattle.bsc_run.specs.Crossing.{connection_count, streams_of};
 ghost use Rattle.bsc_run.specs.Plays.{WhereWhole};
 ghost use Rattle.bsc_run.specs.Runs.{RunsScript};
 
@@ -34,8 +34,9 @@ pub fn run_line<S: Read + Write + Drop, A: Allocator, C: Allocator, E: Allocator
     out: &mut W,
 ) -> Result<(), RunError>
     requires { connection_count cable.old ≡ length config.now.terminals }
-    ensures { WhereWhole result (RunsScript S.contents S.remaining config.now script.now
-        cable.old result cable.new (W.contents out.old) (W.contents out.new)) }
+    ensures { WhereWhole result (RunsScript (streams_of S.contents S.remaining) config.now
+        script.now (record { cable = cable.old; held = W.contents out.old }) result
+        (record { cable = cable.new; held = W.contents out.new })) }
 {
     let (terminals, poll_list) = (config.terminal_list(), config.poll_list());
     match Line::new(alloc, config.setup(), terminals, poll_list) {

@@ -2,6 +2,7 @@
 
 ghost use Rattle.std.specs.Prelude.{◌≡◌, ◌≢◌, Err, IfErr, IsTrue, OnOk, codes, false};
 ghost use Rattle.bsc_running.specs.Errors.{IsEarly};
+ghost use Rattle.bsc_run.specs.Crossing.{streams_of};
 ghost use Rattle.bsc_running.specs.Running.{IsRunDone, RunsOnCable};
 
 use crate::{Cables, RunningError};
@@ -40,9 +41,13 @@ pub fn run<R: Read, H: Files + Cables, W: Write>(
     ensures early { IfErr result (λ error. IsEarly error → out.new ≡ out.old) }
     ensures checked { IsTrue words.entry.check → out.new ≡ out.old }
     ensures done { OnOk result
-        (IsRunDone H.Stream.contents H.Stream.remaining words.entry.check words.entry.config.now
-        words.entry.script.now (R.remaining input.old) (W.contents out.old)
-        (W.contents out.new)) }
+        (IsRunDone (streams_of H.Stream.contents H.Stream.remaining) words.entry.check
+        (record {
+          config = words.entry.config.now;
+          script = words.entry.script.now;
+          input = R.remaining input.old;
+        })
+        (W.contents out.old) (W.contents out.new)) }
 {
     let RunWords {
         config,
@@ -79,7 +84,7 @@ fn run_on_cable<H: Cables, W: Write>(
 ) -> Result<(), RunningError>
     ensures early { IfErr result (λ error. IsEarly error → out.new ≡ out.old) }
     ensures ran { OnOk result
-        (RunsOnCable H.Stream.contents H.Stream.remaining config.now script.now
+        (RunsOnCable (streams_of H.Stream.contents H.Stream.remaining) config.now script.now
         (W.contents out.old) (W.contents out.new)) }
 {
     let mut cable = machine.connect(config.terminals())?;

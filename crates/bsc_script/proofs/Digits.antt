@@ -14,17 +14,17 @@ use Rattle.std.proofs.lemmas.Str.{digit_value_digit}
 use Rattle.std.proofs.lemmas.Str.Parse.{digits_value-take-le}
 use Rattle.bsc_script.specs.Numbers.{has_digits}
 
-both : (a b : Bool) → (a && b) ≡ true → (a ≡ true) × (b ≡ true)
-both true b e = (refl, e)
-both false b e = cc
+both_of_and : (a b : Bool) → (a && b) ≡ true → (a ≡ true) × (b ≡ true)
+both_of_and true b e = (refl, e)
+both_of_and false b e = cc
 
 digit_range : (c : ℕ) → is_ascii_digit c ≡ true → IsInRange 48 57 c
-digit_range c e = let p = both _ _ e in (leb-true 48 c p.0, leb-true c 57 p.1)
+digit_range c e = let p = both_of_and _ _ e in (leb-true 48 c p.0, leb-true c 57 p.1)
 
 all_digits : (word : List ℕ) → list_all is_ascii_digit word ≡ true → AllDigits 10 word
 all_digits [] e = tt
 all_digits (c ∷ word) e =
-    let p = both (is_ascii_digit c) (list_all is_ascii_digit word) e in
+    let p = both_of_and (is_ascii_digit c) (list_all is_ascii_digit word) e in
     let range = digit_range c p.0 in
     let value = digit_value_digit c range in
     (omega arith, all_digits word p.1)
@@ -35,7 +35,7 @@ pub digit_at : (most : ℕ) (word : List ℕ) (i : ℕ) → has_digits most word
     × (digit_value (get_or word i 0) + 48 ≡ get_or word i 0)
 digit_at most word i e below =
     let tests =
-    both (not (length word == 0) && nat_le (length word) most) (list_all is_ascii_digit word)
+    both_of_and (not (length word == 0) && nat_le (length word) most) (list_all is_ascii_digit word)
     e in
     let range =
     digit_range (get_or word i 0) (AllPass-from_list_all is_ascii_digit word tests.1 i 0
@@ -47,10 +47,10 @@ pub below_thousand : (most : ℕ) (word : List ℕ) (i : ℕ) → most ≤ 3 →
     → digits_value 10 (take i word) < 1000
 below_thousand most word i few e =
     let tests =
-    both (not (length word == 0) && nat_le (length word) most) (list_all is_ascii_digit word)
+    both_of_and (not (length word == 0) && nat_le (length word) most) (list_all is_ascii_digit word)
     e in
     let short =
-    leb-true (length word) most (both (not (length word == 0)) (nat_le (length word) most)
+    leb-true (length word) most (both_of_and (not (length word == 0)) (nat_le (length word) most)
     tests.0).1 in
     let front = digits_value-take-le 10 word i (omega arith) in
     let whole = digits_value-lt 10 word (all_digits word tests.1) in

@@ -14,17 +14,17 @@ record IsAfter (f : FormatValue) (rs : List (List ℕ)) (n : Next) : Type 0 wher
   pub last : n.end ≡ Etx → n.count ≡ length rs
   pub more : n.end ≡ Etb → n.count < length rs
 
-ends : (f : FormatValue) (rs : List (List ℕ)) (b : Bool) → IsTaken f rs (taken f rs)
+block_ends_with_last_record : (f : FormatValue) (rs : List (List ℕ)) (b : Bool) → IsTaken f rs (taken f rs)
     → nat_eq (taken f rs) (length rs) ≡ b
     → IsAfter f rs (record { count = taken f rs; end = if b then Etx else Etb })
-ends f rs true t e =
+block_ends_with_last_record f rs true t e =
     record {
       count = refl;
       last = λ _. eqb-true (taken f rs) (length rs) e;
       more =
           λ h. absurd (cc);
     }
-ends f rs false t e =
+block_ends_with_last_record f rs false t e =
     record {
       count = refl;
       last = λ h. absurd (cc);
@@ -32,23 +32,23 @@ ends f rs false t e =
           eqb-false (taken f rs) (length rs) e in omega (arith, t.there);
     }
 
-after : (f : FormatValue) (rs : List (List ℕ)) (n : Next) → IsTaken f rs (taken f rs)
+next_block_after_taken : (f : FormatValue) (rs : List (List ℕ)) (n : Next) → IsTaken f rs (taken f rs)
     → next_after f rs ≡ Some n → (rs ≢ []) × IsAfter f rs n
-after f [] n t e = absurd (cc)
-after f (r ∷ rs) n t e =
+next_block_after_taken f [] n t e = absurd (cc)
+next_block_after_taken f (r ∷ rs) n t e =
     let same : record {
       count = taken f (r ∷ rs);
       end =
           if nat_eq (taken f (r ∷ rs)) (length (r ∷ rs)) then Etx else Etb;
     } ≡ n = cc in
-    (λ h. cc, rw (← same) (ends f (r ∷ rs) (nat_eq (taken f (r ∷ rs)) (length (r ∷ rs))) t refl))
+    (λ h. cc, rw (← same) (block_ends_with_last_record f (r ∷ rs) (nat_eq (taken f (r ∷ rs)) (length (r ∷ rs))) t refl))
 
 pub next_block_is_next : (q : QueueValue) (n : Next)
     → ((waiting q ≢ []) → 1 ≤ taken q.format (waiting q))
     → IsTaken q.format (waiting q) (taken q.format (waiting q))
     → next_block q ≡ Some n → IsNext q n
 next_block_is_next q n some t e =
-    let a : (waiting q ≢ []) × IsAfter q.format (waiting q) n = after q.format (waiting q) n t e in
+    let a : (waiting q ≢ []) × IsAfter q.format (waiting q) n = next_block_after_taken q.format (waiting q) n t e in
     record {
       count = a.1.count;
       some = omega (arith, some a.0, a.1.count);

@@ -7,7 +7,7 @@ ghost use Rattle.bsc_spool.specs.Queue.{waiting, next_block, queue_of, with_offe
 ghost use Rattle.bsc_spool.specs.Queue.{IsQueue, IsNext};
 
 use bsc_block::laws::cut_into_blocks;
-use bsc_block::{Format, Record, build, pack};
+use bsc_block::{Format, Record, Records, build, pack};
 use bsc_frame::limits::MAX_UNITS;
 use bsc_frame::{End, Message};
 use std::alloc::Allocator;
@@ -30,7 +30,7 @@ pub struct Queue<A: Allocator> {
     format: Format,
 
     /// The records that were offered, the delivered ones first.
-    records: Vec<Record, A>,
+    records: Records<A>,
 
     /// How many of them are known to have been delivered.
     known: usize,
@@ -49,11 +49,13 @@ impl<A: Allocator> Model for Queue<A> {
 impl<A: Allocator> Queue<A> {
     /// Creates an empty queue. It does not allocate memory.
     pub fn new(alloc: A, format: Format) -> Self
+    where
+        A: Copy,
         ensures { result ≡ queue_of format [] 0 }
     {
         Queue {
             format,
-            records: Vec::new(alloc),
+            records: Records::new(alloc),
             known: 0,
         }
     }
@@ -66,18 +68,18 @@ impl<A: Allocator> Queue<A> {
         ensures err { OnErr result (self.new ≡ self.old) }
         ensures given_back { IfErr result (λ r. r ≡ «record») }
     {
-        match self.records.push(record) {
+        match self.records.push(&record) {
             Ok(()) => Ok(()),
-            Err(failed) => Err(failed.value),
+            Err(_) => Err(record),
         }
     }
 
     /// Returns the records that were offered, the delivered ones first.
-    pub fn offered(&self) -> &[Record]
-        ensures value { result.now ≡ self.now.offered }
+    pub fn offered(&self) -> &Records<A>
+        ensures value { result.now.items ≡ self.now.offered }
         ensures queue { IsQueue self.now }
     {
-        self.records.as_slice()
+        &self.records
     }
 
     /// Returns how many of the offered records are known to have been delivered.
@@ -104,12 +106,11 @@ impl<A: Allocator> Queue<A> {
         ensures value { result ≡ next_block self.now }
         ensures next { IfSome result (λ n. IsNext self.now n) }
     {
-        let waiting = &self.records[self.known..];
-        let count = pack(waiting, self.format);
+        let count = pack(&self.records, self.known, self.format);
         if count == 0 {
             return None;
         }
-        let end = if count == waiting.len() {
+        let end = if count == self.records.len() - self.known {
             End::Etx
         } else {
             End::Etb
@@ -126,7 +127,7 @@ impl<A: Allocator> Queue<A> {
         let mut at = self.known;
         let mut count = 0usize;
         while at < self.records.len() {
-            at += pack(&self.records[at..], self.format);
+            at += pack(&self.records, at, self.format);
             count += 1;
         }
         count
@@ -142,12 +143,7 @@ impl<A: Allocator> Queue<A> {
             ≡ Some (Message.Text
             (block_text self.now.format (take count (waiting self.now)) end)) }
     {
-        build(
-            &self.records[self.known..self.known + count],
-            self.format,
-            end,
-            message,
-        );
+        build(&self.records, self.known, count, self.format, end, message);
     }
 
     /// Records that the first `count` waiting records were delivered. `count` is at most the number
@@ -156,6 +152,7 @@ impl<A: Allocator> Queue<A> {
         requires { count ≤ length (waiting self.old) }
         ensures { self.new ≡ with_known self.old count }
     {
+        prove!(count <= self.records.len() - self.known);
         self.known += count;
     }
 }

@@ -3,8 +3,7 @@
 ghost use Rattle.std.specs.Prelude.{◌≡◌, [], ◌++◌, true, false};
 ghost use Rattle.bsc_spool.specs.Spool.{room_asked};
 
-use bsc_block::{Block, Record};
-use bsc_frame::limits::MAX_UNITS;
+use bsc_block::{Block, Records};
 use std::alloc::Allocator;
 use std::marker::Model;
 
@@ -12,22 +11,20 @@ use std::marker::Model;
 #[derive(Drop)]
 pub struct Spool<A: Allocator> {
     /// The records that arrived, in order.
-    records: Vec<Record, A>,
+    records: Records<A>,
 
     /// How often room was refused, at most 2^64 - 1. Only contracts read it.
     delays: u64,
 }
 
 impl<A: Allocator> Model for Spool<A> {
-    ghost use Rattle.std.specs.Prelude.{◌+◌, vec_len, vec_capacity, nat_le};
-    ghost use Rattle.bsc_frame.specs.declared.limits.TheConstants.{MAX_UNITS};
     ghost use Rattle.bsc_spool.specs.Spool.{SpoolValue};
 
     ghost Value = { SpoolValue };
 
     ghost view = { λ s. record {
       records = s.records.items;
-      room = nat_le (vec_len s.records + MAX_UNITS) (vec_capacity s.records);
+      room = s.records.room;
       delays = s.delays;
     } };
 }
@@ -35,12 +32,14 @@ impl<A: Allocator> Model for Spool<A> {
 impl<A: Allocator> Spool<A> {
     /// Creates an empty spool. It does not allocate memory, so it has no room yet.
     pub fn new(alloc: A) -> Self
+    where
+        A: Copy,
         ensures records { result.records ≡ [] }
         ensures room { result.room ≡ false }
         ensures delays { result.delays ≡ 0 }
     {
         Spool {
-            records: Vec::new(alloc),
+            records: Records::new(alloc),
             delays: 0,
         }
     }
@@ -51,20 +50,18 @@ impl<A: Allocator> Spool<A> {
         ensures answer { self.new ≡ room_asked self.old result }
         ensures there { self.old.room ≡ true → result ≡ true }
     {
-        match self.records.try_reserve(MAX_UNITS) {
-            Ok(()) => true,
-            Err(_) => {
-                self.delays = self.delays.saturating_add(1);
-                false
-            }
+        if self.records.make_room() {
+            return true;
         }
+        self.delays = self.delays.saturating_add(1);
+        false
     }
 
     /// Returns whether there is room for seven more records.
     pub fn has_room(&self) -> bool
         ensures { result ≡ self.now.room }
     {
-        self.records.len() + MAX_UNITS <= self.records.capacity()
+        self.records.has_room()
     }
 
     /// Appends the records of a text. There must be room for seven records; no memory is allocated.
@@ -73,18 +70,13 @@ impl<A: Allocator> Spool<A> {
         ensures records { self.new.records ≡ self.old.records ++ block.now }
         ensures delays { self.new.delays ≡ self.old.delays }
     {
-        for place in 0..block.count() {
-            match self.records.push(block.record(place)) {
-                Ok(()) => {}
-                Err(_) => unreachable!(),
-            }
-        }
+        self.records.append(block);
     }
 
     /// Returns the records that arrived, in order.
-    pub fn records(&self) -> &[Record]
-        ensures { result.now ≡ self.now.records }
+    pub fn records(&self) -> &Records<A>
+        ensures { result.now.items ≡ self.now.records }
     {
-        self.records.as_slice()
+        &self.records
     }
 }

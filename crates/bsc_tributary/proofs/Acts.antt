@@ -81,20 +81,20 @@ follows_sent_next mode n s q alternation None =
 follows_sent_next mode n s q alternation
     (Some next) = record { suits = tt; setup_is = refl; format_is = refl; offered_is = refl }
 
-suits_by : (act : Act) (old new : Phase) (n : ℕ) → IsGoing old → FitsAct act old new
+mode_suits_phase_after_act : (act : Act) (old new : Phase) (n : ℕ) → IsGoing old → FitsAct act old new
     → SuitsMode (mode_after act Sending) new n
-suits_by (a.Send text) old new n goes fits = fits
-suits_by a.Enq old new n goes fits = fits
-suits_by a.Over old new n goes fits = fits
-suits_by a.Quiet old new n goes fits = subst IsGoing (sym fits) goes
+mode_suits_phase_after_act (a.Send text) old new n goes fits = fits
+mode_suits_phase_after_act a.Enq old new n goes fits = fits
+mode_suits_phase_after_act a.Over old new n goes fits = fits
+mode_suits_phase_after_act a.Quiet old new n goes fits = subst IsGoing (sym fits) goes
 
 -- a step while a bid is in progress
-follows : (n : ℕ) (s : SenderValue) (q : QueueValue) (step : SenderStep) → IsGoing s.phase
+step_follows_from_sending : (n : ℕ) (s : SenderValue) (q : QueueValue) (step : SenderStep) → IsGoing s.phase
     → FitsAct step.act s.phase step.sender.phase → StepKeeps s q step
     → FollowsFrom Sending n s q step
-follows n s q step goes fits keeps =
+step_follows_from_sending n s q step goes fits keeps =
     record {
-      suits = suits_by step.act s.phase step.sender.phase n goes fits;
+      suits = mode_suits_phase_after_act step.act s.phase step.sender.phase n goes fits;
       setup_is = keeps.setup_is;
       format_is = keeps.format_is;
       offered_is = keeps.offered_is;
@@ -105,10 +105,10 @@ pub follows_reply_step : (n : ℕ) (s : SenderValue) (q : QueueValue) (r : Optio
     → IsGoing s.phase →
     FollowsFrom Sending n s q (reply_step s q r)
 follows_reply_step n s q r goes =
-    follows n s q (reply_step s q r) goes (fits_reply s q r) (keeps_reply s q r)
+    step_follows_from_sending n s q (reply_step s q r) goes (fits_reply s q r) (keeps_reply s q r)
 
 -- a silence while a bid is in progress
 pub follows_silence_step : (n : ℕ) (s : SenderValue) (q : QueueValue) → IsGoing s.phase →
     FollowsFrom Sending n s q (silence_step s q)
 follows_silence_step n s q goes =
-    follows n s q (silence_step s q) goes (fits_silence s q) (keeps_silence s q)
+    step_follows_from_sending n s q (silence_step s q) goes (fits_silence s q) (keeps_silence s q)

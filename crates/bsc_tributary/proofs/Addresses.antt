@@ -32,18 +32,18 @@ is_same-≢ a b ne =
     [ inl same ↦ absurd (ne same.0) | inr differ ↦ differ.1 ]
 
 -- the first element that passes a test
-pub position_at : (p : List ℕ → Bool) (xs : List (List ℕ)) (i : ℕ) → i < length xs →
+pub position_of_first_passing : (p : List ℕ → Bool) (xs : List (List ℕ)) (i : ℕ) → i < length xs →
     ((k : ℕ) → k < i → p (get_or xs k []) ≡ false) → p (get_or xs i []) ≡ true → position p xs
     ≡ Some i
-position_at p xs i within before here =
+position_of_first_passing p xs i within before here =
     let first : position_or_len p xs ≡ i =
     position_or_len_is p xs i [] (omega arith) before (λ _. here) in
     let less : nat_lt i (length xs) ≡ true = grind (arith, nat_tests) in
     rw (first, less) refl
 
-pub position_none : (p : List ℕ → Bool) (xs : List (List ℕ)) →
+pub no_position_if_none_passes : (p : List ℕ → Bool) (xs : List (List ℕ)) →
     ((k : ℕ) → k < length xs → p (get_or xs k []) ≡ false) → position p xs ≡ None
-position_none p xs each =
+no_position_if_none_passes p xs each =
     let all : position_or_len p xs ≡ length xs =
     position_or_len_is p xs (length xs) [] (omega arith) each
     (λ less. absurd (omega arith)) in
@@ -51,15 +51,15 @@ position_none p xs each =
     rw (all, none) refl
 
 -- if a search finds no element, none passes
-pub none_passes : {X : Type 0} → (p : X → Bool) (xs : List X) (k : ℕ) (d : X) → position p xs ≡ None
+pub none_passes_without_position : {X : Type 0} → (p : X → Bool) (xs : List X) (k : ℕ) (d : X) → position p xs ≡ None
     → k < length xs → p (get_or xs k d) ≡ false
-none_passes p xs k d none within =
-    by_test (nat_lt (position_or_len p xs) (length xs)) refl none
+none_passes_without_position p xs k d none within =
+    test_fails_without_position (nat_lt (position_or_len p xs) (length xs)) refl none
   where
-    by_test : (less : Bool) → nat_lt (position_or_len p xs) (length xs) ≡ less
+    test_fails_without_position : (less : Bool) → nat_lt (position_or_len p xs) (length xs) ≡ less
         → (if less then Some (position_or_len p xs) else None) ≡ None → p (get_or xs k d) ≡ false
-    by_test true e found = absurd (cc)
-    by_test false e found = let far : length xs ≤ position_or_len p xs = grind (arith, nat_tests) in
+    test_fails_without_position true e found = absurd (cc)
+    test_fails_without_position false e found = let far : length xs ≤ position_or_len p xs = grind (arith, nat_tests) in
         fails_before_first p xs k d (omega (arith, within, far))
 
 -- a call that is not of the polling address names the first selection address that is the same
@@ -105,7 +105,7 @@ is_selection t address s distinct at =
     called_as_selection t address s
     (is_same-≢ address t.poll (λ e. distinct zero (suc s) [] (omega arith) (omega arith)
     (sym (here ∙ e))))
-    (position_at (is_same address) t.selects s within
+    (position_of_first_passing (is_same address) t.selects s within
     (λ k less. is_same-≢ address (get_or t.selects k [])
     (λ e. distinct (suc k) (suc s) [] (omega arith) (omega arith) (sym e ∙ sym here)))
     (is_same_refl address (get_or t.selects s []) (sym here)))
@@ -124,21 +124,21 @@ place_is_none t address (suc k) poll nowhere within here =
     is_same_refl address (get_or t.selects k [])
     (sym there) in
     let no : is_same address (get_or t.selects k []) ≡ false =
-    none_passes (is_same address) t.selects k [] nowhere less in
+    none_passes_without_position (is_same address) t.selects k [] nowhere less in
     cc
 
-pub other_is : (t : TerminalValue) (address : List ℕ) → called_as t address ≡ Other
+pub other_address_is_not_own : (t : TerminalValue) (address : List ℕ) → called_as t address ≡ Other
     → Contains (own_addresses t) address → ⊥
-other_is t address e there =
+other_address_is_not_own t address e there =
     let f = from_Other (is_same address t.poll) (position (is_same address) t.selects) e in
     place_is_none t address there.0 f.0 f.1 there.1 there.2
 
-pub is_other : (t : TerminalValue) (address : List ℕ) → (Contains (own_addresses t) address → ⊥) →
+pub not_own_is_other : (t : TerminalValue) (address : List ℕ) → (Contains (own_addresses t) address → ⊥) →
     called_as t address ≡ Other
-is_other t address none =
+not_own_is_other t address none =
     called_as_other t address
     (is_same-≢ address t.poll (λ e. none (zero, omega arith, sym e)))
-    (position_none (is_same address) t.selects
+    (no_position_if_none_passes (is_same address) t.selects
     (λ k within. is_same-≢ address (get_or t.selects k [])
     (λ e. none (
       suc k,
@@ -148,12 +148,12 @@ is_other t address none =
     ))))
 
 -- if a call of each selection address names that address, the addresses differ
-distinct_at : (t : TerminalValue)
+distinct_selects_by_call : (t : TerminalValue)
     → ((k : ℕ) → k < length t.selects → called_as t (get_or t.selects k []) ≡
     Selection k) → (i j : ℕ) (d : List ℕ) → i < j → j < length (own_addresses t) →
     get_or (own_addresses t) i d ≢ get_or (own_addresses t) j d
-distinct_at t each i zero d less within e = absurd (omega arith)
-distinct_at t each zero (suc j) d less within e =
+distinct_selects_by_call t each i zero d less within e = absurd (omega arith)
+distinct_selects_by_call t each zero (suc j) d less within e =
     let there : j < length t.selects = omega arith in
     let f = from_Selection (is_same (get_or t.selects j []) t.poll)
     (position (is_same (get_or t.selects j [])) t.selects) j (each j there) in
@@ -163,7 +163,7 @@ distinct_at t each zero (suc j) d less within e =
     is_same_refl (get_or t.selects j []) t.poll
     (sym (e ∙ here)) in
     cc
-distinct_at t each (suc i) (suc j) d less within e =
+distinct_selects_by_call t each (suc i) (suc j) d less within e =
     let there : j < length t.selects = omega arith in
     let before : i < j = omega arith in
     let also : i < length t.selects = omega arith in
@@ -183,7 +183,7 @@ distinct_at t each (suc i) (suc j) d less within e =
 pub are_distinct : (t : TerminalValue)
     → ((k : ℕ) → k < length t.selects → called_as t (get_or t.selects k []) ≡
     Selection k) → HasDistinctAddresses t
-are_distinct t each = λ i j d less within. distinct_at t each i j d less within
+are_distinct t each = λ i j d less within. distinct_selects_by_call t each i j d less within
 
 pub is_selection_at : (t : TerminalValue) (s : ℕ) → HasDistinctAddresses t → s < length t.selects →
     called_as t (get_or t.selects s []) ≡ Selection s

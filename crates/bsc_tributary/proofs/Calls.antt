@@ -35,13 +35,13 @@ poll_from_poll_step : (t old : TributaryValue) → t ≡ without_line old →
     poll_from (record t { urgent = false }) ≡ poll_step old
 poll_from_poll_step t old e = ap (λ (v : TributaryValue). poll_from (record v { urgent = false })) e
 
-is_true : (b : Bool) → not b ≡ false → b ≡ true
-is_true true e = refl
-is_true false e = absurd (cc)
+true_of_not_false : (b : Bool) → not b ≡ false → b ≡ true
+true_of_not_false true e = refl
+true_of_not_false false e = absurd (cc)
 
-is_false : (b : Bool) → not b ≡ true → b ≡ false
-is_false true e = absurd (cc)
-is_false false e = refl
+false_of_not_true : (b : Bool) → not b ≡ true → b ≡ false
+false_of_not_true true e = absurd (cc)
+false_of_not_true false e = refl
 
 -- EOT, because the terminal is in doubt
 pub poll_step_in_doubt : (t old : TributaryValue) → t ≡ without_line old
@@ -59,7 +59,7 @@ pub poll_step_empty : (t old : TributaryValue) → t ≡ without_line old → is
     answer_step (record t { urgent = false }) m.Eot ≡ poll_step old
 poll_step_empty t old e sure none =
     let empty : nat_eq (length (waiting t.queue)) 0 ≡ true =
-    is_true (nat_eq (length (waiting t.queue)) 0) none in
+    true_of_not_false (nat_eq (length (waiting t.queue)) 0) none in
     let here : answer_step (record t { urgent = false }) m.Eot
     ≡ poll_from (record t { urgent = false }) = rw
     (sure, empty) refl in
@@ -80,7 +80,7 @@ pub poll_step_begins : (t old : TributaryValue) (step : SenderStep) (mode : Mode
     } ≡ poll_step old
 poll_step_begins t old step mode sent e sure some row mode_is sent_is =
     let wait : nat_eq (length (waiting t.queue)) 0 ≡ false =
-    is_false (nat_eq (length (waiting t.queue)) 0) some in
+    false_of_not_true (nat_eq (length (waiting t.queue)) 0) some in
     let u : TributaryValue = record t { urgent = false } in
     let done : record {
       tributary =

@@ -11,7 +11,7 @@ use Rattle.bsc_bid.specs.declared.alternation.Alternation.{Alternation}
 use Rattle.bsc_bid.specs.declared.alternation.Alternation.TheVariants.{Odd}
 use Rattle.bsc_bid.specs.Sender.{SenderValue, begin_step, sent_next, is_in_doubt}
 use Rattle.bsc_bid.specs.Terminal.{TerminalValue}
-use Rattle.bsc_bid.proofs.Choice.{choose}
+use Rattle.bsc_bid.proofs.Choice.{either_branch}
 use Rattle.bsc_tributary.specs.declared.called.Called.{Called}
 use Rattle.bsc_tributary.specs.declared.called.Called.TheVariants.{Polling, Selection, Other}
 use Rattle.bsc_tributary.specs.declared.mode.Mode.{Mode}
@@ -39,8 +39,8 @@ mode_poll_step t =
     let d : TributaryValue = record (without_line t) { urgent = false } in
     let P : TributaryStep → Type 0 = λ o. (o.tributary.mode ≡ Control)
     ⊎ (o.tributary.mode ≡ Sending) in
-    choose P (is_in_doubt d.sender.phase) (answer_step d m.Eot) _ (inl refl)
-    (choose P (nat_eq (length (waiting d.queue)) 0) (answer_step d m.Eot)
+    either_branch P (is_in_doubt d.sender.phase) (answer_step d m.Eot) _ (inl refl)
+    (either_branch P (nat_eq (length (waiting d.queue)) 0) (answer_step d m.Eot)
     (act_step d (begin_step d.sender d.queue)) (inl refl)
     (begun_mode d.sender d.queue Odd (next_block d.queue)))
 
@@ -92,10 +92,10 @@ hears_selection t new address s sent called row room =
           ∙ room (ap (λ n. (spool_at t.spools n).room) (sym same) ∙ had);
     }
 
-pub hears_other : (t new : TributaryValue) (address : List ℕ) → Other ≡ called_as t.terminal address
+pub other_call_is_heard : (t new : TributaryValue) (address : List ℕ) → Other ≡ called_as t.terminal address
     →
     new ≡ without_line t → Hears t (Whole (m.Call address)) new None
-hears_other t new address called row =
+other_call_is_heard t new address called row =
     record {
       row =
           ap quiet_step row

@@ -17,7 +17,7 @@ use Rattle.bsc_bid.specs.Receiver.{ReceiverStep, Rooms, heard_step}
 use Rattle.bsc_bid.specs.Ready.{IsReady}
 use Rattle.bsc_bid.specs.Sender.{SenderValue, SenderStep, with_phase, cut_phase, begin_step}
 use Rattle.bsc_bid.specs.Sender.{reply_step, silence_step, is_in_doubt}
-use Rattle.bsc_bid.proofs.Choice.{choose}
+use Rattle.bsc_bid.proofs.Choice.{either_branch}
 use Rattle.bsc_bid.proofs.ReceiverSteps.{Grows, grows_heard_step}
 use Rattle.bsc_tributary.specs.declared.called.Called.{Called}
 use Rattle.bsc_tributary.specs.declared.called.Called.TheVariants.{Polling, Selection, Other}
@@ -35,7 +35,7 @@ use Rattle.bsc_tributary.proofs.Acts.{FollowsFrom, follows_sent_next, follows_re
 use Rattle.bsc_tributary.proofs.Acts.{follows_silence_step, mode_after_sending}
 use Rattle.bsc_tributary.proofs.CallsHeard.{begun_mode, within_selects}
 use Rattle.bsc_tributary.proofs.InMode.{hear_step_no_call}
-use Rattle.bsc_tributary.proofs.Noise.{quiet_in}
+use Rattle.bsc_tributary.proofs.Noise.{quiet_on_noise_in_mode}
 use Rattle.bsc_tributary.proofs.Stays.{stays_without_line}
 use Rattle.bsc_bid.specs.Station.{StaysQuiet}
 
@@ -61,23 +61,23 @@ record Beside (spools : List SpoolValue) (s r : ℕ) (spool : SpoolValue) : Type
   other : r ≢ s
   is : spool_at (slice_set spools s spool) r ≡ spool_at spools r
 
-place : (spools : List SpoolValue) (s r : ℕ) (spool : SpoolValue) (same : Bool) → nat_eq r s ≡ same
+at_or_beside_spool : (spools : List SpoolValue) (s r : ℕ) (spool : SpoolValue) (same : Bool) → nat_eq r s ≡ same
     →
     s < length spools → At spools s r spool ⊎ Beside spools s r spool
-place spools s r spool true e within =
+at_or_beside_spool spools s r spool true e within =
     let same : r ≡ s = grind (arith, nat_tests) in
     inl (record {
       same = same;
       is = ap (spool_at (slice_set spools s spool)) same
           ∙ get_or-set_same spools s spool empty_spool within;
     })
-place spools s r spool false e within =
+at_or_beside_spool spools s r spool false e within =
     let other : r ≢ s = grind (arith, nat_tests) in
     inr (record { other = other; is = get_or-set_other spools s r spool empty_spool other })
 
 at_or_beside : (spools : List SpoolValue) (s r : ℕ) (spool : SpoolValue) → s < length spools →
     At spools s r spool ⊎ Beside spools s r spool
-at_or_beside spools s r spool within = place spools s r spool (nat_eq r s) refl within
+at_or_beside spools s r spool within = at_or_beside_spool spools s r spool (nat_eq r s) refl within
 
 -- a row of a call
 record CallChanges (old : TributaryValue) (called : Called) (step : TributaryStep) : Type 0 where
@@ -89,9 +89,9 @@ record CallChanges (old : TributaryValue) (called : Called) (step : TributarySte
       ≡ (spool_at old.spools s).records
   gives_up_line : called ≡ Other → (step.tributary.mode ≡ Control) × (step.sent ≡ None)
 
-keeps_all : (t : TributaryValue) (urgent : Bool)
+keeps_all_but_urgent : (t : TributaryValue) (urgent : Bool)
     → Keeps t (record (without_line t) { urgent = urgent })
-keeps_all t urgent =
+keeps_all_but_urgent t urgent =
     record {
       terminal = refl;
       setup = refl;
@@ -111,14 +111,14 @@ polled_changes t =
     let eot : CallChanges t Polling
     (answer_step d m.Eot) =
     record {
-      keeps = keeps_all t false;
+      keeps = keeps_all_but_urgent t false;
       mode = inl refl;
       other_spools = λ s ne. refl;
       same_records = λ s. refl;
       gives_up_line = λ e. absurd (cc);
     } in
-    choose (CallChanges t Polling) (is_in_doubt d.sender.phase) (answer_step d m.Eot) _ eot
-    (choose (CallChanges t Polling) (nat_eq (length (waiting d.queue)) 0) (answer_step d m.Eot)
+    either_branch (CallChanges t Polling) (is_in_doubt d.sender.phase) (answer_step d m.Eot) _ eot
+    (either_branch (CallChanges t Polling) (nat_eq (length (waiting d.queue)) 0) (answer_step d m.Eot)
     (act_step d (begin_step d.sender d.queue)) eot
     (record {
       keeps =
@@ -164,7 +164,7 @@ selected_changes t s room true within =
     }
 selected_changes t s room false within =
     record {
-      keeps = keeps_all
+      keeps = keeps_all_but_urgent
           (record t { ready = false }) t.urgent;
       mode = inl refl;
       other_spools = λ r ne. refl;
@@ -172,10 +172,10 @@ selected_changes t s room false within =
       gives_up_line = λ e. absurd (cc);
     }
 
-other_changes : (t : TributaryValue) → CallChanges t Other (quiet_step (without_line t))
-other_changes t =
+changes_of_other_call : (t : TributaryValue) → CallChanges t Other (quiet_step (without_line t))
+changes_of_other_call t =
     record {
-      keeps = keeps_all t t.urgent;
+      keeps = keeps_all_but_urgent t t.urgent;
       mode = refl;
       other_spools = λ s ne. refl;
       same_records =
@@ -190,7 +190,7 @@ call_changes t address Polling rooms e is = polled_changes t
 call_changes t address (Selection s) rooms e is =
     let within : s < length t.terminal.selects = within_selects t.terminal address s e in
     selected_changes t s rooms.first t.ready (omega (arith, is.spools))
-call_changes t address Other rooms e is = other_changes t
+call_changes t address Other rooms e is = changes_of_other_call t
 
 from_call : (t : TributaryValue) (address : List ℕ) (step : TributaryStep) →
     CallChanges t (called_as t.terminal address) step → Changes t (Whole (m.Call address)) step
@@ -234,12 +234,12 @@ control_changes t h =
       control = λ e. (refl, refl);
     }
 
-grows_at : (mode : Mode) (h : Heard) (s r : ℕ) (spools : List SpoolValue) (step : ReceiverStep)
+receiver_grows_spool : (mode : Mode) (h : Heard) (s r : ℕ) (spools : List SpoolValue) (step : ReceiverStep)
     → mode ≡ Receiving s →
     s < length spools → Grows h (spool_at spools s) step →
     GrowsByText mode h r (spool_at spools r).records
     (spool_at (slice_set spools s step.spool) r).records
-grows_at mode h s r spools step is within grows =
+receiver_grows_spool mode h s r spools step is within grows =
     elim (at_or_beside spools s r step.spool within) [
       | inr beside ↦ inl (ap (λ (x : SpoolValue). x.records) beside.is)
       | inl at ↦ elim grows [
@@ -274,7 +274,7 @@ receiving_changes t h s step is within grows =
       mode = inr refl;
       other_spools = λ r ne. get_or-set_other t.spools s r step.spool empty_spool
           (λ same. ne (is ∙ ap (λ n. Receiving n) (sym same)));
-      grows = λ r. grows_at t.mode h s r t.spools step is within grows;
+      grows = λ r. receiver_grows_spool t.mode h s r t.spools step is within grows;
       control = λ e. absurd (cc);
     }
 
@@ -321,21 +321,21 @@ mode_is_after t (Whole (m.Text text)) mode plain either = either
 mode_is_after t (Whole m.Enq) mode plain either = either
 mode_is_after t (Whole (m.Reply r)) mode plain either = either
 
-takes_none : (t : TributaryValue) (h : Heard) → IsNoCall h → TakesLine t.terminal h → ⊥
-takes_none t (Whole m.Eot) plain takes = plain
-takes_none t (Whole (m.Call address)) plain takes = plain
-takes_none t Failed plain takes = takes
-takes_none t Noise plain takes = takes
-takes_none t (Whole (m.Text text)) plain takes = takes
-takes_none t (Whole m.Enq) plain takes = takes
-takes_none t (Whole (m.Reply r)) plain takes = takes
+line_not_taken_without_call : (t : TributaryValue) (h : Heard) → IsNoCall h → TakesLine t.terminal h → ⊥
+line_not_taken_without_call t (Whole m.Eot) plain takes = plain
+line_not_taken_without_call t (Whole (m.Call address)) plain takes = plain
+line_not_taken_without_call t Failed plain takes = takes
+line_not_taken_without_call t Noise plain takes = takes
+line_not_taken_without_call t (Whole (m.Text text)) plain takes = takes
+line_not_taken_without_call t (Whole m.Enq) plain takes = takes
+line_not_taken_without_call t (Whole (m.Reply r)) plain takes = takes
 
 noise_quiet : (t : TributaryValue) (h : Heard) (mode : Mode) (rooms : Rooms) → h ≡ Noise →
     StaysQuiet t (mode_step t mode h rooms).tributary (mode_step t mode h rooms).sent
 noise_quiet t h mode rooms e =
     let same : mode_step t mode h rooms ≡ quiet_step t =
     ap (λ (x : Heard). mode_step t mode x rooms) e
-    ∙ quiet_in t mode rooms in
+    ∙ quiet_on_noise_in_mode t mode rooms in
     (ap (λ (o : TributaryStep). o.tributary) same, ap (λ (o : TributaryStep). o.sent) same)
 
 from_mode : (t : TributaryValue) (h : Heard) (rooms : Rooms) → IsNoCall h → IsTributary t →
@@ -349,16 +349,16 @@ from_mode t h rooms plain is =
       mode = mode_is_after t h (mode_step t t.mode h rooms).tributary.mode plain c.mode;
       other_spools = c.other_spools;
       grows = c.grows;
-      gives_up_line = λ takes. absurd (takes_none t h plain takes);
+      gives_up_line = λ takes. absurd (line_not_taken_without_call t h plain takes);
       control = λ e also. c.control e;
       noise = λ e. noise_quiet t h t.mode rooms e;
     })
 
-changes : (t : TributaryValue) (h : Heard) (rooms : Rooms) → IsTributary t
+changes_of_heard : (t : TributaryValue) (h : Heard) (rooms : Rooms) → IsTributary t
     → Changes t h (hear_step t h rooms)
-changes t (Whole m.Eot) rooms is =
+changes_of_heard t (Whole m.Eot) rooms is =
     record {
-      keeps = keeps_all t t.urgent;
+      keeps = keeps_all_but_urgent t t.urgent;
       mode = refl;
       other_spools = λ s ne. refl;
       grows = λ s. inl refl;
@@ -366,23 +366,23 @@ changes t (Whole m.Eot) rooms is =
       control = λ e plain. absurd plain;
       noise = λ e. absurd (cc);
     }
-changes t (Whole (m.Call address)) rooms is =
+changes_of_heard t (Whole (m.Call address)) rooms is =
     from_call t address (call_step t (called_as t.terminal address) rooms)
     (call_changes t address (called_as t.terminal address) rooms refl is)
-changes t Failed rooms is = from_mode t Failed rooms tt is
-changes t Noise rooms is = from_mode t Noise rooms tt is
-changes t (Whole (m.Text text)) rooms is = from_mode t (Whole (m.Text text)) rooms tt is
-changes t (Whole m.Enq) rooms is = from_mode t (Whole m.Enq) rooms tt is
-changes t (Whole (m.Reply r)) rooms is = from_mode t (Whole (m.Reply r)) rooms tt is
+changes_of_heard t Failed rooms is = from_mode t Failed rooms tt is
+changes_of_heard t Noise rooms is = from_mode t Noise rooms tt is
+changes_of_heard t (Whole (m.Text text)) rooms is = from_mode t (Whole (m.Text text)) rooms tt is
+changes_of_heard t (Whole m.Enq) rooms is = from_mode t (Whole m.Enq) rooms tt is
+changes_of_heard t (Whole (m.Reply r)) rooms is = from_mode t (Whole (m.Reply r)) rooms tt is
 
 -- what holds of a terminal after it heard a transmission
-pub after_hearing : (old : TributaryValue) (h : Heard) (new : TributaryValue)
+pub holds_after_hearing : (old : TributaryValue) (h : Heard) (new : TributaryValue)
     (sent : Option Message) →
     IsTributary old → IsTributary new → Hears old h new sent → AfterHearing old h new sent
-after_hearing old h new sent was is hears =
+holds_after_hearing old h new sent was is hears =
     let c : Changes old h (record { tributary = new; sent = sent }) =
     subst (Changes old h) (sym hears.row)
-    (changes old h (rooms_after h new) was) in
+    (changes_of_heard old h (rooms_after h new) was) in
     record {
       tributary = is;
       keeps = c.keeps;
@@ -410,18 +410,18 @@ hears_eot t old sender view is cut ready =
     (record {
       row = hears;
       after =
-          after_hearing t (Whole m.Eot) new None is (stays_without_line t sender is cut ready)
+          holds_after_hearing t (Whole m.Eot) new None is (stays_without_line t sender is cut ready)
           hears;
     })
 
 -- what holds of a terminal after a silence
-pub after_silence : (t old : TributaryValue) (mode : Mode) (step : SenderStep)
+pub holds_after_silence : (t old : TributaryValue) (mode : Mode) (step : SenderStep)
     (sent : Option Message) → t ≡ old →
     IsTributary t → t.mode ≡ Sending → step ≡ silence_step t.sender t.queue → mode
     ≡ mode_after step.act t.mode →
     IsTributary (record t { mode = mode; sender = step.sender; queue = step.queue }) →
     AfterSilence old (record t { mode = mode; sender = step.sender; queue = step.queue }) sent
-after_silence t old mode step sent view was sending row mode_is is =
+holds_after_silence t old mode step sent view was sending row mode_is is =
     let f : FollowsFrom Sending (length t.spools) t.sender t.queue step = subst
     (FollowsFrom Sending (length t.spools) t.sender t.queue) (sym row)
     (follows_silence_step (length t.spools) t.sender t.queue
@@ -448,8 +448,8 @@ after_silence t old mode step sent view was sending row mode_is is =
       still = λ ne. absurd (ne sending);
     })
 
-pub after_stillness : (t old : TributaryValue) → t ≡ old → IsTributary t → AfterSilence old old None
-after_stillness t old view is =
+pub holds_after_no_act : (t old : TributaryValue) → t ≡ old → IsTributary t → AfterSilence old old None
+holds_after_no_act t old view is =
     record {
       tributary = subst IsTributary view is;
       keeps =

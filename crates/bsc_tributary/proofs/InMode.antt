@@ -169,10 +169,10 @@ stays_silent t mode step is sending row mode_is ready =
     (follows_silence_step (length t.spools) t.sender t.queue
     (subst (λ (x : Mode). SuitsMode x t.sender.phase (length t.spools)) sending is.bid))) ready
 
-pub silent_still : (t old : TributaryValue) → t ≡ old → (t.mode ≡ Control)
+pub no_act_on_silence_in_mode : (t old : TributaryValue) → t ≡ old → (t.mode ≡ Control)
     ⊎ ((s : ℕ) × (t.mode ≡ Receiving s)) →
     ActsOnSilence old old None
-silent_still t old view (inl control) = ap (silence_in old)
+no_act_on_silence_in_mode t old view (inl control) = ap (silence_in old)
     (sym (ap (λ (v : TributaryValue). v.mode) (sym view) ∙ control))
-silent_still t old view (inr receiving) = ap (silence_in old)
+no_act_on_silence_in_mode t old view (inr receiving) = ap (silence_in old)
     (sym (ap (λ (v : TributaryValue). v.mode) (sym view) ∙ receiving.1))

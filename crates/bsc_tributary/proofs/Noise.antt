@@ -9,10 +9,10 @@ use Rattle.bsc_tributary.specs.declared.mode.Mode.{Mode}
 use Rattle.bsc_tributary.specs.declared.mode.Mode.TheVariants.{Control, Receiving, Sending}
 use Rattle.bsc_tributary.specs.Tributary.{TributaryValue, mode_step, quiet_step, empty_spool}
 
-pub quiet_in : (t : TributaryValue) (mode : Mode) (rooms : Rooms)
+pub quiet_on_noise_in_mode : (t : TributaryValue) (mode : Mode) (rooms : Rooms)
     → mode_step t mode Noise rooms ≡ quiet_step t
-quiet_in t Control rooms = refl
-quiet_in t (Receiving s) rooms =
+quiet_on_noise_in_mode t Control rooms = refl
+quiet_on_noise_in_mode t (Receiving s) rooms =
     ap (λ (spools : List SpoolValue). quiet_step (record t { spools = spools }))
     (set-get_or t.spools s empty_spool)
-quiet_in t Sending rooms = refl
+quiet_on_noise_in_mode t Sending rooms = refl

@@ -9,7 +9,7 @@ use Rattle.bsc_bid.specs.declared.phase.Phase.TheVariants.{Idle, Unanswered, Hel
 use Rattle.bsc_bid.specs.Ready.{IsReady}
 use Rattle.bsc_bid.specs.Setup.{SetupValue}
 use Rattle.bsc_bid.specs.Sender.{SenderValue, ReleaseStep, release_step, with_phase}
-use Rattle.bsc_bid.proofs.Choice.{choose}
+use Rattle.bsc_bid.proofs.Choice.{either_branch}
 use Rattle.bsc_bid.proofs.Offers.{ready_offered}
 use Rattle.bsc_tributary.specs.declared.mode.Mode.{Mode}
 use Rattle.bsc_tributary.specs.declared.mode.Mode.TheVariants.{Control, Receiving, Sending}
@@ -41,33 +41,33 @@ idle_suits Control k n suits = tt
 idle_suits (Receiving s) k n suits = (tt, suits.1)
 idle_suits Sending k n suits = absurd suits
 
-releases_in : (mode : Mode) (n : ℕ) (s : SenderValue) (q : QueueValue) (p : Phase) (count : ℕ)
+release_in_mode : (mode : Mode) (n : ℕ) (s : SenderValue) (q : QueueValue) (p : Phase) (count : ℕ)
     → SuitsMode mode p n →
     Releases mode n s.setup q.format (release_step (with_phase s p) q count)
-releases_in mode n s q (InDoubt k) count suits =
-    choose (Releases mode n s.setup q.format) ((count == q.known) || (count == (q.known + k))) _ _
+release_in_mode mode n s q (InDoubt k) count suits =
+    either_branch (Releases mode n s.setup q.format) ((count == q.known) || (count == (q.known + k))) _ _
     (record { suits = idle_suits mode k n suits; setup_is = refl; format_is = refl })
     (record { suits = suits; setup_is = refl; format_is = refl })
-releases_in mode n s q Idle count suits =
+release_in_mode mode n s q Idle count suits =
     record { suits = suits; setup_is = refl; format_is = refl }
-releases_in mode n s q (Unanswered b) count suits =
+release_in_mode mode n s q (Unanswered b) count suits =
     record { suits = suits; setup_is = refl; format_is = refl }
-releases_in mode n s q (Held end alternation) count suits =
+release_in_mode mode n s q (Held end alternation) count suits =
     record { suits = suits; setup_is = refl; format_is = refl }
 
-releases : (t : TributaryValue) (count : ℕ) (step : ReleaseStep) → IsTributary t →
+releases_of_step : (t : TributaryValue) (count : ℕ) (step : ReleaseStep) → IsTributary t →
     step ≡ release_step t.sender t.queue count →
     Releases t.mode (length t.spools) t.sender.setup t.queue.format step
-releases t count step is row =
+releases_of_step t count step is row =
     subst (Releases t.mode (length t.spools) t.sender.setup t.queue.format) (sym row)
-    (releases_in t.mode (length t.spools) t.sender t.queue t.sender.phase count is.bid)
+    (release_in_mode t.mode (length t.spools) t.sender t.queue t.sender.phase count is.bid)
 
 pub stays_release : (t : TributaryValue) (count : ℕ) (step : ReleaseStep) → IsTributary t →
     step ≡ release_step t.sender t.queue count → IsReady step.sender step.queue →
     IsTributary (record t { sender = step.sender; queue = step.queue })
 stays_release t count step is row ready =
     let r : Releases t.mode (length t.spools) t.sender.setup t.queue.format step =
-    releases t count step is row in
+    releases_of_step t count step is row in
     record {
       distinct = is.distinct;
       terminal = is.terminal;
@@ -134,10 +134,10 @@ release_answer t old count step view row = ap (λ (s : ReleaseStep). s.answer) r
     ∙ ap (λ (v : TributaryValue). (release_step v.sender v.queue count).answer) view
 
 -- the terminal has the same addresses, settings and mode
-pub same_offer : (t old : TributaryValue) (queue : QueueValue) → t ≡ old
+pub setup_kept_by_offer : (t old : TributaryValue) (queue : QueueValue) → t ≡ old
     → IsTributary (with_queue t queue) →
     KeepsSetupAndMode old (with_queue t queue)
-same_offer t old queue view is =
+setup_kept_by_offer t old queue view is =
     record {
       tributary = is;
       addresses = ap (λ (v : TributaryValue). v.terminal) view;
@@ -145,13 +145,13 @@ same_offer t old queue view is =
       mode = ap (λ (v : TributaryValue). v.mode) view;
     }
 
-pub same_release : (t old : TributaryValue) (count : ℕ) (step : ReleaseStep) → t ≡ old
+pub setup_kept_by_release : (t old : TributaryValue) (count : ℕ) (step : ReleaseStep) → t ≡ old
     → IsTributary t →
     step ≡ release_step t.sender t.queue count → IsReady step.sender step.queue →
     KeepsSetupAndMode old (record t { sender = step.sender; queue = step.queue })
-same_release t old count step view is row ready =
+setup_kept_by_release t old count step view is row ready =
     let r : Releases t.mode (length t.spools) t.sender.setup t.queue.format step =
-    releases t count step is row in
+    releases_of_step t count step is row in
     record {
       tributary = stays_release t count step is row ready;
       addresses = ap (λ (v : TributaryValue). v.terminal) view;

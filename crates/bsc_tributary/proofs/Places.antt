@@ -14,11 +14,11 @@ pub record Written (n : ℕ) (table : List SpoolValue) (s : ℕ) (before after :
   pub rest : take n (slice_set table s after) ≡ slice_set spools s after
   pub now : spool_at (take n (slice_set table s after)) s ≡ after
 
-pub written : (n : ℕ) (table : List SpoolValue) (s : ℕ) (before after : SpoolValue)
+pub written_at_place : (n : ℕ) (table : List SpoolValue) (s : ℕ) (before after : SpoolValue)
     (spools : List SpoolValue) →
     take n table ≡ spools → s < length spools → before ≡ get_or table s before
     → Written n table s before after spools
-written n table s before after spools view within read =
+written_at_place n table s before after spools view within read =
     let in_table : s < length table = omega (arith, length-take n table, ap length view) in
     let used : s < n = omega (arith, length-take n table, ap length view) in
     let there : spool_at spools s ≡ before = ap (λ (xs : List SpoolValue). spool_at xs s) (sym view)

@@ -46,7 +46,7 @@ pub record IsNewTerminal (setup : SetupValue) (terminal : TerminalValue) (t : Tr
   pub terminal_given : t.terminal ≡ terminal
   pub mode : t.mode ≡ Control
   pub ready : t.ready ≡ true
-  pub calm : t.urgent ≡ false
+  pub not_urgent : t.urgent ≡ false
   pub sender : t.sender ≡ record { setup = setup; phase = Idle; failures = 0; wacks = 0 }
   pub receiver : t.receiver ≡ new_receiver true
   pub queue : t.queue ≡ queue_of setup.format [] 0

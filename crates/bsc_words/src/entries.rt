@@ -48,6 +48,9 @@ pub(crate) struct Subcommand {
     /// Its description in the help.
     pub(crate) about: &'static str,
 
+    /// An example of its use, at the end of the help.
+    pub(crate) example: &'static str,
+
     /// Its arguments and options.
     pub(crate) entries: &'static [Entry],
 }
@@ -91,11 +94,13 @@ fn with_entries<'a>(
 }
 
 /// Returns the `clap` command for a row.
-fn command_of<'a>(alloc: Global, row: &'a Subcommand) -> Result<Command<'a>, AllocError>
+pub(crate) fn command_of<'a>(alloc: Global, row: &'a Subcommand) -> Result<Command<'a>, AllocError>
     ensures shape { IfOk result (λ c. shape_of c ≡ subcommand_shape row.now) }
     ensures local { IfOk result (λ c. (out-Command c).has_globals ≡ false) }
 {
-    let bare = Command::new(alloc, row.name).about(row.about);
+    let bare = Command::new(alloc, row.name)
+        .about(row.about)
+        .after_help(row.example);
     with_entries(alloc, bare, row.entries)
 }
 

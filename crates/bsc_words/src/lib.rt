@@ -10,4 +10,4 @@ mod tables;
 mod values;
 mod words;
 
-pub use words::{read_words, wrong_words};
+pub use words::{Shown, read_words, wrong_words};

@@ -7,6 +7,7 @@ use crate::entries::{Entry, Subcommand};
 const NAME: Subcommand = Subcommand {
     name: "name",
     about: "Print the name of one transmission",
+    example: "Example: bscline name 161610B0FF",
     entries: &[Entry {
         id: "HEX",
         given: Required,
@@ -19,13 +20,15 @@ const NAME: Subcommand = Subcommand {
 const SHOW: Subcommand = Subcommand {
     name: "show",
     about: "Print the names of standard input, with the units of texts",
+    example: "Example: echo 16 16 02 C8 49 19 83 9B FF | bscline show",
     entries: &[],
 };
 
 /// Runs a whole line.
-const RUN: Subcommand = Subcommand {
+pub(crate) const RUN: Subcommand = Subcommand {
     name: "run",
     about: "Run a line over loopback sockets, and print what is on it",
+    example: "Example: bscline run examples/lossy_line/line.toml examples/lossy_line/script.txt",
     entries: &[
         Entry {
             id: "CONFIG",
@@ -49,9 +52,11 @@ const RUN: Subcommand = Subcommand {
 };
 
 /// Runs one station.
-const STATION: Subcommand = Subcommand {
+pub(crate) const STATION: Subcommand = Subcommand {
     name: "station",
     about: "Run one station of a line over TCP",
+    example: "Example: bscline station examples/lossy_line/line.toml --control \
+        --listen 127.0.0.1:2780 --text",
     entries: &[
         Entry {
             id: "CONFIG",
@@ -99,13 +104,13 @@ const STATION: Subcommand = Subcommand {
             id: "gap",
             given: Value,
             value: "MS",
-            help: "The gap in milliseconds, 50 unless given",
+            help: "The gap in milliseconds, 1 to 3600000, 50 unless given; needs --raw",
         },
         Entry {
             id: "time-out",
             given: Value,
             value: "MS",
-            help: "The time-out in milliseconds, 3000 unless given",
+            help: "The time-out in milliseconds, 1 to 3600000, 3000 unless given",
         },
         Entry {
             id: "rounds",

@@ -5,9 +5,9 @@ ghost use Rattle.bsc_asked.specs.Asked.{asked};
 ghost use Rattle.bsc_words.specs.CommandLine.{asked_of, asked_run, asked_station, asked_sub};
 ghost use Rattle.bsc_words.specs.CommandLine.{bscline_app, faults_at};
 
-use crate::entries::with_subcommands;
+use crate::entries::{command_of, with_subcommands};
 use crate::station_words::station_words;
-use crate::tables::COMMANDS;
+use crate::tables::{COMMANDS, RUN, STATION};
 use crate::values::{is_given, required_text};
 use bsc_asked::Asked;
 use clap::error::ErrorKind;
@@ -20,7 +20,8 @@ fn command_line<'a>(alloc: Global) -> Result<Command<'a>, AllocError>
 {
     let program = Command::new(alloc, "bscline")
         .about("Print the names of the transmissions on standard input, one a line")
-        .version("0.1.0");
+        .after_help("Example: echo 16 16 10 B0 FF | bscline")
+        .version("0.2.0");
     with_subcommands(alloc, program, COMMANDS)
 }
 
@@ -70,20 +71,48 @@ pub fn read_words(alloc: Global, words: &[&str]) -> Result<Asked, Error>
     }
 }
 
-/// Returns the error of `clap` for a wrong value, or for values that conflict, with this reason.
-pub fn wrong_words(alloc: Global, kind: ErrorKind, why: &str) -> Error
+/// The command whose usage an error shows.
+#[derive(Clone, Copy)]
+pub enum Shown {
+    /// The program with the names of its commands.
+    Program,
+
+    /// `run`.
+    Run,
+
+    /// `station`.
+    Station,
+}
+
+/// Returns the command whose usage is shown.
+fn shown_command<'a>(alloc: Global, shown: Shown) -> Result<Command<'a>, AllocError> {
+    match shown {
+        Shown::Program => command_line(alloc),
+        Shown::Run => command_of(alloc, &RUN)?.bin_name("bscline run"),
+        Shown::Station => command_of(alloc, &STATION)?.bin_name("bscline station"),
+    }
+}
+
+/// Returns the error of `clap` for a wrong value, or for values that conflict, with this reason and
+/// the usage of a command.
+pub fn wrong_words(alloc: Global, shown: Shown, kind: ErrorKind, why: &str) -> Error
     ensures { (kind_of result ≡ kind) ⊎ (kind_of result ≡ ErrorKind.OutOfMemory) }
 {
-    match wrong_words_error(alloc, kind, why) {
+    match wrong_words_error(alloc, shown, kind, why) {
         Ok(error) => error,
         Err(error) => Error::from(error),
     }
 }
 
 /// Returns the error of [`wrong_words`], or out of memory.
-fn wrong_words_error(alloc: Global, kind: ErrorKind, why: &str) -> Result<Error, AllocError>
+fn wrong_words_error(
+    alloc: Global,
+    shown: Shown,
+    kind: ErrorKind,
+    why: &str,
+) -> Result<Error, AllocError>
     ensures { IfOk result (λ e. kind_of e ≡ kind) }
 {
-    let mut command_line = command_line(alloc)?;
-    command_line.error(kind, why)
+    let mut command = shown_command(alloc, shown)?;
+    command.error(kind, why)
 }

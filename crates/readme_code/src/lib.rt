@@ -1,4 +1,4 @@
-//! The code in README.md for the author of an emulator, so that it is proved and run.
+//! The code that README.md shows or names, so that it is proved and run.
 //!
 //! The messages are the standard's (GA27-3004); the functions are this project's own.
 #![tactic(auto)]

@@ -21,8 +21,9 @@ pub fn deliver<A: Allocator + Copy, W: Write>(alloc: A, out: &mut W) -> anyhow::
         line.carry_sent()?; // pending next: the text HI, ACK1, EOT
     }
     for terminal in 0..line.terminals() {
-        for record in line.spooled(terminal, Way::FromTerminal) {
-            out.write_all(record.chars())?;
+        let arrived = line.spooled(terminal, Way::FromTerminal);
+        for place in 0..arrived.len() {
+            out.write_all(arrived.chars(place))?;
         }
     }
     Ok(())

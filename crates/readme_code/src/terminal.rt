@@ -31,8 +31,9 @@ pub fn run_terminal<A: Allocator + Copy, W: Write>(
             line.write_all(&wire)?;
         }
     }
-    for record in station.spool(0).records() {
-        printer.write_all(record.chars())?;
+    let arrived = station.spool(0).records();
+    for place in 0..arrived.len() {
+        printer.write_all(arrived.chars(place))?;
     }
     Ok(())
 }

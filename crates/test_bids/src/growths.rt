@@ -130,7 +130,7 @@ fn what_is_refused_for_long_is_done_later(rt: HostRuntime) -> Result<(), Fail> {
     let format = Format::new(80, 400)?;
     let refused = stored_in_two(&alloc, format, Refusal::From);
     assert_eq!(rt; refused, (0, 0, RECORDS));
-    let above = Refusal::Above { octets: 20_000 };
+    let above = Refusal::Above { octets: 2_500 };
     let (taken, stored, all) = stored_in_two(&alloc, format, above);
     let is_some = 0 < taken.min(stored) && taken.max(stored) < RECORDS;
     assert_eq!(rt; (is_some, all), (true, RECORDS));

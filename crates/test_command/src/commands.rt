@@ -46,7 +46,7 @@ const CASES: &[Case] = &[
         takes: true,
         scene: SILENT,
         due: Due {
-            out: "bscline 0.1.0\n",
+            out: "bscline 0.2.0\n",
             errors: "",
             status: 0,
             asking: None,
@@ -74,6 +74,64 @@ const CASES: &[Case] = &[
             out: "",
             errors: "bscline: cannot read none.toml\n",
             status: 1,
+            asking: None,
+        },
+    },
+    Case {
+        words: Some(&["run", "-", "-"]),
+        input: Some(""),
+        takes: true,
+        scene: SILENT,
+        due: Due {
+            out: "",
+            errors: "error: CONFIG and SCRIPT cannot both be standard input\n\n\
+            Usage: bscline run [OPTIONS] <CONFIG> <SCRIPT>\n\n\
+            For more information, try '--help'.\n",
+            status: 2,
+            asking: None,
+        },
+    },
+    Case {
+        words: Some(&[
+            "station",
+            "c",
+            "--terminal",
+            "0",
+            "--connect",
+            "h:1",
+            "--gap",
+            "9",
+        ]),
+        input: Some(""),
+        takes: true,
+        scene: SILENT,
+        due: Due {
+            out: "",
+            errors: "error: --gap needs --raw\n\nUsage: bscline station [OPTIONS] <CONFIG>\n\n\
+            For more information, try '--help'.\n",
+            status: 2,
+            asking: None,
+        },
+    },
+    Case {
+        words: Some(&[
+            "station",
+            "-",
+            "--terminal",
+            "0",
+            "--connect",
+            "h:1",
+            "--offer",
+            "-",
+        ]),
+        input: Some(""),
+        takes: true,
+        scene: SILENT,
+        due: Due {
+            out: "",
+            errors: "error: CONFIG and --offer cannot name standard input more than once\n\n\
+            Usage: bscline station [OPTIONS] <CONFIG>\n\nFor more information, try '--help'.\n",
+            status: 2,
             asking: None,
         },
     },

@@ -85,7 +85,7 @@ offers: [\"a\", \"b\"], text: true, trace: false })",
         &["bscline", "run", "--check", "-", "s"],
         "Run { config: \"-\", script: \"s\", check: true }",
     ),
-    (&["bscline", "--version"], "bscline 0.1.0\n"),
+    (&["bscline", "--version"], "bscline 0.2.0\n"),
 ];
 
 /// The help of the program.
@@ -103,6 +103,8 @@ Commands:
 Options:
   -h, --help     Print help
   -V, --version  Print version
+
+Example: echo 16 16 10 B0 FF | bscline
 ";
 
 /// The help of `name`.
@@ -115,12 +117,72 @@ Arguments:
 
 Options:
   -h, --help  Print help
+
+Example: bscline name 161610B0FF
+";
+
+/// The help of `show`.
+const SHOW_HELP: &str = "Print the names of standard input, with the units of texts
+
+Usage: bscline show
+
+Options:
+  -h, --help  Print help
+
+Example: echo 16 16 02 C8 49 19 83 9B FF | bscline show
+";
+
+/// The help of `run`.
+const RUN_HELP: &str = "Run a line over loopback sockets, and print what is on it
+
+Usage: bscline run [OPTIONS] <CONFIG> <SCRIPT>
+
+Arguments:
+  <CONFIG>  The configuration, in TOML; - is standard input
+  <SCRIPT>  The events, one a line; - is standard input
+
+Options:
+      --check  Read and check both, and run nothing
+  -h, --help   Print help
+
+Example: bscline run examples/lossy_line/line.toml examples/lossy_line/script.txt
+";
+
+/// The help of `station`.
+const STATION_HELP: &str = "Run one station of a line over TCP
+
+Usage: bscline station [OPTIONS] <CONFIG>
+
+Arguments:
+  <CONFIG>  The configuration, in TOML; - is standard input
+
+Options:
+      --control            Be the control station
+      --terminal <T>       Be terminal T, counted from 0
+      --listen <ADDRESS>   Let peers connect at this address
+      --connect <ADDRESS>  Connect to a peer at this address
+      --shared             Reach all terminals by one connection
+      --raw                Send octets as they stand; a gap ends a transmission
+      --gap <MS>           The gap in milliseconds, 1 to 3600000, 50 unless given; needs --raw
+      --time-out <MS>      The time-out in milliseconds, 1 to 3600000, 3000 unless given
+      --rounds <N>         End after N rounds of the poll list
+      --idle-rounds <N>    End after N idle rounds in a row, 2 unless given
+      --offer <OFFER>      Offer the lines of PATH: at a terminal PATH, at the control station \
+T.S=PATH
+      --text               Print records that arrive as text
+      --trace              Print what is sent and heard on standard error
+  -h, --help               Print help
+
+Example: bscline station examples/lossy_line/line.toml --control --listen 127.0.0.1:2780 --text
 ";
 
 const HELPED: &[Row] = &[
     (&["bscline", "--help"], HELP),
     (&["bscline", "help"], HELP),
     (&["bscline", "name", "-h"], NAME_HELP),
+    (&["bscline", "help", "show"], SHOW_HELP),
+    (&["bscline", "run", "--help"], RUN_HELP),
+    (&["bscline", "station", "--help"], STATION_HELP),
 ];
 
 /// A word that is not a command, one word too many, and one too few.

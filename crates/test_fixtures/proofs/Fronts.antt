@@ -29,10 +29,11 @@ values_past xs i l = slice_get-map (λ (y : Bor (List ℕ)). y.now) xs i
     ∙ ap (option_map (λ (y : Bor (List ℕ)). y.now)) (slice_get_past xs i l)
 
 -- if the first i items are the same, and the items at place i are, then so are the first i + 1
-pub front_more : (rs vs : List (List ℕ)) (i : ℕ) (r : List ℕ) → i < length rs → r ≡ get_or rs i r
+pub front_more : (rs vs : List (List ℕ)) (i : ℕ) (r : List ℕ) → slice_get rs i ≡ Some r
     → slice_get vs i ≡ Some r → take i vs ≡ take i rs → take (i + 1) vs ≡ take (i + 1) rs
-front_more rs vs i r l a b e =
-    take_more_same vs rs i r (slice_get_within vs i r b) l e (get_or_from_slice_get vs i r r b ∙ a)
+front_more rs vs i r a b e =
+    take_more_same vs rs i r (slice_get_within vs i r b) (slice_get_within rs i r a) e
+    (get_or_from_slice_get vs i r r b ∙ sym (get_or_from_slice_get rs i r r a))
 
 -- each item of a list that begins another one is in the other one at the same place
 pub front_at : (rs vs : List (List ℕ)) (i : ℕ) (r : List ℕ) → slice_get rs i ≡ Some r

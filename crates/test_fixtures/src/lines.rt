@@ -1,6 +1,6 @@
 //! The settings and terminals of the line on which the tests play.
 ghost use Rattle.std.specs.Prelude.{◌≡◌, ◌∷◌, [], IfOk, IsTrue};
-ghost use Rattle.bsc_frame.specs.Addresses.{is_address_code};
+ghost use Rattle.bsc_frame.specs.Octet.{is_address_code};
 ghost use Rattle.bsc_bid.specs.Setup.{setup_of};
 ghost use Rattle.test_fixtures.specs.Lines.{two, two_by_three};
 

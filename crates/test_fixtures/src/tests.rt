@@ -3,7 +3,7 @@
 use crate::lines::{address, setup, two_terminals, two_terminals_by_three};
 use crate::records::{are_front, are_records};
 use crate::{Full, octets};
-use bsc_block::{Record, unpack};
+use bsc_block::{Record, Records, unpack};
 use bsc_frame::{Address, End, Heard, Message, Reply, Text, Wire, decode, encode};
 use std::io::{ErrorKind, Write};
 use std::test::Fail;
@@ -71,7 +71,9 @@ const OTHERS: &[&[&[u8]]] = &[
 
 #[test]
 fn records_are_compared_in_order(rt: HostRuntime) -> Result<(), Fail> {
-    let records = [Record::read(b"HI", 80)?, Record::read(b"", 80)?];
+    let mut records = Records::new(rt.alloc());
+    records.push(&Record::read(b"HI", 80)?)?;
+    records.push(&Record::read(b"", 80)?)?;
     assert!(rt; are_records(&records, &[b"HI", b""]));
     assert!(rt; are_front(&records, &[b"HI", b"", b"HO"]));
     for other in OTHERS {

@@ -1,10 +1,11 @@
 //! Examples of records and blocks.
-ghost use Rattle.std.specs.Prelude.{◌≡◌, ◌≤◌, IfOk, length};
+ghost use Rattle.std.specs.Prelude.{◌≡◌, ◌-◌, ◌<◌, ◌≤◌, IfOk, length};
 ghost use Rattle.bsc_block.specs.Blocks.{AreShort};
 
-use bsc_block::{Block, Format, FormatError, Record, RecordError, build, pack, unpack};
+use bsc_block::{Block, Format, FormatError, Record, RecordError, Records, build, pack, unpack};
 use bsc_frame::limits::MAX_UNITS;
 use bsc_frame::{End, Heard, Message, Text, Wire, decode, encode};
+use std::alloc::Allocator;
 use std::test::Fail;
 
 /// Two numbers, and the error of a format with them.
@@ -81,38 +82,39 @@ fn letters(count: usize) -> Result<Record, RecordError>
     Record::read(&[0x41; 80][..count], 80)
 }
 
-// The number of records packed, out of four with 80 letters A and one with `count`.
-fn packed(count: usize, format: Format) -> Result<usize, RecordError>
+// The number of records packed after the first, out of five with 80 letters A and one with `count`.
+fn packed<A: Allocator + Copy>(alloc: A, count: usize, format: Format) -> Result<usize, Fail>
     requires count { count ≤ 80 }
     requires full { format.full ≡ 80 }
 {
-    let records = [
-        letters(80)?,
-        letters(80)?,
-        letters(80)?,
-        letters(80)?,
-        letters(count)?,
-    ];
-    Ok(pack(&records, format))
+    let mut records = Records::new(alloc);
+    records.push(&letters(80)?)?;
+    records.push(&letters(80)?)?;
+    records.push(&letters(80)?)?;
+    records.push(&letters(80)?)?;
+    records.push(&letters(80)?)?;
+    records.push(&letters(count)?)?;
+    Ok(pack(&records, 1, format))
 }
 
 #[test]
 fn a_block_takes_what_counts_400(rt: HostRuntime) -> Result<(), Fail> {
     let format = Format::new(80, 400)?;
     for (count, taken) in [(80, 4), (75, 4), (74, 5)] {
-        assert_eq!(rt; packed(count, format)?, taken);
+        assert_eq!(rt; packed(rt.alloc(), count, format)?, taken);
     }
     Ok(())
 }
 
-// The octets that are sent for the text of the records.
-fn wire_of(records: &[Record], format: Format) -> Wire
-    requires some { 1 ≤ length records.now }
-    requires few { length records.now ≤ MAX_UNITS }
-    requires short { AreShort format.full records.now }
+// The octets that are sent for the text of the records from a place on.
+fn wire_of<A: Allocator>(records: &Records<A>, from: usize, format: Format) -> Wire
+    requires there { from < length records.now.items }
+    requires few { length records.now.items - from ≤ MAX_UNITS }
+    requires short { AreShort format.full records.now.items }
 {
     let mut message = None;
-    build(records, format, End::Etx, &mut message);
+    let count = records.len() - from;
+    build(records, from, count, format, End::Etx, &mut message);
     let mut wire = Wire::new();
     if let Some(message) = &message {
         encode(message, &mut wire);
@@ -121,28 +123,34 @@ fn wire_of(records: &[Record], format: Format) -> Wire
 }
 
 // Whether these octets are sent for the text of the record with these codes.
-fn is_sent(codes: &[u8], full: u8, octets: &[u8]) -> bool
+fn is_sent<A: Allocator + Copy>(alloc: A, codes: &[u8], full: u8, octets: &[u8]) -> bool
     requires low { 1 ≤ full }
     requires high { full ≤ 144 }
 {
+    let mut records = Records::new(alloc);
     match (Format::new(full, 400), Record::read(codes, full)) {
-        (Ok(format), Ok(record)) => wire_of(&[record], format).as_slice() == octets,
+        (Ok(format), Ok(record)) => {
+            records.push(&record).is_ok() && wire_of(&records, 0, format).as_slice() == octets
+        }
         _ => false,
     }
 }
 
 #[test]
 fn records_are_built_and_sent(rt: HostRuntime) {
-    assert!(rt; is_sent(b"HI", 80, HI));
-    assert!(rt; is_sent(b"HI", 2, FULL_HI));
-    assert!(rt; is_sent(b"\x0c", 80, FORM_FEED));
+    assert!(rt; is_sent(rt.alloc(), b"HI", 80, HI));
+    assert!(rt; is_sent(rt.alloc(), b"HI", 2, FULL_HI));
+    assert!(rt; is_sent(rt.alloc(), b"\x0c", 80, FORM_FEED));
 }
 
 #[test]
 fn several_records_are_one_text(rt: HostRuntime) -> Result<(), Fail> {
     let format = Format::new(80, 400)?;
-    let records = [Record::read(b"HI", 80)?, Record::read(b"", 80)?];
-    assert_eq!(rt; wire_of(&records, format).as_slice(), TWO_UNITS);
+    let mut records = Records::new(rt.alloc());
+    records.push(&Record::read(b"HO", 80)?)?;
+    records.push(&Record::read(b"HI", 80)?)?;
+    records.push(&Record::read(b"", 80)?)?;
+    assert_eq!(rt; wire_of(&records, 1, format).as_slice(), TWO_UNITS);
     Ok(())
 }
 

@@ -57,7 +57,7 @@ no_tally =
       enquiries = 0;
       naks = 0;
       wacks = 0;
-      rvis = 0;
+      interrupts = 0;
     }
 
 -- nothing is pending, no channel is addressed, every transmission was heard fairly and alike by all

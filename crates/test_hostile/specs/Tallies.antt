@@ -37,7 +37,7 @@ sum_of a b =
       enquiries = capped_sum a.enquiries b.enquiries;
       naks = capped_sum a.naks b.naks;
       wacks = capped_sum a.wacks b.wacks;
-      rvis = capped_sum a.rvis b.rvis;
+      interrupts = capped_sum a.interrupts b.interrupts;
     }
 
 -- the counts after an event was refused with this error
@@ -78,7 +78,7 @@ sent_as t kind.Text = record t { texts = one_more t.texts }
 sent_as t kind.Enq = record t { enquiries = one_more t.enquiries }
 sent_as t (kind.Reply Nak) = record t { naks = one_more t.naks }
 sent_as t (kind.Reply Wack) = record t { wacks = one_more t.wacks }
-sent_as t (kind.Reply Rvi) = record t { rvis = one_more t.rvis }
+sent_as t (kind.Reply Rvi) = record t { interrupts = one_more t.interrupts }
 sent_as t _ = t
 
 -- both have the same counts of answers

@@ -3,7 +3,7 @@
 ghost use Rattle.std.specs.Prelude.{◌↔◌, IsTrue};
 ghost use Rattle.bsc_line_model.specs.Line.{IsChannel};
 
-use bsc_block::Record;
+use bsc_block::Records;
 use bsc_control::Way;
 use bsc_frame::Address;
 use bsc_line::Line;
@@ -55,39 +55,28 @@ pub(crate) fn look<A: Allocator>(line: &Line<A>, terminal: usize, way: Way) -> O
     })
 }
 
-/// The records from this place on; an empty slice if there are fewer.
-fn tail(records: &[Record], from: usize) -> &[Record] {
-    if from <= records.len() {
-        &records[from..]
-    } else {
-        &[]
-    }
-}
-
-/// The records that were offered on a channel from this place on.
-pub(crate) fn offered_from<A: Allocator>(
+/// The records that were offered on a channel, or None if the line has no such channel.
+pub(crate) fn offered_on<A: Allocator>(
     line: &Line<A>,
     terminal: usize,
     way: Way,
-    from: usize,
-) -> &[Record] {
+) -> Option<&Records<A>> {
     if is_channel(line, terminal, way) {
-        tail(line.offered(terminal, way), from)
+        Some(line.offered(terminal, way))
     } else {
-        &[]
+        None
     }
 }
 
-/// The records that arrived on a channel from this place on.
-pub(crate) fn spooled_from<A: Allocator>(
+/// The records that arrived on a channel, or None if the line has no such channel.
+pub(crate) fn spooled_on<A: Allocator>(
     line: &Line<A>,
     terminal: usize,
     way: Way,
-    from: usize,
-) -> &[Record] {
+) -> Option<&Records<A>> {
     if is_channel(line, terminal, way) {
-        tail(line.spooled(terminal, way), from)
+        Some(line.spooled(terminal, way))
     } else {
-        &[]
+        None
     }
 }

@@ -1,9 +1,9 @@
 //! Checks what has to hold of a line after each event, whatever is heard, with the public functions
 //! of the line only.
 //!
-//! A [`LineWatch`] plays events on a line and compares after each one what the line shows with what the
-//! event may do: whether the event is refused, what is pending, whether the line is trusted, and
-//! what is offered, known, spooled and in doubt on each channel. The tests replace each
+//! A [`LineWatch`] plays events on a line and compares after each one what the line shows with what
+//! the event may do: whether the event is refused, what is pending, whether the line is trusted,
+//! and what is offered, known, spooled and in doubt on each channel. The tests replace each
 //! transmission of some exchanges with anything near it; `test_soak` plays random events.
 //!
 //! The messages, and who may send which one when, are the standard's (GA27-3004); channels, doubt,

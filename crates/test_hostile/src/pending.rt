@@ -1,7 +1,7 @@
 //! Whether a station may send what is pending.
 
 use crate::broken::Broken;
-use crate::channel::{Channel, look, offered_from};
+use crate::channel::{Channel, look, offered_on};
 use crate::heard::{Kind, octets_of};
 use crate::records::carried;
 use bsc_control::Way;
@@ -50,8 +50,10 @@ fn carries_next<A: Allocator>(line: &Line<A>, terminal: usize, way: Way, text: &
     let Some(view) = look(line, terminal, way) else {
         return false;
     };
-    let next = offered_from(line, terminal, way, view.known);
-    match carried(text, next) {
+    let Some(offered) = offered_on(line, terminal, way) else {
+        return false;
+    };
+    match carried(text, offered, view.known) {
         Some(count) => count > 0,
         None => false,
     }

@@ -1,11 +1,12 @@
 //! Comparisons of records: with a text, with other records, and by a digest.
 
-ghost use Rattle.std.specs.Prelude.{◌≡◌, ◌<◌, ◌↔◌, IsTrue, length};
+ghost use Rattle.std.specs.Prelude.{◌≡◌, ◌↔◌, IsTrue, Some, drop, slice_get};
 ghost use Rattle.test_hostile.specs.Histories as digests;
 ghost use Rattle.test_fixtures.specs.Records.{Begins};
 
-use bsc_block::{Block, Record, unpack};
+use bsc_block::{Block, Records, unpack};
 use bsc_frame::{Heard, Message, Text, decode};
+use std::alloc::Allocator;
 
 /// The digest of no records.
 pub(crate) const EMPTY: u64 = 0xcbf2_9ce4_8422_2325;
@@ -29,69 +30,68 @@ fn with_record(digest: u64, chars: &[u8]) -> u64
     digest
 }
 
-/// The digest with these records added.
-pub(crate) fn with_records(digest: u64, records: &[Record]) -> u64
-    ensures { result ≡ digests.with_records digest records.now }
+/// The digest with the records from a place on added.
+pub(crate) fn with_records<A: Allocator>(digest: u64, records: &Records<A>, from: usize) -> u64
+    ensures { result ≡ digests.with_records digest (drop from records.now.items) }
 {
     let mut digest = digest;
-    for record in records {
-        digest = with_record(digest, record.chars());
+    for place in from..records.len() {
+        digest = with_record(digest, records.chars(place));
     }
     digest
 }
 
-/// Whether the two records have the same characters.
-fn is_same(record: &Record, other: &Record) -> bool
-    ensures { IsTrue result ↔ (record.now ≡ other.now) }
+/// Whether the characters at this place of the records are these.
+fn has_at<A: Allocator>(records: &Records<A>, place: usize, chars: &[u8]) -> bool
+    ensures { IsTrue result ↔ (slice_get records.now.items place ≡ Some chars.now) }
 {
-    record.chars() == other.chars()
+    place < records.len() && records.chars(place) == chars
 }
 
-/// Whether `records` are the first of `of`.
-pub(crate) fn begins(records: &[Record], of: &[Record]) -> bool
-    ensures { IsTrue result ↔ Begins records.now of.now }
+/// Whether `records` from a place on are the first of `of` from there on.
+pub(crate) fn begins<A: Allocator>(records: &Records<A>, of: &Records<A>, from: usize) -> bool
+    ensures { IsTrue result ↔ Begins (drop from records.now.items) (drop from of.now.items) }
 {
-    for (place, record) in records.iter().enumerate() {
-        match of.get(place) {
-            Some(other) if is_same(record, other) => {}
-            _ => return false,
+    for place in from..records.len() {
+        if !has_at(of, place, records.chars(place)) {
+            return false;
         }
     }
     true
 }
 
-/// Whether the record is the one at this place of the block.
-fn is_in(block: &Block<'_>, place: usize, record: &Record) -> bool
-    requires { place < length block.now }
-{
-    block.chars(place) == record.chars()
-}
-
-/// Whether the records of the block are the first of these.
-fn block_begins(block: &Block<'_>, records: &[Record]) -> bool {
+/// Whether the records of the block are the first of these from a place on.
+fn block_begins<A: Allocator>(block: &Block<'_>, records: &Records<A>, from: usize) -> bool {
+    let there = records.len().saturating_sub(from);
     for place in 0..block.count() {
-        match records.get(place) {
-            Some(record) if is_in(block, place, record) => {}
-            _ => return false,
+        if place >= there || block.chars(place) != records.chars(from + place) {
+            return false;
         }
     }
     true
 }
 
-/// The number of records in the text, or None unless they are the first of these records.
-pub(crate) fn carried(text: &Text, records: &[Record]) -> Option<usize> {
+/// The number of records in the text, or None unless they are the first of these records from a
+/// place on.
+pub(crate) fn carried<A: Allocator>(
+    text: &Text,
+    records: &Records<A>,
+    from: usize,
+) -> Option<usize> {
     let block = unpack(text);
-    if block_begins(&block, records) {
+    if block_begins(&block, records, from) {
         Some(block.count())
     } else {
         None
     }
 }
 
-/// Whether these octets are a text with exactly these records.
-pub(crate) fn is_text_of(octets: &[u8], records: &[Record]) -> bool {
+/// Whether these octets are a text with exactly these records from a place on.
+pub(crate) fn is_text_of<A: Allocator>(octets: &[u8], records: &Records<A>, from: usize) -> bool {
     match decode(octets) {
-        Heard::Whole(Message::Text(text)) => carried(&text, records) == Some(records.len()),
+        Heard::Whole(Message::Text(text)) => {
+            carried(&text, records, from) == Some(records.len().saturating_sub(from))
+        }
         _ => false,
     }
 }

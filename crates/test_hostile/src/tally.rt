@@ -49,7 +49,7 @@ pub struct Tally {
     pub enquiries: u64,
     pub naks: u64,
     pub wacks: u64,
-    pub rvis: u64,
+    pub interrupts: u64,
 }
 
 /// Adds 1 to the count.
@@ -120,7 +120,7 @@ impl Tally {
             Kind::Enq => add(&mut self.enquiries),
             Kind::Reply(Reply::Nak) => add(&mut self.naks),
             Kind::Reply(Reply::Wack) => add(&mut self.wacks),
-            Kind::Reply(Reply::Rvi) => add(&mut self.rvis),
+            Kind::Reply(Reply::Rvi) => add(&mut self.interrupts),
             _ => {}
         }
     }
@@ -144,6 +144,6 @@ impl Tally {
         self.enquiries = self.enquiries.saturating_add(other.enquiries);
         self.naks = self.naks.saturating_add(other.naks);
         self.wacks = self.wacks.saturating_add(other.wacks);
-        self.rvis = self.rvis.saturating_add(other.rvis);
+        self.interrupts = self.interrupts.saturating_add(other.interrupts);
     }
 }

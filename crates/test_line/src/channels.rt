@@ -4,7 +4,7 @@ ghost use Rattle.std.specs.Prelude.{◌<◌, IsTrue};
 ghost use Rattle.bsc_line_model.specs.Line.{IsChannel, terminal_count};
 
 use crate::events::NONE;
-use bsc_block::Record;
+use bsc_block::Records;
 use bsc_control::Way;
 use bsc_line::{Line, LineError};
 use std::alloc::Allocator;
@@ -121,13 +121,13 @@ pub(crate) fn has_left<A: Allocator>(
 }
 
 /// Whether `first` are the first of `records`, in order.
-fn is_front(first: &[Record], records: &[Record]) -> bool {
-    for (one, other) in first.iter().zip(records) {
-        if one.chars() != other.chars() {
+fn is_front<A: Allocator>(first: &Records<A>, records: &Records<A>) -> bool {
+    for place in 0..first.len() {
+        if place >= records.len() || first.chars(place) != records.chars(place) {
             return false;
         }
     }
-    first.len() <= records.len()
+    true
 }
 
 /// Whether the records that arrived on a channel are the first of those that were offered, in order

@@ -6,7 +6,7 @@ use crate::fixtures::{Play, TWO, play_on, refusal, terminals_of};
 use crate::limits::go_on;
 use crate::refusals::{SETTINGS, Setting};
 use bsc_bid::Terminal;
-use bsc_block::Record;
+use bsc_block::Records;
 use bsc_control::Way::{FromTerminal, ToTerminal};
 use bsc_control::{SetupError, Way};
 use bsc_frame::{Message, Reply};
@@ -15,8 +15,9 @@ use std::alloc::{Allocator, Global};
 use std::test::Fail;
 use test_alloc::{Refusal, Refusing};
 
-/// Refuses growths of more octets than a multiple of 512. Three records fill 512 octets.
-const ABOVE: Refusal = Refusal::Above { octets: 512 };
+/// Refuses growths of more octets than a multiple of 128. The first offer of a channel takes 288
+/// octets for characters, and the first text 2,016.
+const ABOVE: Refusal = Refusal::Above { octets: 128 };
 
 /// Refuses growths of more octets than a multiple of 64.
 const ABOVE_LITTLE: Refusal = Refusal::Above { octets: 64 };
@@ -182,13 +183,13 @@ fn wrong_step<A: Allocator>(
 }
 
 /// Whether these are records with the first of these characters, in order.
-fn are_first(records: &[Record], codes: &[u8]) -> bool {
-    for (record, code) in records.iter().zip(codes) {
-        if record.chars() != [*code].as_slice() {
+fn are_first<A: Allocator>(records: &Records<A>, codes: &[u8]) -> bool {
+    for place in 0..records.len() {
+        if place >= codes.len() || records.chars(place) != [codes[place]].as_slice() {
             return false;
         }
     }
-    records.len() <= codes.len()
+    true
 }
 
 /// Whether the records offered on each channel are those with the first of its characters.

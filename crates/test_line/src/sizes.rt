@@ -7,7 +7,7 @@ use crate::events::{HI, NONE};
 use crate::fixtures::{Answer, Play, TWO, TWO_OF_LONGEST, play_on};
 use crate::limits::carry_on;
 use crate::pending::{has_begun, is_pending};
-use bsc_block::Record;
+use bsc_block::Records;
 use bsc_control::Way;
 use bsc_control::Way::{FromTerminal, ToTerminal};
 use bsc_frame::{Message, Reply};
@@ -44,13 +44,16 @@ fn offer_all<A: Allocator>(line: &mut Line<A>) -> Result<(), LineError> {
 }
 
 /// Whether these are the records of all numbers below `COUNT`, in order.
-fn are_all(records: &[Record]) -> bool {
-    for (number, record) in (0..COUNT).zip(records) {
-        if record.chars() != digits(number).as_slice() {
+fn are_all<A: Allocator>(records: &Records<A>) -> bool {
+    if records.len() != COUNT as usize {
+        return false;
+    }
+    for (place, number) in (0..COUNT).enumerate() {
+        if records.chars(place) != digits(number).as_slice() {
             return false;
         }
     }
-    records.len() == COUNT as usize
+    true
 }
 
 /// Whether all of them were offered on this channel of terminal 0, arrived, and are known to have

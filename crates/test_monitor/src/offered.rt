@@ -1,10 +1,9 @@
 //! Lines of a text as records.
 
-use bsc_block::RecordError;
+use bsc_block::{Record, RecordError};
 use bsc_monitor::{OfferError, read_records};
 use std::alloc::Global;
 use std::test::Fail;
-use test_fixtures::records::are_records;
 
 /// Texts, and the records of their lines.
 const RECORDS: &[(&[u8], &[&[u8]])] = &[
@@ -17,10 +16,20 @@ const RECORDS: &[(&[u8], &[&[u8]])] = &[
     (b"HI\r", &[b"HI\r"]),
 ];
 
+/// Whether the records have these characters, in order.
+fn have_chars(records: &[Record], wanted: &[&[u8]]) -> bool {
+    for (record, chars) in records.iter().zip(wanted) {
+        if record.chars() != *chars {
+            return false;
+        }
+    }
+    records.len() == wanted.len()
+}
+
 /// Whether a text is read as these records.
 fn are_read(alloc: Global, text: &[u8], wanted: &[&[u8]]) -> bool {
     match read_records(alloc, text, 80) {
-        Ok(records) => are_records(&records, wanted),
+        Ok(records) => have_chars(&records, wanted),
         Err(_) => false,
     }
 }

@@ -28,15 +28,45 @@ to 1: offered 0, known 0, spooled 0
 trusted
 ";
 
-/// The output if the control station at first has no room for a further text.
+/// Eight records are offered at terminal 0, which is then polled.
+const EIGHT_POLLED: &str = "offer-at 0 HI
+offer-at 0 HI
+offer-at 0 HI
+offer-at 0 HI
+offer-at 0 HI
+offer-at 0 HI
+offer-at 0 HI
+offer-at 0 HI
+silence
+carry
+carry
+carry
+carry
+carry
+carry
+carry
+carry
+";
+
+/// The output of these if the control station, after the eighth record, at first has no room for a
+/// further text.
 const NO_ROOM_FOR_ANOTHER: &str = "control CALL A
+terminal 0 TEXT ETB 7
+control ACK1
 terminal 0 TEXT ETX 1
 control WACK
 terminal 0 ENQ
-control ACK1
+control ACK0
 terminal 0 EOT
 control CALL B
-from 0: offered 1, known 1, spooled 1
+from 0: offered 8, known 8, spooled 8
+  4849
+  4849
+  4849
+  4849
+  4849
+  4849
+  4849
   4849
 to 0: offered 0, known 0, spooled 0
 from 1: offered 0, known 0, spooled 0
@@ -66,22 +96,28 @@ fn run_without(
     Ok(run_on(alloc, &mut line, script.steps(), &mut cable, out)?)
 }
 
-/// Whether this is printed if a record is offered at terminal 0, which is then polled, and only the
-/// growth of this number is refused.
-fn is_printed_without(alloc: Global, growth: usize, printed: &str) -> Result<bool, Fail> {
+/// Whether this is printed for the script if only the growth of this number is refused.
+fn is_printed_without(
+    alloc: Global,
+    script: &str,
+    growth: usize,
+    printed: &str,
+) -> Result<bool, Fail> {
     let refusing = Refusing::new(alloc);
     let config = read_config(alloc, TWO_TERMINALS.as_bytes())?;
-    let script = read_script(alloc, POLLED.as_bytes())?;
+    let script = read_script(alloc, script.as_bytes())?;
     let mut out = Vec::new(alloc);
     run_without(alloc, &refusing, growth, &config, &script, &mut out)?;
     Ok(out.as_slice() == printed.as_bytes() && refusing.refused() == 1)
 }
 
-/// The first growth is that of the offer. The next two are for the control station's spool, before
-/// and after the text is stored.
+/// A list of records grows in two allocations, first for fourteen records. The first two growths
+/// are those of the offers, the next two are for the control station's spool before the text
+/// comes, and the fifth is for the ends of its records after eight are stored.
 #[test]
 fn a_text_is_put_off_until_there_is_room(rt: HostRuntime) -> Result<(), Fail> {
-    assert!(rt; is_printed_without(rt.alloc(), 2, NO_ROOM_FOR_IT)?);
-    assert!(rt; is_printed_without(rt.alloc(), 3, NO_ROOM_FOR_ANOTHER)?);
+    assert!(rt; is_printed_without(rt.alloc(), POLLED, 3, NO_ROOM_FOR_IT)?);
+    assert!(rt; is_printed_without(rt.alloc(), POLLED, 4, NO_ROOM_FOR_IT)?);
+    assert!(rt; is_printed_without(rt.alloc(), EIGHT_POLLED, 5, NO_ROOM_FOR_ANOTHER)?);
     Ok(())
 }

@@ -199,7 +199,7 @@ fn is_front<A: Allocator>(line: &Line<A>, worked: &Worked<'_>, terminal: usize, 
     if terminal == 0 && way == worked.way {
         are_front(arrived, worked.arrived)
     } else {
-        arrived.is_empty()
+        arrived.len() == 0
     }
 }
 

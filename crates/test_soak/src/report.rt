@@ -76,7 +76,7 @@ impl Report {
             tally.enquiries,
             tally.naks,
             tally.wacks,
-            tally.rvis,
+            tally.interrupts,
         ]
     }
 

@@ -41,13 +41,13 @@ fn see_records<A: Allocator>(line: &Line<A>, channel: &Channel, trusted: bool) -
     }
     let offered = line.offered(terminal, way);
     let spooled = line.spooled(terminal, way);
-    if with_records(EMPTY, offered) != channel.offered {
+    if with_records(EMPTY, offered, 0) != channel.offered {
         return Err(Broken::Offered);
     }
-    if with_records(EMPTY, spooled) != channel.spooled {
+    if with_records(EMPTY, spooled, 0) != channel.spooled {
         return Err(Broken::Spooled);
     }
-    if trusted && !begins(spooled, offered) {
+    if trusted && !begins(spooled, offered, 0) {
         return Err(Broken::OtherRecords);
     }
     Ok(())

@@ -4,12 +4,13 @@ ghost use Rattle.test_hostile.specs.Tallies.{SameAnswers};
 ghost use Rattle.test_hostile.specs.Watches.{SameBasis};
 
 use crate::broken::Broken;
-use crate::channel::{Channel, View, look, offered_from, spooled_from};
+use crate::channel::{Channel, View, look, offered_on, spooled_on};
 use crate::heard::Hearing;
 use crate::records::{begins, is_text_of, with_records};
 use crate::step::{Effect, allowed, check, moved, steps};
 use crate::tally::Tally;
 use crate::watch::{LineWatch, octets_heard};
+use bsc_block::Records;
 use bsc_control::Way;
 use bsc_line::{Event, Line};
 use std::alloc::Allocator;
@@ -116,13 +117,24 @@ fn see_offered<A: Allocator>(
     channel: &mut Channel,
 ) -> Result<(), Broken> {
     let view = channel.view;
-    let records = offered_from(line, channel.terminal, channel.way, view.offered);
-    let codes = codes_of(event);
-    if !records.iter().all(|record| record.chars() == codes) {
+    let Some(records) = offered_on(line, channel.terminal, channel.way) else {
+        return Err(Broken::Channel);
+    };
+    if !are_all(records, view.offered, codes_of(event)) {
         return Err(Broken::Offered);
     }
-    channel.offered = with_records(channel.offered, records);
+    channel.offered = with_records(channel.offered, records, view.offered);
     Ok(())
+}
+
+/// Whether the records from a place on all have these characters.
+fn are_all<A: Allocator>(records: &Records<A>, from: usize, chars: &[u8]) -> bool {
+    for place in from..records.len() {
+        if records.chars(place) != chars {
+            return false;
+        }
+    }
+    true
 }
 
 /// The codes of the record that the event offers.
@@ -142,18 +154,29 @@ fn see_arrived<A: Allocator>(
     channel: &mut Channel,
 ) -> Result<(), Broken> {
     let (terminal, way, from) = (channel.terminal, channel.way, channel.view.spooled);
-    let records = spooled_from(line, terminal, way, from);
-    if records.is_empty() {
+    let Some(records) = spooled_on(line, terminal, way) else {
+        return Err(Broken::Channel);
+    };
+    if records.len() <= from {
         return Ok(());
     }
-    if !is_text_of(octets_heard(step.event, step.sent, terminal), records) {
+    if !is_text_of(octets_heard(step.event, step.sent, terminal), records, from) {
         return Err(Broken::Spooled);
     }
-    if step.trusted && !begins(records, offered_from(line, terminal, way, from)) {
+    if step.trusted && !follow_offered(line, channel, records) {
         return Err(Broken::OtherRecords);
     }
-    channel.spooled = with_records(channel.spooled, records);
+    channel.spooled = with_records(channel.spooled, records, from);
     Ok(())
+}
+
+/// Whether the records that arrived on a channel since it was last seen are those that were offered
+/// at the same places.
+fn follow_offered<A: Allocator>(line: &Line<A>, channel: &Channel, arrived: &Records<A>) -> bool {
+    match offered_on(line, channel.terminal, channel.way) {
+        Some(offered) => begins(arrived, offered, channel.view.spooled),
+        None => false,
+    }
 }
 
 /// Checks that, on a trusted line, only the addressed channel changed; and that a terminal received

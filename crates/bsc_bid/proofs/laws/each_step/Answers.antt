@@ -5,35 +5,35 @@ use Rattle.bsc_bid.proofs.Steps.{release_keeps_rest, agreement_is_sound, loss_ag
 use Rattle.bsc_bid.proofs.Steps.{outward_is_text_or_enq, reply_is_last}
 use Rattle.bsc_bid.proofs.Fitting.{fits_begin, fits_reply, fits_silence}
 use Rattle.bsc_bid.proofs.Keeping.{keeps_begin, keeps_reply, keeps_silence}
-use Rattle.bsc_bid.proofs.Answering.{busy}
+use Rattle.bsc_bid.proofs.Answering.{in_bid_while_outward}
 use Rattle.bsc_bid.proofs.Turning.{LawsBelow, bid_continues}
 use Rattle.bsc_bid.proofs.laws.each_step.Goals as goal
 
 -- what the calls of the laws below ensure
-below : goal.After-next_blocks → LawsBelow
-below c = record {
+laws_of_calls_below : goal.After-next_blocks → LawsBelow
+laws_of_calls_below c = record {
   records = c.records_back.ensures;
   next = record { none = λ q. (c.next_blocks.ensures.none q).0; some = c.next_blocks.ensures.some };
   offers = c.next_blocks.ensures.offered;
 }
 
 pub returns-clause-hearing : goal.returns-clause-hearing
-returns-clause-hearing c = hearing_agrees (below c)
+returns-clause-hearing c = hearing_agrees (laws_of_calls_below c)
 
 pub returns-clause-answering : goal.returns-clause-answering
-returns-clause-answering c = answering_agrees (below c)
+returns-clause-answering c = answering_agrees (laws_of_calls_below c)
 
 pub returns-clause-silence : goal.returns-clause-silence
 returns-clause-silence c = silence_agrees
 
 pub returns-clause-begin : goal.returns-clause-begin
-returns-clause-begin c = begin_agrees (below c)
+returns-clause-begin c = begin_agrees (laws_of_calls_below c)
 
 pub returns-clause-offer : goal.returns-clause-offer
-returns-clause-offer c = offer_agrees (below c)
+returns-clause-offer c = offer_agrees (laws_of_calls_below c)
 
 pub returns-clause-offer_at_rest : goal.returns-clause-offer_at_rest
-returns-clause-offer_at_rest c = offer_keeps_rest (below c)
+returns-clause-offer_at_rest c = offer_keeps_rest (laws_of_calls_below c)
 
 pub returns-clause-release : goal.returns-clause-release
 returns-clause-release c = release_keeps_rest
@@ -48,7 +48,7 @@ pub returns-clause-continues : goal.returns-clause-continues
 returns-clause-continues c = bid_continues
 
 pub returns-clause-goes_on : goal.returns-clause-goes_on
-returns-clause-goes_on c = busy
+returns-clause-goes_on c = in_bid_while_outward
 
 pub returns-clause-outward : goal.returns-clause-outward
 returns-clause-outward c = outward_is_text_or_enq

@@ -2,7 +2,7 @@
 use Rattle.std.proofs.Common.{arith, sym, ◌∙◌}
 use Rattle.std.proofs.lemmas.List.{map_push, length_push}
 use Rattle.bsc_frame.specs.Units.{text_unit}
-use Rattle.bsc_octet.proofs.Elements.{all_append}
+use Rattle.bsc_frame.proofs.Elements.{all_append}
 use Rattle.bsc_block.proofs.HeldRecords.{records_in_held, records_in_empty, unit_is_record}
 use Rattle.bsc_block.proofs.block.unpack.Goals as goal
 use Rattle.bsc_block.proofs.block.unpack.Goals.{then-is_record, else-is_record}

@@ -1,7 +1,7 @@
 -- How waiting records are divided into blocks, from the lemmas about the next block.
 use Rattle.std.proofs.Common.{length, ◌≤◌}
 use Rattle.bsc_block.specs.Blocks.{taken}
-use Rattle.bsc_octet.proofs.Elements.{all_drop}
+use Rattle.bsc_frame.proofs.Elements.{all_drop}
 use Rattle.bsc_block.proofs.Taking.{taken_is_taken, taken_some}
 use Rattle.bsc_block.proofs.Cutting.{blocks_next}
 use Rattle.bsc_block.proofs.laws.cut_into_blocks.Goals as goal

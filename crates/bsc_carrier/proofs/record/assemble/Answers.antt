@@ -1,126 +1,153 @@
 -- The loop of `assemble` reads exactly one record, or less if it fails.
-use Rattle.std.proofs.Common.{◌≡◌, ◌<◌, ◌≤◌, ◌++◌, [], length, take, drop, sym, ap, subst}
-use Rattle.std.proofs.Common.{arith, append-nil}
-use Rattle.std.proofs.lemmas.List.{length-take, length-take-le, take-append-le}
+use Rattle.std.proofs.Common.{◌≡◌, ◌+◌, ◌-◌, ◌<◌, ◌≤◌, ◌++◌, [], length, take, drop, sym, ap, ◌∙◌}
+use Rattle.std.proofs.Common.{subst, arith, append-nil, ℕ, List, Ok, true, false, Err}
+use Rattle.std.proofs.lemmas.List.{length-take, length-take-le, length-drop, take_rest}
 use Rattle.std.proofs.lemmas.Result.{err_from_is_err_and}
 use Rattle.std.specs.Io.KnownBytes.{Consumes}
-use Rattle.std.proofs.KnownBytes.{Consumes-nil, Consumes-kept, Consumes-trans}
+use Rattle.std.proofs.KnownBytes.{Consumes-trans}
+use Rattle.std.specs.Prelude.{OnOk}
+use borrow.Rule.Slice.PartMut.{put_mid}
+use Rattle.bsc_carrier.specs.Record.{IsCarried, socket_record}
 use Rattle.bsc_carrier.specs.Front.{IsPartial}
-use Rattle.bsc_carrier.proofs.Fronts.{is_partial_nil}
-use Rattle.bsc_carrier.proofs.Reading.{wanted_some, begun_some, none_read, ended_at_once}
-use Rattle.bsc_carrier.proofs.Reading.{reads_front, wrong_read, whole_read, more_read, less_to_read}
+use Rattle.bsc_carrier.specs.Assembler.{wanted_after, IsWhole}
+use Rattle.bsc_carrier.proofs.Reading.{reads_missing, wanted_some, none_read, arrived_after_read}
+use Rattle.bsc_carrier.proofs.Reading.{wrong_read, whole_read, both, missing_fits}
 use Rattle.bsc_carrier.proofs.record.assemble.Goals as goal
 
-pub reads-init : goal.reads-init
-reads-init g c =
-    let remaining = g.R.Read.remaining c.args.reader.now in (
-      subst IsPartial (sym c.requires) is_partial_nil,
-      subst (Consumes remaining remaining) (sym c.requires) (Consumes-nil remaining),
-    )
-
-pub returns-in-Err : goal.returns-in-Err
-returns-in-Err g c =
-    let (partial, before) = c.reads.invariant in (
-      c.reads.assembler.begun,
-      partial,
-      Consumes-kept _ _ _ _ before c.in-Err.ensures.bytes,
-    )
-
-pub returns-then-between : goal.returns-then-between
-returns-then-between g c =
-    let (partial, before) = c.reads.invariant in
-    let none : c.reads.assembler.begun ≡ [] = c.between.ensures.0 c.if-between.true in
-    let some = wanted_some c.reads.assembler.begun partial in
-    let room : 0 < length c.read.new.buf =
+pub returns-then-count-eq0-clause-read : goal.returns-then-count-eq0-clause-read
+returns-then-count-eq0-clause-read g c =
+    let (there, partial, before, same) = c.reads.invariant in
+    let begun : List ℕ = take c.reads.arrived c.reads.record in
+    let old_length : c.reads.arrived ≤ length c.reads.record = omega (arith, c.reads.array_long, there) in
+    let at : length begun ≡ c.reads.arrived = length-take-le c.reads.arrived c.reads.record old_length in
+    let fits = missing_fits begun partial in
+    let width : length c.read.new.buf ≡ wanted_after begun =
     omega (
       arith,
       c.read.auto.buf,
-      length-take c.wanted-wanted.result c.reads.piece,
-      c.wanted-wanted.ensures,
-      some,
+      length-take (c.reads.arrived + c.missing.result - c.reads.arrived)
+          (drop c.reads.arrived c.reads.record),
+      length-drop c.reads.arrived c.reads.record,
+      c.missing.ensures,
+      c.reads.array_long,
+      at,
+      fits,
     ) in
-    let (read, ended) = c.in-Ok.ensures.bytes in
-    ended_at_once _ _ _ (subst (Consumes _ _) none before)
-    (none_read _ _ _ _ c.if-count-eq0.true read)
-    (ended c.if-count-eq0.true room)
-
-pub returns-then-count-eq0 : goal.returns-then-count-eq0
-returns-then-count-eq0 g c =
-    let (partial, before) = c.reads.invariant in
-    let begun = c.reads.assembler.begun in
     let some = wanted_some begun partial in
-    let room : 0 < length c.read.new.buf =
-    omega (
-      arith,
-      c.read.auto.buf,
-      length-take c.wanted-wanted.result c.reads.piece,
-      c.wanted-wanted.ensures,
-      some,
-    ) in
     let (read, ended) = c.in-Ok.ensures.bytes in
     let kept = Consumes-trans _ _ _ _ _ before (none_read _ _ _ _ c.if-count-eq0.true read) in (
       (
         begun,
-        (begun_some begun c.if-between.ensures.1, partial),
+        (omega (arith, at, c.if-arrived-eq0.false), partial),
         subst (Consumes _ _) (append-nil begun) kept,
       ),
-      ended c.if-count-eq0.true room,
+      ended c.if-count-eq0.true (omega (arith, width, some)),
     )
 
-pub returns-in_err-is_complete : goal.returns-in_err-is_complete
-returns-in_err-is_complete g c =
-    let reads =
-    reads_front _ _ _ _ c.read.new.buf (drop c.wanted-wanted.result c.reads.piece) c.in-Ok.count
-    c.reads.invariant.0 c.reads.invariant.1 c.in-Ok.ensures.bytes.0 c.in-Ok.ensures.bound.0
-    (omega (
-      arith,
-      c.read.auto.buf,
-      length-take c.wanted-wanted.result c.reads.piece,
-      c.wanted-wanted.ensures,
-    )) in
-    let p =
-    err_from_is_err_and c.from_residual.result c.from_residual.ensures.1 in
-    rw (p.1, p.2) (wrong_read _ _ _ _ _ _ _ reads c.in_err-is_complete.ensures.fed)
-
-pub returns-then-is_complete : goal.returns-then-is_complete
-returns-then-is_complete g c =
-    let reads =
-    reads_front _ _ _ _ c.read.new.buf (drop c.wanted-wanted.result c.reads.piece) c.in-Ok.count
-    c.reads.invariant.0 c.reads.invariant.1 c.in-Ok.ensures.bytes.0 c.in-Ok.ensures.bound.0
-    (omega (
-      arith,
-      c.read.auto.buf,
-      length-take c.wanted-wanted.result c.reads.piece,
-      c.wanted-wanted.ensures,
-    )) in
-    whole_read _ _ _ c.reads.assembler c.feed.new.self _ _ _ reads c.if-is_complete.true
-    c.in_ok-is_complete.ensures.fed (c.in_ok-is_complete.ensures.wanted reads.fits)
-
-pub reads-smaller : goal.reads-smaller
-reads-smaller g c =
-    let within = c.in-Ok.ensures.bound.0 in
-    let rest = drop c.wanted-wanted.result c.reads.piece in
-    let piece = take c.in-Ok.count (c.read.new.buf ++ rest) in
-    let some : 1 ≤ length piece =
+pub returns-then-branch-clause-read : goal.returns-then-branch-clause-read
+returns-then-branch-clause-read g c =
+    let (there, partial, before, same) = c.reads.invariant in
+    let begun : List ℕ = take c.reads.arrived c.reads.record in
+    let old_length : c.reads.arrived ≤ length c.reads.record = omega (arith, c.reads.array_long, there) in
+    let at : length begun ≡ c.reads.arrived = length-take-le c.reads.arrived c.reads.record old_length in
+    let fits = missing_fits begun partial in
+    let width : length c.read.new.buf ≡ wanted_after begun =
     omega (
       arith,
-      ap length (take-append-le c.in-Ok.count c.read.new.buf rest within),
-      length-take-le c.in-Ok.count c.read.new.buf within,
-      c.if-count-eq0.false,
+      c.read.auto.buf,
+      length-take (c.reads.arrived + c.missing.result - c.reads.arrived)
+          (drop c.reads.arrived c.reads.record),
+      length-drop c.reads.arrived c.reads.record,
+      c.missing.ensures,
+      c.reads.array_long,
+      at,
+      fits,
     ) in
-    less_to_read c.reads.assembler c.feed.new.self piece _ _ c.reads.invariant.0 some
-    c.if-is_complete.false c.in_ok-is_complete.ensures.fed
+    let reads =
+    reads_missing _ _ _ begun c.read.new.buf c.in-Ok.count partial before c.in-Ok.ensures.bytes.0
+    c.in-Ok.ensures.bound.0 (omega (arith, width)) in
+    let now =
+    arrived_after_read c.reads.arrived c.in-Ok.count
+    (c.reads.arrived + c.missing.result - c.reads.arrived) c.reads.record c.read.new.buf old_length
+    c.in-Ok.ensures.bound.0 in
+    let whole =
+    whole_read reads
+    (subst (λ w. IsWhole (begun ++ take c.in-Ok.count c.read.new.buf) (Ok w)) c.if-branch.true
+    (subst (λ l. IsWhole l (Ok c.in_ok-is_whole.field-0)) now c.in_ok-is_whole.ensures)) in
+    let after : List ℕ =
+    take (c.reads.arrived + c.in-Ok.count)
+    (put_mid c.reads.arrived (c.reads.arrived + c.missing.result - c.reads.arrived) c.reads.record
+    c.read.new.buf) in
+    let items : c.try_extend_from_slice.new.self.items
+    ≡ drop 2 (begun ++ take c.in-Ok.count c.read.new.buf) =
+    subst (λ r. OnOk r (c.try_extend_from_slice.new.self.items ≡ c.clear.new.self.items
+    ++ take (length after - 2) (drop 2 after))) c.unwrap.ensures c.try_extend_from_slice.ensures.ok
+    ∙ ap (λ l. l ++ take (length after - 2) (drop 2 after)) c.clear.ensures ∙ take_rest after 2
+    ∙ ap (drop 2) now in
+    subst (λ l. IsCarried l × Consumes (g.R.Read.remaining c.args.reader.now)
+    (g.R.Read.remaining c.read.new.self) (socket_record l)) (sym items) whole
+
+pub returns-in_err-is_whole-clause-read : goal.returns-in_err-is_whole-clause-read
+returns-in_err-is_whole-clause-read g c =
+    let (there, partial, before, same) = c.reads.invariant in
+    let begun : List ℕ = take c.reads.arrived c.reads.record in
+    let old_length : c.reads.arrived ≤ length c.reads.record = omega (arith, c.reads.array_long, there) in
+    let at : length begun ≡ c.reads.arrived = length-take-le c.reads.arrived c.reads.record old_length in
+    let fits = missing_fits begun partial in
+    let width : length c.read.new.buf ≡ wanted_after begun =
+    omega (
+      arith,
+      c.read.auto.buf,
+      length-take (c.reads.arrived + c.missing.result - c.reads.arrived)
+          (drop c.reads.arrived c.reads.record),
+      length-drop c.reads.arrived c.reads.record,
+      c.missing.ensures,
+      c.reads.array_long,
+      at,
+      fits,
+    ) in
+    let reads =
+    reads_missing _ _ _ begun c.read.new.buf c.in-Ok.count partial before c.in-Ok.ensures.bytes.0
+    c.in-Ok.ensures.bound.0 (omega (arith, width)) in
+    let now =
+    arrived_after_read c.reads.arrived c.in-Ok.count
+    (c.reads.arrived + c.missing.result - c.reads.arrived) c.reads.record c.read.new.buf old_length
+    c.in-Ok.ensures.bound.0 in
+    let p = err_from_is_err_and c.from_residual.result c.from_residual.ensures.1 in
+    rw (p.1, p.2) (wrong_read reads _ _ (subst (λ l. IsWhole l (Err c.in_err-is_whole.field-0.0)) now
+    c.in_err-is_whole.ensures))
 
 pub reads-preserved : goal.reads-preserved
 reads-preserved g c =
-    let reads =
-    reads_front _ _ _ _ c.read.new.buf (drop c.wanted-wanted.result c.reads.piece) c.in-Ok.count
-    c.reads.invariant.0 c.reads.invariant.1 c.in-Ok.ensures.bytes.0 c.in-Ok.ensures.bound.0
-    (omega (
+    let (there, partial, before, same) = c.reads.invariant in
+    let begun : List ℕ = take c.reads.arrived c.reads.record in
+    let old_length : c.reads.arrived ≤ length c.reads.record = omega (arith, c.reads.array_long, there) in
+    let at : length begun ≡ c.reads.arrived = length-take-le c.reads.arrived c.reads.record old_length in
+    let fits = missing_fits begun partial in
+    let width : length c.read.new.buf ≡ wanted_after begun =
+    omega (
       arith,
       c.read.auto.buf,
-      length-take c.wanted-wanted.result c.reads.piece,
-      c.wanted-wanted.ensures,
-    )) in
-    more_read _ _ _ c.reads.assembler c.feed.new.self _ _ _ reads c.if-is_complete.false
-    c.in_ok-is_complete.ensures.fed
+      length-take (c.reads.arrived + c.missing.result - c.reads.arrived)
+          (drop c.reads.arrived c.reads.record),
+      length-drop c.reads.arrived c.reads.record,
+      c.missing.ensures,
+      c.reads.array_long,
+      at,
+      fits,
+    ) in
+    let reads =
+    reads_missing _ _ _ begun c.read.new.buf c.in-Ok.count partial before c.in-Ok.ensures.bytes.0
+    c.in-Ok.ensures.bound.0 (omega (arith, width)) in
+    let now =
+    arrived_after_read c.reads.arrived c.in-Ok.count
+    (c.reads.arrived + c.missing.result - c.reads.arrived) c.reads.record c.read.new.buf old_length
+    c.in-Ok.ensures.bound.0 in
+    let arrived =
+    subst (λ w. IsWhole (begun ++ take c.in-Ok.count c.read.new.buf) (Ok w)) c.if-branch.false
+    (subst (λ l. IsWhole l (Ok c.in_ok-is_whole.field-0)) now c.in_ok-is_whole.ensures) in (
+      omega (arith, width, at, fits, c.in-Ok.ensures.bound.0),
+      subst IsPartial (sym now) arrived,
+      subst (Consumes _ _) (sym now) (both reads),
+      same,
+    )

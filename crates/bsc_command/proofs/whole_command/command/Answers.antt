@@ -4,7 +4,7 @@ use Rattle.std.specs.Io.Buffered.{writer_contents}
 use Rattle.bsc_command.specs.Faults.{IsPrintFault}
 use Rattle.bsc_command.specs.Program.{IsFaultAt}
 use Rattle.bsc_command.proofs.Keeping.{obeyed_kept}
-use Rattle.bsc_command.proofs.Outcomes.{and_then, done, fault_told}
+use Rattle.bsc_command.proofs.Outcomes.{and_then, promise_of_success, fault_told}
 use Rattle.bsc_command.proofs.whole_command.command.Goals as goal
 
 pub returns-in-Ok-clause-done : goal.returns-in-Ok-clause-done
@@ -15,7 +15,7 @@ returns-in-Ok-clause-done g c = λ _.
     (g.R.Read.remaining c.args.input.now) (writer_contents g.W.Write.contents c.args.out.now)
     (writer_contents g.W.Write.contents c.obey_given-outcome.new.out)
     (writer_contents g.W.Write.contents c.flush_after.new.out) p c.in-Ok.ensures.kept)
-    (done c.obey_given-outcome.result c.in-Ok.ensures.ok c.obey_given-outcome.ensures.ok)
+    (promise_of_success c.obey_given-outcome.result c.in-Ok.ensures.ok c.obey_given-outcome.ensures.ok)
 
 pub returns-in-Err-clause-fault : goal.returns-in-Err-clause-fault
 returns-in-Err-clause-fault g c = λ _.

@@ -1,7 +1,7 @@
 -- The loop of `attend` extends the history by one step at a time.
 use Rattle.std.proofs.Common.{[], refl}
 use Rattle.bsc_connections.specs.Attending.{ended}
-use Rattle.bsc_connections.proofs.Attendance.{one_step, step_first}
+use Rattle.bsc_connections.proofs.Attendance.{attends_one_step, attends_with_step_first}
 use Rattle.bsc_connections.proofs.attending.attend.Goals as goal
 
 pub steps-init : goal.steps-init
@@ -10,28 +10,20 @@ steps-init g c = λ history last rest. (history, rest)
 pub returns-in_err-step-clause-attends : goal.returns-in_err-step-clause-attends
 returns-in_err-step-clause-attends g c =
     let (history, step) =
-    one_step g.S.Station.hears g.S.Station.acts g.R.Read.remaining g.W.Write.contents
-    g.F.Framing.starts g.F.Framing.feeds g.F.Framing.ends g.F.Framing.awaits
-    g.F.Framing.last g.F.Framing.framed g.T.Waiter.waits _ c.step.result _
-    c.step.ensures.steps in
+    attends_one_step _ g.T.Waiter.waits _ c.step.result _ c.step.ensures.steps in
     c.steps.invariant history _ step
 
 pub returns-then-not-branch-clause-attends : goal.returns-then-not-branch-clause-attends
 returns-then-not-branch-clause-attends g c =
     let (history, step) =
-    one_step g.S.Station.hears g.S.Station.acts g.R.Read.remaining g.W.Write.contents
-    g.F.Framing.starts g.F.Framing.feeds g.F.Framing.ends g.F.Framing.awaits
-    g.F.Framing.last g.F.Framing.framed g.T.Waiter.waits _ c.step.result _
-    c.step.ensures.steps in
+    attends_one_step _ g.T.Waiter.waits _ c.step.result _ c.step.ensures.steps in
     c.steps.invariant history _ step
 
 pub steps-preserved : goal.steps-preserved
 steps-preserved g c = λ history last rest.
     let (whole, step) =
-    step_first g.S.Station.hears g.S.Station.acts g.R.Read.remaining g.W.Write.contents
-    g.F.Framing.starts g.F.Framing.feeds g.F.Framing.ends g.F.Framing.awaits
-    g.F.Framing.last g.F.Framing.framed g.T.Waiter.waits _ c.step.result
-    c.in_ok-step.field-0 _ last history c.in_ok-step.was c.step.ensures.steps rest in
+    attends_with_step_first _ g.T.Waiter.waits c.step.result c.in_ok-step.was c.step.ensures.steps
+    rest in
     c.steps.invariant whole last step
 
 pub returns-clause-attends : goal.returns-clause-attends

@@ -1,5 +1,6 @@
 -- The loop invariant of `attend`.
 use Rattle.std.specs.Prelude.{List}
+use Rattle.bsc_connections.specs.Parts.{session_parts}
 use Rattle.bsc_connections.specs.Histories.{Happening}
 use Rattle.bsc_connections.specs.Connections.{ConnectionValue}
 use Rattle.bsc_connections.specs.Attending.{Attended, Attends}
@@ -10,13 +11,9 @@ abbrev pub invariant-steps : goal.invariant-steps
 invariant-steps g l =
     (history : List Happening) (last : Attended g.row.S.Denot
     (ConnectionValue g.row.R.Denot g.row.W.Denot g.row.F.Denot) g.row.T.Denot)
-    → Attends g.S.Station.hears g.S.Station.acts g.R.Read.remaining g.W.Write.contents
-    g.F.Framing.starts g.F.Framing.feeds g.F.Framing.ends g.F.Framing.awaits g.F.Framing.last
-    g.F.Framing.framed g.T.Waiter.waits
+    → Attends (session_parts g.S.Station g.R.Read g.W.Write g.F.Framing) g.T.Waiter.waits
     (record { station = l.station; connections = l.connections; waiter = l.waiter }) history last
     → (whole : List Happening)
-    × Attends g.S.Station.hears g.S.Station.acts g.R.Read.remaining g.W.Write.contents
-    g.F.Framing.starts g.F.Framing.feeds g.F.Framing.ends g.F.Framing.awaits g.F.Framing.last
-    g.F.Framing.framed g.T.Waiter.waits
+    × Attends (session_parts g.S.Station g.R.Read g.W.Write g.F.Framing) g.T.Waiter.waits
     (record { station = l.fn.station; connections = l.fn.connections; waiter = l.fn.waiter }) whole
     last

@@ -2,12 +2,13 @@
 use Rattle.std.proofs.Common.{◌≡◌, ◌≢◌, ℕ, Option, None, Some, [], ◌∷◌, slice_set, inr, refl, sym}
 use Rattle.std.proofs.Common.{◌∙◌, subst}
 use Rattle.std.proofs.lemmas.Option.{slice_get-get_or}
+use Rattle.bsc_connections.specs.Parts.{session_parts}
 use Rattle.bsc_connections.specs.Histories.{HasJoined}
 use Rattle.bsc_connections.specs.Attending.{Joins, first_closed}
 use Rattle.bsc_connections.proofs.attending.join.Goals as goal
 
-filled : {A : Type 0} (o : Option A) (x : A) → o ≡ Some x → o ≢ None
-filled o x is none = let clash : Some x ≡ None = sym is ∙ none in absurd cc
+some_is_not_none : {A : Type 0} (o : Option A) (x : A) → o ≡ Some x → o ≢ None
+some_is_not_none o x is none = let clash : Some x ≡ None = sym is ∙ none in absurd cc
 
 pub returns-clause-does : goal.returns-clause-does
 returns-clause-does g c =
@@ -17,10 +18,10 @@ returns-clause-does g c =
       HasJoined place ∷ [],
       (
         refl,
-        subst (λ (o : Option ℕ). Joins g.S.Station.hears g.S.Station.acts g.R.Read.remaining
-            g.W.Write.contents g.F.Framing.starts g.F.Framing.feeds g.F.Framing.ends
-            g.F.Framing.awaits g.F.Framing.last g.F.Framing.framed o c.args.connections.now
-            (slice_set c.args.connections.now place c.new.result) (HasJoined place ∷ [])) is
+        subst (λ (o : Option ℕ). Joins
+            (session_parts g.S.Station g.R.Read g.W.Write g.F.Framing) o
+            c.args.connections.now (HasJoined place ∷ [])
+            (slice_set c.args.connections.now place c.new.result)) is
             (inr (
               (
                 _,
@@ -28,7 +29,7 @@ returns-clause-does g c =
                 slice_get-get_or c.args.connections.now place
                     c.index-connections-connection.result c.in-Some.ensures.within,
                 refl,
-                (filled c.new.result.ends _ c.new.ensures.is_open, c.new.ensures.starts),
+                (some_is_not_none c.new.result.ends _ c.new.ensures.is_open, c.new.ensures.starts),
               ),
               refl,
             )),

@@ -1,9 +1,10 @@
 -- `tell_silence` sends what the station answers to a silence, or nothing.
 use Rattle.std.proofs.Common.{ℕ, List, ◌∷◌, refl, subst}
 use Rattle.std.specs.List.{AllZip}
+use Rattle.bsc_connections.specs.Parts.{connection_parts}
 use Rattle.bsc_connections.specs.Connections.{Sends}
 use Rattle.bsc_connections.specs.Histories.{WasSilent, sent_where_some}
-use Rattle.bsc_connections.proofs.Sending.{goes_out, nothing_goes}
+use Rattle.bsc_connections.proofs.Sending.{sent_message_goes_to_all, unchanged_if_unsent}
 use Rattle.bsc_connections.proofs.attending.tell_silence.Goals as goal
 
 pub returns-then-is_sent : goal.returns-then-is_sent
@@ -14,10 +15,11 @@ returns-then-is_sent g c =
         sent = sent;
         acted = acted;
         sends =
-            goes_out g.W.Write.contents g.F.Framing.framed sent c.silence-is_sent.result
+            sent_message_goes_to_all _ sent c.silence-is_sent.result
             c.silence-is_sent.new.wire.items c.args.connections.now c.send_all.new.connections
             sends c.if-is_sent.true
-            (subst (λ (o : List ℕ). AllZip (Sends g.W.Write.contents g.F.Framing.framed o)
+            (subst (λ (o : List ℕ). AllZip
+            (Sends (connection_parts g.R.Read g.W.Write g.F.Framing) o)
             c.args.connections.now c.send_all.new.connections) c.deref.ensures.0
             c.send_all.ensures);
         happens = refl;
@@ -32,7 +34,7 @@ returns-else-is_sent g c =
         sent = sent;
         acted = acted;
         sends =
-            nothing_goes g.W.Write.contents g.F.Framing.framed sent c.silence-is_sent.result _
+            unchanged_if_unsent _ sent c.silence-is_sent.result _
             c.args.connections.now sends c.if-is_sent.false;
         happens = refl;
       },

@@ -2,6 +2,7 @@
 use Rattle.std.proofs.Common.{◌≡◌, ℕ, Bool, true, Option, Some, get_or, refl, sym, ◌∙◌, subst}
 use Rattle.std.proofs.lemmas.Option.{slice_get-get_or}
 use Rattle.std.proofs.lemmas.List.Quantifiers.{position-Some}
+use Rattle.bsc_connections.specs.Parts.{session_parts}
 use Rattle.bsc_connections.specs.Connections.{ConnectionValue}
 use Rattle.bsc_connections.specs.Attending.{TimesOut, first_awaiting}
 use Rattle.bsc_connections.proofs.attending.time_out.Goals as goal
@@ -18,10 +19,13 @@ returns-in-Some-clause-does g c =
     let ended : c.gap.result ≡ true = c.gap.ensures.ended ∙ awaits in
     let (happened, heard) = c.answer_at.ensures.hears in (
       happened,
-      subst (λ (o : Option ℕ). TimesOut g.S.Station.hears g.S.Station.acts g.R.Read.remaining
-          g.W.Write.contents g.F.Framing.starts g.F.Framing.feeds g.F.Framing.ends
-          g.F.Framing.awaits g.F.Framing.last g.F.Framing.framed o c.args.station.now
-          c.answer_at.new.station c.args.connections.now c.answer_at.new.connections happened) is
+      subst (λ (o : Option ℕ). TimesOut
+          (session_parts g.S.Station g.R.Read g.W.Write g.F.Framing) o
+          (record { station = c.args.station.now; connections = c.args.connections.now })
+          happened (record {
+            station = c.answer_at.new.station;
+            connections = c.answer_at.new.connections;
+          })) is
           (record {
             between = _;
             ended = (

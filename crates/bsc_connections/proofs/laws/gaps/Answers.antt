@@ -1,11 +1,12 @@
 -- What a gap ends, from the lemmas about pieces that arrive without a gap.
 use Rattle.std.proofs.Common.{ap}
 use Rattle.bsc_connections.specs.Framings.{GapsValue}
-use Rattle.bsc_connections.proofs.Gathered.{ends_all, counted_all, bounded_all}
+use Rattle.bsc_connections.proofs.Gathered.{gap_ends_all_pieces, count_after_pieces}
+use Rattle.bsc_connections.proofs.Gathered.{count_stays_bounded}
 use Rattle.bsc_connections.proofs.laws.gaps.Goals as goal
 
 pub returns-clause-ended : goal.returns-clause-ended
-returns-clause-ended c = ends_all
+returns-clause-ended c = gap_ends_all_pieces
 
 pub returns-clause-anew : goal.returns-clause-anew
 returns-clause-anew c =
@@ -15,7 +16,7 @@ returns-clause-anew c =
     )
 
 pub returns-clause-counted : goal.returns-clause-counted
-returns-clause-counted c = counted_all
+returns-clause-counted c = count_after_pieces
 
 pub returns-clause-bounded : goal.returns-clause-bounded
-returns-clause-bounded c = bounded_all
+returns-clause-bounded c = count_stays_bounded

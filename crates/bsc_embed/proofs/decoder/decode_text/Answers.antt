@@ -2,7 +2,7 @@
 use Rattle.std.proofs.Common.{◌∙◌, ap, refl}
 use Rattle.bsc_frame.specs.declared.message.Message.TheVariants.{Text}
 use Rattle.bsc_frame.specs.declared.message.Heard.TheVariants.{Whole, Failed}
-use Rattle.bsc_embed.proofs.HeardKinds.{heard_is, only_text, tells}
+use Rattle.bsc_embed.proofs.HeardKinds.{heard_is, only_text, kind_tells_heard}
 use Rattle.bsc_embed.proofs.decoder.decode_text.Goals as goal
 
 pub unreachable-requires : goal.unreachable-requires
@@ -13,7 +13,7 @@ unreachable-requires c =
 
 pub returns-in-Text : goal.returns-in-Text
 returns-in-Text c =
-    tells c.args.octets.now (Whole (Text c.in-Text.text)) _ c.args.content.now c.put_text.new.self
+    kind_tells_heard c.args.octets.now (Whole (Text c.in-Text.text)) _ c.args.content.now c.put_text.new.self
     (heard_is c.args.octets.now c.decode.result _ (c.in-Whole.is ∙ ap Whole c.in-Text.is)
     c.decode.ensures.whole c.decode.ensures.failed c.decode.ensures.noise)
     (rw c.put_text.ensures.text refl)
@@ -21,6 +21,6 @@ returns-in-Text c =
 
 pub returns-in-Failed : goal.returns-in-Failed
 returns-in-Failed c =
-    tells c.args.octets.now Failed _ c.args.content.now c.args.content.now
+    kind_tells_heard c.args.octets.now Failed _ c.args.content.now c.args.content.now
     (heard_is c.args.octets.now c.decode.result Failed c.in-Failed.is c.decode.ensures.whole
     c.decode.ensures.failed c.decode.ensures.noise) refl refl

@@ -1,7 +1,7 @@
 -- `body_of_few` returns a body that is heard as the octets are.
 use Rattle.std.proofs.Common.{◌∙◌, ap, arith}
 use Rattle.bsc_frame.specs.Reading.{trimmed}
-use Rattle.bsc_frame.specs.declared.octets.TheConstants.{SYN}
+use Rattle.bsc_octet.specs.declared.controls.TheConstants.{SYN}
 use Rattle.bsc_frame.proofs.Runs.{skip_pads, skip_all}
 use Rattle.bsc_frame.proofs.Bodies.{heard_no_syn, heard_after_syn}
 use Rattle.bsc_frame.proofs.body.body_of_few.Goals as goal

@@ -1,8 +1,8 @@
 -- `put_unit` writes the octets of the codes of the unit and their check.
-use Rattle.std.proofs.Common.{◌≡◌, ◌∙◌, ℕ, List, ◌++◌, [], ◌∷◌, refl, ap, take, map, cond}
+use Rattle.std.proofs.Common.{◌≡◌, ◌∙◌, ℕ, List, ◌++◌, [], ◌∷◌, refl, take, map, cond}
 use Rattle.bsc_octet.specs.Octet.{odd_octet}
 use Rattle.bsc_frame.specs.Units.{text_unit}
-use Rattle.bsc_frame.specs.declared.octets.TheConstants.{EM_CODE}
+use Rattle.bsc_octet.specs.declared.controls.TheConstants.{EM_CODE}
 use Rattle.bsc_frame.proofs.WireSteps.{chars_small, unit_wire_is}
 use Rattle.bsc_frame.proofs.encoder.put_unit.Goals as goal
 
@@ -19,6 +19,5 @@ returns-clause-octets c =
       c.put_codes.ensures,
       c.carried.ensures,
     ) refl in
-    c.put.ensures.octets ∙ ap (λ k. line ++ k ∷ []) c.check_of-check.ensures
-    ∙ unit_wire_is (text_unit c.args.unit) c.args.ending line c.requires.unit c.requires.ending
+    c.put_check.ensures.octets ∙ unit_wire_is (text_unit c.args.unit) c.args.ending line c.requires.unit c.requires.ending
     codes

@@ -2,7 +2,7 @@
 use Rattle.std.proofs.Common.{refl}
 use Rattle.bsc_frame.proofs.ReadingSteps.{test_false}
 use Rattle.bsc_frame.specs.Reading.{is_before_ending}
-use Rattle.bsc_frame.specs.declared.octets.TheConstants.{ETB, ETX, US_CODE}
+use Rattle.bsc_octet.specs.declared.controls.TheConstants.{ETB, ETX, US_CODE}
 use Rattle.bsc_frame.proofs.Runs.{run_more, run_stop, run_end}
 use Rattle.bsc_frame.proofs.front.before_ending_rest.Goals as goal
 use Rattle.bsc_frame.proofs.front.before_ending_rest.Goals.{then-octet-eq-US-via-then-octet-eq-US}

@@ -2,7 +2,7 @@
 use Rattle.std.proofs.Common.{◌≡◌, take}
 use Rattle.std.specs.List.{list_any}
 use Rattle.bsc_frame.specs.Reading.{is_octet}
-use Rattle.bsc_frame.specs.declared.octets.TheConstants.{SYN}
+use Rattle.bsc_octet.specs.declared.controls.TheConstants.{SYN}
 use Rattle.bsc_frame.proofs.squeeze.has_fill.Given as goal
 
 abbrev pub invariant-loop-octet : goal.invariant-loop-octet

@@ -2,7 +2,7 @@
 use Rattle.std.proofs.Common.{nat_lt, refl, sym}
 use Rattle.std.proofs.lemmas.Bool.{eqb-true, eqb-false, eq-eqb}
 use Rattle.bsc_frame.specs.declared.text.End.TheVariants.{Etb, Etx}
-use Rattle.bsc_frame.specs.declared.octets.TheConstants.{ETB_CODE}
+use Rattle.bsc_octet.specs.declared.controls.TheConstants.{ETB_CODE}
 use Rattle.bsc_frame.proofs.ReadingSteps.{test_false}
 use Rattle.bsc_frame.proofs.UnitSteps.{read_start, read_stop, read_more, read_extra, read_whole}
 use Rattle.bsc_frame.proofs.UnitSteps.{read_all, rest_odd}

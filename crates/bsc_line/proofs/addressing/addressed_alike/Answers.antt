@@ -2,7 +2,8 @@
 use Rattle.std.proofs.Common.{sym, ◌∙◌}
 use Rattle.bsc_control.specs.Control.{terminals}
 use Rattle.bsc_line_model.specs.Hearing.{all_hear}
-use Rattle.bsc_line.proofs.Naming.{addressed_call, addressed_nobody, other_heard, named_address}
+use Rattle.bsc_line.proofs.Naming.{addressed_call, addressed_nobody, addressed_after_other_hearing}
+use Rattle.bsc_line.proofs.Naming.{named_address}
 use Rattle.bsc_line.proofs.Naming.{named_nobody}
 use Rattle.bsc_line.proofs.addressing.addressed_alike.Goals as goal
 
@@ -21,5 +22,5 @@ returns-in-Nobody g c =
 
 pub returns-in-Nothing : goal.returns-in-Nothing
 returns-in-Nothing g c =
-    other_heard (terminals c.args.control.now) c.args.count (all_hear c.args.heard.now)
+    addressed_after_other_hearing (terminals c.args.control.now) c.args.count (all_hear c.args.heard.now)
     c.args.addressed c.requires (sym c.in-Nothing.is ∙ c.named_in.ensures)

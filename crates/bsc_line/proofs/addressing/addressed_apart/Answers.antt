@@ -3,8 +3,10 @@ use Rattle.std.proofs.Common.{sym, ◌∙◌, ap}
 use Rattle.bsc_control.specs.Control.{terminals}
 use Rattle.bsc_line_model.specs.Hearing.{heard_in, heard_at}
 use Rattle.bsc_line.specs.Naming.{named_in}
-use Rattle.bsc_line.proofs.Naming.{addressed_call, addressed_nobody, other_call, other_eot}
-use Rattle.bsc_line.proofs.Naming.{other_heard}
+use Rattle.bsc_line.proofs.Naming.{addressed_call, addressed_nobody}
+use Rattle.bsc_line.proofs.Naming.{addressed_after_call_not_heard_by_all}
+use Rattle.bsc_line.proofs.Naming.{addressed_after_eot_not_heard_by_all}
+use Rattle.bsc_line.proofs.Naming.{addressed_after_other_hearing}
 use Rattle.bsc_line.proofs.addressing.addressed_apart.Goals as goal
 
 pub returns-then-each_hears : goal.returns-then-each_hears
@@ -15,7 +17,7 @@ returns-then-each_hears g c =
 
 pub returns-else-each_hears : goal.returns-else-each_hears
 returns-else-each_hears g c =
-    other_call (terminals c.args.control.now) c.args.count (heard_at c.args.items.now)
+    addressed_after_call_not_heard_by_all (terminals c.args.control.now) c.args.count (heard_at c.args.items.now)
     c.args.addressed c.in-Address.address c.each_hears.result c.requires
     (sym c.in-Address.is ∙ (c.named_in.ensures
     ∙ ap named_in (c.hearing.ensures ∙ ap heard_in c.item_at.ensures))) c.if-each_hears.false
@@ -28,7 +30,7 @@ returns-then-each_hears-2 g c =
 
 pub returns-else-each_hears-2 : goal.returns-else-each_hears-2
 returns-else-each_hears-2 g c =
-    other_eot (terminals c.args.control.now) c.args.count (heard_at c.args.items.now)
+    addressed_after_eot_not_heard_by_all (terminals c.args.control.now) c.args.count (heard_at c.args.items.now)
     c.args.addressed c.each_hears-in-Nobody.result c.requires
     (sym c.in-Nobody.is ∙ (c.named_in.ensures
     ∙ ap named_in (c.hearing.ensures ∙ ap heard_in c.item_at.ensures))) c.if-each_hears-2.false
@@ -36,6 +38,6 @@ returns-else-each_hears-2 g c =
 
 pub returns-in-Nothing : goal.returns-in-Nothing
 returns-in-Nothing g c =
-    other_heard (terminals c.args.control.now) c.args.count (heard_at c.args.items.now)
+    addressed_after_other_hearing (terminals c.args.control.now) c.args.count (heard_at c.args.items.now)
     c.args.addressed c.requires (sym c.in-Nothing.is
     ∙ (c.named_in.ensures ∙ ap named_in (c.hearing.ensures ∙ ap heard_in c.item_at.ensures)))

@@ -7,13 +7,14 @@ use Rattle.bsc_line_model.specs.declared.transmission.Speaker.TheVariants.{Termi
 use Rattle.bsc_line_model.specs.Transmission.{sent_by}
 use Rattle.bsc_line.specs.Hearings.{hearing_of}
 use Rattle.bsc_line_model.specs.Terminals.{answer, or_first, first_answer, EachHears, EachKeeps}
-use Rattle.bsc_line.proofs.EachHearing.{Heeds, none_heard, one_more, first_more, all_heard}
+use Rattle.bsc_line.proofs.EachHearing.{Heeds, none_have_heard, one_more_has_heard}
+use Rattle.bsc_line.proofs.EachHearing.{first_answer_with_one_more, all_have_heard}
 use Rattle.bsc_line.proofs.terminals.hear_all.Goals as goal
 
 pub loop-i-init : goal.loop-i-init
 loop-i-init g c =
     record {
-      heard = none_heard c.args.terminals.now (hearing_of c.args.hearings.now);
+      heard = none_have_heard c.args.terminals.now (hearing_of c.args.hearings.now);
       first =
           refl;
     }
@@ -28,7 +29,7 @@ loop-i-preserved g c =
     (record { row = c.hear_at.ensures.hearing.row; after = c.hear_at.ensures.hearing.after }) in
     record {
       heard =
-          one_more c.args.terminals.now (hearing_of c.args.hearings.now) c.loop-i.terminals
+          one_more_has_heard c.args.terminals.now (hearing_of c.args.hearings.now) c.loop-i.terminals
           c.loop-i.i t u (answer t h u) c.loop-i.invariant.heard c.loop-i-test.true
           c.index-terminals-i.is heeds;
       first = c.hear_at.ensures.first
@@ -36,7 +37,7 @@ loop-i-preserved g c =
           (sent_by (Terminal c.loop-i.i) (answer x h u))) (sym c.index-terminals-i.is)
           ∙ ap (λ (o : Option Transmission). or_first o
           (sent_by (Terminal c.loop-i.i) (answer t h u))) c.loop-i.invariant.first
-          ∙ sym (first_more c.args.terminals.now (hearing_of c.args.hearings.now) c.loop-i.terminals
+          ∙ sym (first_answer_with_one_more c.args.terminals.now (hearing_of c.args.hearings.now) c.loop-i.terminals
           c.loop-i.i t u (answer t h u) c.loop-i.invariant.heard c.loop-i-test.true
           c.index-terminals-i.is heeds);
     }
@@ -46,7 +47,7 @@ returns g c =
     let all : c.loop-i.i ≡ length c.args.terminals.now = omega arith in
     let heard : EachHears c.args.terminals.now (hearing_of c.args.hearings.now) c.loop-i.terminals
     × EachKeeps c.args.terminals.now (hearing_of c.args.hearings.now) c.loop-i.terminals =
-    all_heard c.args.terminals.now (hearing_of c.args.hearings.now) c.loop-i.terminals c.loop-i.i
+    all_have_heard c.args.terminals.now (hearing_of c.args.hearings.now) c.loop-i.terminals c.loop-i.i
     c.loop-i.invariant.heard all in
     record {
       each = heard.0;

@@ -6,7 +6,7 @@ use Rattle.bsc_tributary.specs.Kept.{IsHearing}
 use Rattle.bsc_line_model.specs.declared.transmission.Speaker.TheVariants.{Terminal}
 use Rattle.bsc_line_model.specs.Transmission.{sent_by}
 use Rattle.bsc_line_model.specs.Terminals.{answer, or_first}
-use Rattle.bsc_line.proofs.EachHearing.{sent_is, first_kept}
+use Rattle.bsc_line.proofs.EachHearing.{sent_is, first_answer_kept_by_quiet}
 use Rattle.bsc_line.proofs.terminals.hear_one.Goals as goal
 
 pub returns-then-overhear-clause-hearing : goal.returns-then-overhear-clause-hearing
@@ -21,7 +21,7 @@ pub returns-then-overhear-clause-first : goal.returns-then-overhear-clause-first
 returns-then-overhear-clause-first g c =
     let silent : IsHearing c.args.terminal.now c.args.heard.now c.overhear.new.self None =
     c.overhear.ensures.silent c.if-overhear.true in
-    first_kept c.args.first.now c.args.place
+    first_answer_kept_by_quiet c.args.first.now c.args.place
     ∙ ap (λ (o : Option Message). or_first c.args.first.now (sent_by (Terminal c.args.place) o))
     (sent_is c.args.terminal.now c.args.heard.now c.overhear.new.self None silent.row)
 

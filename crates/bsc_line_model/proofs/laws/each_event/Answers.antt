@@ -1,5 +1,6 @@
 -- `each_event`: every event keeps the invariant of a line.
-use Rattle.bsc_line_model.proofs.EachEvent.{new_line_stays, down_stays, up_stays, silence_stays}
+use Rattle.bsc_line_model.proofs.EachEvent.{new_line_stays, setups_kept_by_carry_down}
+use Rattle.bsc_line_model.proofs.EachEvent.{setups_kept_by_carry_up, silence_stays}
 use Rattle.bsc_line_model.proofs.EachEvent.{offer_at_stays, ready_stays, urgent_at_stays}
 use Rattle.bsc_line_model.proofs.EachEvent.{release_from_stays, offer_for_stays, urgent_for_stays}
 use Rattle.bsc_line_model.proofs.EachEvent.{release_to_stays}
@@ -10,7 +11,7 @@ returns-clause-new_line c = new_line_stays
 
 pub returns-clause-down : goal.returns-clause-down
 returns-clause-down c =
-    down_stays
+    setups_kept_by_carry_down
     (record {
       polling = c.own_addresses.ensures.polling;
       selection =
@@ -19,7 +20,7 @@ returns-clause-down c =
     c.bid_laws.ensures
 
 pub returns-clause-up : goal.returns-clause-up
-returns-clause-up c = up_stays c.bid_laws.ensures
+returns-clause-up c = setups_kept_by_carry_up c.bid_laws.ensures
 
 pub returns-clause-silence : goal.returns-clause-silence
 returns-clause-silence c = silence_stays c.bid_laws.ensures

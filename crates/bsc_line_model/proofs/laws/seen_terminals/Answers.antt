@@ -1,6 +1,6 @@
 -- `seen_terminals`: which terminals were visited.
-use Rattle.bsc_line_model.proofs.RoundSteps.{seen_now, seen_more}
+use Rattle.bsc_line_model.proofs.RoundSteps.{visited_now_is_seen, seen_unless_visited_now}
 use Rattle.bsc_line_model.proofs.laws.seen_terminals.Goals as goal
 
 pub returns : goal.returns
-returns c = record { last = seen_now; earlier = seen_more }
+returns c = record { last = visited_now_is_seen; earlier = seen_unless_visited_now }

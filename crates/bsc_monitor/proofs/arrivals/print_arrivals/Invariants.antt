@@ -7,14 +7,10 @@ use Rattle.bsc_monitor.proofs.arrivals.print_arrivals.Given as goal
 
 abbrev pub invariant-channels : goal.invariant-channels
 invariant-channels g l =
-    let s = l.station in
     record {
       text : Appends (g.W.Write.contents l.initial.out) (g.W.Write.contents l.out)
-          (each_below (arrivals_of l.form (g.P.Party.selects s) (g.P.Party.numbers s)
-          (g.P.Party.ends s) g.P.Party.terminal_of g.P.Party.way_of l.initial.printed)
-          l.number);
-      counts : AreCounted (g.P.Party.ends s) g.P.Party.terminal_of g.P.Party.way_of
-          l.initial.printed l.printed l.number;
+          (each_below (arrivals_of g.P.Party l.station l.form l.initial.printed) l.number);
+      counts : AreCounted g.P.Party l.station l.initial.printed l.printed l.number;
       some : l.found ≡ true → MoreArePrinted l.initial.printed l.printed l.number;
       none : l.found ≡ false → AsManyArePrinted l.initial.printed l.printed l.number;
       others : (n : ℕ) → l.number ≤ n → slice_index l.printed n ≡ slice_index l.initial.printed n;

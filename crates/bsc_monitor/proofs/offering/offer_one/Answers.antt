@@ -1,8 +1,8 @@
 -- Shows that an accepted offer adds the record, and keeps the addresses.
-use Rattle.bsc_monitor.proofs.Offered.{one_offered}
+use Rattle.bsc_monitor.proofs.Offered.{offer_of_one_record}
 use Rattle.bsc_monitor.proofs.offering.offer_one.Goals as goal
 
 pub returns-in-Ok : goal.returns-in-Ok
 returns-in-Ok g c =
-    one_offered c.args.control.now c.args.terminal c.args.select c.args.«record» c.offer.new.self
+    offer_of_one_record c.args.control.now c.args.terminal c.args.select c.args.«record» c.offer.new.self
     c.requires.terminal c.requires.select c.in-Ok.ensures.ok

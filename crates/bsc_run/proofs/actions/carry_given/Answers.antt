@@ -2,6 +2,7 @@
 use Rattle.std.proofs.Common.{ℕ, List}
 use Rattle.bsc_frame.specs.declared.message.Message.{Message}
 use Rattle.bsc_script.specs.Events.{heard}
+use Rattle.bsc_run.specs.Crossing.{streams_of}
 use Rattle.bsc_run.proofs.Acting.{hears_octets}
 use Rattle.bsc_run.proofs.actions.carry_given.Goals as goal
 
@@ -9,7 +10,7 @@ pub returns : goal.returns
 returns g c =
     let given : Message → List ℕ = λ m. c.args.octets.now in
     let sends = rw c.as_slice.ensures.value at c.in_ok-send_given.ensures.sends in
-    hears_octets g.S.Write.contents g.S.Read.remaining (heard c.args.octets.now) given
+    hears_octets (streams_of g.S.Write.contents g.S.Read.remaining) (heard c.args.octets.now) given
     c.args.line.now c.hear.new.line c.args.cable.now c.send_given.new.cable c.as_slice-2.result
     c.send_given.new.read.items (λ e h. h) c.requires c.as_slice-2.ensures.value sends
     c.send_given.ensures.count c.hear.ensures.does c.hear.ensures.line

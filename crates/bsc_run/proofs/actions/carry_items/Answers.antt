@@ -1,6 +1,7 @@
 -- Shows that each terminal hears the octets that crossed the cable for it, or that a fault comes.
 use Rattle.std.proofs.Common.{◌≡◌, length, option_map, Err, ◌∙◌, ap, rules}
 use Rattle.bsc_script.specs.Events.{heard_each}
+use Rattle.bsc_run.specs.Crossing.{streams_of}
 use Rattle.bsc_run.proofs.Acting.{acts_fault, hears_items}
 use Rattle.bsc_run.proofs.Items.{slices_count}
 use Rattle.bsc_run.proofs.actions.carry_items.Goals as goal
@@ -8,7 +9,7 @@ use Rattle.bsc_run.proofs.actions.carry_items.Goals as goal
 pub returns-in_err-words : goal.returns-in_err-words
 returns-in_err-words g c =
     let same : c.from_residual-in_err-words.result ≡ Err c.in_err-words.field-0.0 = search rules in
-    rw same (acts_fault g.S.Write.contents g.S.Read.remaining (heard_each c.args.items.now)
+    rw same (acts_fault (streams_of g.S.Write.contents g.S.Read.remaining) (heard_each c.args.items.now)
     c.args.line.now c.args.line.now c.args.cable.now c.cross_each.new.cable
     c.in_err-words.field-0.0 c.in_err-words.ensures.faults)
 
@@ -16,7 +17,7 @@ pub hear_each-requires : goal.hear_each-requires
 hear_each-requires g c =
     let sent = c.in_ok-check_items.ensures.right in
     let count : length c.deref-2.result.now ≡ length c.args.items.now =
-    ap length c.deref-2.ensures.value ∙ slices_count g.S.Write.contents g.S.Read.remaining
+    ap length c.deref-2.ensures.value ∙ slices_count (streams_of g.S.Write.contents g.S.Read.remaining)
     (option_map (λ w. w.items)) c.args.items.now c.in_ok-words.words.items
     c.in_ok-words-2.words.items c.args.cable.now c.cross_each.new.cable
     c.in_ok-words.ensures.crossed (rw c.deref.ensures.value at c.in_ok-words-2.ensures) in
@@ -24,7 +25,7 @@ hear_each-requires g c =
 
 pub returns : goal.returns
 returns g c =
-    hears_items g.S.Write.contents g.S.Read.remaining c.args.items.now c.args.line.now
+    hears_items (streams_of g.S.Write.contents g.S.Read.remaining) c.args.items.now c.args.line.now
     c.hear_each.new.line c.args.cable.now c.cross_each.new.cable c.deref-2.result c.requires
     (rw (c.deref-2.ensures.value, c.in_ok-words-2.ensures, c.deref.ensures.value)
     c.in_ok-words.ensures.crossed) c.cross_each.ensures.count c.hear_each.ensures.does

@@ -1,12 +1,13 @@
 -- Shows that the line hears the octets that crossed the cable for the pending transmission.
 use Rattle.bsc_frame.specs.Wire.{wire}
 use Rattle.bsc_script.specs.Events.{carry}
+use Rattle.bsc_run.specs.Crossing.{streams_of}
 use Rattle.bsc_run.proofs.Acting.{hears_octets}
 use Rattle.bsc_run.proofs.actions.carry_pending.Goals as goal
 
 pub returns : goal.returns
 returns g c =
-    hears_octets g.S.Write.contents g.S.Read.remaining carry wire c.args.line.now c.hear.new.line
+    hears_octets (streams_of g.S.Write.contents g.S.Read.remaining) carry wire c.args.line.now c.hear.new.line
     c.args.cable.now c.send_pending.new.cable c.as_slice.result c.send_pending.new.read.items
     (λ e h. h) c.requires c.as_slice.ensures.value c.in_ok-send_pending.ensures.sends
     c.send_pending.ensures.count c.hear.ensures.does c.hear.ensures.line

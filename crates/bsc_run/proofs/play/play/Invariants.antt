@@ -1,6 +1,8 @@
 -- The events so far are performed, and the cable fits the line.
 use Rattle.std.proofs.Common.{map, drop}
 use Rattle.bsc_script.specs.Actions.{numbered}
+use Rattle.bsc_run.specs.Crossing.{streams_of}
+use Rattle.bsc_run.specs.Plays.{playing}
 use Rattle.bsc_run.specs.Speaking.{Fits}
 use Rattle.bsc_run.proofs.Playing.{HasPlayed}
 use Rattle.bsc_run.proofs.play.play.Given as goal
@@ -8,7 +10,9 @@ use Rattle.bsc_run.proofs.play.play.Given as goal
 abbrev pub invariant-steps : goal.invariant-steps
 invariant-steps g l = record {
   fits : Fits l.line l.cable;
-  played : HasPlayed g.S.Write.contents g.S.Read.remaining (map numbered l.steps) l.initial.line
-      l.initial.cable (drop l.step-index (map numbered l.steps)) l.line l.cable
-      (g.W.Write.contents l.initial.out) (g.W.Write.contents l.out);
+  played : HasPlayed (streams_of g.S.Write.contents g.S.Read.remaining)
+      (map numbered l.steps)
+      (playing l.initial.line l.initial.cable (g.W.Write.contents l.initial.out))
+      (drop l.step-index (map numbered l.steps))
+      (playing l.line l.cable (g.W.Write.contents l.out));
 }

@@ -1,6 +1,7 @@
 -- Shows that both texts are read, and that the events are run or only checked.
 use Rattle.std.proofs.Common.{sym, subst}
 use Rattle.std.proofs.KnownBytes.{Keeps-refl}
+use Rattle.bsc_run.specs.Crossing.{streams_of}
 use Rattle.bsc_run.proofs.Appending.{on_ok}
 use Rattle.bsc_input.specs.Texts.{IsTextAt}
 use Rattle.bsc_running.specs.Running.{IsRunDone}
@@ -12,8 +13,10 @@ returns-then-check-clause-done g c =
     let config = c.args.words.config.now in
     let script = c.args.words.script.now in
     let held = g.W.Write.contents c.args.out.now in
-    subst (λ b. IsRunDone g.H.Stream.Write.contents g.H.Stream.Read.remaining b config script
-    (g.R.Read.remaining c.args.input.now) held held)
+    subst (λ b. IsRunDone
+    (streams_of g.H.Stream.Write.contents g.H.Stream.Read.remaining) b
+    (record { config = config; script = script; input = g.R.Read.remaining c.args.input.now })
+    held held)
     (sym c.if-check.true) (record {
       config = c.in_ok-config.config;
       steps = c.in_ok-script.script;
@@ -44,8 +47,10 @@ returns-clause-done g c =
     let holds = g.W.Write.contents c.run_on_cable.new.out in
     on_ok c.run_on_cable.result
     (λ ran.
-    subst (λ b. IsRunDone g.H.Stream.Write.contents g.H.Stream.Read.remaining b config script
-    (g.R.Read.remaining c.args.input.now) held holds)
+    subst (λ b. IsRunDone
+    (streams_of g.H.Stream.Write.contents g.H.Stream.Read.remaining) b
+    (record { config = config; script = script; input = g.R.Read.remaining c.args.input.now })
+    held holds)
     (sym c.if-check.false) (record {
       config = c.in_ok-config.config;
       steps = c.in_ok-script.script;

@@ -1,6 +1,6 @@
 -- H and I are record characters, so the units may be sent.
 use Rattle.std.proofs.Common.{arith, refl}
-use Rattle.bsc_octet.specs.Octet.{is_record_char}
+use Rattle.bsc_frame.specs.Octet.{is_record_char}
 use Rattle.test_frames.proofs.frame.texts_are_built_of_their_units.Goals as goal
 
 pub of-text-requires-clause-each : goal.of-text-requires-clause-each

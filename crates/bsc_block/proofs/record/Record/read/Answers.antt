@@ -1,7 +1,7 @@
 -- The codes that `read` accepts are a record.
 use Rattle.std.proofs.Common.{◌∙◌, sym, arith}
-use Rattle.bsc_octet.specs.Octet.{is_record_char}
-use Rattle.bsc_octet.proofs.Elements.{none_fails}
+use Rattle.bsc_frame.specs.Octet.{is_record_char}
+use Rattle.bsc_frame.proofs.Elements.{none_fails}
 use Rattle.bsc_block.proofs.record.Record.read.Goals as goal
 
 pub of-requires : goal.of-requires

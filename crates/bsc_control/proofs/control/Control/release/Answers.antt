@@ -3,7 +3,7 @@ use Rattle.std.proofs.Common.{◌<◌, length, sym, ◌∙◌, ap}
 use Rattle.bsc_bid.specs.Sender.{release_step}
 use Rattle.bsc_directory.specs.Addresses.{numbered}
 use Rattle.bsc_control.specs.Control.{peer_at}
-use Rattle.bsc_control.proofs.Controls.{keeps_outbound_release, selection_there}
+use Rattle.bsc_control.proofs.Controls.{keeps_outbound_release, selection_within_outbounds}
 use Rattle.bsc_control.proofs.Entries.{peer_with_outbound, entries_with_peer}
 use Rattle.bsc_control.proofs.Reached.{peer_reached, outbound_reached, stays_reached}
 use Rattle.bsc_control.proofs.Reached.{released_left, read_left}
@@ -27,7 +27,7 @@ invariant_of-self g c =
     rw c.self.view_is c.requires.terminal in
     let there : c.select.result < length
     (peer_at c.self.inside.procedure c.args.terminal).outbounds =
-    rw (c.select.ensures, c.self.view_is) (selection_there c.args.way _ c.requires.way) in
+    rw (c.select.ensures, c.self.view_is) (selection_within_outbounds c.args.way _ c.requires.way) in
     let peer =
     peer_reached c.procedure.view_is within c.peer.view_is c.index_mut-peer.ensures.value in
     let reached = outbound_reached peer there c.index_mut-outbound.ensures.value in
@@ -46,7 +46,7 @@ returns-clause-state g c =
     rw c.self.view_is c.requires.terminal in
     let there : c.select.result < length
     (peer_at c.self.inside.procedure c.args.terminal).outbounds =
-    rw (c.select.ensures, c.self.view_is) (selection_there c.args.way _ c.requires.way) in
+    rw (c.select.ensures, c.self.view_is) (selection_within_outbounds c.args.way _ c.requires.way) in
     let peer =
     peer_reached c.procedure.view_is within c.peer.view_is c.index_mut-peer.ensures.value in
     let reached = outbound_reached peer there c.index_mut-outbound.ensures.value in
@@ -59,7 +59,7 @@ returns-clause-answer g c =
     rw c.self.view_is c.requires.terminal in
     let there : c.select.result < length
     (peer_at c.self.inside.procedure c.args.terminal).outbounds =
-    rw (c.select.ensures, c.self.view_is) (selection_there c.args.way _ c.requires.way) in
+    rw (c.select.ensures, c.self.view_is) (selection_within_outbounds c.args.way _ c.requires.way) in
     let peer =
     peer_reached c.procedure.view_is within c.peer.view_is c.index_mut-peer.ensures.value in
     let reached = outbound_reached peer there c.index_mut-outbound.ensures.value in

@@ -6,16 +6,16 @@ use Rattle.bsc_control.proofs.Controls.{after_silence_is}
 use Rattle.bsc_control.proofs.control.ControlStation.act.Given as given
 use Rattle.bsc_control.proofs.control.ControlStation.act.Goals as goal
 
-after : (g : given.Over) (c : goal.After-act_on_silence g)
+state_after_silence : (g : given.Over) (c : goal.After-act_on_silence g)
     → AfterSilence c.self.inside.procedure c.act_on_silence.new.self c.act_on_silence.new.sent
-after g c =
+state_after_silence g c =
     after_silence_is c.self.inside.procedure c.act_on_silence.new.self c.act_on_silence.new.sent
     c.self.invariant.0 c.act_on_silence.ensures.entries c.act_on_silence.ensures.row
 
 pub invariant_of-self : goal.invariant_of-self
 invariant_of-self g c =
-    ((after g c).control, c.self.invariant.1 ∙ ap (numbered 0) (sym (after g c).keeps.terminals))
+    ((state_after_silence g c).control, c.self.invariant.1 ∙ ap (numbered 0) (sym (state_after_silence g c).keeps.terminals))
 
 pub returns : goal.returns
 returns g c =
-    rw (← c.self.view_is) (record { row = c.act_on_silence.ensures.row; after = after g c })
+    rw (← c.self.view_is) (record { row = c.act_on_silence.ensures.row; after = state_after_silence g c })

@@ -54,7 +54,7 @@ pub returns-clause-value : goal.returns-clause-value
 returns-clause-value g c =
     record {
       terminal_given = refl;
-      calm = refl;
+      not_urgent = refl;
       receiver = c.new-2.ensures;
       nothing_spooled = c.new-3.ensures.records;
       no_delays = c.new-3.ensures.delays;

@@ -4,7 +4,7 @@ use Rattle.bsc_control.specs.CallOrder.{way_from}
 use Rattle.bsc_control.specs.Control.{peer_at}
 use Rattle.bsc_control.specs.Peer.{PeerValue}
 use Rattle.bsc_control.specs.Table.{way_call_step}
-use Rattle.bsc_control.proofs.Present.{way_there}
+use Rattle.bsc_control.proofs.Present.{way_within_outbounds}
 use Rattle.bsc_control.proofs.Reached.{peer_reached}
 use Rattle.bsc_control.proofs.procedure.Procedure.call_from.Goals as goal
 
@@ -21,7 +21,7 @@ select-requires-clause-select g c =
     let reached = peer_reached c.self.view_is terminal.there refl c.index-peer.ensures in
     let own = reached.peer ∙ ap (peer_at c.args.self.now) terminal.value in
     subst (λ (p : PeerValue). c.in-ToTerminal.select < length p.outbounds) own
-    (way_there c.index-peer.result.now c.args.from c.in-ToTerminal.select c.in-ToTerminal.ensures)
+    (way_within_outbounds c.index-peer.result.now c.args.from c.in-ToTerminal.select c.in-ToTerminal.ensures)
 
 pub returns-in-FromTerminal-clause-row : goal.returns-in-FromTerminal-clause-row
 returns-in-FromTerminal-clause-row g c =

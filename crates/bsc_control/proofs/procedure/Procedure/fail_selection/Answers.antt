@@ -2,7 +2,8 @@
 use Rattle.std.proofs.Common.{◌<◌, length, sym, ap, ◌∙◌, subst}
 use Rattle.bsc_control.specs.Control.{ControlValue, current}
 use Rattle.bsc_control.specs.Table.{repeated}
-use Rattle.bsc_control.proofs.Present.{select_reached, given_up, tried_again, call_again}
+use Rattle.bsc_control.proofs.Present.{select_reached, next_call_after_last_try, tried_again}
+use Rattle.bsc_control.proofs.Present.{call_again}
 use Rattle.bsc_control.proofs.Reached.{peer_reached}
 use Rattle.bsc_control.proofs.procedure.Procedure.fail_selection.Goals as goal
 
@@ -26,7 +27,7 @@ returns-then-self-tries-clause-row g c =
     let tries = c.tries.ensures.value ∙ ap (λ (x : ControlValue). x.setup.tries) c.self.view_is in
     let failures = ap (λ (x : ControlValue). x.failures) c.self.view_is in
     c.call_after_selection.ensures.row
-    ∙ given_up c.args.self.now _ _ c.args.select c.args.enquired tries failures
+    ∙ next_call_after_last_try c.args.self.now _ _ c.args.select c.args.enquired tries failures
     c.if-self-tries.true
 
 pub returns-then-enquired-clause-row : goal.returns-then-enquired-clause-row

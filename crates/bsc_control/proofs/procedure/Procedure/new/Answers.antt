@@ -11,11 +11,11 @@ use Rattle.bsc_control.specs.Peer.{PeerValue, IsPeer, IsNewPeer, new_outbound}
 use Rattle.bsc_control.proofs.procedure.Procedure.new.Goals as goal
 
 -- the terminals so far and one more
-made_more : (ts : List TerminalValue) (n : ℕ) (x : TerminalValue) (ps : List PeerValue)
+peers_with_one_more : (ts : List TerminalValue) (n : ℕ) (x : TerminalValue) (ps : List PeerValue)
     (p : PeerValue) → n < length ts → x ≡ get_or ts n x → map (λ (q : PeerValue). q.terminal) ps
     ≡ take n ts → p.terminal ≡ x
     → map (λ (q : PeerValue). q.terminal) (ps ++ p ∷ []) ≡ take (n + 1) ts
-made_more ts n x ps p within is made same =
+peers_with_one_more ts n x ps p within is made same =
     map-append (λ (q : PeerValue). q.terminal) ps (p ∷ []) ∙ ap (λ z. z ++ p.terminal ∷ []) made
     ∙ ap (λ y. take n ts ++ y ∷ []) (same ∙ is) ∙ sym (rw (add-one) (take-suc ts n x within))
 
@@ -25,7 +25,7 @@ new_peer_own : (setup : SetupValue) (x : TerminalValue) (p : PeerValue) → IsNe
 new_peer_own setup x p h =
     record {
       terminal_given = refl;
-      calm = h.calm;
+      not_urgent = h.not_urgent;
       receiver = h.receiver;
       nothing_spooled = h.nothing_spooled;
       no_delays = h.no_delays;
@@ -43,7 +43,7 @@ loop-terminal-preserved g c =
     record {
       made =
           ap (map (λ (p : PeerValue). p.terminal)) items
-          ∙ made_more c.args.terminals.now c.loop-terminal.terminal-index c.terminal-item.result
+          ∙ peers_with_one_more c.args.terminals.now c.loop-terminal.terminal-index c.terminal-item.result
           c.loop-terminal.peers.items c.in_ok-peer.peer c.loop-terminal-test.true
           c.terminal-item.is c.loop-terminal.invariant.made
           c.in_ok-peer.ensures.value.terminal_given;

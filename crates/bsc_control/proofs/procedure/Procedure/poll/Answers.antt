@@ -2,7 +2,7 @@
 use Rattle.std.proofs.Common.{◌<◌, length, sym, subst}
 use Rattle.bsc_control.specs.Control.{ControlValue}
 use Rattle.bsc_control.proofs.Entries.{peer_with_receiver, entries_with_peer}
-use Rattle.bsc_control.proofs.Present.{polled}
+use Rattle.bsc_control.proofs.Present.{polling_address_is_called}
 use Rattle.bsc_control.proofs.Reached.{peer_reached}
 use Rattle.bsc_control.proofs.procedure.Procedure.poll.Goals as goal
 
@@ -22,7 +22,7 @@ returns-clause-row g c =
     let terminal = c.terminal_of-terminal.ensures in
     let reached =
     peer_reached c.self.view_is terminal.there c.peer.view_is c.index_mut-peer.ensures.value in
-    polled _ _ _ c.args.place c.args.failures _ c.begin.new.self c.poll.result reached
+    polling_address_is_called _ _ _ c.args.place c.args.failures _ c.begin.new.self c.poll.result reached
     terminal.value c.begin.ensures.state c.poll.ensures
 
 pub returns-clause-entries : goal.returns-clause-entries

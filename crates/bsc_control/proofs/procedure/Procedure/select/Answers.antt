@@ -2,7 +2,7 @@
 use Rattle.std.proofs.Common.{false, ◌<◌, length, sym, subst}
 use Rattle.bsc_control.specs.Control.{ControlValue}
 use Rattle.bsc_control.proofs.Entries.{peer_with_flag, entries_with_peer}
-use Rattle.bsc_control.proofs.Present.{select_reached, selected}
+use Rattle.bsc_control.proofs.Present.{select_reached, selection_address_is_called}
 use Rattle.bsc_control.proofs.Reached.{peer_reached}
 use Rattle.bsc_control.proofs.procedure.Procedure.select.Goals as goal
 
@@ -33,7 +33,7 @@ returns-clause-row g c =
     let there =
     select_reached _ _ _ _ c.args.select _ reached terminal.value c.requires.select
     c.peer.invariant in
-    selected _ _ _ c.args.place c.args.select _ c.select.result reached terminal.value there
+    selection_address_is_called _ _ _ c.args.place c.args.select _ c.select.result reached terminal.value there
     c.select.ensures
 
 pub returns-clause-entries : goal.returns-clause-entries

@@ -9,9 +9,9 @@ use Rattle.bsc_directory.proofs.Owners.{Owner}
 use Rattle.bsc_directory.proofs.Repeats.{first_repeat}
 use Rattle.bsc_directory.proofs.directory.Directory.enter.Goals as goal
 
-none_of : {X : Type 0} (o : Option X) → is_some o ≡ false → o ≡ None
-none_of None h = refl
-none_of (Some x) h = absurd (cc)
+none_unless_some : {X : Type 0} (o : Option X) → is_some o ≡ false → o ≡ None
+none_unless_some None h = refl
+none_unless_some (Some x) h = absurd (cc)
 
 pub returns-in-Some-clause-refused : goal.returns-in-Some-clause-refused
 returns-in-Some-clause-refused g c =
@@ -24,6 +24,6 @@ pub returns-clause-entries : goal.returns-clause-entries
 returns-clause-entries g c =
     c.in_ok-insert.ensures.entries
     ∙ insert_entry-new (pointwise ◌==◌) c.self.inside.owners c.args.address
-    (c.args.terminal, c.args.way) (none_of _ (sym c.in_default.ensures.found))
+    (c.args.terminal, c.args.way) (none_unless_some _ (sym c.in_default.ensures.found))
     ∙ ap (λ (es : List Owner). es ++ (c.args.address, (c.args.terminal, c.args.way)) ∷ [])
     c.self.view_is

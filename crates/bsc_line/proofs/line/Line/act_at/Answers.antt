@@ -3,13 +3,13 @@ use Rattle.std.proofs.Common.{◌<◌, ◌≡◌, ℕ, Option, Some, length, sli
 use Rattle.bsc_line_model.specs.Line.{LineValue, line_of, terminal_count}
 use Rattle.bsc_line_model.specs.Terminals.{line_owner}
 use Rattle.bsc_line_model.specs.Carries.{TerminalActsAlone, OwnerActs}
-use Rattle.bsc_line.proofs.Carrying.{acted_at}
+use Rattle.bsc_line.proofs.Carrying.{owner_terminal_acted}
 use Rattle.bsc_line.proofs.line.Line.act_at.Given as given
 use Rattle.bsc_line.proofs.line.Line.act_at.Goals as goal
 
-there : (g : given.Over) (c : goal.After-self-2-1 g) → c.args.terminal
+terminal_within_terminals : (g : given.Over) (c : goal.After-self-2-1 g) → c.args.terminal
     < length c.self.inside.terminals.items
-there g c =
+terminal_within_terminals g c =
     subst (λ (l : LineValue). c.args.terminal < terminal_count l) (sym c.self.view_is)
     c.requires.there
 
@@ -19,10 +19,10 @@ terminal_acted : (g : given.Over) (c : goal.After-self-2-1 g) →
     (line_of c.self.inside.control (slice_set c.self.inside.terminals.items c.args.terminal
     c.act.new.self) c.by-self-inside.result c.self.inside.trusted c.self.inside.addressed)
 terminal_acted g c =
-    acted_at (line_of c.self.inside.control c.self.inside.terminals.items c.self.inside.sent
+    owner_terminal_acted (line_of c.self.inside.control c.self.inside.terminals.items c.self.inside.sent
     c.self.inside.trusted c.self.inside.addressed) c.args.terminal
     c.index_mut-station.result.now c.act.new.self c.act.new.sent c.by-self-inside.result
-    (there g c) c.index_mut-station.ensures.value c.act.ensures.row c.act.ensures.after
+    (terminal_within_terminals g c) c.index_mut-station.ensures.value c.act.ensures.row c.act.ensures.after
     c.by-self-inside.ensures
 
 pub invariant_of-self : goal.invariant_of-self

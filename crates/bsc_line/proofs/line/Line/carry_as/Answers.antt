@@ -4,7 +4,8 @@ use Rattle.bsc_line_model.specs.declared.transmission.Speaker.{Speaker}
 use Rattle.bsc_line_model.specs.declared.transmission.Transmission.{Transmission}
 use Rattle.bsc_line_model.specs.Transmission.{speaker_of}
 use Rattle.bsc_line_model.specs.Line.{LineValue}
-use Rattle.bsc_line.proofs.Carrying.{from_terminal, from_control, carries_down, carries_up}
+use Rattle.bsc_line.proofs.Carrying.{from_terminal, from_control, terminals_hear_pending}
+use Rattle.bsc_line.proofs.Carrying.{control_hears_pending}
 use Rattle.bsc_line.proofs.line.Line.carry_as.Goals as goal
 
 pub carry_down-requires : goal.carry_down-requires
@@ -21,14 +22,14 @@ carry_up-requires g c =
 
 pub returns-in-Some-Control-clause-does : goal.returns-in-Some-Control-clause-does
 returns-in-Some-Control-clause-does g c =
-    carries_down (λ (s : Transmission). c.args.heard.now) c.args.self.now c.carry_down.new.self
+    terminals_hear_pending (λ (s : Transmission). c.args.heard.now) c.args.self.now c.carry_down.new.self
     (ap (λ (l : LineValue). speaker_of l.pending) (sym c.self.view_is) ∙ sym c.speaker_of.ensures
     ∙ c.in-Some-Control.is ∙ ap (λ (p : Speaker). Some p) c.in-Some-Control.field-0-is)
     c.carry_down.ensures.does
 
 pub returns-in-Some-Terminal-clause-does : goal.returns-in-Some-Terminal-clause-does
 returns-in-Some-Terminal-clause-does g c =
-    carries_up (λ (s : Transmission). c.args.heard.now) c.args.self.now c.carry_up.new.self
+    control_hears_pending (λ (s : Transmission). c.args.heard.now) c.args.self.now c.carry_up.new.self
     c.in-Some-Terminal.field-0-0
     (ap (λ (l : LineValue). speaker_of l.pending) (sym c.self.view_is) ∙ sym c.speaker_of.ensures
     ∙ c.in-Some-Terminal.is ∙ ap (λ (p : Speaker). Some p) c.in-Some-Terminal.field-0-is)

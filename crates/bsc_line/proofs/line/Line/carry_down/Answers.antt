@@ -6,53 +6,53 @@ use Rattle.bsc_line_model.specs.Trust.{IsHeardFairly, IsTrustAfter, IsAddressedA
 use Rattle.bsc_line_model.specs.Line.{LineValue, line_of}
 use Rattle.bsc_line_model.specs.Carries.{IsCarriedDown}
 use Rattle.bsc_line.specs.Hearings.{hearing_of}
-use Rattle.bsc_line.proofs.Carrying.{trust_after, of_some, some_terminal}
+use Rattle.bsc_line.proofs.Carrying.{flag_is_trust_after, said_of_pending, at_least_one_terminal}
 use Rattle.bsc_line.proofs.line.Line.carry_down.Given as given
 use Rattle.bsc_line.proofs.line.Line.carry_down.Goals as goal
 
 pub is_down_fair-fair-requires : goal.is_down_fair-fair-requires
 is_down_fair-fair-requires g c =
     let some : 0 < length c.self.inside.terminals.items =
-    some_terminal c.self.inside.control c.self.inside.terminals.items
+    at_least_one_terminal c.self.inside.control c.self.inside.terminals.items
     c.self.invariant.stations in
     omega arith
 
 pub addressed_after-self-inside-requires : goal.addressed_after-self-inside-requires
 addressed_after-self-inside-requires g c =
     let some : 0 < length c.self.inside.terminals.items =
-    some_terminal c.self.inside.control c.self.inside.terminals.items
+    at_least_one_terminal c.self.inside.control c.self.inside.terminals.items
     c.self.invariant.stations in
     omega arith
 
 -- the count is the number of terminals
-counted : (g : given.Over) (c : goal.After-self-3-1 g) → c.len-count.result
+count_is_number_of_terminals : (g : given.Over) (c : goal.After-self-3-1 g) → c.len-count.result
     ≡ length c.self.inside.terminals.items
-counted g c = omega arith
+count_is_number_of_terminals g c = omega arith
 
-trusted : (g : given.Over) (c : goal.After-self-3-1 g) (s : Transmission) → c.self.inside.sent ≡ Some s
+trust_after_hearing : (g : given.Over) (c : goal.After-self-3-1 g) (s : Transmission) → c.self.inside.sent ≡ Some s
     →
     IsTrustAfter c.self.inside.trusted
     (IsHeardFairly s.message (length c.self.inside.terminals.items)
     (hearing_of c.args.hearings.now)) c.both-self-inside.result
-trusted g c s e =
+trust_after_hearing g c s e =
     subst (λ (n : ℕ). IsTrustAfter c.self.inside.trusted
     (IsHeardFairly s.message n (hearing_of c.args.hearings.now)) c.both-self-inside.result)
-    (counted g c)
-    (trust_after c.self.inside.trusted c.is_down_fair-fair.result c.both-self-inside.result
+    (count_is_number_of_terminals g c)
+    (flag_is_trust_after c.self.inside.trusted c.is_down_fair-fair.result c.both-self-inside.result
     (IsHeardFairly s.message c.len-count.result (hearing_of c.args.hearings.now))
     c.both-self-inside.ensures
-    (of_some (λ (z : Transmission). IsTrue c.is_down_fair-fair.result ↔ IsHeardFairly z.message
+    (said_of_pending (λ (z : Transmission). IsTrue c.is_down_fair-fair.result ↔ IsHeardFairly z.message
     c.len-count.result (hearing_of c.args.hearings.now)) c.self.inside.sent s
     c.is_down_fair-fair.ensures e))
 
-addressed : (g : given.Over) (c : goal.After-self-3-1 g) →
+addressed_after_hearing : (g : given.Over) (c : goal.After-self-3-1 g) →
     IsAddressedAfter (addresses_of c.self.inside.control) (length c.self.inside.terminals.items)
     (hearing_of c.args.hearings.now) c.self.inside.addressed
     c.addressed_after-self-inside.result
-addressed g c =
+addressed_after_hearing g c =
     subst (λ (n : ℕ). IsAddressedAfter (addresses_of c.self.inside.control) n
     (hearing_of c.args.hearings.now) c.self.inside.addressed
-    c.addressed_after-self-inside.result) (counted g c) c.addressed_after-self-inside.ensures
+    c.addressed_after-self-inside.result) (count_is_number_of_terminals g c) c.addressed_after-self-inside.ensures
 
 is_carried_down : (g : given.Over) (c : goal.After-self-3-1 g) (s : Transmission)
     → c.self.inside.sent ≡ Some s →
@@ -67,8 +67,8 @@ is_carried_down g c s e =
       terminals = c.hear_in-self-inside.ensures.each;
       kept = c.hear_in-self-inside.ensures.keeps;
       pending = c.hear_in-self-inside.ensures.first;
-      addressed = addressed g c;
-      trusted = trusted g c s e;
+      addressed = addressed_after_hearing g c;
+      trusted = trust_after_hearing g c s e;
     }
 
 pub invariant_of-self : goal.invariant_of-self

@@ -6,14 +6,14 @@ use Rattle.bsc_line_model.specs.declared.transmission.Transmission.{Transmission
 use Rattle.bsc_line_model.specs.Trust.{IsAddressedAfter}
 use Rattle.bsc_line_model.specs.Line.{LineValue, line_of}
 use Rattle.bsc_line_model.specs.Carries.{IsCarriedDown}
-use Rattle.bsc_line.proofs.Carrying.{of_some, some_terminal, carried_whole}
+use Rattle.bsc_line.proofs.Carrying.{said_of_pending, at_least_one_terminal, all_hear_what_was_sent}
 use Rattle.bsc_line.proofs.line.Line.carry_down_whole.Given as given
 use Rattle.bsc_line.proofs.line.Line.carry_down_whole.Goals as goal
 
 pub addressed_after-self-inside-requires : goal.addressed_after-self-inside-requires
 addressed_after-self-inside-requires g c =
     let some : 0 < length c.self.inside.terminals.items =
-    some_terminal c.self.inside.control c.self.inside.terminals.items
+    at_least_one_terminal c.self.inside.control c.self.inside.terminals.items
     c.self.invariant.stations in
     omega arith
 
@@ -26,10 +26,10 @@ is_carried_down_whole : (g : given.Over) (c : goal.After-self-2-1 g) (s : Transm
     c.hear_in-self-inside.result c.self.inside.trusted c.addressed_after-self-inside.result)
 is_carried_down_whole g c s e =
     let heard : c.take_whole-heard.result ≡ Whole s.message =
-    of_some (λ (z : Transmission). c.take_whole-heard.result ≡ Whole z.message)
+    said_of_pending (λ (z : Transmission). c.take_whole-heard.result ≡ Whole z.message)
     c.self.inside.sent s c.take_whole-heard.ensures.heard e in
     let counted : c.len-count.result ≡ length c.self.inside.terminals.items = omega arith in
-    carried_whole s.message c.take_whole-heard.result _ _ heard refl
+    all_hear_what_was_sent s.message c.take_whole-heard.result _ _ heard refl
     c.hear_in-self-inside.ensures.each c.hear_in-self-inside.ensures.keeps
     c.hear_in-self-inside.ensures.first
     (subst (λ (n : ℕ). IsAddressedAfter (addresses_of c.self.inside.control) n

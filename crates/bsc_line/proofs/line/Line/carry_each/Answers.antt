@@ -3,7 +3,7 @@ use Rattle.std.proofs.Common.{◌≡◌, Some, length, refl, ap, sym, ◌∙◌,
 use Rattle.bsc_line_model.specs.declared.transmission.Speaker.{Speaker}
 use Rattle.bsc_line_model.specs.Transmission.{speaker_of}
 use Rattle.bsc_line_model.specs.Line.{LineValue, terminal_count}
-use Rattle.bsc_line.proofs.Carrying.{from_terminal, from_control, carries_each}
+use Rattle.bsc_line.proofs.Carrying.{from_terminal, from_control, each_hears_own_item}
 use Rattle.bsc_line.proofs.line.Line.carry_each.Goals as goal
 
 pub carry_down-requires : goal.carry_down-requires
@@ -23,7 +23,7 @@ returns-in-Some-Terminal-clause-does g c = (
 pub returns-clause-does : goal.returns-clause-does
 returns-clause-does g c =
     let counted : c.len.result ≡ length c.self.inside.terminals.items = omega arith in
-    carries_each c.args.self.now c.carry_down.new.self c.args.items.now
+    each_hears_own_item c.args.self.now c.carry_down.new.self c.args.items.now
     (ap (λ (l : LineValue). speaker_of l.pending) (sym c.self.view_is) ∙ sym c.speaker_of.ensures
     ∙ c.in-Some-Control.is ∙ ap (λ (p : Speaker). Some p) c.in-Some-Control.field-0-is)
     (c.if-items-len.false ∙ counted ∙ ap (λ (l : LineValue). terminal_count l) c.self.view_is)

@@ -4,7 +4,7 @@ use Rattle.bsc_bid.specs.Fair.{IsFairlyHeard}
 use Rattle.bsc_line_model.specs.declared.transmission.Transmission.{Transmission}
 use Rattle.bsc_line_model.specs.Line.{LineValue, line_of}
 use Rattle.bsc_line_model.specs.Carries.{IsCarriedUp}
-use Rattle.bsc_line.proofs.Carrying.{trust_after, of_some}
+use Rattle.bsc_line.proofs.Carrying.{flag_is_trust_after, said_of_pending}
 use Rattle.bsc_line.proofs.line.Line.carry_up.Given as given
 use Rattle.bsc_line.proofs.line.Line.carry_up.Goals as goal
 
@@ -24,9 +24,9 @@ is_carried_up g c s e =
       pending = c.by-self-inside.ensures;
       addressed = refl;
       trusted =
-          trust_after c.self.inside.trusted c.is_up_fair-fair.result c.both-self-inside.result
+          flag_is_trust_after c.self.inside.trusted c.is_up_fair-fair.result c.both-self-inside.result
           (IsFairlyHeard s.message c.args.heard.now) c.both-self-inside.ensures
-          (of_some (λ (z : Transmission). IsTrue c.is_up_fair-fair.result ↔ IsFairlyHeard z.message
+          (said_of_pending (λ (z : Transmission). IsTrue c.is_up_fair-fair.result ↔ IsFairlyHeard z.message
           c.args.heard.now) c.self.inside.sent s c.is_up_fair-fair.ensures e);
     }
 

@@ -4,7 +4,7 @@ use Rattle.bsc_frame.specs.declared.message.Heard.TheVariants.{Whole}
 use Rattle.bsc_line_model.specs.declared.transmission.Transmission.{Transmission}
 use Rattle.bsc_line_model.specs.Line.{LineValue, line_of}
 use Rattle.bsc_line_model.specs.Carries.{IsCarriedUp}
-use Rattle.bsc_line.proofs.Carrying.{of_some, carried_up_whole}
+use Rattle.bsc_line.proofs.Carrying.{said_of_pending, carried_up_whole}
 use Rattle.bsc_line.proofs.line.Line.carry_up_whole.Given as given
 use Rattle.bsc_line.proofs.line.Line.carry_up_whole.Goals as goal
 
@@ -17,7 +17,7 @@ is_carried_up_whole : (g : given.Over) (c : goal.After-self-1 g) (s : Transmissi
     c.self.inside.trusted c.self.inside.addressed)
 is_carried_up_whole g c s e =
     carried_up_whole s.message c.take_whole-heard.result _ _ c.answer.new.sent
-    (of_some (λ (z : Transmission). c.take_whole-heard.result ≡ Whole z.message) c.self.inside.sent
+    (said_of_pending (λ (z : Transmission). c.take_whole-heard.result ≡ Whole z.message) c.self.inside.sent
     s c.take_whole-heard.ensures.heard e)
     c.answer.ensures.row c.answer.ensures.after refl c.by-self-inside.ensures refl refl
 

@@ -5,7 +5,7 @@ use Rattle.bsc_bid.specs.Setup.{SetupValue}
 use Rattle.bsc_line_model.specs.Line.{LineValue, line_of, terminal_at, with_terminal}
 use Rattle.bsc_line_model.specs.Offers.{full_length, read_for}
 use Rattle.bsc_line_model.proofs.Carrying.{is_terminal}
-use Rattle.bsc_line.proofs.Offering.{offers_at, offer_line, read_short, terminal_full}
+use Rattle.bsc_line.proofs.Offering.{offer_at_terminal, offer_line, read_short, terminal_full}
 use Rattle.bsc_line.proofs.line.Line.offer_at.Goals as goal
 
 pub offer_here-requires : goal.offer_here-requires
@@ -50,7 +50,7 @@ returns-clause-does g c =
     line_of c.self.inside.control c.self.inside.terminals.items c.self.inside.sent
     c.self.inside.trusted c.self.inside.addressed in
     rw (← c.self.view_is)
-    (offers_at old (with_terminal old c.args.terminal c.offer_here.new.terminal) c.args.terminal
+    (offer_at_terminal old (with_terminal old c.args.terminal c.offer_here.new.terminal) c.args.terminal
     c.args.codes.now c.in_ok-record.record c.index_mut-station.result.now
     c.offer_here.new.terminal c.offer_here.result there
     (ap (λ (s : SetupValue). read_for s.format.full c.args.codes.now) (sym c.setup.ensures.value)

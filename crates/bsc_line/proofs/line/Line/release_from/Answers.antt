@@ -22,8 +22,9 @@ invariant_of-self g c =
     let becomes : c.release.new.self ≡ after_release (terminal_at old c.args.terminal)
     (count_from old c.args.terminal) =
     c.release.ensures.state
+    ∙ ap (λ (n : ℕ). after_release c.index_mut-station.result.now n) c.len-count.ensures
     ∙ ap (λ (xs : List (List ℕ)). after_release c.index_mut-station.result.now (length xs))
-    (c.records-count.ensures ∙ ap (λ (z : SpoolValue). z.records) c.spool.ensures.value)
+    (c.records.ensures ∙ ap (λ (z : SpoolValue). z.records) c.spool.ensures.value)
     ∙ ap (λ (y : TributaryValue). after_release y (count_from old c.args.terminal)) (sym here) in
     c.each_event.ensures.release_from old c.args.terminal c.release.new.self c.self.invariant
     there (subst (λ (y : TributaryValue). KeepsSetupAndMode y c.release.new.self) (sym here)

@@ -25,12 +25,14 @@ invariant_of-self g c =
     subst (λ (l : LineValue). s < select_count l t) (sym c.self.view_is) c.requires.select in
     let here : terminal_in ts t ≡ c.index-station.result.now =
     is_terminal ts t c.index-station.result.now less c.index-station.ensures in
-    let stored : c.records-count.result.now ≡ (spool_at (terminal_in ts t).spools s).records =
-    c.records-count.ensures ∙ ap (λ (z : SpoolValue). z.records) c.spool.ensures.value
+    let stored : c.records.result.now.items ≡ (spool_at (terminal_in ts t).spools s).records =
+    c.records.ensures ∙ ap (λ (z : SpoolValue). z.records) c.spool.ensures.value
     ∙ ap (λ (y : TributaryValue). (spool_at y.spools s).records) (sym here) in
     let becomes : c.release.new.self ≡ with_peer control t
     (with_outbound p s (outbound_released (outbound_at p s) (count_to old t s))) =
     c.release.ensures.state
+    ∙ ap (λ (n : ℕ). with_peer control t
+    (with_outbound p s (outbound_released (outbound_at p s) n))) c.len-count.ensures
     ∙ ap (λ (xs : List (List ℕ)). with_peer control t
     (with_outbound p s (outbound_released (outbound_at p s) (length xs)))) stored in
     c.each_event.ensures.release_to old t s c.release.new.self c.self.invariant less way

@@ -7,7 +7,9 @@ use Rattle.bsc_control.specs.Kept.{IsControl}
 use Rattle.bsc_line_model.specs.Line.{LineValue}
 use Rattle.bsc_line_model.specs.Rounds.{entries_length, round_length}
 use Rattle.bsc_line.specs.Counts.{in_u64}
-use Rattle.bsc_line.proofs.Lengths.{seen_before, none_yet, whole, entry_added, marks}
+use Rattle.bsc_line.proofs.Lengths.{seen_before, saturated_from_zero, saturated_with_zero}
+use Rattle.bsc_line.proofs.Lengths.{entry_added}
+use Rattle.bsc_line.proofs.Lengths.{terminal_of_entry_is_marked}
 use Rattle.bsc_line.proofs.line.Line.round.Goals as goal
 
 pub loop-entry-init : goal.loop-entry-init
@@ -18,7 +20,7 @@ loop-entry-init g c =
       seen =
           λ t less. get_or-replicate MAX_TERMINALS t false false less;
       total =
-          none_yet (round_length c.args.self.now);
+          saturated_from_zero (round_length c.args.self.now);
     }
 
 pub loop-entry-preserved : goal.loop-entry-preserved
@@ -43,7 +45,7 @@ loop-entry-preserved g c =
       sized = length-set c.loop-entry.seen c.from-terminal.result true
           ∙ c.loop-entry.invariant.sized;
       seen =
-          marks c.seen_terminals.ensures.last c.seen_terminals.ensures.earlier list
+          terminal_of_entry_is_marked c.seen_terminals.ensures.last c.seen_terminals.ensures.earlier list
           c.loop-entry.seen k c.from-terminal.result c.loop-entry.invariant.sized there named
           c.loop-entry.invariant.seen;
       total =
@@ -67,5 +69,5 @@ returns-clause-value g c =
     let none : entries_length c.args.self.now (seen_before list k) (drop k list) ≡ 0 =
     ap (λ (ts : List ℕ). entries_length c.args.self.now (seen_before list k) ts)
     (drop_all k list all) in
-    sym (whole c.loop-entry.total c.loop-entry.invariant.fits)
+    sym (saturated_with_zero c.loop-entry.total c.loop-entry.invariant.fits)
     ∙ ap (λ (n : ℕ). in_u64 (c.loop-entry.total + n)) (sym none) ∙ c.loop-entry.invariant.total

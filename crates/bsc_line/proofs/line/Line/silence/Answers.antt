@@ -4,7 +4,7 @@ use Rattle.bsc_tributary.specs.Tributary.{TributaryValue}
 use Rattle.bsc_line_model.specs.Line.{LineValue}
 use Rattle.bsc_line_model.specs.Terminals.{line_owner}
 use Rattle.bsc_line_model.specs.Carries.{OwnerActs}
-use Rattle.bsc_line.proofs.Carrying.{none_of, passes_silence}
+use Rattle.bsc_line.proofs.Carrying.{none_if_not_some, passes_silence}
 use Rattle.bsc_line.proofs.line.Line.silence.Goals as goal
 
 pub act_at-requires-clause-there : goal.act_at-requires-clause-there
@@ -15,7 +15,7 @@ act_at-requires-clause-there g c =
 
 pub act_at-requires-clause-nothing : goal.act_at-requires-clause-nothing
 act_at-requires-clause-nothing g c =
-    none_of c.args.self.now.pending (ap (λ (l : LineValue). is_some l.pending) (sym c.self.view_is)
+    none_if_not_some c.args.self.now.pending (ap (λ (l : LineValue). is_some l.pending) (sym c.self.view_is)
     ∙ sym c.is_some.ensures ∙ c.if-is_some.false)
 
 pub act_at-requires-clause-owner : goal.act_at-requires-clause-owner
@@ -26,7 +26,7 @@ act_at-requires-clause-owner g c =
 
 pub act_at_control-requires-clause-nothing : goal.act_at_control-requires-clause-nothing
 act_at_control-requires-clause-nothing g c =
-    none_of c.args.self.now.pending (ap (λ (l : LineValue). is_some l.pending) (sym c.self.view_is)
+    none_if_not_some c.args.self.now.pending (ap (λ (l : LineValue). is_some l.pending) (sym c.self.view_is)
     ∙ sym c.is_some.ensures ∙ c.if-is_some.false)
 
 pub act_at_control-requires-clause-nobody : goal.act_at_control-requires-clause-nobody

@@ -5,7 +5,7 @@ use Rattle.bsc_control.specs.Peer.{OutboundValue}
 use Rattle.bsc_control.specs.Control.{peer_at}
 use Rattle.bsc_line_model.specs.Line.{LineValue}
 use Rattle.bsc_line.specs.Counts.{in_u64}
-use Rattle.bsc_line.proofs.Lengths.{whole}
+use Rattle.bsc_line.proofs.Lengths.{saturated_with_zero}
 use Rattle.bsc_line.proofs.line.Line.visit.Goals as goal
 use Rattle.bsc_line_model.specs.Rounds.{outbound_length}
 
@@ -19,6 +19,6 @@ returns-clause-value g c =
     let none : sum_by outbound_length (drop c.loop-select.select os) ≡ 0 =
     ap (λ (xs : List OutboundValue). sum_by outbound_length xs)
     (drop_all c.loop-select.select os all) in
-    sym (whole c.loop-select.total c.loop-select.invariant.fits)
+    sym (saturated_with_zero c.loop-select.total c.loop-select.invariant.fits)
     ∙ ap (λ (n : ℕ). in_u64 (c.loop-select.total + n)) (sym none)
     ∙ c.loop-select.invariant.total

@@ -4,9 +4,9 @@ use Rattle.bsc_frame.specs.declared.message.Message.TheVariants.{Call}
 use Rattle.bsc_frame.specs.declared.message.Heard.TheVariants.{Whole}
 use Rattle.bsc_tributary.specs.Tributary.{Hears}
 use Rattle.bsc_tributary.specs.Kept.{IsTributary}
-use Rattle.bsc_tributary.proofs.Hearing.{after_hearing}
+use Rattle.bsc_tributary.proofs.Hearing.{holds_after_hearing}
 use Rattle.bsc_tributary.proofs.CallsHeard.{called_from, hears_polling, hears_selection}
-use Rattle.bsc_tributary.proofs.CallsHeard.{hears_other, within_selects}
+use Rattle.bsc_tributary.proofs.CallsHeard.{other_call_is_heard, within_selects}
 use Rattle.bsc_tributary.proofs.tributary.Tributary.hear_call.Goals as goal
 
 pub answer_selection-requires : goal.answer_selection-requires
@@ -23,7 +23,7 @@ returns-in-Polling g c =
     c.answer_poll.ensures.row in
     record {
       row = hears;
-      after = after_hearing _ _ _ _
+      after = holds_after_hearing _ _ _ _
           (subst IsTributary c.self.view_is c.self.invariant) c.answer_poll.ensures.tributary hears;
     }
 
@@ -37,7 +37,7 @@ returns-in-Selection g c =
     c.answer_selection.ensures.row c.answer_selection.ensures.room in
     record {
       row = hears;
-      after = after_hearing _ _ _ _
+      after = holds_after_hearing _ _ _ _
           (subst IsTributary c.self.view_is c.self.invariant) c.answer_selection.ensures.tributary
           hears;
     }
@@ -45,12 +45,12 @@ returns-in-Selection g c =
 pub returns-in-Other : goal.returns-in-Other
 returns-in-Other g c =
     let hears : Hears c.args.self.now (Whole (Call c.args.address.now)) c.drop_line.new.self None =
-    hears_other c.args.self.now c.drop_line.new.self c.args.address.now
+    other_call_is_heard c.args.self.now c.drop_line.new.self c.args.address.now
     (called_from _ c.args.self.now _ _ _ c.self.view_is c.in-Other.is c.called_address.ensures)
     c.drop_line.ensures.state in
     record {
       row = hears;
-      after = after_hearing _ _ _ _
+      after = holds_after_hearing _ _ _ _
           (subst IsTributary c.self.view_is c.self.invariant)
           c.drop_line.ensures.hearing.after.tributary hears;
     }

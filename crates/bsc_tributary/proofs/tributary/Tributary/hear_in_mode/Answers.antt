@@ -4,7 +4,7 @@ use Rattle.bsc_tributary.specs.Tributary.{Hears}
 use Rattle.bsc_tributary.specs.Kept.{IsTributary}
 use Rattle.bsc_bid.proofs.Telling.{told_step}
 use Rattle.bsc_tributary.proofs.Acts.{mode_told, sent_told}
-use Rattle.bsc_tributary.proofs.Hearing.{after_hearing}
+use Rattle.bsc_tributary.proofs.Hearing.{holds_after_hearing}
 use Rattle.bsc_tributary.proofs.InMode.{hears_control, hears_receiving, hears_sending}
 use Rattle.bsc_tributary.proofs.InMode.{stays_receive_step, stays_replied}
 use Rattle.bsc_tributary.proofs.tributary.Tributary.hear_in_mode.Goals as goal
@@ -27,7 +27,7 @@ returns-in-Control g c =
     let was : IsTributary c.args.self.now = subst IsTributary c.self.view_is c.self.invariant in
     let hears : Hears c.args.self.now c.args.heard.now c.args.self.now None =
     hears_control _ c.args.self.now c.args.heard.now c.requires c.self.view_is c.in-Control.is in
-    record { row = hears; after = after_hearing _ _ _ _ was was hears }
+    record { row = hears; after = holds_after_hearing _ _ _ _ was was hears }
 
 pub returns-in-Receiving : goal.returns-in-Receiving
 returns-in-Receiving g c =
@@ -41,7 +41,7 @@ returns-in-Receiving g c =
     c.leave_reply.ensures in
     record {
       row = hears;
-      after = after_hearing _ _ _ _ (subst IsTributary c.self.view_is c.self.invariant)
+      after = holds_after_hearing _ _ _ _ (subst IsTributary c.self.view_is c.self.invariant)
           (stays_receive_step _ c.in-Receiving.select c.still_urgent-self-inside.result
           c.receive-reply.new.receiver
           c.receive-reply.new.self c.self.invariant c.receive-reply.ensures.spools) hears;
@@ -57,7 +57,7 @@ returns-in-Sending g c =
     (sent_told _ _ _ _ _ _ c.reply-outcome.ensures.row c.perform.ensures.sent) in
     record {
       row = hears;
-      after = after_hearing _ _ _ _ (subst IsTributary c.self.view_is c.self.invariant)
+      after = holds_after_hearing _ _ _ _ (subst IsTributary c.self.view_is c.self.invariant)
           (stays_replied _ c.args.heard.now c.perform.new.mode _ c.self.invariant c.in-Sending.is
           (told_step _ _ _ _ _ c.reply-outcome.ensures.row)
           (mode_told _ _ _ _ _ _ _ c.reply-outcome.ensures.row c.perform.ensures.mode)

@@ -4,7 +4,7 @@ use Rattle.std.proofs.Common.{bit_xor}
 use Rattle.std.specs.Int.Count.{ones}
 use Rattle.std.proofs.lemmas.Bool.{agree_below, agree_below_at, eqb-true}
 use Rattle.bsc_octet.specs.Octet.{odd_octet}
-use Rattle.bsc_frame.proofs.encoder.carried.Goals as goal
+use Rattle.bsc_octet.proofs.parity.carried.Goals as goal
 
 -- the exclusive or of the two halves of an octet, in its low half
 fours : ℕ → ℕ
