@@ -1,2 +1,2 @@
 -- Lemmas about records and the first items of lists.
-mod Fronts
+pub mod Fronts

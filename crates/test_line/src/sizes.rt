@@ -45,15 +45,12 @@ fn offer_all<A: Allocator>(line: &mut Line<A>) -> Result<(), LineError> {
 
 /// Whether these are the records of all numbers below `COUNT`, in order.
 fn are_all<A: Allocator>(records: &Records<A>) -> bool {
-    if records.len() != COUNT as usize {
-        return false;
-    }
-    for (place, number) in (0..COUNT).enumerate() {
-        if records.chars(place) != digits(number).as_slice() {
+    for place in 0..records.len() {
+        if records.chars(place) != digits(place as u32).as_slice() {
             return false;
         }
     }
-    true
+    records.len() == COUNT as usize
 }
 
 /// Whether all of them were offered on this channel of terminal 0, arrived, and are known to have
