@@ -19,11 +19,11 @@ use test_alloc::Refusing;
 use test_fixtures::octets::{ACK0, ACK1, CALL_POLL_A, CALL_POLL_B, CALL_SELECT_A};
 
 /// The number of records offered on each channel.
-const COUNT: u32 = 100_000;
+const COUNT: usize = 100_000;
 
 /// The decimal digits of a number below `COUNT`, which are the characters of its record.
-fn digits(number: u32) -> [u8; 5] {
-    let digit = |value: u32| b'0' + (value % 10) as u8;
+fn digits(number: usize) -> [u8; 5] {
+    let digit = |value: usize| b'0' + (value % 10) as u8;
     [
         digit(number / 10_000),
         digit(number / 1000),
@@ -46,11 +46,11 @@ fn offer_all<A: Allocator>(line: &mut Line<A>) -> Result<(), LineError> {
 /// Whether these are the records of all numbers below `COUNT`, in order.
 fn are_all<A: Allocator>(records: &Records<A>) -> bool {
     for place in 0..records.len() {
-        if records.chars(place) != digits(place as u32).as_slice() {
+        if records.chars(place) != digits(place).as_slice() {
             return false;
         }
     }
-    records.len() == COUNT as usize
+    records.len() == COUNT
 }
 
 /// Whether all of them were offered on this channel of terminal 0, arrived, and are known to have
@@ -59,7 +59,7 @@ fn has_all<A: Allocator>(line: &Line<A>, way: Way) -> bool {
     is_channel(line, 0, way)
         && are_all(line.offered(0, way))
         && are_all(line.spooled(0, way))
-        && line.known(0, way) == COUNT as usize
+        && line.known(0, way) == COUNT
 }
 
 /// The records, delivered in exactly the transmissions that they take.
