@@ -70,7 +70,7 @@ impl Receiver {
     /// text and to ENQ.)
     pub fn heard<A: Allocator>(
         &mut self,
-        heard: &Heard,
+        heard: &Heard<'_>,
         urgent: bool,
         spool: &mut Spool<A>,
     ) -> Option<Reply>
@@ -89,7 +89,7 @@ impl Receiver {
     }
 
     /// Takes a text if there is room for it, and returns the reply.
-    fn take_text<A: Allocator>(&mut self, text: &Text, urgent: bool, spool: &mut Spool<A>) -> Reply
+    fn take_text<A: Allocator>(&mut self, text: &Text<'_>, urgent: bool, spool: &mut Spool<A>) -> Reply
         ensures { Receives self.old spool.old (Heard.Whole (Message.Text text.now)) urgent
             (record { receiver = self.new; spool = spool.new; reply = Some result }) }
     {

@@ -18,7 +18,7 @@ use crate::answer::Answer;
 use crate::outcome::Outcome;
 use crate::phase::{Phase, SentBlock};
 use crate::setup::Setup;
-use bsc_frame::{End, Heard, Message};
+use bsc_frame::{End, Heard, MessageBuffer};
 use bsc_spool::Queue;
 use std::alloc::Allocator;
 use std::marker::Model;
@@ -88,7 +88,7 @@ impl Sender {
     /// Condition: the sender is idle, so there is no doubt, and records wait. (GA27-3004,
     /// transmission of blocks.)
     #[tactic(auto, using(crate::proofs::Readiness::going_begin))]
-    pub fn begin<A: Allocator>(&mut self, queue: &Queue<A>, sent: &mut Option<Message>) -> Outcome
+    pub fn begin<A: Allocator>(&mut self, queue: &Queue<A>, sent: &mut MessageBuffer) -> Outcome
         requires idle { self.old.phase ≡ Phase.Idle }
         requires some { 1 ≤ length (waiting queue.now) }
         ensures row { Tells self.new queue.now result sent.new
@@ -106,9 +106,9 @@ impl Sender {
     /// The limits are this project's own.)
     pub fn reply<A: Allocator>(
         &mut self,
-        heard: &Heard,
+        heard: &Heard<'_>,
         queue: &mut Queue<A>,
-        sent: &mut Option<Message>,
+        sent: &mut MessageBuffer,
     ) -> Outcome
         requires { IsGoing self.old.phase
             → CountsOn self.old.phase (length (waiting queue.old)) }
@@ -138,7 +138,7 @@ impl Sender {
     /// the last reply again with ENQ, or the bid is over, and then an unanswered block is in doubt.
     /// (GA27-3004, time-outs. The limit and the doubt are this project's own.)
     #[tactic(auto, using(crate::proofs::Readiness::all_waiting))]
-    pub fn silence(&mut self, sent: &mut Option<Message>) -> Outcome
+    pub fn silence(&mut self, sent: &mut MessageBuffer) -> Outcome
         ensures row { (q : QueueValue)
             → Tells self.new q result sent.new
             (silence_step self.old q) }
@@ -205,13 +205,13 @@ impl Sender {
     }
 
     /// Ends the bid without a doubt.
-    fn end(&mut self, sent: &mut Option<Message>) -> Outcome
+    fn end(&mut self, sent: &mut MessageBuffer) -> Outcome
         ensures state { self.new ≡ with_phase self.old Phase.Idle }
         ensures over { result ≡ Outcome.Over }
         ensures nothing { sent.new ≡ None }
     {
         self.phase = Phase::Idle;
-        *sent = None;
+        sent.clear();
         Outcome::Over
     }
 
@@ -221,7 +221,7 @@ impl Sender {
         &mut self,
         queue: &Queue<A>,
         alternation: Alternation,
-        sent: &mut Option<Message>,
+        sent: &mut MessageBuffer,
     ) -> Outcome
         ensures row { Tells self.new queue.now result sent.new
             (sent_next self.old queue.now alternation (next_block queue.now)) }
@@ -250,7 +250,7 @@ impl Sender {
         queue: &Queue<A>,
         end: End,
         alternation: Alternation,
-        sent: &mut Option<Message>,
+        sent: &mut MessageBuffer,
     ) -> Outcome
         ensures row { Tells self.new queue.now result sent.new
             (accepted self.old queue.now end alternation) }
@@ -288,7 +288,7 @@ impl Sender {
     }
 
     /// Counts one more failure in a row and asks for the last reply again, unless the bid is over.
-    fn ask_again(&mut self, left: Phase, sent: &mut Option<Message>) -> Outcome
+    fn ask_again(&mut self, left: Phase, sent: &mut MessageBuffer) -> Outcome
         requires going { IsGoing self.old.phase }
         requires left { IsAtRest left }
         ensures row { (q : QueueValue)
@@ -299,16 +299,16 @@ impl Sender {
         ensures fits { FitsOutcome result self.old.phase self.new.phase }
     {
         if self.fail(left) {
-            *sent = None;
+            sent.clear();
             return Outcome::Over;
         }
-        *sent = Some(Message::Enq);
+        sent.set_enq();
         Outcome::Sends
     }
 
     /// Counts one more WACK, to a block with this end, and asks again with ENQ, unless the bid is
     /// over.
-    fn delay(&mut self, end: End, alternation: Alternation, sent: &mut Option<Message>) -> Outcome
+    fn delay(&mut self, end: End, alternation: Alternation, sent: &mut MessageBuffer) -> Outcome
         requires { IsGoing self.old.phase }
         ensures row { (q : QueueValue)
             → Tells self.new q result sent.new
@@ -320,11 +320,11 @@ impl Sender {
         self.wacks += 1;
         if self.wacks > u16::from(self.setup.waits()) {
             self.phase = Phase::Idle;
-            *sent = None;
+            sent.clear();
             return Outcome::Over;
         }
         self.phase = Phase::Held { end, alternation };
-        *sent = Some(Message::Enq);
+        sent.set_enq();
         Outcome::Sends
     }
 
@@ -335,7 +335,7 @@ impl Sender {
         queue: &mut Queue<A>,
         block: SentBlock,
         answer: Answer,
-        sent: &mut Option<Message>,
+        sent: &mut MessageBuffer,
     ) -> Outcome
         requires phase { self.old.phase ≡ Phase.Unanswered block }
         requires counts { CountsOn self.old.phase (length (waiting queue.old)) }
@@ -352,7 +352,7 @@ impl Sender {
                 // A field is read, so that the range of the block's records is known here.
                 let _ = &self.phase;
                 if self.fail(Phase::Idle) {
-                    *sent = None;
+                    sent.clear();
                     return Outcome::Over;
                 }
                 queue.text(block.count, block.end, sent);
@@ -376,7 +376,7 @@ impl Sender {
         end: End,
         alternation: Alternation,
         answer: Answer,
-        sent: &mut Option<Message>,
+        sent: &mut MessageBuffer,
     ) -> Outcome
         requires { self.old.phase ≡ Phase.Held end alternation }
         ensures row { Tells self.new queue.now result sent.new
@@ -393,10 +393,10 @@ impl Sender {
 }
 
 /// Leaves no message.
-fn keep_quiet(sent: &mut Option<Message>) -> Outcome
+fn keep_quiet(sent: &mut MessageBuffer) -> Outcome
     ensures quiet { result ≡ Outcome.Quiet }
     ensures nothing { sent.new ≡ None }
 {
-    *sent = None;
+    sent.clear();
     Outcome::Quiet
 }

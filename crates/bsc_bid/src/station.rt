@@ -7,7 +7,7 @@ ghost use Rattle.bsc_frame.specs.declared.message.Heard.TheVariants.{Noise};
 ghost use Rattle.bsc_frame.specs.Spells.{IsHeardAs};
 ghost use Rattle.bsc_bid.specs.Station.{IsSent, StaysQuiet};
 
-use bsc_frame::{Heard, Message, Wire, decode, encode};
+use bsc_frame::{Heard, MessageBuffer, TextBuffer, Wire, decode, encode};
 
 /// A station of the line (GA27-3004, centralised multipoint operation).
 pub trait Station {
@@ -22,24 +22,24 @@ pub trait Station {
     /// Whether the station acts on a silence before the control station does.
     ghost holds: { Self → Bool };
 
-    /// Hears what octets were decoded as, and replaces `sent` by the message to send, or by `None`.
+    /// Hears what octets were decoded as, and replaces `sent` by the message to send, or by none.
     /// The call may try to reserve memory; if that fails, only a reply changes.
-    fn answer(&mut self, heard: &Heard, sent: &mut Option<Message>)
+    fn answer(&mut self, heard: &Heard<'_>, sent: &mut MessageBuffer)
         ensures { hears self.old heard.now self.new sent.new };
 
     /// Reports that nothing was heard for the time of a time-out, and replaces `sent` by the
     /// message to send, or by `None`.
-    fn act(&mut self, sent: &mut Option<Message>)
+    fn act(&mut self, sent: &mut MessageBuffer)
         ensures { acts self.old self.new sent.new };
 
     /// Hears what octets were decoded as. Returns true if the wire now holds the message to send;
     /// otherwise the wire is empty. The call may try to reserve memory; if that fails, only a reply
     /// changes.
-    fn hear_message(&mut self, heard: &Heard, wire: &mut Wire) -> bool
+    fn hear_message(&mut self, heard: &Heard<'_>, wire: &mut Wire) -> bool
         ensures { (sent : Option MessageValue) × hears self.old heard.now self.new sent
             × IsSent sent result wire.new.items }
     {
-        let mut sent = None;
+        let mut sent = MessageBuffer::new();
         self.answer(heard, &mut sent);
         transmit(&sent, wire)
     }
@@ -51,7 +51,8 @@ pub trait Station {
             × ((sent : Option MessageValue) × hears self.old heard self.new sent
             × IsSent sent result wire.new.items)) }
     {
-        self.hear_message(&decode(octets), wire)
+        let mut buffer = TextBuffer::new();
+        self.hear_message(&decode(octets, &mut buffer), wire)
     }
 
     /// Reports that nothing was heard for the time of a time-out. Returns true if the wire now
@@ -60,7 +61,7 @@ pub trait Station {
         ensures { (sent : Option MessageValue) × acts self.old self.new sent
             × IsSent sent result wire.new.items }
     {
-        let mut sent = None;
+        let mut sent = MessageBuffer::new();
         self.act(&mut sent);
         transmit(&sent, wire)
     }
@@ -74,12 +75,12 @@ pub trait Station {
         → hears old Noise new sent → StaysQuiet old new sent };
 }
 
-/// Replaces the contents of the wire by the octets of the message, or clears the wire if there is
-/// no message. Returns true if there is one.
-pub fn transmit(message: &Option<Message>, wire: &mut Wire) -> bool
+/// Replaces the contents of the wire by the octets of the message in the buffer, or clears the wire
+/// if there is no message. Returns true if there is one.
+pub fn transmit(message: &MessageBuffer, wire: &mut Wire) -> bool
     ensures { IsSent message.now result wire.new.items }
 {
-    match message {
+    match &message.message() {
         Some(message) => {
             encode(message, wire);
             true

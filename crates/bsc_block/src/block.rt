@@ -31,7 +31,7 @@ impl<'a> Model for Block<'a> {
 
 /// Returns the records of a text: the characters of each unit that has characters or is marked by
 /// EM.
-pub fn unpack(text: &Text) -> Block<'_>
+pub fn unpack<'a>(text: &'a Text<'_>) -> Block<'a>
     ensures { result ≡ records_in text.entry.now.units }
 {
     let mut records = ArrayVec::new();

@@ -2,6 +2,7 @@
 ghost use Rattle.std.specs.Prelude.{◌≡◌, ◌+◌, ◌≤◌, ◌<◌, ◌≢◌, [], length, take, drop, Some};
 ghost use Rattle.bsc_frame.specs.Texts.{IsUnit};
 ghost use Rattle.bsc_frame.specs.Units.{text_unit};
+ghost use Rattle.bsc_frame.specs.declared.message.Message.TheVariants as m;
 ghost use Rattle.bsc_block.specs.Records.{IsRecord};
 ghost use Rattle.bsc_block.specs.Blocks.{unit_of, cost as cost_of, taken, AreShort, IsTaken};
 ghost use Rattle.bsc_block.specs.Blocks.{block_text};
@@ -9,7 +10,7 @@ ghost use Rattle.bsc_block.specs.Blocks.{block_text};
 use crate::limits::MIN_BLOCK_CHARS;
 use crate::{Format, Records};
 use bsc_frame::limits::MAX_UNITS;
-use bsc_frame::{End, Message, Text, Unit};
+use bsc_frame::{End, MessageBuffer, Unit};
 use std::alloc::Allocator;
 
 /// Returns how many of the waiting records, those from a place on, go into the next block: as many
@@ -67,14 +68,14 @@ pub fn build<A: Allocator>(
     count: usize,
     format: Format,
     end: End,
-    message: &mut Option<Message>,
+    message: &mut MessageBuffer,
 )
     requires some { 1 ≤ count }
     requires few { count ≤ MAX_UNITS }
     requires there { from + count ≤ length records.now.items }
     requires short { AreShort format.full records.now.items }
     ensures { message.new
-        ≡ Some (Message.Text
+        ≡ Some (m.Text
         (block_text format (take count (drop from records.now.items)) end)) }
 {
     let mut units = [Unit {
@@ -85,5 +86,5 @@ pub fn build<A: Allocator>(
     for place in 0..count {
         units[place] = unit(records.chars(from + place), format);
     }
-    Text::leave(&units[..count], end, message);
+    message.set_text(&units[..count], end);
 }

@@ -16,7 +16,7 @@ use crate::task::Task;
 use bsc_bid::{ReleaseError, Setup, Station, Terminal};
 use bsc_block::Record;
 use bsc_directory::{Directory, SetupError, Way};
-use bsc_frame::{Address, Heard, Message};
+use bsc_frame::{Address, Heard, MessageBuffer};
 use bsc_spool::{Queue, Spool};
 use std::alloc::Allocator;
 use std::marker::Model;
@@ -251,11 +251,11 @@ impl<A: Allocator> Station for Control<A> {
 
     ghost holds = { λ _. false };
 
-    fn answer(&mut self, heard: &Heard, sent: &mut Option<Message>) {
+    fn answer(&mut self, heard: &Heard<'_>, sent: &mut MessageBuffer) {
         self.procedure.hear(heard, sent);
     }
 
-    fn act(&mut self, sent: &mut Option<Message>) {
+    fn act(&mut self, sent: &mut MessageBuffer) {
         self.procedure.act_on_silence(sent);
     }
 

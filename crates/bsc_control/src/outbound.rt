@@ -11,7 +11,7 @@ ghost use Rattle.bsc_control.specs.Peer.{outbound_released, is_selectable};
 
 use bsc_bid::{Outcome, ReleaseError, Sender, Setup};
 use bsc_block::Record;
-use bsc_frame::{Heard, Message};
+use bsc_frame::{Heard, MessageBuffer};
 use bsc_spool::Queue;
 use std::alloc::Allocator;
 use std::marker::Model;
@@ -59,7 +59,7 @@ impl<A: Allocator> Outbound<A> {
     }
 
     /// Begins a bid: the sender takes the first block, and its text is left in `sent`.
-    pub(crate) fn begin(&mut self, sent: &mut Option<Message>) -> Outcome
+    pub(crate) fn begin(&mut self, sent: &mut MessageBuffer) -> Outcome
         requires idle { self.old.sender.phase ≡ Idle }
         requires some { 1 ≤ length (waiting self.old.queue) }
         ensures state { self.new ≡ outbound_after (begin_step self.old.sender self.old.queue) }
@@ -73,7 +73,7 @@ impl<A: Allocator> Outbound<A> {
     }
 
     /// Hears a transmission during a bid, and leaves the message to send, or `None`, in `sent`.
-    pub(crate) fn reply(&mut self, heard: &Heard, sent: &mut Option<Message>) -> Outcome
+    pub(crate) fn reply(&mut self, heard: &Heard<'_>, sent: &mut MessageBuffer) -> Outcome
         ensures state { self.new
             ≡ outbound_after (reply_step self.old.sender self.old.queue (reply_in heard.now)) }
         ensures outcome { result ≡ outcome_of
@@ -86,7 +86,7 @@ impl<A: Allocator> Outbound<A> {
     }
 
     /// Acts on a silence during a bid, and leaves the message to send, or `None`, in `sent`.
-    pub(crate) fn silence(&mut self, sent: &mut Option<Message>) -> Outcome
+    pub(crate) fn silence(&mut self, sent: &mut MessageBuffer) -> Outcome
         ensures state { self.new ≡ outbound_after (silence_step self.old.sender self.old.queue) }
         ensures outcome { result
             ≡ outcome_of (silence_step self.old.sender self.old.queue).act }

@@ -91,7 +91,7 @@ impl<A: Allocator> Peer<A> {
 
     /// Lets the receiver hear a transmission, and returns its reply. A reverse interrupt clears the
     /// urgent flag.
-    pub(crate) fn receive(&mut self, heard: &Heard) -> Option<Reply>
+    pub(crate) fn receive(&mut self, heard: &Heard<'_>) -> Option<Reply>
         ensures receives { PeerReceives self.old heard.now self.new result }
         ensures peer { IsPeer self.new }
     {

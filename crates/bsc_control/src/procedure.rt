@@ -14,7 +14,7 @@ ghost use Rattle.bsc_control.specs.Table.{Hears, ActsOnSilence};
 use crate::peer::Peer;
 use crate::task::Task;
 use bsc_bid::{Setup, Terminal};
-use bsc_frame::{Heard, Message};
+use bsc_frame::{Heard, MessageBuffer};
 use std::alloc::{AllocError, Allocator};
 use std::marker::Model;
 
@@ -120,13 +120,13 @@ impl<A: Allocator> Procedure<A> {
     }
 
     /// Hears a decoded transmission, and leaves the message to send, or `None`, in `sent`.
-    pub(crate) fn hear(&mut self, heard: &Heard, sent: &mut Option<Message>)
+    pub(crate) fn hear(&mut self, heard: &Heard<'_>, sent: &mut MessageBuffer)
         requires { SuitsTask self.old.task (peer self.old) }
         ensures row { Hears self.old heard.now self.new sent.new }
         ensures entries { HasEntries self.new }
     {
         match self.task {
-            Task::AtRest => *sent = None,
+            Task::AtRest => sent.clear(),
             Task::Selecting { select, .. } => self.hear_selecting(select, heard, sent),
             Task::Sending { select } => self.hear_sending(select, heard, sent),
             Task::Polling { replied } => self.hear_polling(replied, heard, sent),
@@ -134,7 +134,7 @@ impl<A: Allocator> Procedure<A> {
     }
 
     /// Acts on a silence, and leaves the message to send, or `None`, in `sent`.
-    pub(crate) fn act_on_silence(&mut self, sent: &mut Option<Message>)
+    pub(crate) fn act_on_silence(&mut self, sent: &mut MessageBuffer)
         requires { SuitsTask self.old.task (peer self.old) }
         ensures row { ActsOnSilence self.old self.new sent.new }
         ensures entries { HasEntries self.new }

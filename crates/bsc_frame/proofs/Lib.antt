@@ -11,7 +11,7 @@ pub mod Gathering
 pub mod UnitCodes
 pub mod TextUnits
 pub mod Units
-pub mod Drafts
+pub mod TextBuffers
 pub mod UnitSteps
 pub mod WireSteps
 pub mod OddTexts

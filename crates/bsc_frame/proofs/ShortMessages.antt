@@ -21,10 +21,15 @@ is_heard octets h e = record {
 }
 
 -- a body that is not a text is heard as what it reads as
+pub short_is_read : (octets body : List ℕ) (h : Heard) → heard octets ≡ heard_body body
+    → false ≡ begins (is_octet STX) body → h ≡ whole_or_noise (control body) → h ≡ heard octets
+unfolding heard_body
+short_is_read octets body h e n k = sym (e ∙ rw (← n) (sym k))
+
+-- so it is heard as that by the relations
 pub short_is_heard : (octets body : List ℕ) (h : Heard) → heard octets ≡ heard_body body
     → false ≡ begins (is_octet STX) body → h ≡ whole_or_noise (control body) → IsHeard octets h
-unfolding heard_body
-short_is_heard octets body h e n k = is_heard octets h (e ∙ rw (← n) (sym k))
+short_is_heard octets body h e n k = is_heard octets h (sym (short_is_read octets body h e n k))
 
 -- a body that begins with STX is a text, or failed as one
 pub text_begins : (octets body : List ℕ) → heard octets ≡ heard_body body → true

@@ -9,11 +9,11 @@ use Rattle.std.proofs.lemmas.List.Elements.{All-drop}
 use Rattle.bsc_frame.specs.Units.{unit_codes}
 use Rattle.bsc_octet.specs.Octet.{IsOdd, odd_octet, longitudinal_sum}
 use Rattle.bsc_frame.specs.Texts.{TextUnit, TextValue}
-use Rattle.bsc_frame.specs.Drafts.{draft_units, IsDraft, TakesUnit, ReadsText}
+use Rattle.bsc_frame.specs.TextBuffers.{buffer_units, IsTextBuffer, TakesUnit, ReadsText}
 use Rattle.bsc_frame.specs.Reading.{unit_at, units_at, before_units, last_unit}
 use Rattle.bsc_frame.specs.declared.text.End.{End}
 use Rattle.bsc_frame.specs.declared.text.End.TheVariants.{Etb, Etx}
-use Rattle.bsc_frame.specs.declared.text.Draft.{Draft}
+use Rattle.bsc_frame.specs.declared.text_buffer.TextBuffer.{TextBuffer}
 use Rattle.bsc_frame.proofs.ReadingSteps.{test_false}
 use Rattle.bsc_frame.proofs.Units.{unit_at_reads}
 use Rattle.bsc_frame.specs.declared.limits.TheConstants.{MAX_UNITS}
@@ -27,11 +27,11 @@ before_all us None = None
 before_all us (Some t) = Some (record { units = us ++ t.units; end = t.end })
 
 -- the loop invariant of reading units
-pub record ReadTo (d : Draft) (n : ℕ) (rest s : List ℕ) : Type 0 where
-  pub draft : IsDraft d
-  pub count : length (draft_units d) ≡ n
+pub record ReadTo (d : TextBuffer) (n : ℕ) (rest s : List ℕ) : Type 0 where
+  pub buffer : IsTextBuffer d
+  pub count : length (buffer_units d) ≡ n
   pub most : n ≤ MAX_UNITS
-  pub same : before_all (draft_units d) (units_at (MAX_UNITS - n) (nat_lt 0 n) rest)
+  pub same : before_all (buffer_units d) (units_at (MAX_UNITS - n) (nat_lt 0 n) rest)
       ≡ units_at MAX_UNITS false s
 
 -- one unit more before the rest
@@ -59,14 +59,14 @@ units_stop zero after_us s h = refl
 units_stop (suc n) after_us s h = rw h refl
 
 -- if there is no next unit, the whole is no text
-pub read_stop : (d : Draft) (count : ℕ) (rest s : List ℕ) → ReadTo d count rest s
+pub read_stop : (d : TextBuffer) (count : ℕ) (rest s : List ℕ) → ReadTo d count rest s
     → unit_at (nat_lt 0 count) rest ≡ None → None ≡ units_at MAX_UNITS false s
 read_stop d count rest s r h =
-    ap (before_all (draft_units d)) (sym (units_stop (MAX_UNITS - count) (nat_lt 0 count) rest h))
+    ap (before_all (buffer_units d)) (sym (units_stop (MAX_UNITS - count) (nat_lt 0 count) rest h))
     ∙ r.same
 
 -- one unit more is read that ends with US
-pub read_more : (d new : Draft) (count e : ℕ) (rest more s : List ℕ) → ReadTo d count rest s
+pub read_more : (d new : TextBuffer) (count e : ℕ) (rest more s : List ℕ) → ReadTo d count rest s
     → count < MAX_UNITS → TakesUnit d new (unit_at (nat_lt 0 count) rest) e more → e ≡ US_CODE
     → ReadTo new (count + 1) more s
 read_more d new count e rest more s r l t us =
@@ -77,29 +77,29 @@ read_more d new count e rest more s r l t us =
     let fewer : MAX_UNITS - (count + 1) ≡ MAX_UNITS - count - 1 = omega arith in
     let later : nat_lt 0 (count + 1) ≡ true = grind (arith, nat_tests) in
     record {
-      draft = t.draft;
-      count = ap length t.units ∙ length-append (draft_units d) (t.unit ∷ [])
+      buffer = t.buffer;
+      count = ap length t.units ∙ length-append (buffer_units d) (t.unit ∷ [])
           ∙ omega (arith, r.count);
       most = omega arith;
       same =
-          rw (fewer, later, t.units) (before_more (draft_units d) t.unit
+          rw (fewer, later, t.units) (before_more (buffer_units d) t.unit
           (units_at (MAX_UNITS - count - 1) true more)
-          ∙ ap (before_all (draft_units d)) (sym next) ∙ r.same);
+          ∙ ap (before_all (buffer_units d)) (sym next) ∙ r.same);
     }
 
 -- the last unit of a text is read
-read_last : (d new : Draft) (count e : ℕ) (rest more s : List ℕ) → ReadTo d count rest s → count
+read_last : (d new : TextBuffer) (count e : ℕ) (rest more s : List ℕ) → ReadTo d count rest s → count
     < MAX_UNITS
     → (t : TakesUnit d new (unit_at (nat_lt 0 count) rest) e more) → (e ≡ US_CODE → ⊥)
-    → before_all (draft_units d) (last_unit t.unit e more) ≡ units_at MAX_UNITS false s
+    → before_all (buffer_units d) (last_unit t.unit e more) ≡ units_at MAX_UNITS false s
 read_last d new count e rest more s r l t us =
     let next : units_at (MAX_UNITS - count) (nat_lt 0 count) rest ≡ last_unit t.unit e more =
     units_next (MAX_UNITS - count) (nat_lt 0 count) rest t.unit e more (omega arith) t.reads
     ∙ rw (test_false e US_CODE us) refl in
-    ap (before_all (draft_units d)) (sym next) ∙ r.same
+    ap (before_all (buffer_units d)) (sym next) ∙ r.same
 
 -- if octets follow the last unit, there is no text
-pub read_extra : (d new : Draft) (count e : ℕ) (rest more s : List ℕ) → ReadTo d count rest s
+pub read_extra : (d new : TextBuffer) (count e : ℕ) (rest more s : List ℕ) → ReadTo d count rest s
     → count < MAX_UNITS → TakesUnit d new (unit_at (nat_lt 0 count) rest) e more → (e ≡ US_CODE → ⊥)
     → (length more ≡ 0 → ⊥) → None ≡ units_at MAX_UNITS false s
 read_extra d new count e rest [] s r l t us p = absurd (p refl)
@@ -107,7 +107,7 @@ read_extra d new count e rest (x ∷ more) s r l t us p =
     read_last d new count e rest (x ∷ more) s r l t us
 
 -- the last unit ends the text
-pub read_whole : (d new : Draft) (count e : ℕ) (rest more s : List ℕ) (end : End)
+pub read_whole : (d new : TextBuffer) (count e : ℕ) (rest more s : List ℕ) (end : End)
     → ReadTo d count rest s
     → count < MAX_UNITS → TakesUnit d new (unit_at (nat_lt 0 count) rest) e more → (e ≡ US_CODE → ⊥)
     → length more ≡ 0 → cond (e == ETB_CODE) Etb Etx ≡ end
@@ -115,10 +115,10 @@ pub read_whole : (d new : Draft) (count e : ℕ) (rest more s : List ℕ) (end :
 read_whole d new count e rest (x ∷ more) s end r l t us p q = absurd (omega arith)
 read_whole d new count e rest [] s end r l t us p q = record {
   reads = sym (read_last d new count e rest [] s r l t us)
-      ∙ ap Some (ap (λ z. record { units = draft_units d ++ t.unit ∷ []; end = z }) q
+      ∙ ap Some (ap (λ z. record { units = buffer_units d ++ t.unit ∷ []; end = z }) q
       ∙ sym (ap (λ z. record { units = z; end = end }) t.units));
-  draft = t.draft;
-  some = omega (arith, ap length t.units, length-append (draft_units d) (t.unit ∷ []));
+  buffer = t.buffer;
+  some = omega (arith, ap length t.units, length-append (buffer_units d) (t.unit ∷ []));
 }
 
 -- what follows a unit has odd parity too
@@ -135,18 +135,18 @@ rest_odd after_us s u e rest h r =
     (All-drop IsOdd (length front) s h)
 
 -- there are more units than a text has
-pub read_all : (d : Draft) (count : ℕ) (rest s : List ℕ) → ReadTo d count rest s → MAX_UNITS ≤ count
+pub read_all : (d : TextBuffer) (count : ℕ) (rest s : List ℕ) → ReadTo d count rest s → MAX_UNITS ≤ count
     → None ≡ units_at MAX_UNITS false s
 unfolding units_at
 read_all d count rest s r l =
     let none : MAX_UNITS - count ≡ 0 = omega arith in
-    ap (before_all (draft_units d)) (sym (ap (λ n. units_at n (nat_lt 0 count) rest) none)) ∙ r.same
+    ap (before_all (buffer_units d)) (sym (ap (λ n. units_at n (nat_lt 0 count) rest) none)) ∙ r.same
 
 -- at first no unit is read
-pub read_start : (d : Draft) (s : List ℕ) → IsDraft d → draft_units d ≡ [] → ReadTo d 0 s s
+pub read_start : (d : TextBuffer) (s : List ℕ) → IsTextBuffer d → buffer_units d ≡ [] → ReadTo d 0 s s
 read_start d s h e =
     record {
-      draft = h;
+      buffer = h;
       count = ap length e;
       most = omega arith;
       same =

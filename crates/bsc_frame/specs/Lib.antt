@@ -2,10 +2,11 @@
 pub use Rattle.bsc_octet.specs.Octet
 pub mod Addresses
 pub mod Texts
-pub mod Drafts
+pub mod TextBuffers
 pub mod Units
 pub mod Replies
 pub mod Message
+pub mod MessageBuffers
 pub mod Wire
 pub mod Spells
 pub mod Reading

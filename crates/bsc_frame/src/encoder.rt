@@ -107,7 +107,7 @@ fn append_unit(wire: &mut Wire, unit: Unit<'_>, ending: u8)
 
 /// Returns the code of the character that ends the unit at `place`: US for every unit but the last.
 #[tactic(auto, using(crate::proofs::WireSteps::ending_more, crate::proofs::WireSteps::ending_last))]
-fn ending_at(text: &Text, place: usize) -> u8
+fn ending_at(text: &Text<'_>, place: usize) -> u8
     requires { place < length text.now.units }
     ensures value { result ≡ ending (drop (place + 1) text.now.units) text.now.end }
     ensures code { IsCode result }
@@ -124,7 +124,7 @@ fn ending_at(text: &Text, place: usize) -> u8
 /// for the octets of a unit.
 #[inline(never)]
 #[tactic(auto, using(crate::proofs::WireSteps::wire_next))]
-fn append_units(wire: &mut Wire, text: &Text)
+fn append_units(wire: &mut Wire, text: &Text<'_>)
     requires room { length wire.old.items ≤ 3 }
     ensures units { wire.new.items ≡ wire.old.items ++ units_wire text.now.units text.now.end }
     ensures short { length wire.new.items < MAX_SENT }
@@ -138,7 +138,7 @@ fn append_units(wire: &mut Wire, text: &Text)
 /// Replaces the contents of the wire by the octets of the message: two SYN, the body, one PAD. They
 /// are at most 1,033, so there is always room. (GA27-3004: control sequences, polling and
 /// selection, text blocks, VRC and LRC checking.)
-pub fn encode(message: &Message, wire: &mut Wire)
+pub fn encode(message: &Message<'_>, wire: &mut Wire)
     ensures wire { wire.new.items ≡ wire_of message.now }
     ensures message { IsMessage message.now }
 {

@@ -1,12 +1,12 @@
-//! Short messages: all messages except texts. They are decoded without the room for a text that a
-//! `Heard` has.
+//! Short messages: all messages except texts. They are decoded without a buffer for the units of a
+//! text.
 ghost use Rattle.std.specs.Prelude.{◌≡◌, IfSome, IfNone};
 ghost use Rattle.bsc_frame.specs.Short.{heard_as, IsHeard, BeginsText};
-ghost use Rattle.bsc_frame.specs.Reading.{call, control, reply_or_call, whole_or_noise};
+ghost use Rattle.bsc_frame.specs.Reading.{call, control, heard, reply_or_call, whole_or_noise};
 ghost use Rattle.bsc_frame.specs.Replies.{reply_spelled};
 
 use crate::body::{after_all, body_of, starts_with};
-use crate::{Address, Reply};
+use crate::{Address, Heard, Message, Reply};
 use bsc_octet::controls::{ENQ, EOT, PAD, STX, SYN};
 
 /// What octets that do not begin as a text are heard as: a message without a text, or noise.
@@ -19,6 +19,21 @@ pub enum Short {
 
     /// The octets spell nothing.
     Noise,
+}
+
+impl Short {
+    /// Returns what was heard.
+    pub fn heard<'a>(self) -> Heard<'a>
+        ensures { result ≡ heard_as self }
+    {
+        match self {
+            Short::Eot => Heard::Whole(Message::Eot),
+            Short::Call(address) => Heard::Whole(Message::Call(address)),
+            Short::Enq => Heard::Whole(Message::Enq),
+            Short::Reply(reply) => Heard::Whole(Message::Reply(reply)),
+            Short::Noise => Heard::Noise,
+        }
+    }
 }
 
 /// Returns what a call is heard as, from the octets after its EOT.
@@ -66,11 +81,12 @@ fn reply_or_call_of(body: &[u8]) -> Short
 }
 
 /// Returns what the octets are heard as if they do not begin as a text. If they do, it returns
-/// `None`, and [`crate::decode`] returns the text or that it failed. This is for callers for whom a
-/// `Heard` is too large: most transmissions on a line are short (GA27-3004: control sequences,
-/// polling and selection).
+/// `None`, and [`crate::decode`] returns the text or that it failed. This is for callers that have
+/// no buffer and make one for a text only: most transmissions on a line are short (GA27-3004:
+/// control sequences, polling and selection).
 #[inline(always)]
 pub fn decode_short(octets: &[u8]) -> Option<Short>
+    ensures reading { IfSome result (λ s. heard_as s ≡ heard octets.now) }
     ensures short { IfSome result (λ s. IsHeard octets.now (heard_as s)) }
     ensures text { IfNone result (BeginsText octets.now) }
 {

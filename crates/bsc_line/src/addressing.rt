@@ -10,7 +10,7 @@ ghost use Rattle.bsc_line.specs.Naming.{named_in};
 use crate::hearing::{Hearings, hearing, item_at};
 use crate::trust::each_hears;
 use bsc_control::{Control, Way};
-use bsc_frame::{Address, Heard, Message};
+use bsc_frame::{Address, Heard, Message, TextBuffer};
 use std::alloc::Allocator;
 
 /// What a transmission names.
@@ -26,7 +26,7 @@ pub(crate) enum Named {
     Nothing,
 }
 
-fn named_in(heard: &Heard) -> Named
+fn named_in(heard: &Heard<'_>) -> Named
     ensures { result ≡ named_in heard.now }
 {
     match heard {
@@ -42,7 +42,7 @@ fn addressed_alike<A: Allocator>(
     control: &Control<A>,
     addressed: Option<(usize, Way)>,
     count: usize,
-    heard: &Heard,
+    heard: &Heard<'_>,
 ) -> Option<(usize, Way)>
     requires { 0 < count }
     ensures { IsAddressedAfter (terminals control.now) count (all_hear heard.now) addressed
@@ -66,7 +66,8 @@ fn addressed_apart<A: Allocator>(
     requires { 0 < count }
     ensures { IsAddressedAfter (terminals control.now) count (heard_at items.now) addressed result }
 {
-    match named_in(&hearing(item_at(items, 0))) {
+    let mut buffer = TextBuffer::new();
+    match named_in(&hearing(item_at(items, 0), &mut buffer)) {
         Named::Address(address) => {
             if each_hears(&Message::Call(address), count, items) {
                 control.find(&address)

@@ -3,25 +3,26 @@
 ghost use Rattle.std.specs.Prelude.{◌≡◌, slice_index_or, None};
 ghost use Rattle.bsc_line_model.specs.Hearing.{heard_in, octets_in};
 
-use bsc_frame::{Heard, decode};
+use bsc_frame::{Heard, TextBuffer, decode};
 
 /// What the terminals hear.
 #[derive(Clone, Copy)]
 pub(crate) enum Hearings<'a> {
     /// All hear the same, which was decoded once.
-    Alike(&'a Heard),
+    Alike(&'a Heard<'a>),
 
     /// Each hears the item of its number; `None` is nothing.
     Each(&'a [Option<&'a [u8]>]),
 }
 
-/// Decodes an item: the octets that arrived, or noise if nothing arrived.
+/// Decodes an item: the octets that arrived, or noise if nothing arrived. The units of a text are
+/// left in the buffer.
 #[tactic(auto, unfolding(bsc_line_model::specs::Hearing::heard_in))]
-pub(crate) fn hearing(item: Option<&[u8]>) -> Heard
-    ensures { result ≡ heard_in (octets_in item.entry) }
+pub(crate) fn hearing<'a>(item: Option<&[u8]>, buffer: &'a mut TextBuffer) -> Heard<'a>
+    ensures { result ≡ heard_in (octets_in item) }
 {
     match item {
-        Some(octets) => decode(octets),
+        Some(octets) => decode(octets, buffer),
         None => Heard::Noise,
     }
 }

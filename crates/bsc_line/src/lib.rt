@@ -19,7 +19,9 @@ mod line;
 mod pending;
 mod reading;
 mod terminals;
+mod transmission_buffer;
 mod trust;
+mod within_limits;
 
 pub use bsc_line_model::{Event, LineError, Speaker, Stopped, Transmission};
 pub use line::Line;

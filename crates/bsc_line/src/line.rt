@@ -7,7 +7,7 @@ mod releases;
 mod runs;
 mod silences;
 
-ghost use Rattle.std.specs.Prelude.{◌≡◌, ◌<◌, IfSome, IfOk, IfErr, OnOk, option_copied};
+ghost use Rattle.std.specs.Prelude.{◌≡◌, ◌<◌, IfSome, IfOk, IfErr, OnOk};
 ghost use Rattle.bsc_frame.specs.Message.{IsMessage};
 ghost use Rattle.bsc_bid.specs.Sender.{is_in_doubt};
 ghost use Rattle.bsc_directory.specs.Refusals.{IsAccepted, IsRefused};
@@ -16,7 +16,8 @@ ghost use Rattle.bsc_line_model.specs.Line.{terminal_count, IsChannel, channel_o
 ghost use Rattle.bsc_line_model.specs.Offers.{select_count};
 ghost use Rattle.bsc_line_model.specs.Kept.{IsLine, IsNewLine};
 
-use crate::pending::lend;
+use crate::pending::Pending;
+use crate::within_limits::within_limits;
 use crate::terminals::new_terminals;
 use bsc_bid::{Setup, Terminal};
 use bsc_block::Records;
@@ -40,7 +41,7 @@ pub struct Line<A: Allocator> {
     terminals: Vec<Tributary<A>, A>,
 
     /// The transmission that nobody has heard yet.
-    sent: Option<Transmission>,
+    sent: Pending,
 
     /// Whether each transmission so far was heard fairly.
     trusted: bool,
@@ -86,7 +87,7 @@ impl<A: Allocator> Line<A> {
         Ok(Line {
             control,
             terminals,
-            sent: None,
+            sent: Pending::new(),
             trusted: true,
             addressed: None,
         })
@@ -111,12 +112,12 @@ impl<A: Allocator> Line<A> {
 
     /// Lends the pending transmission, or returns `None` if nothing is pending. Its octets are
     /// those that `bsc_frame::encode` leaves for its message.
-    pub fn pending(&self) -> Option<&Transmission>
-        ensures value { option_copied result ≡ self.now.pending }
+    pub fn pending(&self) -> Option<Transmission<'_>>
+        ensures value { result ≡ self.entry.now.pending }
         ensures limits { IfSome self.now.pending (λ (s : TransmissionValue). IsMessage s.message) }
         ensures line { IsLine self.now }
     {
-        lend(&self.sent)
+        within_limits(self.sent.transmission())
     }
 
     /// Returns the number of selection addresses of a terminal: 1 to 4. Condition: the terminal

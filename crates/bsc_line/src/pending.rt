@@ -1,61 +1,158 @@
-//! The pending transmission.
+//! The pending transmission, and room for the answer to it.
 
-ghost use Rattle.std.specs.Prelude.{◌≡◌, None, IfSome, option_copied};
-ghost use Rattle.bsc_frame.specs.Message.{IsMessage};
+ghost use Rattle.std.specs.Prelude.{◌≡◌, None, Option, IfSome, length};
+ghost use Rattle.bsc_frame.specs.declared.message.Message.{Message as MessageValue};
 ghost use Rattle.bsc_frame.specs.declared.message.Heard.TheVariants as h;
 ghost use Rattle.bsc_line_model.specs.declared.transmission.Transmission.{Transmission as TransmissionValue};
-ghost use Rattle.bsc_line_model.specs.Transmission.{speaker_of};
+ghost use Rattle.bsc_line_model.specs.Terminals.{EachHears, EachKeeps, first_answer};
+ghost use Rattle.bsc_line_model.specs.Transmission.{sent_by, speaker_of};
+ghost use Rattle.bsc_line.specs.Hearings.{hearing_of};
 
-use bsc_frame::{Heard, Message};
+use crate::hearing::Hearings;
+use crate::terminals::hear_in;
+use crate::transmission_buffer::TransmissionBuffer;
+use bsc_bid::Station;
+use bsc_frame::Heard;
 use bsc_line_model::{Speaker, Transmission};
+use bsc_tributary::Tributary;
+use std::alloc::Allocator;
+use std::marker::Model;
 
-/// Returns the sender of the pending transmission.
-pub(crate) fn speaker_of(sent: &Option<Transmission>) -> Option<Speaker>
-    ensures { result ≡ speaker_of sent.now }
-{
-    match sent {
-        Some(sent) => Some(sent.speaker),
-        None => None,
+/// The pending transmission, or none. There are two buffers, so that the answer is written into one
+/// while the stations hear what is in the other.
+#[derive(Drop)]
+pub(crate) struct Pending {
+    /// Whether the pending transmission is in the second buffer.
+    in_second: bool,
+
+    first: TransmissionBuffer,
+    second: TransmissionBuffer,
+}
+
+impl Model for Pending {
+    ghost use Rattle.std.specs.Prelude.{Option, if◌then◌else◌};
+    ghost use Rattle.bsc_line_model.specs.declared.transmission.Transmission.{Transmission};
+
+    ghost Value = { Option Transmission };
+
+    ghost view = { λ p. if p.in_second then p.second else p.first };
+}
+
+impl Pending {
+    /// Returns a value with nothing pending.
+    pub(crate) fn new() -> Self
+        ensures { result ≡ None }
+    {
+        Pending {
+            in_second: false,
+            first: TransmissionBuffer::new(),
+            second: TransmissionBuffer::new(),
+        }
+    }
+
+    /// Lends the pending transmission, or returns `None` if nothing is pending.
+    pub(crate) fn transmission(&self) -> Option<Transmission<'_>>
+        ensures { result ≡ self.entry.now }
+    {
+        if self.in_second {
+            self.second.transmission()
+        } else {
+            self.first.transmission()
+        }
+    }
+
+    /// Returns the sender of the pending transmission.
+    pub(crate) fn speaker(&self) -> Option<Speaker>
+        ensures { result ≡ speaker_of self.now }
+    {
+        if self.in_second {
+            self.second.speaker()
+        } else {
+            self.first.speaker()
+        }
+    }
+
+    /// Lets a station hear this; then its answer is pending.
+    pub(crate) fn answer<S: Station>(&mut self, speaker: Speaker, station: &mut S, heard: &Heard<'_>)
+        ensures { (sent : Option MessageValue) × (S.hears station.old heard.now station.new sent
+            × (self.new ≡ sent_by speaker sent)) }
+    {
+        self.in_second = false;
+        self.first.answer(speaker, station, heard);
+    }
+
+    /// Lets a station act on a silence; then its message is pending.
+    pub(crate) fn act<S: Station>(&mut self, speaker: Speaker, station: &mut S)
+        ensures { (sent : Option MessageValue) × (S.acts station.old station.new sent
+            × (self.new ≡ sent_by speaker sent)) }
+    {
+        self.in_second = false;
+        self.first.act(speaker, station);
+    }
+
+    /// Lets a station hear the pending transmission as it was sent; then its answer is pending.
+    pub(crate) fn answer_whole<S: Station>(&mut self, speaker: Speaker, station: &mut S)
+        ensures { IfSome self.old (λ (s : TransmissionValue). (sent : Option MessageValue)
+            × (S.hears station.old (h.Whole s.message) station.new sent
+            × (self.new ≡ sent_by speaker sent))) }
+    {
+        if self.in_second {
+            self.in_second = false;
+            let heard = whole(self.second.transmission());
+            self.first.answer(speaker, station, &heard);
+        } else {
+            self.in_second = true;
+            let heard = whole(self.first.transmission());
+            self.second.answer(speaker, station, &heard);
+        }
+    }
+
+    /// Lets each terminal hear what arrives at its place; then the answer of the terminal with the
+    /// least number among those that answer is pending.
+    pub(crate) fn hear_down<A: Allocator>(
+        &mut self,
+        terminals: &mut Vec<Tributary<A>, A>,
+        hearings: &Hearings<'_>,
+    )
+        ensures each { EachHears terminals.old.items (hearing_of hearings.now) terminals.new.items }
+        ensures keeps { EachKeeps terminals.old.items (hearing_of hearings.now)
+            terminals.new.items }
+        ensures first { self.new ≡ first_answer terminals.old.items (hearing_of hearings.now)
+            terminals.new.items (length terminals.old.items) }
+    {
+        self.in_second = false;
+        hear_in(terminals, hearings, &mut self.first);
+    }
+
+    /// Lets each terminal hear the pending transmission as it was sent; then the answer of the
+    /// terminal with the least number among those that answer is pending.
+    pub(crate) fn hear_down_whole<A: Allocator>(&mut self, terminals: &mut Vec<Tributary<A>, A>)
+        ensures each { IfSome self.old (λ (s : TransmissionValue).
+            EachHears terminals.old.items (λ t. h.Whole s.message) terminals.new.items) }
+        ensures keeps { IfSome self.old (λ (s : TransmissionValue).
+            EachKeeps terminals.old.items (λ t. h.Whole s.message) terminals.new.items) }
+        ensures first { IfSome self.old (λ (s : TransmissionValue).
+            self.new ≡ first_answer terminals.old.items (λ t. h.Whole s.message)
+            terminals.new.items (length terminals.old.items)) }
+    {
+        if self.in_second {
+            self.in_second = false;
+            let heard = whole(self.second.transmission());
+            hear_in(terminals, &Hearings::Alike(&heard), &mut self.first);
+        } else {
+            self.in_second = true;
+            let heard = whole(self.first.transmission());
+            hear_in(terminals, &Hearings::Alike(&heard), &mut self.second);
+        }
     }
 }
 
-/// Takes the pending transmission, and returns it as it is heard unspoiled.
-pub(crate) fn take_whole(sent: &mut Option<Transmission>) -> Heard
-    ensures taken { sent.new ≡ None }
-    ensures heard { IfSome sent.old (λ (s : TransmissionValue). result ≡ h.Whole s.message) }
+/// Returns the transmission as it is heard unspoiled.
+pub(crate) fn whole<'a>(sent: Option<Transmission<'a>>) -> Heard<'a>
+    ensures { IfSome sent (λ (s : TransmissionValue). result ≡ h.Whole s.message) }
 {
-    match sent.take() {
+    match sent {
         Some(sent) => Heard::Whole(sent.message),
         None => Heard::Noise,
-    }
-}
-
-/// Lends the pending transmission, whose message keeps its limits.
-pub(crate) fn lend(sent: &Option<Transmission>) -> Option<&Transmission>
-    ensures value { option_copied result ≡ sent.now }
-    ensures limits { IfSome sent.now (λ (s : TransmissionValue). IsMessage s.message) }
-{
-    match sent {
-        Some(sent) => {
-            is_message(&sent.message);
-            Some(sent)
-        }
-        None => None,
-    }
-}
-
-/// States that a message keeps its limits, for contracts to rest on. Its parts are read for this
-/// only.
-fn is_message(message: &Message)
-    ensures { IsMessage message.now }
-{
-    match message {
-        Message::Call(address) => {
-            let _codes = address.codes();
-        }
-        Message::Text(text) => {
-            let _count = text.count();
-        }
-        _ => {}
     }
 }

@@ -13,49 +13,50 @@ ghost use Rattle.bsc_line_model.specs.Kept.{AreNewTerminals, AreEachDistinct};
 ghost use Rattle.bsc_line.specs.Hearings.{hearing_of};
 
 use crate::hearing::{Hearings, hearing, item_at};
+use crate::transmission_buffer::TransmissionBuffer;
 use bsc_bid::{Setup, Station, Terminal};
 use bsc_block::Record;
 use bsc_control::SetupError;
-use bsc_frame::{Heard, Message};
-use bsc_line_model::{LineError, Speaker, Transmission};
+use bsc_frame::{Heard, MessageBuffer, TextBuffer};
+use bsc_line_model::{LineError, Speaker};
 use bsc_tributary::Tributary;
 use std::alloc::Allocator;
 
-/// Keeps the answer of this terminal unless one was kept before.
-fn keep_first(first: &mut Option<Transmission>, terminal: usize, answer: Option<Message>)
-    ensures { first.new ≡ or_first first.old (sent_by (Speaker.Terminal terminal) answer) }
+/// Lets a terminal hear, and drops its answer. This is a function of its own because only it needs
+/// another buffer: usually no more than one terminal answers.
+#[inline(never)]
+fn hear_unkept<A: Allocator>(terminal: &mut Tributary<A>, heard: &Heard<'_>)
+    ensures { IsHearing terminal.old heard.now terminal.new
+        (answer terminal.old heard.now terminal.new) }
 {
-    if first.is_none() {
-        *first = Transmission::by(Speaker::Terminal(terminal), answer);
-    }
+    let mut answer = MessageBuffer::new();
+    terminal.answer(heard, &mut answer);
 }
 
-/// Lets a terminal that may answer hear, and keeps its answer unless one was kept before. This is a
-/// function of its own so that the terminals that do not answer, which are all but one, need no
-/// space for a message.
-#[inline(never)]
+/// Lets a terminal that may answer hear, and keeps its answer unless one was kept before.
 fn hear_apart<A: Allocator>(
     terminal: &mut Tributary<A>,
-    heard: &Heard,
+    heard: &Heard<'_>,
     place: usize,
-    first: &mut Option<Transmission>,
+    first: &mut TransmissionBuffer,
 )
     ensures hearing { IsHearing terminal.old heard.now terminal.new
         (answer terminal.old heard.now terminal.new) }
     ensures first { first.new ≡ or_first first.old
         (sent_by (Speaker.Terminal place) (answer terminal.old heard.now terminal.new)) }
 {
-    let mut answer = None;
-    terminal.answer(heard, &mut answer);
-    keep_first(first, place, answer);
+    match first.speaker() {
+        None => first.answer(Speaker::Terminal(place), terminal, heard),
+        Some(_) => hear_unkept(terminal, heard),
+    }
 }
 
 /// Lets a terminal hear this, and keeps its answer unless one was kept before.
 fn hear_one<A: Allocator>(
     terminal: &mut Tributary<A>,
-    heard: &Heard,
+    heard: &Heard<'_>,
     place: usize,
-    first: &mut Option<Transmission>,
+    first: &mut TransmissionBuffer,
 )
     ensures hearing { IsHearing terminal.old heard.now terminal.new
         (answer terminal.old heard.now terminal.new) }
@@ -69,13 +70,13 @@ fn hear_one<A: Allocator>(
 }
 
 /// Lets a terminal hear its item, and keeps its answer unless one was kept before. This is a
-/// function of its own so that a line whose terminals hear alike needs no space for a decoded item.
+/// function of its own so that a line whose terminals hear alike needs no buffer for an item.
 #[inline(never)]
 fn hear_item<A: Allocator>(
     terminal: &mut Tributary<A>,
     items: &[Option<&[u8]>],
     place: usize,
-    first: &mut Option<Transmission>,
+    first: &mut TransmissionBuffer,
 )
     ensures hearing { let heard = heard_at items.now place in
         IsHearing terminal.old heard terminal.new (answer terminal.old heard terminal.new) }
@@ -83,7 +84,8 @@ fn hear_item<A: Allocator>(
         first.new ≡ or_first first.old
         (sent_by (Speaker.Terminal place) (answer terminal.old heard terminal.new)) }
 {
-    let heard = hearing(item_at(items, place));
+    let mut buffer = TextBuffer::new();
+    let heard = hearing(item_at(items, place), &mut buffer);
     hear_one(terminal, &heard, place, first);
 }
 
@@ -92,7 +94,7 @@ fn hear_at<A: Allocator>(
     terminal: &mut Tributary<A>,
     hearings: &Hearings<'_>,
     place: usize,
-    first: &mut Option<Transmission>,
+    first: &mut TransmissionBuffer,
 )
     ensures hearing { let heard = hearing_of hearings.now place in
         IsHearing terminal.old heard terminal.new (answer terminal.old heard terminal.new) }
@@ -106,35 +108,36 @@ fn hear_at<A: Allocator>(
     }
 }
 
-/// Lets each terminal hear what arrives at its place. Returns the answer of the terminal with the
+/// Lets each terminal hear what arrives at its place, and leaves the answer of the terminal with the
 /// least number among those that answer.
 fn hear_all<A: Allocator>(
     terminals: &mut [Tributary<A>],
     hearings: &Hearings<'_>,
-) -> Option<Transmission>
+    first: &mut TransmissionBuffer,
+)
     ensures each { EachHears terminals.old (hearing_of hearings.now) terminals.new }
     ensures keeps { EachKeeps terminals.old (hearing_of hearings.now) terminals.new }
-    ensures first { result ≡ first_answer terminals.old (hearing_of hearings.now) terminals.new
+    ensures first { first.new ≡ first_answer terminals.old (hearing_of hearings.now) terminals.new
         (length terminals.old) }
 {
-    let mut first = None;
+    first.clear();
     for (i, terminal) in terminals.iter_mut().enumerate() {
-        hear_at(terminal, hearings, i, &mut first);
+        hear_at(terminal, hearings, i, first);
     }
-    first
 }
 
 /// Lets all terminals of a vector hear, as `hear_all` does for a slice.
 pub(crate) fn hear_in<A: Allocator>(
     terminals: &mut Vec<Tributary<A>, A>,
     hearings: &Hearings<'_>,
-) -> Option<Transmission>
+    first: &mut TransmissionBuffer,
+)
     ensures each { EachHears terminals.old.items (hearing_of hearings.now) terminals.new.items }
     ensures keeps { EachKeeps terminals.old.items (hearing_of hearings.now) terminals.new.items }
-    ensures first { result ≡ first_answer terminals.old.items (hearing_of hearings.now)
+    ensures first { first.new ≡ first_answer terminals.old.items (hearing_of hearings.now)
         terminals.new.items (length terminals.old.items) }
 {
-    hear_all(terminals.as_mut_slice(), hearings)
+    hear_all(terminals.as_mut_slice(), hearings, first)
 }
 
 /// Returns the terminal with the least number among those that hold the line.

@@ -10,11 +10,11 @@ ghost use Rattle.bsc_line.specs.Hearings.{hearing_of};
 
 use crate::hearing::{Hearings, hearing, item_at};
 use bsc_frame::laws::same_messages;
-use bsc_frame::{Heard, Message};
+use bsc_frame::{Heard, Message, TextBuffer};
 use bsc_line_model::Transmission;
 
 /// Whether the messages are the same.
-fn is_same(a: &Message, b: &Message) -> bool
+fn is_same(a: &Message<'_>, b: &Message<'_>) -> bool
     ensures { IsTrue result ↔ (a.now ≡ b.now) }
 {
     same_messages();
@@ -22,7 +22,7 @@ fn is_same(a: &Message, b: &Message) -> bool
 }
 
 /// Whether the message is a text.
-fn is_text(message: &Message) -> bool
+fn is_text(message: &Message<'_>) -> bool
     ensures { IsTrue result ↔ IsTextMessage message.now }
 {
     match message {
@@ -32,7 +32,7 @@ fn is_text(message: &Message) -> bool
 }
 
 /// Whether the message is a call.
-fn is_call(message: &Message) -> bool
+fn is_call(message: &Message<'_>) -> bool
     ensures { result ≡ is_call message.now }
 {
     match message {
@@ -42,7 +42,7 @@ fn is_call(message: &Message) -> bool
 }
 
 /// Whether the message is EOT.
-fn is_eot(message: &Message) -> bool
+fn is_eot(message: &Message<'_>) -> bool
     ensures { IsTrue result ↔ (message.now ≡ Message.Eot) }
 {
     match message {
@@ -53,7 +53,7 @@ fn is_eot(message: &Message) -> bool
 
 /// Whether the message is heard fairly: whole, as a failed text if it is a text, as EOT if it is a
 /// call, or as noise.
-fn is_fairly_heard(message: &Message, heard: &Heard) -> bool
+fn is_fairly_heard(message: &Message<'_>, heard: &Heard<'_>) -> bool
     ensures { IsTrue result ↔ IsFairlyHeard message.now heard.now }
 {
     match heard {
@@ -64,7 +64,7 @@ fn is_fairly_heard(message: &Message, heard: &Heard) -> bool
 }
 
 /// Whether this message is heard whole.
-fn is_whole(message: &Message, heard: &Heard) -> bool
+fn is_whole(message: &Message<'_>, heard: &Heard<'_>) -> bool
     ensures { IsTrue result ↔ (heard.now ≡ h.Whole message.now) }
 {
     match heard {
@@ -75,7 +75,7 @@ fn is_whole(message: &Message, heard: &Heard) -> bool
 }
 
 /// Whether a call is missed: heard as EOT or as noise.
-fn is_missed(heard: &Heard) -> bool
+fn is_missed(heard: &Heard<'_>) -> bool
     ensures { IsTrue result ↔ IsMissed heard.now }
 {
     match heard {
@@ -86,11 +86,12 @@ fn is_missed(heard: &Heard) -> bool
 }
 
 /// Whether each of the first `count` items is heard as this message.
-pub(crate) fn each_hears(message: &Message, count: usize, items: &[Option<&[u8]>]) -> bool
+pub(crate) fn each_hears(message: &Message<'_>, count: usize, items: &[Option<&[u8]>]) -> bool
     ensures { IsTrue result ↔ AllHear count (heard_at items.now) message.now }
 {
+    let mut buffer = TextBuffer::new();
     for place in 0..count {
-        if !is_whole(message, &hearing(item_at(items, place))) {
+        if !is_whole(message, &hearing(item_at(items, place), &mut buffer)) {
             return false;
         }
     }
@@ -101,8 +102,9 @@ pub(crate) fn each_hears(message: &Message, count: usize, items: &[Option<&[u8]>
 fn each_misses(count: usize, items: &[Option<&[u8]>]) -> bool
     ensures { IsTrue result ↔ EachOf count (λ t. IsMissed (heard_at items.now t)) }
 {
+    let mut buffer = TextBuffer::new();
     for place in 0..count {
-        if !is_missed(&hearing(item_at(items, place))) {
+        if !is_missed(&hearing(item_at(items, place), &mut buffer)) {
             return false;
         }
     }
@@ -110,11 +112,12 @@ fn each_misses(count: usize, items: &[Option<&[u8]>]) -> bool
 }
 
 /// Whether the message is heard fairly in each of the first `count` items.
-fn each_is_fair(message: &Message, count: usize, items: &[Option<&[u8]>]) -> bool
+fn each_is_fair(message: &Message<'_>, count: usize, items: &[Option<&[u8]>]) -> bool
     ensures { IsTrue result ↔ EachOf count (λ t. IsFairlyHeard message.now (heard_at items.now t)) }
 {
+    let mut buffer = TextBuffer::new();
     for place in 0..count {
-        if !is_fairly_heard(message, &hearing(item_at(items, place))) {
+        if !is_fairly_heard(message, &hearing(item_at(items, place), &mut buffer)) {
             return false;
         }
     }
@@ -123,7 +126,7 @@ fn each_is_fair(message: &Message, count: usize, items: &[Option<&[u8]>]) -> boo
 
 /// Whether all of the `count` terminals hear this message. Condition: there is at least one
 /// terminal.
-fn all_hear(message: &Message, count: usize, hearings: &Hearings<'_>) -> bool
+fn all_hear(message: &Message<'_>, count: usize, hearings: &Hearings<'_>) -> bool
     requires { 0 < count }
     ensures { IsTrue result ↔ AllHear count (hearing_of hearings.now) message.now }
 {
@@ -146,7 +149,7 @@ fn all_miss(count: usize, hearings: &Hearings<'_>) -> bool
 
 /// Whether each of the `count` terminals hears the message fairly. Condition: there is at least one
 /// terminal.
-fn all_fair(message: &Message, count: usize, hearings: &Hearings<'_>) -> bool
+fn all_fair(message: &Message<'_>, count: usize, hearings: &Hearings<'_>) -> bool
     requires { 0 < count }
     ensures { IsTrue result ↔
         EachOf count (λ t. IsFairlyHeard message.now (hearing_of hearings.now t)) }
@@ -160,7 +163,7 @@ fn all_fair(message: &Message, count: usize, hearings: &Hearings<'_>) -> bool
 /// Whether the control station's message is heard in a way that keeps the line trusted: a call by
 /// all terminals or by none, any other message fairly by each. Condition: there is at least one
 /// terminal.
-fn is_heard_fairly(message: &Message, count: usize, hearings: &Hearings<'_>) -> bool
+fn is_heard_fairly(message: &Message<'_>, count: usize, hearings: &Hearings<'_>) -> bool
     requires { 0 < count }
     ensures { IsTrue result ↔ IsHeardFairly message.now count (hearing_of hearings.now) }
 {
@@ -174,7 +177,7 @@ fn is_heard_fairly(message: &Message, count: usize, hearings: &Hearings<'_>) -> 
 /// Whether the control station's pending transmission is heard in a way that keeps the line
 /// trusted. Condition: there is at least one terminal.
 pub(crate) fn is_down_fair(
-    sent: &Option<Transmission>,
+    sent: &Option<Transmission<'_>>,
     count: usize,
     hearings: &Hearings<'_>,
 ) -> bool
@@ -189,7 +192,7 @@ pub(crate) fn is_down_fair(
 }
 
 /// Whether the terminal's pending transmission is heard fairly.
-pub(crate) fn is_up_fair(sent: &Option<Transmission>, heard: &Heard) -> bool
+pub(crate) fn is_up_fair(sent: &Option<Transmission<'_>>, heard: &Heard<'_>) -> bool
     ensures { IfSome sent.now (λ (s : TransmissionValue).
         IsTrue result ↔ IsFairlyHeard s.message heard.now) }
 {

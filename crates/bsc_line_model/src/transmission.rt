@@ -15,19 +15,19 @@ pub enum Speaker {
     Terminal(usize),
 }
 
-/// A transmission that nobody has heard yet.
+/// A transmission that nobody has heard yet. Its message may borrow the units of a text.
 #[derive(Drop)]
-pub struct Transmission {
+pub struct Transmission<'a> {
     /// The sender.
     pub speaker: Speaker,
 
     /// The message.
-    pub message: Message,
+    pub message: Message<'a>,
 }
 
-impl Transmission {
+impl<'a> Transmission<'a> {
     /// Returns the transmission by this station of the message, or `None` if there is no message.
-    pub fn by(speaker: Speaker, message: Option<Message>) -> Option<Transmission>
+    pub fn by(speaker: Speaker, message: Option<Message<'a>>) -> Option<Transmission<'a>>
         ensures { result ≡ sent_by speaker message }
     {
         match message {

@@ -2,6 +2,7 @@
 //! was offered can be compared with what was spooled.
 ghost use Rattle.std.specs.Prelude.{◌≡◌, ◌≤◌, [], length, take, nat_eq, not, IsTrue, ◌↔◌, Some};
 ghost use Rattle.std.specs.Prelude.{IfSome, IfErr, OnOk, OnErr};
+ghost use Rattle.bsc_frame.specs.declared.message.Message.TheVariants as m;
 ghost use Rattle.bsc_block.specs.Blocks.{block_text, blocks};
 ghost use Rattle.bsc_spool.specs.Queue.{waiting, next_block, queue_of, with_offered, with_known};
 ghost use Rattle.bsc_spool.specs.Queue.{IsQueue, IsNext};
@@ -9,7 +10,7 @@ ghost use Rattle.bsc_spool.specs.Queue.{IsQueue, IsNext};
 use bsc_block::laws::cut_into_blocks;
 use bsc_block::{Format, Record, Records, build, pack};
 use bsc_frame::limits::MAX_UNITS;
-use bsc_frame::{End, Message};
+use bsc_frame::{End, MessageBuffer};
 use std::alloc::Allocator;
 use std::marker::Model;
 
@@ -135,12 +136,12 @@ impl<A: Allocator> Queue<A> {
 
     /// Puts the text of the first `count` waiting records, with this end, into `message`, whatever
     /// was there. `count` is 1 to 7, and at most the number of waiting records.
-    pub fn text(&self, count: usize, end: End, message: &mut Option<Message>)
+    pub fn text(&self, count: usize, end: End, message: &mut MessageBuffer)
         requires some { 1 ≤ count }
         requires few { count ≤ MAX_UNITS }
         requires wait { count ≤ length (waiting self.now) }
         ensures { message.new
-            ≡ Some (Message.Text
+            ≡ Some (m.Text
             (block_text self.now.format (take count (waiting self.now)) end)) }
     {
         build(&self.records, self.known, count, self.format, end, message);

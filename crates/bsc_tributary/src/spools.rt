@@ -99,7 +99,7 @@ impl<A: Allocator> Spools<A> {
         &mut self,
         select: usize,
         receiver: &mut Receiver,
-        heard: &Heard,
+        heard: &Heard<'_>,
         urgent: bool,
     ) -> Option<Reply>
         requires { select < length self.old }

@@ -18,7 +18,7 @@ use crate::mode::Mode;
 use crate::spools::Spools;
 use bsc_bid::{Outcome, Receiver, ReleaseError, Sender, Setup, Station, Terminal};
 use bsc_block::Record;
-use bsc_frame::{Address, Heard, Message, Reply};
+use bsc_frame::{Address, Heard, Message, MessageBuffer, Reply};
 use bsc_spool::{Queue, Spool};
 use std::alloc::Allocator;
 use std::marker::Model;
@@ -169,14 +169,14 @@ impl<A: Allocator> Tributary<A> {
     }
 
     /// Answers a call of the polling address.
-    fn answer_poll(&mut self, sent: &mut Option<Message>)
+    fn answer_poll(&mut self, sent: &mut MessageBuffer)
         ensures row { record { tributary = self.new; sent = sent.new } ≡ poll_step self.old }
         ensures tributary { IsTributary self.new }
     {
         self.drop_line();
         self.urgent = false;
         if self.sender.in_doubt() || !self.queue.has_waiting() {
-            *sent = Some(Message::Eot);
+            sent.set_eot();
             return;
         }
         let outcome = self.sender.begin(&self.queue, sent);
@@ -184,7 +184,7 @@ impl<A: Allocator> Tributary<A> {
     }
 
     /// Answers a call of the selection address of this number.
-    fn answer_selection(&mut self, select: usize, sent: &mut Option<Message>)
+    fn answer_selection(&mut self, select: usize, sent: &mut MessageBuffer)
         requires { select < length self.old.terminal.selects }
         ensures row { let room = (spool_at self.new.spools select).room in
             record { tributary = self.new; sent = sent.new }
@@ -195,17 +195,17 @@ impl<A: Allocator> Tributary<A> {
     {
         self.drop_line();
         if !self.ready {
-            *sent = Some(Message::Reply(Reply::Nak));
+            sent.set_reply(Reply::Nak);
             return;
         }
         self.mode = Mode::Receiving { select };
         let room = self.spools.make_room(select);
         let reply = self.receiver.begin(room);
-        *sent = Some(Message::Reply(reply));
+        sent.set_reply(reply);
     }
 
     /// Hears a call.
-    fn hear_call(&mut self, address: &Address, sent: &mut Option<Message>)
+    fn hear_call(&mut self, address: &Address, sent: &mut MessageBuffer)
         ensures { IsHearing self.old (Heard.Whole (Message.Call address.now)) self.new sent.new }
     {
         match called_address(&self.terminal, address) {
@@ -213,18 +213,18 @@ impl<A: Allocator> Tributary<A> {
             Called::Selection { select } => self.answer_selection(select, sent),
             Called::Other => {
                 self.drop_line();
-                *sent = None;
+                sent.clear();
             }
         }
     }
 
     /// Hears a transmission that is neither a call nor EOT.
-    fn hear_in_mode(&mut self, heard: &Heard, sent: &mut Option<Message>)
+    fn hear_in_mode(&mut self, heard: &Heard<'_>, sent: &mut MessageBuffer)
         requires { IsNoCall heard.now }
         ensures { IsHearing self.old heard.now self.new sent.new }
     {
         match self.mode {
-            Mode::Control => *sent = None,
+            Mode::Control => sent.clear(),
             Mode::Receiving { select } => {
                 let reply = self
                     .spools
@@ -258,7 +258,7 @@ impl<A: Allocator> Tributary<A> {
     }
 
     /// Whether it is certain that a transmission that is neither a call nor EOT changes nothing.
-    fn is_deaf(&self, heard: &Heard) -> bool
+    fn is_deaf(&self, heard: &Heard<'_>) -> bool
         requires { IsNoCall heard.now }
         ensures { IsTrue result → IsHearing self.now heard.now self.now None }
     {
@@ -273,7 +273,7 @@ impl<A: Allocator> Tributary<A> {
     /// call of an address that is not its own, and, in control mode, anything but a call. If the
     /// terminal may answer, it returns false and nothing changes. This is `answer` without the
     /// space for a message, for a line of many terminals of which one answers.
-    pub fn overhear(&mut self, heard: &Heard) -> bool
+    pub fn overhear(&mut self, heard: &Heard<'_>) -> bool
         ensures silent { IsTrue result → IsHearing self.old heard.now self.new None }
         ensures left { result ≡ false → self.new ≡ self.old }
     {
@@ -299,20 +299,20 @@ impl<A: Allocator> Station for Tributary<A> {
 
     ghost holds = { λ t. holds t.mode };
 
-    fn answer(&mut self, heard: &Heard, sent: &mut Option<Message>) {
+    fn answer(&mut self, heard: &Heard<'_>, sent: &mut MessageBuffer) {
         match heard {
             Heard::Whole(Message::Eot) => {
                 self.drop_line();
-                *sent = None;
+                sent.clear();
             }
             Heard::Whole(Message::Call(address)) => self.hear_call(address, sent),
             _ => self.hear_in_mode(heard, sent),
         }
     }
 
-    fn act(&mut self, sent: &mut Option<Message>) {
+    fn act(&mut self, sent: &mut MessageBuffer) {
         match self.mode {
-            Mode::Control | Mode::Receiving { .. } => *sent = None,
+            Mode::Control | Mode::Receiving { .. } => sent.clear(),
             Mode::Sending => {
                 let outcome = self.sender.silence(sent);
                 perform(outcome, &mut self.mode, sent);
@@ -342,18 +342,18 @@ fn still_urgent(urgent: bool, reply: Option<Reply>) -> bool
 }
 
 /// Leaves the message of the reply in `sent`, or `None` if there is no reply.
-fn leave_reply(reply: Option<Reply>, sent: &mut Option<Message>)
+fn leave_reply(reply: Option<Reply>, sent: &mut MessageBuffer)
     ensures { sent.new ≡ option_map m.Reply reply }
 {
     match reply {
-        Some(reply) => *sent = Some(Message::Reply(reply)),
-        None => *sent = None,
+        Some(reply) => sent.set_reply(reply),
+        None => sent.clear(),
     }
 }
 
 /// Changes the mode by the outcome of a step of the sender. The message that the sender left in
 /// `sent` stays, unless the bid is over: then EOT replaces it.
-fn perform(outcome: Outcome, mode: &mut Mode, sent: &mut Option<Message>)
+fn perform(outcome: Outcome, mode: &mut Mode, sent: &mut MessageBuffer)
     ensures mode { mode.new ≡ mode_left outcome mode.old }
     ensures sent { sent.new ≡ message_left outcome sent.old }
 {
@@ -361,7 +361,7 @@ fn perform(outcome: Outcome, mode: &mut Mode, sent: &mut Option<Message>)
         Outcome::Sends => *mode = Mode::Sending,
         Outcome::Over => {
             *mode = Mode::Control;
-            *sent = Some(Message::Eot);
+            sent.set_eot();
         }
         Outcome::Quiet => {}
     }

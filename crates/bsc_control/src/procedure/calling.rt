@@ -9,13 +9,13 @@ ghost use Rattle.bsc_control.specs.Table.{next_call_step};
 use crate::procedure::Procedure;
 use crate::task::{Replied, Task};
 use bsc_directory::Way;
-use bsc_frame::Message;
+use bsc_frame::MessageBuffer;
 use std::alloc::Allocator;
 
 impl<A: Allocator> Procedure<A> {
     /// Calls the polling address of an entry, with this count of failures. As in each function of
     /// this module, the call is left in `sent`.
-    pub(crate) fn poll(&mut self, place: usize, failures: u8, sent: &mut Option<Message>)
+    pub(crate) fn poll(&mut self, place: usize, failures: u8, sent: &mut MessageBuffer)
         requires { place < length self.old.poll_list }
         ensures row { record { control = self.new; sent = sent.new }
             ≡ poll_call_step self.old place failures }
@@ -30,12 +30,12 @@ impl<A: Allocator> Procedure<A> {
         self.wacks = 0;
         let peer = &mut self.peers[terminal];
         peer.receiver.begin(true);
-        *sent = Some(Message::Call(peer.terminal.poll()));
+        sent.set_call(peer.terminal.poll());
     }
 
     /// Calls a selection address of an entry, with the counters at 0. This clears the urgent flag
     /// of the terminal.
-    fn select(&mut self, place: usize, select: usize, sent: &mut Option<Message>)
+    fn select(&mut self, place: usize, select: usize, sent: &mut MessageBuffer)
         requires place { place < length self.old.poll_list }
         requires select { select
             < length (peer_at self.old (slice_index self.old.poll_list place)).outbounds }
@@ -53,11 +53,11 @@ impl<A: Allocator> Procedure<A> {
         self.wacks = 0;
         let peer = &mut self.peers[terminal];
         peer.urgent = false;
-        *sent = Some(Message::Call(peer.terminal.select(select)));
+        sent.set_call(peer.terminal.select(select));
     }
 
     /// Makes the first call of an entry, starting from this selection address.
-    fn call_from(&mut self, place: usize, from: usize, sent: &mut Option<Message>)
+    fn call_from(&mut self, place: usize, from: usize, sent: &mut MessageBuffer)
         requires place { place < length self.old.poll_list }
         requires from { from
             ≤ length (peer_at self.old (slice_index self.old.poll_list place)).outbounds }
@@ -75,7 +75,7 @@ impl<A: Allocator> Procedure<A> {
     }
 
     /// Makes the first call of the present entry.
-    pub(crate) fn call_first(&mut self, sent: &mut Option<Message>)
+    pub(crate) fn call_first(&mut self, sent: &mut MessageBuffer)
         ensures row { record { control = self.new; sent = sent.new }
             ≡ next_call_step self.old Start }
         ensures entries { HasEntries self.new }
@@ -84,7 +84,7 @@ impl<A: Allocator> Procedure<A> {
     }
 
     /// Makes the call after a selection, or after the bid that it led to.
-    pub(crate) fn call_after_selection(&mut self, select: usize, sent: &mut Option<Message>)
+    pub(crate) fn call_after_selection(&mut self, select: usize, sent: &mut MessageBuffer)
         requires { select < length (peer self.old).outbounds }
         ensures row { record { control = self.new; sent = sent.new }
             ≡ next_call_step self.old (Selection select) }
@@ -95,7 +95,7 @@ impl<A: Allocator> Procedure<A> {
 
     /// Makes the call after a poll: that of the same entry if the poll was interrupted, else that
     /// of the next entry.
-    pub(crate) fn call_after_poll(&mut self, interrupted: bool, sent: &mut Option<Message>)
+    pub(crate) fn call_after_poll(&mut self, interrupted: bool, sent: &mut MessageBuffer)
         ensures row { record { control = self.new; sent = sent.new }
             ≡ next_call_step self.old (Poll interrupted) }
         ensures entries { HasEntries self.new }

@@ -6,7 +6,7 @@ ghost use Rattle.bsc_control.specs.Table.{polling_step, silence_in, rooms_after,
 
 use crate::procedure::Procedure;
 use crate::task::{Replied, Task};
-use bsc_frame::{Heard, Message};
+use bsc_frame::{Heard, Message, MessageBuffer};
 use std::alloc::Allocator;
 
 impl<A: Allocator> Procedure<A> {
@@ -14,8 +14,8 @@ impl<A: Allocator> Procedure<A> {
     pub(crate) fn hear_polling(
         &mut self,
         replied: Replied,
-        heard: &Heard,
-        sent: &mut Option<Message>,
+        heard: &Heard<'_>,
+        sent: &mut MessageBuffer,
     )
         requires { self.old.task ≡ Task.Polling replied }
         ensures row { Hears self.old heard.now self.new sent.new }
@@ -28,7 +28,7 @@ impl<A: Allocator> Procedure<A> {
     }
 
     /// Hears a transmission other than EOT after a poll, and replies as the receiver does.
-    fn receive(&mut self, replied: Replied, heard: &Heard, sent: &mut Option<Message>)
+    fn receive(&mut self, replied: Replied, heard: &Heard<'_>, sent: &mut MessageBuffer)
         requires { IsReceived (Task.Polling replied) heard.now }
         ensures row { record { control = self.new; sent = sent.new }
             ≡ polling_step self.old replied heard.now (rooms_after self.old heard.now self.new) }
@@ -43,14 +43,14 @@ impl<A: Allocator> Procedure<A> {
             replied: replied.after(reply),
         };
         match reply {
-            Some(reply) => *sent = Some(Message::Reply(reply)),
-            None => *sent = None,
+            Some(reply) => sent.set_reply(reply),
+            None => sent.clear(),
         }
     }
 
     /// Acts on a silence after a poll: the call is made again if nothing was replied yet and a try
     /// is left, else the next call is made.
-    pub(crate) fn fail_poll(&mut self, replied: Replied, sent: &mut Option<Message>)
+    pub(crate) fn fail_poll(&mut self, replied: Replied, sent: &mut MessageBuffer)
         ensures row { record { control = self.new; sent = sent.new }
             ≡ silence_in self.old (Task.Polling replied) }
         ensures entries { HasEntries self.new }

@@ -8,7 +8,7 @@ ghost use Rattle.bsc_control.specs.Table.{selecting_step, silence_in};
 
 use crate::procedure::Procedure;
 use crate::task::Task;
-use bsc_frame::{Heard, Message, Reply};
+use bsc_frame::{Heard, MessageBuffer, Reply};
 use std::alloc::Allocator;
 
 impl<A: Allocator> Procedure<A> {
@@ -17,8 +17,8 @@ impl<A: Allocator> Procedure<A> {
     pub(crate) fn hear_selecting(
         &mut self,
         select: usize,
-        heard: &Heard,
-        sent: &mut Option<Message>,
+        heard: &Heard<'_>,
+        sent: &mut MessageBuffer,
     )
         requires { IsSelected (peer self.old) select }
         ensures row { record { control = self.new; sent = sent.new }
@@ -31,13 +31,13 @@ impl<A: Allocator> Procedure<A> {
             Some(Reply::Ack0) => self.begin_bid(select, sent),
             Some(Reply::Nak) => self.call_after_selection(select, sent),
             Some(Reply::Wack) => self.enquire(select, sent),
-            _ => *sent = None,
+            _ => sent.clear(),
         }
     }
 
     /// Hears WACK: the selected terminal has no room yet. ENQ is sent, or the next call is made
     /// once the limit of WACKs is reached.
-    fn enquire(&mut self, select: usize, sent: &mut Option<Message>)
+    fn enquire(&mut self, select: usize, sent: &mut MessageBuffer)
         requires { select < length (peer self.old).outbounds }
         ensures row { record { control = self.new; sent = sent.new }
             ≡ selecting_step self.old select (Some Reply.Wack) }
@@ -52,7 +52,7 @@ impl<A: Allocator> Procedure<A> {
         };
         self.failures = 0;
         self.wacks += 1;
-        *sent = Some(Message::Enq);
+        sent.set_enq();
     }
 
     /// Acts on a silence after a selection: the call, or ENQ if ENQ was sent last, is sent again
@@ -61,7 +61,7 @@ impl<A: Allocator> Procedure<A> {
         &mut self,
         select: usize,
         enquired: bool,
-        sent: &mut Option<Message>,
+        sent: &mut MessageBuffer,
     )
         requires { select < length (peer self.old).outbounds }
         ensures row { record { control = self.new; sent = sent.new }
@@ -73,11 +73,11 @@ impl<A: Allocator> Procedure<A> {
         }
         self.failures += 1;
         if enquired {
-            *sent = Some(Message::Enq);
+            sent.set_enq();
             return;
         }
         let terminal = self.current();
         let peer = &self.peers[terminal];
-        *sent = Some(Message::Call(peer.terminal.select(select)));
+        sent.set_call(peer.terminal.select(select));
     }
 }

@@ -13,12 +13,12 @@ ghost use Rattle.bsc_control.specs.Table.{silence_in};
 use crate::procedure::Procedure;
 use crate::task::Task;
 use bsc_bid::Outcome;
-use bsc_frame::{Heard, Message, Reply};
+use bsc_frame::{Heard, MessageBuffer, Reply};
 use std::alloc::Allocator;
 
 impl<A: Allocator> Procedure<A> {
     /// Begins the bid: the selected terminal is ready.
-    pub(crate) fn begin_bid(&mut self, select: usize, sent: &mut Option<Message>)
+    pub(crate) fn begin_bid(&mut self, select: usize, sent: &mut MessageBuffer)
         requires { IsSelected (peer self.old) select }
         ensures row { record { control = self.new; sent = sent.new }
             ≡ selecting_step self.old select (Some Reply.Ack0) }
@@ -32,7 +32,7 @@ impl<A: Allocator> Procedure<A> {
     }
 
     /// Hears a transmission during a bid.
-    pub(crate) fn hear_sending(&mut self, select: usize, heard: &Heard, sent: &mut Option<Message>)
+    pub(crate) fn hear_sending(&mut self, select: usize, heard: &Heard<'_>, sent: &mut MessageBuffer)
         requires { select < length (peer self.old).outbounds }
         ensures row { record { control = self.new; sent = sent.new }
             ≡ bid_step self.old select
@@ -50,7 +50,7 @@ impl<A: Allocator> Procedure<A> {
     }
 
     /// Acts on a silence during a bid.
-    pub(crate) fn send_on(&mut self, select: usize, sent: &mut Option<Message>)
+    pub(crate) fn send_on(&mut self, select: usize, sent: &mut MessageBuffer)
         requires { select < length (peer self.old).outbounds }
         ensures row { record { control = self.new; sent = sent.new }
             ≡ silence_in self.old (Task.Sending select) }
@@ -71,7 +71,7 @@ impl<A: Allocator> Procedure<A> {
         outcome: Outcome,
         select: usize,
         interrupted: bool,
-        sent: &mut Option<Message>,
+        sent: &mut MessageBuffer,
     )
         requires { select < length (peer self.old).outbounds }
         ensures row { record { control = self.new; sent = sent.new }

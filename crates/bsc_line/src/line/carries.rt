@@ -2,6 +2,7 @@
 
 ghost use Rattle.std.specs.Prelude.{◌≡◌, Some};
 ghost use Rattle.bsc_frame.specs.declared.message.Heard.TheVariants as h;
+ghost use Rattle.bsc_frame.specs.Reading.{heard};
 ghost use Rattle.bsc_line_model.specs.declared.transmission.Transmission.{Transmission as TransmissionValue};
 ghost use Rattle.bsc_line_model.specs.Carries.{IsCarriedDown, IsCarriedUp};
 ghost use Rattle.bsc_line_model.specs.Runs.{Carries, Does, IsFromTerminal, IsFromControl};
@@ -9,15 +10,13 @@ ghost use Rattle.bsc_line_model.specs.Kept.{IsLine};
 ghost use Rattle.bsc_line.specs.Hearings.{hearing_of};
 
 use crate::addressing::addressed_after;
-use crate::hearing::{Hearings, hearing};
+use crate::hearing::Hearings;
 use crate::line::Line;
-use crate::pending::{speaker_of, take_whole};
-use crate::terminals::hear_in;
+use crate::pending::whole;
 use crate::trust::{both, is_down_fair, is_up_fair};
-use bsc_bid::Station;
-use bsc_frame::Heard;
+use bsc_frame::{Heard, TextBuffer, decode, decode_short};
 use bsc_line_model::laws::each_event;
-use bsc_line_model::{LineError, Speaker, Transmission};
+use bsc_line_model::{LineError, Speaker};
 use std::alloc::Allocator;
 
 impl<A: Allocator> Line<A> {
@@ -30,7 +29,25 @@ impl<A: Allocator> Line<A> {
         ensures does { Does (event.Carry heard.entry) self.old result self.new }
         ensures line { IsLine self.new }
     {
-        self.carry_as(&hearing(heard))
+        let Some(octets) = heard else {
+            return self.carry_as(&Heard::Noise);
+        };
+        match decode_short(octets) {
+            Some(short) => self.carry_as(&short.heard()),
+            None => self.carry_text(octets),
+        }
+    }
+
+    /// Lets octets that begin as a text be heard. This is a function of its own so that only a text
+    /// needs a buffer.
+    #[inline(never)]
+    fn carry_text(&mut self, octets: &[u8]) -> Result<(), LineError>
+        ensures does { Carries (λ (sent : TransmissionValue). heard octets.now) self.old result
+            self.new }
+        ensures line { IsLine self.new }
+    {
+        let mut buffer = TextBuffer::new();
+        self.carry_as(&decode(octets, &mut buffer))
     }
 
     /// Lets each terminal hear the control station's transmission as the item of its number; `None`
@@ -42,7 +59,7 @@ impl<A: Allocator> Line<A> {
         ensures does { Does (event.CarryEach items.entry) self.old result self.new }
         ensures line { IsLine self.new }
     {
-        match speaker_of(&self.sent) {
+        match self.sent.speaker() {
             None => return Err(LineError::NothingSent),
             Some(Speaker::Terminal(_)) => return Err(LineError::NotControl),
             Some(Speaker::Control) => {}
@@ -61,7 +78,7 @@ impl<A: Allocator> Line<A> {
         ensures does { Does event.CarrySent self.old result self.new }
         ensures line { IsLine self.new }
     {
-        match speaker_of(&self.sent) {
+        match self.sent.speaker() {
             None => return Err(LineError::NothingSent),
             Some(Speaker::Control) => self.carry_down_whole(),
             Some(Speaker::Terminal(_)) => self.carry_up_whole(),
@@ -70,11 +87,11 @@ impl<A: Allocator> Line<A> {
     }
 
     /// Lets the pending transmission be heard as this, by all terminals or by the control station.
-    fn carry_as(&mut self, heard: &Heard) -> Result<(), LineError>
+    fn carry_as(&mut self, heard: &Heard<'_>) -> Result<(), LineError>
         ensures does { Carries (λ (sent : TransmissionValue). heard.now) self.old result self.new }
         ensures line { IsLine self.new }
     {
-        match speaker_of(&self.sent) {
+        match self.sent.speaker() {
             None => return Err(LineError::NothingSent),
             Some(Speaker::Control) => self.carry_down(&Hearings::Alike(heard)),
             Some(Speaker::Terminal(_)) => self.carry_up(heard),
@@ -91,9 +108,9 @@ impl<A: Allocator> Line<A> {
     {
         each_event();
         let count = self.terminals.len();
-        let fair = is_down_fair(&self.sent, count, hearings);
+        let fair = is_down_fair(&self.sent.transmission(), count, hearings);
         self.addressed = addressed_after(&self.control, self.addressed, count, hearings);
-        self.sent = hear_in(&mut self.terminals, hearings);
+        self.sent.hear_down(&mut self.terminals, hearings);
         self.trusted = both(self.trusted, fair);
     }
 
@@ -106,24 +123,22 @@ impl<A: Allocator> Line<A> {
     {
         each_event();
         let count = self.terminals.len();
-        let heard = take_whole(&mut self.sent);
+        let heard = whole(self.sent.transmission());
         let hearings = Hearings::Alike(&heard);
         self.addressed = addressed_after(&self.control, self.addressed, count, &hearings);
-        self.sent = hear_in(&mut self.terminals, &hearings);
+        self.sent.hear_down_whole(&mut self.terminals);
     }
 
     /// Lets the control station hear a terminal's transmission.
-    fn carry_up(&mut self, heard: &Heard)
+    fn carry_up(&mut self, heard: &Heard<'_>)
         requires { IsFromTerminal self.old }
         ensures does { (sent : TransmissionValue) → self.old.pending ≡ Some sent →
             IsCarriedUp sent.message heard.now self.old self.new }
         ensures line { IsLine self.new }
     {
         each_event();
-        let fair = is_up_fair(&self.sent, heard);
-        let mut answer = None;
-        self.control.answer(heard, &mut answer);
-        self.sent = Transmission::by(Speaker::Control, answer);
+        let fair = is_up_fair(&self.sent.transmission(), heard);
+        self.sent.answer(Speaker::Control, &mut self.control, heard);
         self.trusted = both(self.trusted, fair);
     }
 
@@ -135,9 +150,6 @@ impl<A: Allocator> Line<A> {
         ensures line { IsLine self.new }
     {
         each_event();
-        let heard = take_whole(&mut self.sent);
-        let mut answer = None;
-        self.control.answer(&heard, &mut answer);
-        self.sent = Transmission::by(Speaker::Control, answer);
+        self.sent.answer_whole(Speaker::Control, &mut self.control);
     }
 }

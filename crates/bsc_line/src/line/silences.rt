@@ -9,9 +9,8 @@ ghost use Rattle.bsc_line_model.specs.Kept.{IsLine};
 
 use crate::line::Line;
 use crate::terminals::line_owner;
-use bsc_bid::Station;
 use bsc_line_model::laws::each_event;
-use bsc_line_model::{LineError, Speaker, Transmission};
+use bsc_line_model::{LineError, Speaker};
 use std::alloc::Allocator;
 
 impl<A: Allocator> Line<A> {
@@ -24,7 +23,7 @@ impl<A: Allocator> Line<A> {
         ensures does { Does event.Silence self.old result self.new }
         ensures line { IsLine self.new }
     {
-        if self.sent.is_some() {
+        if self.sent.speaker().is_some() {
             return Err(LineError::Pending);
         }
         match line_owner(self.terminals.as_slice()) {
@@ -44,9 +43,7 @@ impl<A: Allocator> Line<A> {
     {
         each_event();
         let station = &mut self.terminals[terminal];
-        let mut answer = None;
-        station.act(&mut answer);
-        self.sent = Transmission::by(Speaker::Terminal(terminal), answer);
+        self.sent.act(Speaker::Terminal(terminal), station);
     }
 
     /// Lets the control station act on a silence.
@@ -57,8 +54,6 @@ impl<A: Allocator> Line<A> {
         ensures line { IsLine self.new }
     {
         each_event();
-        let mut call = None;
-        self.control.act(&mut call);
-        self.sent = Transmission::by(Speaker::Control, call);
+        self.sent.act(Speaker::Control, &mut self.control);
     }
 }

@@ -10,25 +10,25 @@ use Rattle.bsc_frame.proofs.unit_decoder.read_units.Goals as goal
 
 pub loop-count-init : goal.loop-count-init
 loop-count-init c = record {
-  read = read_start c.args.draft.now c.args.octets.now c.requires.draft c.requires.empty;
+  read = read_start c.args.buffer.now c.args.octets.now c.requires.buffer c.requires.empty;
   odd = c.requires.odd;
 }
 
 pub returns-in_default-clause-none : goal.returns-in_default-clause-none
 returns-in_default-clause-none c =
-    sym (read_stop c.loop-count.draft c.loop-count.count c.loop-count.rest.now c.args.octets.now
+    sym (read_stop c.loop-count.buffer c.loop-count.count c.loop-count.rest.now c.args.octets.now
     c.loop-count.invariant.read c.in_default.ensures.none)
 
 pub returns-then-not-is_empty-clause-none : goal.returns-then-not-is_empty-clause-none
 returns-then-not-is_empty-clause-none c =
-    sym (read_extra c.loop-count.draft c.take_unit.new.draft c.loop-count.count c.in-Some.ending
+    sym (read_extra c.loop-count.buffer c.take_unit.new.buffer c.loop-count.count c.in-Some.ending
     c.loop-count.rest.now c.in-Some.left.now c.args.octets.now c.loop-count.invariant.read
     c.loop-count-test.true c.in-Some.ensures.found c.if-ending-ne-US_CODE.true
     (eqb-false _ 0 (sym c.if-not-is_empty.ensures)))
 
 pub returns-then-ending-eq-ETB_CODE-clause-found : goal.returns-then-ending-eq-ETB_CODE-clause-found
 returns-then-ending-eq-ETB_CODE-clause-found c =
-    read_whole c.loop-count.draft c.take_unit.new.draft c.loop-count.count c.in-Some.ending
+    read_whole c.loop-count.buffer c.take_unit.new.buffer c.loop-count.count c.in-Some.ending
     c.loop-count.rest.now c.in-Some.left.now c.args.octets.now Etb c.loop-count.invariant.read
     c.loop-count-test.true c.in-Some.ensures.found c.if-ending-ne-US_CODE.true
     (eqb-true _ 0 (sym c.if-not-is_empty.ensures))
@@ -36,7 +36,7 @@ returns-then-ending-eq-ETB_CODE-clause-found c =
 
 pub returns-else-ending-eq-ETB_CODE-clause-found : goal.returns-else-ending-eq-ETB_CODE-clause-found
 returns-else-ending-eq-ETB_CODE-clause-found c =
-    read_whole c.loop-count.draft c.take_unit.new.draft c.loop-count.count c.in-Some.ending
+    read_whole c.loop-count.buffer c.take_unit.new.buffer c.loop-count.count c.in-Some.ending
     c.loop-count.rest.now c.in-Some.left.now c.args.octets.now Etx c.loop-count.invariant.read
     c.loop-count-test.true c.in-Some.ensures.found c.if-ending-ne-US_CODE.true
     (eqb-true _ 0 (sym c.if-not-is_empty.ensures))
@@ -45,7 +45,7 @@ returns-else-ending-eq-ETB_CODE-clause-found c =
 pub loop-count-preserved : goal.loop-count-preserved
 loop-count-preserved c = record {
   read =
-      read_more c.loop-count.draft c.take_unit.new.draft c.loop-count.count c.in-Some.ending
+      read_more c.loop-count.buffer c.take_unit.new.buffer c.loop-count.count c.in-Some.ending
       c.loop-count.rest.now c.in-Some.left.now c.args.octets.now
       c.loop-count.invariant.read c.loop-count-test.true c.in-Some.ensures.found
       c.if-ending-ne-US_CODE.false;
@@ -57,5 +57,5 @@ loop-count-preserved c = record {
 
 pub returns-clause-none : goal.returns-clause-none
 returns-clause-none c =
-    sym (read_all c.loop-count.draft c.loop-count.count c.loop-count.rest.now c.args.octets.now
+    sym (read_all c.loop-count.buffer c.loop-count.count c.loop-count.rest.now c.args.octets.now
     c.loop-count.invariant.read c.loop-count-test.false)

@@ -6,6 +6,6 @@ use Rattle.bsc_frame.proofs.unit_decoder.read_units.Given as goal
 
 abbrev pub invariant-loop-count : goal.invariant-loop-count
 invariant-loop-count l = record {
-  read : ReadTo l.draft l.count l.rest l.fn.octets;
+  read : ReadTo l.buffer l.count l.rest l.fn.octets;
   odd : All IsOdd l.rest;
 }

@@ -34,5 +34,5 @@ returns-clause-found c = record {
       c.parts_of-em.ensures c.if-chars-gt-MAX_CHARS.false
       (sym c.copy_codes.ensures.chars ∙ c.if-not-copy_codes.false));
   units = rw c.copy_codes.ensures.codes at c.push.ensures.units;
-  draft = c.push.ensures.draft;
+  buffer = c.push.ensures.buffer;
 }

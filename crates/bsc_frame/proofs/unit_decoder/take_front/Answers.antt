@@ -1,6 +1,6 @@
 -- `take_front` adds the unit of a front without fill if its check is right.
 use Rattle.std.proofs.Common.{map}
-use Rattle.bsc_frame.specs.Drafts.{AddsUnit}
+use Rattle.bsc_frame.specs.TextBuffers.{AddsUnit}
 use Rattle.bsc_frame.specs.Reading.{read_unit, after_start}
 use Rattle.bsc_octet.specs.Octet.{code_in}
 use Rattle.bsc_frame.proofs.CarriedOctets.{carried_of_odd_octets}
@@ -29,7 +29,7 @@ returns-in_default-take_chars-clause-none c =
 
 pub returns-clause-found : goal.returns-clause-found
 returns-clause-found c =
-    let found : AddsUnit c.args.draft.now c.take_chars.new.draft
+    let found : AddsUnit c.args.buffer.now c.take_chars.new.buffer
     (read_unit (map code_in (after_start c.args.after_us c.args.front.now)))
     c.in-Some-take_chars.ending =
     rw c.without_start.ensures at c.in-Some-take_chars.ensures.found in
@@ -41,5 +41,5 @@ returns-clause-found c =
           (carried_of_odd_octets c.args.front.now c.requires.odd c.type_inv.front) c.in-Some.ensures
           found.reads;
       units = found.units;
-      draft = found.draft;
+      buffer = found.buffer;
     }

@@ -2,7 +2,7 @@
 use Rattle.std.proofs.Common.{arith, subst, sym, ◌∙◌, ◌≡◌, ◌+◌, take, map, None, IfSome, IfNone}
 use Rattle.std.proofs.lemmas.List.Elements.{All-take, All-filter}
 use Rattle.bsc_octet.specs.Octet.{IsOdd, code_in}
-use Rattle.bsc_frame.specs.Drafts.{TakesUnit}
+use Rattle.bsc_frame.specs.TextBuffers.{TakesUnit}
 use Rattle.bsc_frame.specs.Reading.{is_other, unit_before, unit_at}
 use Rattle.bsc_frame.proofs.CarriedOctets.{carried_of_odd_octets}
 use Rattle.bsc_frame.proofs.Taking.{at_end, front_ends, ends_filtered, front_without_fill}
@@ -31,7 +31,7 @@ returns-then-not-has_fill-clause-found c =
     c.before_ending-place.ensures.count (omega arith)
     (rw c.split_at.ensures.front at (sym c.has_fill.ensures ∙ c.if-not-has_fill.true))) in
     subst (λ x. IfSome c.take_front.result
-    (λ r. TakesUnit c.args.draft.now c.take_front.new.draft x r.0 r.1.now)) same
+    (λ r. TakesUnit c.args.buffer.now c.take_front.new.buffer x r.0 r.1.now)) same
     c.take_front.ensures.found
 
 pub returns-then-not-has_fill-clause-none : goal.returns-then-not-has_fill-clause-none
@@ -77,7 +77,7 @@ returns-clause-found c =
     c.before_ending-place.ensures.count (omega arith)
     (rw c.split_at.ensures.front at c.in-Some.ensures.some.1)) in
     subst (λ x. IfSome c.take_front-2.result
-    (λ r. TakesUnit c.args.draft.now c.take_front-2.new.draft x r.0 r.1.now)) same
+    (λ r. TakesUnit c.args.buffer.now c.take_front-2.new.buffer x r.0 r.1.now)) same
     c.take_front-2.ensures.found
 
 pub returns-clause-none : goal.returns-clause-none

@@ -33,9 +33,10 @@ returns-then-self-tries-clause-row g c =
 pub returns-then-enquired-clause-row : goal.returns-then-enquired-clause-row
 returns-then-enquired-clause-row g c =
     let tries = c.tries.ensures.value ∙ ap (λ (x : ControlValue). x.setup.tries) c.self.view_is in
-    tried_again c.args.self.now _ _ c.args.select c.args.enquired _ c.self.view_is tries
+    rw c.set_enq.ensures
+    (tried_again c.args.self.now _ _ c.args.select c.args.enquired _ c.self.view_is tries
     c.if-self-tries.false
-    (sym (ap (repeated c.args.self.now c.args.select) c.if-enquired.true))
+    (sym (ap (repeated c.args.self.now c.args.select) c.if-enquired.true)))
 
 pub select-requires : goal.select-requires
 select-requires g c =
@@ -58,7 +59,8 @@ returns-clause-row g c =
     let there =
     select_reached _ _ _ _ c.args.select _ reached present c.requires c.peer.invariant in
     let tries = c.tries.ensures.value ∙ ap (λ (x : ControlValue). x.setup.tries) c.self.view_is in
-    tried_again c.args.self.now _ _ c.args.select c.args.enquired _ c.self.view_is tries
+    rw c.set_call.ensures
+    (tried_again c.args.self.now _ _ c.args.select c.args.enquired _ c.self.view_is tries
     c.if-self-tries.false
     (call_again c.args.self.now _ _ c.args.select _ c.args.enquired _ reached present
-    c.if-enquired.false there c.select.ensures)
+    c.if-enquired.false there c.select.ensures))

@@ -22,8 +22,9 @@ returns-clause-row g c =
     let terminal = c.terminal_of-terminal.ensures in
     let reached =
     peer_reached c.self.view_is terminal.there c.peer.view_is c.index_mut-peer.ensures.value in
-    polling_address_is_called _ _ _ c.args.place c.args.failures _ c.begin.new.self c.poll.result reached
-    terminal.value c.begin.ensures.state c.poll.ensures
+    rw c.set_call.ensures
+    (polling_address_is_called _ _ _ c.args.place c.args.failures _ c.begin.new.self c.poll.result
+    reached terminal.value c.begin.ensures.state c.poll.ensures)
 
 pub returns-clause-entries : goal.returns-clause-entries
 returns-clause-entries g c = invariant_of-self g c

@@ -21,8 +21,10 @@ returns-clause-row g c =
     peer_reached c.self.view_is terminal.there refl c.index_mut-peer.ensures.value in
     let sent : c.match-reply.sent ≡ option_map m.Reply c.receive-reply.result =
     elim c.match-reply.branch [
-      | in-Some w ↦ w.sent-is ∙ sym (ap (option_map m.Reply) w.in-Some.is)
-      | in-None w ↦ w.sent-is ∙ sym (ap (option_map m.Reply) w.in-None.is)
+      | in-Some w ↦ w.sent-is ∙ (w.set_reply.ensures
+          ∙ sym (ap (option_map m.Reply) w.in-Some.is))
+      | in-None w ↦ w.sent-is ∙ (w.clear.ensures
+          ∙ sym (ap (option_map m.Reply) w.in-None.is))
     ] in
     received_row _ _ _ _ _ c.args.heard.now c.args.replied _ _ _ reached terminal.value
     c.receive-reply.ensures.receives c.after.ensures sent c.requires

@@ -33,8 +33,9 @@ returns-clause-row g c =
     let there =
     select_reached _ _ _ _ c.args.select _ reached terminal.value c.requires.select
     c.peer.invariant in
-    selection_address_is_called _ _ _ c.args.place c.args.select _ c.select.result reached terminal.value there
-    c.select.ensures
+    rw c.set_call.ensures
+    (selection_address_is_called _ _ _ c.args.place c.args.select _ c.select.result reached
+    terminal.value there c.select.ensures)
 
 pub returns-clause-entries : goal.returns-clause-entries
 returns-clause-entries g c = invariant_of-self g c

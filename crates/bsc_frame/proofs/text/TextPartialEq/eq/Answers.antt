@@ -22,10 +22,10 @@ returns-else-eq-2 c =
     tells_text _ _ _ _ _ _ _ _ c.if-eq.value c.self.invariant c.other.invariant c.self.view_is
     c.other.view_is
     (elim c.if-eq.branch [
-      | then-eq w ↦ second_fails _ _ (pointwise ◌==◌ c.self.inside.chars.items
-          c.other.inside.chars.items) _ (sym w.eq-then-eq.ensures ∙ sym w.value-is
+      | then-eq w ↦ second_fails _ _ (pointwise ◌==◌ c.self.inside.chars.now
+          c.other.inside.chars.now) _ (sym w.eq-then-eq.ensures ∙ sym w.value-is
           ∙ c.if-eq-2.false) c.if-eq-2.false
       | else-eq w ↦ first_fails _ (sameb the_type c.self.inside.end c.other.inside.end)
-          (pointwise ◌==◌ c.self.inside.chars.items c.other.inside.chars.items) _
+          (pointwise ◌==◌ c.self.inside.chars.now c.other.inside.chars.now) _
           (sym c.eq.ensures ∙ w.if-eq.false) c.if-eq-2.false
     ])

@@ -11,14 +11,14 @@ use Rattle.bsc_tributary.proofs.tributary.Tributary.answer_poll.Goals.{then-in_d
 
 pub returns-then-in_doubt-clause-row : goal.returns-then-in_doubt-clause-row
 returns-then-in_doubt-clause-row g c =
-    elim c.then-in_doubt.branch [
+    rw c.set_eot.ensures (elim c.then-in_doubt.branch [
       | then-in_doubt-via-then-in_doubt w ↦ poll_step_in_doubt _ c.args.self.now
           (c.self.view_is ∙ c.drop_line.ensures.state) (sym c.in_doubt.ensures ∙ w.if-in_doubt.true)
       | then-in_doubt-via-else-in_doubt+then-not-has_waiting w ↦ poll_step_empty _ c.args.self.now
           (c.self.view_is ∙ c.drop_line.ensures.state)
           (sym c.in_doubt.ensures ∙ w.if-in_doubt.false)
           (sym w.has_waiting.ensures.value ∙ w.if-not-has_waiting.true)
-    ]
+    ])
 
 pub begin-outcome-requires-clause-idle : goal.begin-outcome-requires-clause-idle
 begin-outcome-requires-clause-idle g c =

@@ -15,14 +15,15 @@ invariant_of-self g c =
 
 pub returns-clause-row : goal.returns-clause-row
 returns-clause-row g c =
-    selection_step_ready _ c.args.self.now c.args.select c.make_room-room.result
+    rw c.set_reply-2.ensures
+    (selection_step_ready _ c.args.self.now c.args.select c.make_room-room.result
     c.begin-reply.new.self c.make_room-room.new.self c.begin-reply.result
     (m.Reply c.begin-reply.result)
     (c.self.view_is ∙ c.drop_line.ensures.state) c.if-not-self.false
     (within_spools _ c.args.self.now c.args.select c.self.invariant
     (c.self.view_is
     ∙ c.drop_line.ensures.state) c.requires) c.make_room-room.ensures.spool
-    c.begin-reply.ensures.state c.begin-reply.ensures.reply refl
+    c.begin-reply.ensures.state c.begin-reply.ensures.reply refl)
 
 pub returns-clause-room : goal.returns-clause-room
 returns-clause-room g c =

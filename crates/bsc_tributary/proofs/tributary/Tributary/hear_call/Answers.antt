@@ -48,9 +48,9 @@ returns-in-Other g c =
     other_call_is_heard c.args.self.now c.drop_line.new.self c.args.address.now
     (called_from _ c.args.self.now _ _ _ c.self.view_is c.in-Other.is c.called_address.ensures)
     c.drop_line.ensures.state in
-    record {
+    rw c.clear.ensures (record {
       row = hears;
       after = holds_after_hearing _ _ _ _
           (subst IsTributary c.self.view_is c.self.invariant)
           c.drop_line.ensures.hearing.after.tributary hears;
-    }
+    })

@@ -27,7 +27,7 @@ returns-in-Control g c =
     let was : IsTributary c.args.self.now = subst IsTributary c.self.view_is c.self.invariant in
     let hears : Hears c.args.self.now c.args.heard.now c.args.self.now None =
     hears_control _ c.args.self.now c.args.heard.now c.requires c.self.view_is c.in-Control.is in
-    record { row = hears; after = holds_after_hearing _ _ _ _ was was hears }
+    rw c.clear.ensures (record { row = hears; after = holds_after_hearing _ _ _ _ was was hears })
 
 pub returns-in-Receiving : goal.returns-in-Receiving
 returns-in-Receiving g c =

@@ -14,10 +14,10 @@ invariant_of-self g c =
 
 pub returns-in-Control : goal.returns-in-Control
 returns-in-Control g c =
-    record {
+    rw c.clear.ensures (record {
       row = no_act_on_silence_in_mode _ c.args.self.now c.self.view_is c.in-Control.is;
       after = holds_after_no_act _ c.args.self.now c.self.view_is c.self.invariant;
-    }
+    })
 
 pub returns-in-Sending : goal.returns-in-Sending
 returns-in-Sending g c =

@@ -1,0 +1,83 @@
+//! Room for one transmission, or for none.
+
+ghost use Rattle.std.specs.Prelude.{◌≡◌, None, Option, is_none};
+ghost use Rattle.bsc_frame.specs.declared.message.Message.{Message as MessageValue};
+ghost use Rattle.bsc_line_model.specs.Transmission.{sent_by, speaker_of};
+
+use bsc_bid::Station;
+use bsc_frame::{Heard, MessageBuffer};
+use bsc_line_model::{Speaker, Transmission};
+use std::marker::Model;
+
+/// A transmission, or none, with room for a text.
+#[derive(Drop)]
+pub(crate) struct TransmissionBuffer {
+    /// The sender of the message, if there is one.
+    speaker: Speaker,
+
+    message: MessageBuffer,
+}
+
+impl Model for TransmissionBuffer {
+    ghost use Rattle.std.specs.Prelude.{Option};
+    ghost use Rattle.bsc_line_model.specs.declared.transmission.Transmission.{Transmission};
+    ghost use Rattle.bsc_line_model.specs.Transmission.{sent_by};
+
+    ghost Value = { Option Transmission };
+
+    ghost view = { λ b. sent_by b.speaker b.message };
+}
+
+impl TransmissionBuffer {
+    /// Returns a buffer without a transmission.
+    pub(crate) fn new() -> Self
+        ensures { result ≡ None }
+    {
+        TransmissionBuffer {
+            speaker: Speaker::Control,
+            message: MessageBuffer::new(),
+        }
+    }
+
+    /// Removes the transmission.
+    pub(crate) fn clear(&mut self)
+        ensures { self.new ≡ None }
+    {
+        self.message.clear();
+    }
+
+    /// Lends the transmission, or returns `None` if there is none.
+    pub(crate) fn transmission(&self) -> Option<Transmission<'_>>
+        ensures { result ≡ self.entry.now }
+    {
+        Transmission::by(self.speaker, self.message.message())
+    }
+
+    /// Returns the sender of the transmission.
+    pub(crate) fn speaker(&self) -> Option<Speaker>
+        ensures { result ≡ speaker_of self.now }
+    {
+        match self.transmission() {
+            Some(sent) => Some(sent.speaker),
+            None => None,
+        }
+    }
+
+    /// Lets a station hear this, and keeps its answer.
+    pub(crate) fn answer<S: Station>(&mut self, speaker: Speaker, station: &mut S, heard: &Heard<'_>)
+        ensures { (sent : Option MessageValue) × (S.hears station.old heard.now station.new sent
+            × (self.new ≡ sent_by speaker sent)) }
+    {
+        self.speaker = speaker;
+        station.answer(heard, &mut self.message);
+    }
+
+    /// Lets a station act on a silence, and keeps its message.
+    pub(crate) fn act<S: Station>(&mut self, speaker: Speaker, station: &mut S)
+        ensures { (sent : Option MessageValue) × (S.acts station.old station.new sent
+            × (self.new ≡ sent_by speaker sent)) }
+    {
+        self.speaker = speaker;
+        station.act(&mut self.message);
+    }
+}

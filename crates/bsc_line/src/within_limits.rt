@@ -1,0 +1,38 @@
+//! The limits of the pending message.
+
+ghost use Rattle.std.specs.Prelude.{◌≡◌, IfSome};
+ghost use Rattle.bsc_frame.specs.Message.{IsMessage};
+ghost use Rattle.bsc_line_model.specs.declared.transmission.Transmission.{Transmission as TransmissionValue};
+
+use bsc_frame::Message;
+use bsc_line_model::Transmission;
+
+/// Returns the transmission, whose message is within its limits.
+pub(crate) fn within_limits<'a>(sent: Option<Transmission<'a>>) -> Option<Transmission<'a>>
+    ensures value { result ≡ sent }
+    ensures limits { IfSome sent (λ (s : TransmissionValue). IsMessage s.message) }
+{
+    match sent {
+        Some(sent) => {
+            is_message(&sent.message);
+            Some(sent)
+        }
+        None => None,
+    }
+}
+
+/// States that a message keeps its limits, for contracts to rest on. Its parts are read for this
+/// only.
+fn is_message(message: &Message<'_>)
+    ensures { IsMessage message.now }
+{
+    match message {
+        Message::Call(address) => {
+            let _codes = address.codes();
+        }
+        Message::Text(text) => {
+            let _count = text.count();
+        }
+        _ => {}
+    }
+}
