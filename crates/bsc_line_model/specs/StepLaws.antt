@@ -86,11 +86,15 @@ pub record StepsAs (event : Event) (old : LineValue) (result : Result (Unit {0})
   pub trust : IsTrue new.trusted → IsTrue old.trusted
   pub refused : IfErr result (λ why. new ≡ old)
 
--- each event does this to the channels, and no more
+-- each event that this line does steps so
+abbrev pub StepsFrom : LineValue → Type 0
+StepsFrom l =
+    (event : Event) (new : LineValue) (result : Result (Unit {0}) LineError)
+    → Does event l result new → StepsAs event l result new
+
+-- each event of every line does
 abbrev pub EachEventSteps : Type 0
-EachEventSteps =
-    (event : Event) (old new : LineValue) (result : Result (Unit {0}) LineError) → IsLine old
-    → Does event old result new → StepsAs event old result new
+EachEventSteps = (l : LineValue) → IsLine l → StepsFrom l
 
 -- the control station polls terminal t
 pub record IsPolled (l : LineValue) (t : ℕ) : Type 0 where
