@@ -6,6 +6,7 @@ mod offers;
 mod releases;
 mod runs;
 mod silences;
+mod steps;
 
 ghost use Rattle.std.specs.Prelude.{◌≡◌, ◌<◌, IfSome, IfOk, IfErr, OnOk};
 ghost use Rattle.bsc_frame.specs.Message.{IsMessage};

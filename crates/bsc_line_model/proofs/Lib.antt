@@ -18,6 +18,7 @@ pub mod Soundness
 pub mod ChannelMoves
 pub mod DownMoves
 pub mod EventMoves
+pub mod EventSteps
 pub mod HeardAlike
 pub mod Holding
 pub mod Moving

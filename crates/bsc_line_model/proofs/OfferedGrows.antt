@@ -195,7 +195,7 @@ pub record SameTerminals (old new : LineValue) : Type 0 where
   pub each : (t : ℕ) → t < terminal_count old → (terminal_at new t).terminal
       ≡ (terminal_at old t).terminal
 
-all_same : (old new : LineValue) → new.terminals ≡ old.terminals → SameTerminals old new
+pub all_same : (old new : LineValue) → new.terminals ≡ old.terminals → SameTerminals old new
 all_same old new e =
     record {
       count = ap (λ (ts : List TributaryValue). length ts) e;
@@ -239,7 +239,7 @@ release_same old new t FromTerminal k =
 release_same old new t (ToTerminal s) k =
     all_same old new (ap (λ (l : LineValue). l.terminals) k.becomes)
 
-same_terminals : (event : Event) (old new : LineValue) → Does event old (Ok tt) new
+pub same_terminals : (event : Event) (old new : LineValue) → Does event old (Ok tt) new
     → SameTerminals old new
 same_terminals (OfferAt t x) old new d =
     one_same old new t (record (terminal_at old t)
@@ -267,26 +267,38 @@ same_terminals (UrgentAt t) old new d =
 same_terminals (UrgentFor t) old new d = all_same old new (ap (λ (l : LineValue). l.terminals) d.1)
 same_terminals (Release t way) old new d = release_same old new t way d
 
+-- also over two events
+pub same_terminals_in_turn : (old mid new : LineValue) → SameTerminals old mid
+    → SameTerminals mid new → SameTerminals old new
+same_terminals_in_turn old mid new x y = record {
+  count = y.count ∙ x.count;
+  each = λ t less.
+      let on : t < terminal_count mid = omega (arith, less, x.count) in
+      y.each t on ∙ x.each t less;
+}
+
 -- so a line keeps its channels
 way_stays : (y z : TributaryValue) (way : Way) → z.terminal ≡ y.terminal → IsWay y way → IsWay z way
 way_stays y z FromTerminal e w = tt
 way_stays y z (ToTerminal s) e w = subst (λ (k : TerminalValue). s < length k.selects) (sym e) w
 
+pub channel_stays_if_same : (old new : LineValue) (t : ℕ) (way : Way) → SameTerminals old new
+    → IsChannel old t way → IsChannel new t way
+channel_stays_if_same old new t way same is = record {
+  there = subst (λ (n : ℕ). t < n) (sym same.count) is.there;
+  its_way =
+      way_stays (terminal_at old t) (terminal_at new t) way (same.each t is.there) is.its_way;
+}
+
 pub channel_stays : (event : Event) (old new : LineValue) (t : ℕ) (way : Way)
     → Does event old (Ok tt) new → IsChannel old t way → IsChannel new t way
 channel_stays event old new t way d is =
-    let same : SameTerminals old new = same_terminals event old new d in
-    record {
-      there = subst (λ (n : ℕ). t < n) (sym same.count) is.there;
-      its_way =
-          way_stays (terminal_at old t) (terminal_at new t) way (same.each t is.there) is.its_way;
-    }
+    channel_stays_if_same old new t way (same_terminals event old new d) is
 
 -- and gets no others
-pub channel_was : (event : Event) (old new : LineValue) (t : ℕ) (way : Way)
-    → Does event old (Ok tt) new → IsChannel new t way → IsChannel old t way
-channel_was event old new t way d is =
-    let same : SameTerminals old new = same_terminals event old new d in
+pub channel_was_if_same : (old new : LineValue) (t : ℕ) (way : Way) → SameTerminals old new
+    → IsChannel new t way → IsChannel old t way
+channel_was_if_same old new t way same is =
     let before : t < terminal_count old = subst (λ (n : ℕ). t < n) same.count is.there in
     record {
       there = before;
@@ -294,3 +306,8 @@ channel_was event old new t way d is =
           way_stays (terminal_at new t) (terminal_at old t) way (sym (same.each t before))
           is.its_way;
     }
+
+pub channel_was : (event : Event) (old new : LineValue) (t : ℕ) (way : Way)
+    → Does event old (Ok tt) new → IsChannel new t way → IsChannel old t way
+channel_was event old new t way d is =
+    channel_was_if_same old new t way (same_terminals event old new d) is

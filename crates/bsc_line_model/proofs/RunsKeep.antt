@@ -1,6 +1,6 @@
 -- What a run keeps, event by event.
-use Rattle.std.proofs.Common.{◌≡◌, inl, inr, ℕ, zero, suc, ◌+◌, ◌-◌, ◌<◌, ◌≤◌, ◌++◌, IsTrue, List}
-use Rattle.std.proofs.Common.{[], ◌∷◌, length, take, drop, slice_get, Some, Result, Ok, Err, refl}
+use Rattle.std.proofs.Common.{◌≡◌, inl, inr, ℕ, zero, suc, ◌+◌, ◌-◌, ◌≤◌, ◌++◌, IsTrue, List}
+use Rattle.std.proofs.Common.{[], ◌∷◌, length, take, slice_get, Some, Result, Ok, Err, refl}
 use Rattle.std.proofs.Common.{sym, ◌∙◌, ap, subst, append_assoc, arith}
 use Rattle.std.proofs.lemmas.List.{append-nil}
 use Rattle.bsc_bid.specs.declared.phase.Phase.{Phase}
@@ -13,13 +13,16 @@ use Rattle.bsc_line_model.specs.Line.{LineValue, IsChannel, channel_of, phase_of
 use Rattle.bsc_line_model.specs.Runs.{Does, RunsFrom, Runs}
 use Rattle.bsc_line_model.specs.Kept.{IsLine}
 use Rattle.bsc_line_model.specs.ChannelSteps.{StepsChannels}
-use Rattle.bsc_line_model.specs.Headline.{offered_in, accepted_in, IsSettled, ReachesAddressed}
-use Rattle.bsc_line_model.specs.Headline.{KeepsRecords}
+use Rattle.bsc_line_model.specs.Headline.{offered_in, accepted_in, IsSettled, PassesEvent}
+use Rattle.bsc_line_model.specs.Headline.{History, KeepsRecords}
+use Rattle.bsc_line_model.specs.EveryRun.{RunsKeepLine}
 use Rattle.bsc_line_model.specs.StepLaws.{offered_on, offered_by}
 use Rattle.bsc_line_model.specs.BidLaws.{BidLaws}
 use Rattle.bsc_line_model.proofs.Soundness.{sound_of_together}
 use Rattle.bsc_line_model.proofs.Refusals.{nothing_changed, was_trusted}
-use Rattle.bsc_line_model.proofs.OfferedGrows.{grows_by_offers, channel_stays}
+use Rattle.bsc_line_model.proofs.OfferedGrows.{grows_by_offers, channel_stays, SameTerminals}
+use Rattle.bsc_line_model.proofs.OfferedGrows.{all_same, same_terminals, same_terminals_in_turn}
+use Rattle.bsc_line_model.proofs.OfferedGrows.{channel_stays_if_same, channel_was_if_same}
 use Rattle.bsc_line_model.proofs.EventMoves.{event_moves}
 use Rattle.bsc_line_model.proofs.Reaching.{reaches}
 
@@ -125,86 +128,75 @@ run_offers at old new (x ∷ xs) (Err s) line (inr go) t way is =
     (run_offers (at + 1) go.mid new xs (Err s) go.line go.rest t way
     (channel_stays x old go.mid t way go.done is)))
 
--- the event at place i, if the first one is at this place
-pub record PassesFrom (at : ℕ) (old : LineValue) (events : List Event) (result : Answer)
-    (new : LineValue) (i : ℕ) : Type 0 where
-  pub event : Event
-  pub before : LineValue
-  pub after : LineValue
-  pub here : slice_get events i ≡ Some event
-  pub reached : RunsFrom at old (take i events) (Ok tt) before
-  pub accepted : Does event before (Ok tt) after
-  pub rest : RunsFrom (at + i + 1) after (drop (i + 1) events) result new
-  pub line : IsLine before
-  pub trusted : IsTrue after.trusted
-  pub moves : StepsChannels event before after
-  pub reaches : ReachesAddressed before after
+-- the line at each place: the first one, and then those of the rest
+abbrev line_then : LineValue → (ℕ → LineValue) → ℕ → LineValue
+line_then first rest zero = first
+line_then first rest (suc i) = rest i
 
-step_kept_before_rest : (laws : BidLaws) (at : ℕ) (old mid new : LineValue) (x : Event) (xs : List Event)
-    (r : Answer) → IsLine old → Does x old (Ok tt) mid → RunsFrom (at + 1) mid xs r new
-    → IsTrue new.trusted → PassesFrom at old (x ∷ xs) r new 0
-step_kept_before_rest laws at old mid new x xs r line d rest now =
-    let trusted : IsTrue mid.trusted = run_trusted (at + 1) mid new xs r rest now in
-    let steps : StepsChannels x old mid = event_moves laws x old mid line d trusted in
-    let place : at + 1 ≡ at + 0 + 1 = omega arith in
+-- a run that passes no event
+no_event_passes : (old new : LineValue) → new ≡ old → History old [] new
+no_event_passes old new same = record {
+  line_at = λ i. old;
+  first = refl;
+  steps = λ i event here. cc;
+  last = sym same;
+}
+
+-- one event, and then the history of the rest
+step_then : (x : Event) (xs : List Event) (old mid : LineValue) (rest : ℕ → LineValue)
+    → PassesEvent x old mid → rest 0 ≡ mid
+    → ((i : ℕ) (event : Event) → slice_get xs i ≡ Some event
+    → PassesEvent event (rest i) (rest (suc i)))
+    → (i : ℕ) (event : Event) → slice_get (x ∷ xs) i ≡ Some event
+    → PassesEvent event (line_then old rest i) (line_then old rest (suc i))
+step_then x xs old mid rest p first steps zero event here =
+    let same : x ≡ event = cc in
+    subst (λ (l : LineValue). PassesEvent event old l) (sym first)
+    (subst (λ (e : Event). PassesEvent e old mid) same p)
+step_then x xs old mid rest p first steps (suc i) event here = steps i event here
+
+event_then_history : (x : Event) (xs : List Event) (old mid new : LineValue)
+    → PassesEvent x old mid → History mid xs new → History old (x ∷ xs) new
+event_then_history x xs old mid new p h = record {
+  line_at = line_then old h.line_at;
+  first = refl;
+  steps = step_then x xs old mid h.line_at p h.first h.steps;
+  last = h.last;
+}
+
+passes_event : (laws : BidLaws) (x : Event) (old mid : LineValue) → IsLine old
+    → Does x old (Ok tt) mid → IsTrue mid.trusted → PassesEvent x old mid
+passes_event laws x old mid line d now =
+    let steps : StepsChannels x old mid = event_moves laws x old mid line d now in
     record {
-      event = x;
-      before = old;
-      after = mid;
-      here = refl;
-      reached = refl;
-      accepted = d;
-      rest = subst (λ (n : ℕ). RunsFrom n mid xs r new) place rest;
       line = line;
-      trusted = trusted;
+      accepted = d;
+      trusted_before = was_trusted x old mid d now;
+      trusted_after = now;
       moves = steps;
       reaches = reaches x old mid steps;
     }
 
-later_passes : (at : ℕ) (old mid new : LineValue) (x : Event) (xs : List Event) (r : Answer) (i : ℕ)
-    → Does x old (Ok tt) mid → IsLine mid → PassesFrom (at + 1) mid xs r new i
-    → PassesFrom at old (x ∷ xs) r new (suc i)
-later_passes at old mid new x xs r i d line p =
-    let place : at + 1 + i + 1 ≡ at + suc i + 1 = omega arith in
-    let count : suc (i + 1) ≡ suc i + 1 = omega arith in
-    record {
-      event = p.event;
-      before = p.before;
-      after = p.after;
-      here = p.here;
-      reached = record { mid = mid; done = d; line = line; rest = p.reached };
-      accepted = p.accepted;
-      rest = subst (λ (n : ℕ). RunsFrom n p.after (drop (suc i + 1) (x ∷ xs)) r new) place
-          (subst (λ (n : ℕ). RunsFrom (at + 1 + i + 1) p.after (drop n (x ∷ xs)) r new) count
-          p.rest);
-      line = p.line;
-      trusted = p.trusted;
-      moves = p.moves;
-      reaches = p.reaches;
-    }
-
-runs_keep_each_step : (laws : BidLaws) (at : ℕ) (old new : LineValue) (xs : List Event) (r : Answer) → IsLine old
-    → RunsFrom at old xs r new → IsTrue new.trusted → (i : ℕ) → i < length (accepted_from at xs r)
-    → PassesFrom at old xs r new i
-runs_keep_each_step laws at old new [] (Ok done) line k now i less = absurd (omega arith)
-runs_keep_each_step laws at old new [] (Err s) line k now i less = absurd k
-runs_keep_each_step laws at old new (x ∷ xs) (Ok done) line go now zero less =
-    step_kept_before_rest laws at old go.mid new x xs (Ok done) line go.done go.rest now
-runs_keep_each_step laws at old new (x ∷ xs) (Ok done) line go now (suc i) less =
-    later_passes at old go.mid new x xs (Ok done) i go.done go.line
-    (runs_keep_each_step laws (at + 1) go.mid new xs (Ok done) go.line go.rest now i (omega arith))
-runs_keep_each_step laws at old new (x ∷ xs) (Err s) line (inl stop) now i less =
-    let none : i < 0 =
-    subst (λ (es : List Event). i < length es) (none_accepted_at_stop at x xs s stop.place) less in
-    absurd (omega arith)
-runs_keep_each_step laws at old new (x ∷ xs) (Err s) line (inr go) now zero less =
-    step_kept_before_rest laws at old go.mid new x xs (Err s) line go.done go.rest now
-runs_keep_each_step laws at old new (x ∷ xs) (Err s) line (inr go) now (suc i) less =
-    let more : suc i < length (x ∷ accepted_from (at + 1) xs (Err s)) =
-    subst (λ (es : List Event). suc i < length es)
-    (accepted_with_first at x xs s (stops_past (at + 1) go.mid new xs s go.rest)) less in
-    later_passes at old go.mid new x xs (Err s) i go.done go.line
-    (runs_keep_each_step laws (at + 1) go.mid new xs (Err s) go.line go.rest now i (omega arith))
+history : (laws : BidLaws) (at : ℕ) (old new : LineValue) (xs : List Event) (r : Answer)
+    → IsLine old → RunsFrom at old xs r new → IsTrue new.trusted
+    → History old (accepted_from at xs r) new
+history laws at old new [] (Ok done) line k now = no_event_passes old new k
+history laws at old new [] (Err s) line k now = absurd k
+history laws at old new (x ∷ xs) (Ok done) line go now =
+    event_then_history x xs old go.mid new
+    (passes_event laws x old go.mid line go.done
+    (run_trusted (at + 1) go.mid new xs (Ok done) go.rest now))
+    (history laws (at + 1) go.mid new xs (Ok done) go.line go.rest now)
+history laws at old new (x ∷ xs) (Err s) line (inl stop) now =
+    subst (λ (es : List Event). History old es new) (sym (none_accepted_at_stop at x xs s stop.place))
+    (no_event_passes old new (nothing_changed x old new s.why stop.refused))
+history laws at old new (x ∷ xs) (Err s) line (inr go) now =
+    subst (λ (es : List Event). History old es new)
+    (sym (accepted_with_first at x xs s (stops_past (at + 1) go.mid new xs s go.rest)))
+    (event_then_history x (accepted_from (at + 1) xs (Err s)) old go.mid new
+    (passes_event laws x old go.mid line go.done
+    (run_trusted (at + 1) go.mid new xs (Err s) go.rest now))
+    (history laws (at + 1) go.mid new xs (Err s) go.line go.rest now))
 
 -- a run from its first event
 accepted_from_start : (events : List Event) (r : Answer) → accepted_from 0 events r ≡ accepted_in events r
@@ -241,22 +233,40 @@ runs_keep laws old new events r line run now =
                 all_known_if_settled (phase_of new t way) (channel_of new t way).known
                 (length (channel_of new t way).spooled) sounds.spooled;
           };
-      steps = λ i less.
-          let p : PassesFrom 0 old events r new i =
-          runs_keep_each_step laws 0 old new events r line run now i
-          (subst (λ (es : List Event). i < length es) (sym (accepted_from_start events r)) less) in
-          let place : 0 + i + 1 ≡ i + 1 = omega arith in
-          record {
-            event = p.event;
-            before = p.before;
-            after = p.after;
-            here = p.here;
-            reached = p.reached;
-            accepted = p.accepted;
-            rest = subst (λ (n : ℕ). RunsFrom n p.after (drop (i + 1) events) r new) place p.rest;
-            line = p.line;
-            trusted = p.trusted;
-            moves = p.moves;
-            reaches = p.reaches;
-          };
+      history =
+          subst (λ (es : List Event). History old es new) (accepted_from_start events r)
+          (history laws 0 old new events r line run now);
+    }
+
+-- the terminals keep their addresses
+run_terminals : (at : ℕ) (old new : LineValue) (xs : List Event) (r : Answer)
+    → RunsFrom at old xs r new → SameTerminals old new
+run_terminals at old new [] (Ok done) k =
+    all_same old new (ap (λ (l : LineValue). l.terminals) k)
+run_terminals at old new [] (Err s) k = absurd k
+run_terminals at old new (x ∷ xs) (Ok done) go =
+    same_terminals_in_turn old go.mid new (same_terminals x old go.mid go.done)
+    (run_terminals (at + 1) go.mid new xs (Ok done) go.rest)
+run_terminals at old new (x ∷ xs) (Err s) (inl stop) =
+    all_same old new
+    (ap (λ (l : LineValue). l.terminals) (nothing_changed x old new s.why stop.refused))
+run_terminals at old new (x ∷ xs) (Err s) (inr go) =
+    same_terminals_in_turn old go.mid new (same_terminals x old go.mid go.done)
+    (run_terminals (at + 1) go.mid new xs (Err s) go.rest)
+
+-- every run leaves a line with the channels of before
+pub runs_keep_line : RunsKeepLine
+runs_keep_line old new events r line run =
+    let same : SameTerminals old new = run_terminals 0 old new events r run in
+    record {
+      line = run_line 0 old new events r line run;
+      channels = record {
+        count = same.count;
+        addresses = same.each;
+        channels = λ t way. (channel_was_if_same old new t way same, channel_stays_if_same old new t way same);
+      };
+      offered = λ t way is.
+          subst (λ (es : List Event). offered_on new t way ≡ offered_on old t way
+          ++ offered_in es t way) (accepted_from_start events r)
+          (run_offers 0 old new events r line run t way is);
     }

@@ -2,15 +2,15 @@
 -- arrived on a channel are the first of those that were offered on it, in order and each once; the
 -- sending end counts none as delivered that did not arrive; and no record reaches a terminal that
 -- is not addressed.
-use Rattle.std.specs.Prelude.{◌≡◌, ◌⊎◌, ◌<◌, ◌≤◌, ◌+◌, ◌++◌, ℕ, IsTrue, List, [], ◌∷◌, length}
-use Rattle.std.specs.Prelude.{take, drop, slice_get, Some, Result, Ok, Err}
+use Rattle.std.specs.Prelude.{◌≡◌, ◌⊎◌, ◌≤◌, ◌++◌, ℕ, suc, IsTrue, List, [], ◌∷◌, length}
+use Rattle.std.specs.Prelude.{take, slice_get, Some, Result, Ok, Err}
 use Rattle.bsc_bid.specs.declared.phase.Phase.{Phase}
 use Rattle.bsc_bid.specs.declared.phase.Phase.TheVariants.{Idle, Unanswered, Held, InDoubt}
 use Rattle.bsc_directory.specs.declared.way.Way.{Way}
 use Rattle.bsc_line_model.specs.declared.error.Stopped.{Stopped}
 use Rattle.bsc_line_model.specs.declared.event.Event.{Event}
 use Rattle.bsc_line_model.specs.Line.{LineValue, IsChannel, channel_of, phase_of}
-use Rattle.bsc_line_model.specs.Runs.{Does, RunsFrom, Runs}
+use Rattle.bsc_line_model.specs.Runs.{Does, Runs}
 use Rattle.bsc_line_model.specs.Kept.{IsLine}
 use Rattle.bsc_line_model.specs.ChannelSteps.{StepsChannels}
 use Rattle.bsc_line_model.specs.StepLaws.{offered_on, offered_by}
@@ -58,22 +58,25 @@ ReachesAddressed before after =
     (t : ℕ) (way : Way) → IsChannel before t way
     → (spooled_on after t way ≡ spooled_on before t way) ⊎ (before.addressed ≡ Some (t, way))
 
--- The event at place i of a run. The events before it lead to a line on which it is accepted, and
--- the run continues from the line that it leaves. That line is trusted, and the event moves the
--- channels as its row says.
-pub record PassesEvent (old : LineValue) (events : List Event) (result : Result (Unit {0}) Stopped)
-    (new : LineValue) (i : ℕ) : Type 0 where
-  pub event : Event
-  pub before : LineValue
-  pub after : LineValue
-  pub here : slice_get events i ≡ Some event
-  pub reached : Runs old (take i events) (Ok tt) before
-  pub accepted : Does event before (Ok tt) after
-  pub rest : RunsFrom (i + 1) after (drop (i + 1) events) result new
+-- An event leads from one line to the next. It is accepted, and both lines are trusted; the
+-- channels make the moves of its row and no others, so that records reach the addressed channel
+-- only.
+pub record PassesEvent (event : Event) (before after : LineValue) : Type 0 where
   pub line : IsLine before
-  pub trusted : IsTrue after.trusted
+  pub accepted : Does event before (Ok tt) after
+  pub trusted_before : IsTrue before.trusted
+  pub trusted_after : IsTrue after.trusted
   pub moves : StepsChannels event before after
   pub reaches : ReachesAddressed before after
+
+-- The history of a run, as one line for each place. The first is the old line; each accepted event
+-- leads from the line at its place to the next; and the last, after all of them, is the new line.
+pub record History (old : LineValue) (accepted : List Event) (new : LineValue) : Type 0 where
+  pub line_at : ℕ → LineValue
+  pub first : line_at 0 ≡ old
+  pub steps : (i : ℕ) (event : Event) → slice_get accepted i ≡ Some event
+      → PassesEvent event (line_at i) (line_at (suc i))
+  pub last : line_at (length accepted) ≡ new
 
 -- what a run keeps: it began with a trusted line, on each channel the records arrive in order, and
 -- each accepted event makes the moves of its row and no others
@@ -82,7 +85,7 @@ pub record KeepsRecords (old : LineValue) (events : List Event) (result : Result
   pub trusted : IsTrue old.trusted
   pub channels : (t : ℕ) (way : Way) → IsChannel old t way
       → ArrivesInOrder old new (accepted_in events result) t way
-  pub steps : (i : ℕ) → i < length (accepted_in events result) → PassesEvent old events result new i
+  pub history : History old (accepted_in events result) new
 
 -- every run that leaves the line trusted keeps the records
 abbrev pub RunsKeepRecords : Type 0

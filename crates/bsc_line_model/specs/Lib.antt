@@ -13,6 +13,7 @@ pub mod Together
 pub mod ChannelSteps
 pub mod StepLaws
 pub mod Headline
+pub mod EveryRun
 pub mod Octets
 pub mod Rounds
 pub mod TurnedBits

@@ -1,6 +1,6 @@
 -- What every event of a line keeps.
 use Rattle.std.specs.Prelude.{◌≡◌, ◌<◌, ◌++◌, ◌&&◌, ℕ, List, [], ◌∷◌, IsTrue, is_some, nat_eq}
-use Rattle.std.specs.Prelude.{Ok, Err, if◌then◌else◌}
+use Rattle.std.specs.Prelude.{Result, Ok, Err, OnOk, IfErr, if◌then◌else◌}
 use Rattle.bsc_frame.specs.declared.message.Message.{Message}
 use Rattle.bsc_frame.specs.declared.message.Heard.{Heard}
 use Rattle.bsc_bid.specs.Channel.{Channel}
@@ -16,7 +16,10 @@ use Rattle.bsc_control.specs.Control.{current}
 use Rattle.bsc_line_model.specs.declared.error.LineError.{LineError}
 use Rattle.bsc_line_model.specs.declared.error.LineError.TheVariants.{CountMismatch}
 use Rattle.bsc_line_model.specs.declared.event.Event.{Event}
-use Rattle.bsc_line_model.specs.declared.event.Event.TheVariants.{OfferAt, OfferFor, Release}
+use Rattle.bsc_line_model.specs.declared.event.Event.TheVariants.{OfferAt, OfferFor, Carry}
+use Rattle.bsc_line_model.specs.declared.event.Event.TheVariants.{CarryEach, CarrySent, Silence}
+use Rattle.bsc_line_model.specs.declared.event.Event.TheVariants.{Ready, UrgentAt, UrgentFor}
+use Rattle.bsc_line_model.specs.declared.event.Event.TheVariants.{Release}
 use Rattle.bsc_line_model.specs.Line.{LineValue, terminal_at, terminal_count, IsChannel, channel_of}
 use Rattle.bsc_line_model.specs.Hearing.{all_hear}
 use Rattle.bsc_line_model.specs.Terminals.{answer_of}
@@ -39,8 +42,17 @@ offered_on l t way = (channel_of l t way).offered
 -- the record that an event offers to channel (t, way), if it offers one to it
 abbrev pub offered_by : Event → ℕ → Way → List (List ℕ)
 offered_by (OfferAt u r) t FromTerminal = if nat_eq t u then r.now ∷ [] else []
+offered_by (OfferAt u r) t (ToTerminal s) = []
+offered_by (OfferFor u k r) t FromTerminal = []
 offered_by (OfferFor u k r) t (ToTerminal s) = if nat_eq t u && nat_eq s k then r.now ∷ [] else []
-offered_by _ t way = []
+offered_by (Carry item) t way = []
+offered_by (CarryEach items) t way = []
+offered_by CarrySent t way = []
+offered_by Silence t way = []
+offered_by (Ready u ready) t way = []
+offered_by (UrgentAt u) t way = []
+offered_by (UrgentFor u) t way = []
+offered_by (Release u mine) t way = []
 
 -- the records that are offered on a channel grow by the accepted offers of it, trusted or not, and
 -- by nothing else
@@ -61,6 +73,28 @@ abbrev pub TrustOnlyFalls : Type 0
 TrustOnlyFalls =
     (event : Event) (old new : LineValue) → Does event old (Ok tt) new → IsTrue new.trusted
     → IsTrue old.trusted
+
+-- What an event does to the channels. If it is accepted, the record of an offer is added to those
+-- that were offered on its channel, and nothing else is offered; and if the line is trusted after
+-- it, the channels move as its row says. If it is refused, nothing changes. Trust that is lost
+-- never comes back.
+pub record StepsAs (event : Event) (old : LineValue) (result : Result (Unit {0}) LineError)
+    (new : LineValue) : Type 0 where
+  pub offered : OnOk result ((t : ℕ) (way : Way) → IsChannel old t way
+      → offered_on new t way ≡ offered_on old t way ++ offered_by event t way)
+  pub moves : OnOk result (IsTrue new.trusted → StepsChannels event old new)
+  pub trust : IsTrue new.trusted → IsTrue old.trusted
+  pub refused : IfErr result (λ why. new ≡ old)
+
+-- each event that this line does steps so
+abbrev pub StepsFrom : LineValue → Type 0
+StepsFrom l =
+    (event : Event) (new : LineValue) (result : Result (Unit {0}) LineError)
+    → Does event l result new → StepsAs event l result new
+
+-- each event of every line does
+abbrev pub EachEventSteps : Type 0
+EachEventSteps = (l : LineValue) → IsLine l → StepsFrom l
 
 -- the control station polls terminal t
 pub record IsPolled (l : LineValue) (t : ℕ) : Type 0 where

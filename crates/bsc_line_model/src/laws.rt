@@ -7,7 +7,8 @@ ghost use Rattle.bsc_line_model.specs.Stays.{NewLineStays, DownStays, UpStays, S
 ghost use Rattle.bsc_line_model.specs.Stays.{OfferAtStays, ReadyStays, UrgentAtStays};
 ghost use Rattle.bsc_line_model.specs.Stays.{ReleaseFromStays, OfferForStays, UrgentForStays};
 ghost use Rattle.bsc_line_model.specs.Stays.{ReleaseToStays};
-ghost use Rattle.bsc_line_model.specs.StepLaws.{EachStepsChannels, GrowsByOffers};
+ghost use Rattle.bsc_line_model.specs.EveryRun.{RunsKeepLine};
+ghost use Rattle.bsc_line_model.specs.StepLaws.{EachStepsChannels, EachEventSteps, GrowsByOffers};
 ghost use Rattle.bsc_line_model.specs.StepLaws.{RefusedChangesNothing, TrustOnlyFalls};
 ghost use Rattle.bsc_line_model.specs.StepLaws.{HoldsWhilePolled, NeverMismatches};
 ghost use Rattle.bsc_line_model.specs.StepLaws.{NewChannelsAreEmpty, OneAnswers, AlikeIsFair};
@@ -65,6 +66,20 @@ pub fn offers_and_refusals()
     ensures offers { GrowsByOffers }
     ensures refusals { RefusedChangesNothing }
     ensures trust { TrustOnlyFalls }
+{}
+
+/// What each event does to the channels, as one statement: what is offered, which channels move if
+/// the line is trusted after it, and that nothing changes if it is refused.
+pub fn event_steps()
+    ensures { EachEventSteps }
+{
+    bid_laws();
+}
+
+/// Every run of events leaves a line with the channels of before, on which the records of the
+/// accepted offers were offered, trusted or not.
+pub fn every_run()
+    ensures { RunsKeepLine }
 {}
 
 /// On a trusted line, a terminal holds the line only while the control station polls it, and no

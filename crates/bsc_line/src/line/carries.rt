@@ -7,6 +7,7 @@ ghost use Rattle.bsc_line_model.specs.declared.transmission.Transmission.{Transm
 ghost use Rattle.bsc_line_model.specs.Carries.{IsCarriedDown, IsCarriedUp};
 ghost use Rattle.bsc_line_model.specs.Runs.{Carries, Does, IsFromTerminal, IsFromControl};
 ghost use Rattle.bsc_line_model.specs.Kept.{IsLine};
+ghost use Rattle.bsc_line_model.specs.StepLaws.{StepsAs};
 ghost use Rattle.bsc_line.specs.Hearings.{hearing_of};
 
 use crate::addressing::addressed_after;
@@ -27,8 +28,10 @@ impl<A: Allocator> Line<A> {
     /// may try to reserve memory; a refusal only changes its reply.
     pub fn carry(&mut self, heard: Option<&[u8]>) -> Result<(), LineError>
         ensures does { Does (event.Carry heard.entry) self.old result self.new }
+        ensures steps { StepsAs (event.Carry heard.entry) self.old result self.new }
         ensures line { IsLine self.new }
     {
+        self.each_steps();
         let Some(octets) = heard else {
             return self.carry_as(&Heard::Noise);
         };
@@ -57,8 +60,10 @@ impl<A: Allocator> Line<A> {
     /// reply.
     pub fn carry_each(&mut self, items: &[Option<&[u8]>]) -> Result<(), LineError>
         ensures does { Does (event.CarryEach items.entry) self.old result self.new }
+        ensures steps { StepsAs (event.CarryEach items.entry) self.old result self.new }
         ensures line { IsLine self.new }
     {
+        self.each_steps();
         match self.sent.speaker() {
             None => return Err(LineError::NothingSent),
             Some(Speaker::Terminal(_)) => return Err(LineError::NotControl),
@@ -76,8 +81,10 @@ impl<A: Allocator> Line<A> {
     /// only changes its reply.
     pub fn carry_sent(&mut self) -> Result<(), LineError>
         ensures does { Does event.CarrySent self.old result self.new }
+        ensures steps { StepsAs event.CarrySent self.old result self.new }
         ensures line { IsLine self.new }
     {
+        self.each_steps();
         match self.sent.speaker() {
             None => return Err(LineError::NothingSent),
             Some(Speaker::Control) => self.carry_down_whole(),

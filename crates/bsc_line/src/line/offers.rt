@@ -2,6 +2,7 @@
 
 ghost use Rattle.bsc_line_model.specs.Runs.{Does};
 ghost use Rattle.bsc_line_model.specs.Kept.{IsLine};
+ghost use Rattle.bsc_line_model.specs.StepLaws.{StepsAs};
 
 use crate::line::Line;
 use crate::reading::read_record;
@@ -18,8 +19,10 @@ impl<A: Allocator> Line<A> {
     /// full length, `Memory`.
     pub fn offer_at(&mut self, terminal: usize, codes: &[u8]) -> Result<(), LineError>
         ensures does { Does (event.OfferAt terminal codes.entry) self.old result self.new }
+        ensures steps { StepsAs (event.OfferAt terminal codes.entry) self.old result self.new }
         ensures line { IsLine self.new }
     {
+        self.each_steps();
         if terminal >= self.terminals.len() {
             return Err(LineError::NoSuchTerminal);
         }
@@ -39,8 +42,10 @@ impl<A: Allocator> Line<A> {
         codes: &[u8],
     ) -> Result<(), LineError>
         ensures does { Does (event.OfferFor terminal select codes.entry) self.old result self.new }
+        ensures steps { StepsAs (event.OfferFor terminal select codes.entry) self.old result self.new }
         ensures line { IsLine self.new }
     {
+        self.each_steps();
         if terminal >= self.control.terminals() {
             return Err(LineError::NoSuchTerminal);
         }
@@ -59,8 +64,10 @@ impl<A: Allocator> Line<A> {
     /// Error: `NoSuchTerminal`. (GA27-3004, NAK to a selection.)
     pub fn set_ready(&mut self, terminal: usize, ready: bool) -> Result<(), LineError>
         ensures does { Does (event.Ready terminal ready) self.old result self.new }
+        ensures steps { StepsAs (event.Ready terminal ready) self.old result self.new }
         ensures line { IsLine self.new }
     {
+        self.each_steps();
         if terminal >= self.terminals.len() {
             return Err(LineError::NoSuchTerminal);
         }
@@ -75,8 +82,10 @@ impl<A: Allocator> Line<A> {
     /// clears the request. Error: `NoSuchTerminal`. (GA27-3004: reverse interrupt.)
     pub fn set_urgent_at(&mut self, terminal: usize) -> Result<(), LineError>
         ensures does { Does (event.UrgentAt terminal) self.old result self.new }
+        ensures steps { StepsAs (event.UrgentAt terminal) self.old result self.new }
         ensures line { IsLine self.new }
     {
+        self.each_steps();
         if terminal >= self.terminals.len() {
             return Err(LineError::NoSuchTerminal);
         }
@@ -92,8 +101,10 @@ impl<A: Allocator> Line<A> {
     /// reverse interrupt.)
     pub fn set_urgent_for(&mut self, terminal: usize) -> Result<(), LineError>
         ensures does { Does (event.UrgentFor terminal) self.old result self.new }
+        ensures steps { StepsAs (event.UrgentFor terminal) self.old result self.new }
         ensures line { IsLine self.new }
     {
+        self.each_steps();
         if terminal >= self.control.terminals() {
             return Err(LineError::NoSuchTerminal);
         }

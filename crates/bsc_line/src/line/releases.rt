@@ -5,6 +5,7 @@ ghost use Rattle.bsc_line_model.specs.Line.{terminal_count};
 ghost use Rattle.bsc_line_model.specs.Offers.{select_count, ReleasesFrom, ReleasesTo};
 ghost use Rattle.bsc_line_model.specs.Runs.{Does};
 ghost use Rattle.bsc_line_model.specs.Kept.{IsLine};
+ghost use Rattle.bsc_line_model.specs.StepLaws.{StepsAs};
 
 use crate::line::Line;
 use crate::reading::tell;
@@ -21,8 +22,10 @@ impl<A: Allocator> Line<A> {
     /// the number of the known records nor that number with the doubtful block.
     pub fn release(&mut self, terminal: usize, way: Way) -> Result<(), LineError>
         ensures does { Does (event.Release terminal way) self.old result self.new }
+        ensures steps { StepsAs (event.Release terminal way) self.old result self.new }
         ensures line { IsLine self.new }
     {
+        self.each_steps();
         if terminal >= self.control.terminals() {
             return Err(LineError::NoSuchTerminal);
         }

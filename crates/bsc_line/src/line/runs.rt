@@ -1,18 +1,20 @@
 //! A list of events is run.
 
 ghost use Rattle.std.specs.Prelude.{IsTrue};
+ghost use Rattle.bsc_line_model.specs.EveryRun.{HasSameChannels, OffersAccepted};
 ghost use Rattle.bsc_line_model.specs.Headline.{KeepsRecords};
 ghost use Rattle.bsc_line_model.specs.Kept.{IsLine};
 ghost use Rattle.bsc_line_model.specs.Rounds.{DeliversVisit, DeliversRound};
 ghost use Rattle.bsc_line_model.specs.Runs.{Does, Runs};
 
 use crate::line::Line;
-use bsc_line_model::laws::{headline, round, visit};
+use bsc_line_model::laws::{every_run, headline, round, visit};
 use bsc_line_model::{Event, LineError, Stopped};
 use std::alloc::Allocator;
 
 impl<A: Allocator> Line<A> {
-    /// Applies the events in order, up to the first that is refused.
+    /// Applies the events in order, up to the first that is refused. The channels are those of
+    /// before, and what is offered on them grows by the accepted offers.
     ///
     /// If the line is trusted after them, it has kept the records: on each channel, those that
     /// arrived are the first of those that were offered, in order and each once; they include all
@@ -24,11 +26,15 @@ impl<A: Allocator> Line<A> {
     /// that wait there are delivered.
     pub fn run(&mut self, events: &[Event<'_>]) -> Result<(), Stopped>
         ensures does { Runs self.old events.now result self.new }
+        ensures line { IsLine self.new }
+        ensures channels { HasSameChannels self.old self.new }
+        ensures offered { OffersAccepted self.old events.now result self.new }
         ensures headline { IsTrue self.new.trusted →
             KeepsRecords self.old events.now result self.new }
         ensures visit { DeliversVisit self.old events.now result self.new }
         ensures round { DeliversRound self.old events.now result self.new }
     {
+        every_run();
         headline();
         visit();
         round();

@@ -6,6 +6,7 @@ ghost use Rattle.bsc_line_model.specs.Terminals.{line_owner};
 ghost use Rattle.bsc_line_model.specs.Carries.{TerminalActsAlone, ControlActsAlone};
 ghost use Rattle.bsc_line_model.specs.Runs.{Does};
 ghost use Rattle.bsc_line_model.specs.Kept.{IsLine};
+ghost use Rattle.bsc_line_model.specs.StepLaws.{StepsAs};
 
 use crate::line::Line;
 use crate::terminals::line_owner;
@@ -21,8 +22,10 @@ impl<A: Allocator> Line<A> {
     /// `Pending` if a transmission is pending. (GA27-3004, time-outs.)
     pub fn silence(&mut self) -> Result<(), LineError>
         ensures does { Does event.Silence self.old result self.new }
+        ensures steps { StepsAs event.Silence self.old result self.new }
         ensures line { IsLine self.new }
     {
+        self.each_steps();
         if self.sent.speaker().is_some() {
             return Err(LineError::Pending);
         }

@@ -4,6 +4,8 @@ use Rattle.bsc_line_model.specs.declared.transmission.Speaker.{Speaker}
 use Rattle.bsc_line_model.specs.Transmission.{speaker_of}
 use Rattle.bsc_line_model.specs.Line.{LineValue, terminal_count}
 use Rattle.bsc_line.proofs.Carrying.{from_terminal, from_control, each_hears_own_item}
+use Rattle.bsc_line_model.specs.declared.event.Event.TheVariants as event
+use Rattle.std.proofs.Common.{Ok}
 use Rattle.bsc_line.proofs.line.Line.carry_each.Goals as goal
 
 pub carry_down-requires : goal.carry_down-requires
@@ -28,3 +30,8 @@ returns-clause-does g c =
     ∙ c.in-Some-Control.is ∙ ap (λ (p : Speaker). Some p) c.in-Some-Control.field-0-is)
     (c.if-items-len.false ∙ counted ∙ ap (λ (l : LineValue). terminal_count l) c.self.view_is)
     c.carry_down.ensures.does
+
+pub returns-clause-steps : goal.returns-clause-steps
+returns-clause-steps g c =
+    c.each_steps.ensures (event.CarryEach c.args.items) c.carry_down.new.self (Ok tt)
+    (returns-clause-does g c)

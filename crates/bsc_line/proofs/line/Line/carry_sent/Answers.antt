@@ -7,6 +7,8 @@ use Rattle.bsc_line_model.specs.Line.{LineValue}
 use Rattle.bsc_frame.specs.declared.message.Heard.TheVariants.{Whole}
 use Rattle.bsc_line.proofs.Carrying.{from_terminal, from_control, terminals_hear_pending}
 use Rattle.bsc_line.proofs.Carrying.{control_hears_pending}
+use Rattle.bsc_line_model.specs.declared.event.Event.TheVariants as event
+use Rattle.std.proofs.Common.{Ok}
 use Rattle.bsc_line.proofs.line.Line.carry_sent.Goals as goal
 
 pub carry_down_whole-requires : goal.carry_down_whole-requires
@@ -35,3 +37,13 @@ returns-in-Some-Terminal-clause-does g c =
     (ap (λ (l : LineValue). speaker_of l.pending) (sym c.self.view_is) ∙ sym c.speaker_of.ensures
     ∙ c.in-Some-Terminal.is ∙ ap (λ (p : Speaker). Some p) c.in-Some-Terminal.field-0-is)
     c.carry_up_whole.ensures.does
+
+pub returns-in-Some-Control-clause-steps : goal.returns-in-Some-Control-clause-steps
+returns-in-Some-Control-clause-steps g c =
+    c.each_steps.ensures event.CarrySent c.carry_down_whole.new.self (Ok tt)
+    (returns-in-Some-Control-clause-does g c)
+
+pub returns-in-Some-Terminal-clause-steps : goal.returns-in-Some-Terminal-clause-steps
+returns-in-Some-Terminal-clause-steps g c =
+    c.each_steps.ensures event.CarrySent c.carry_up_whole.new.self (Ok tt)
+    (returns-in-Some-Terminal-clause-does g c)

@@ -6,6 +6,7 @@ use Rattle.bsc_line_model.specs.Line.{LineValue, line_of, terminal_at, with_term
 use Rattle.bsc_line_model.specs.Offers.{full_length, read_for}
 use Rattle.bsc_line_model.proofs.Carrying.{is_terminal}
 use Rattle.bsc_line.proofs.Offering.{offer_at_terminal, offer_line, read_short, terminal_full}
+use Rattle.bsc_line_model.specs.declared.event.Event.TheVariants as event
 use Rattle.bsc_line.proofs.line.Line.offer_at.Goals as goal
 
 pub offer_here-requires : goal.offer_here-requires
@@ -61,3 +62,8 @@ returns-clause-does g c =
 
 pub returns-clause-line : goal.returns-clause-line
 returns-clause-line g c = invariant_of-self g c
+
+pub returns-clause-steps : goal.returns-clause-steps
+returns-clause-steps g c =
+    c.each_steps.ensures (event.OfferAt c.args.terminal c.args.codes) _ c.offer_here.result
+    (returns-clause-does g c)

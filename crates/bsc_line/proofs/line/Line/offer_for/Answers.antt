@@ -1,11 +1,13 @@
 -- `offer_for` does the event `OfferFor`.
-use Rattle.std.proofs.Common.{◌≡◌, ◌<◌, ◌≤◌, ℕ, length, sym, ◌∙◌, subst, arith}
+use Rattle.std.proofs.Common.{◌≡◌, ◌<◌, ◌≤◌, ℕ, length, sym, ◌∙◌, subst, arith, rules}
+use Rattle.std.proofs.lemmas.Grind.{common_steps}
 use Rattle.bsc_bid.specs.Setup.{SetupValue}
 use Rattle.bsc_control.specs.Control.{peer_at}
 use Rattle.bsc_line_model.specs.Kept.{IsLine}
 use Rattle.bsc_line_model.specs.Line.{LineValue, line_of, with_control}
 use Rattle.bsc_line_model.specs.Offers.{full_length, select_count}
 use Rattle.bsc_line.proofs.Offering.{offer_for_line, read_short, select_back}
+use Rattle.bsc_line_model.specs.declared.event.Event.TheVariants as event
 use Rattle.bsc_line.proofs.line.Line.offer_for.Goals as goal
 
 pub invariant_of-self : goal.invariant_of-self
@@ -35,3 +37,8 @@ invariant_of-self g c =
 
 pub returns-clause-line : goal.returns-clause-line
 returns-clause-line g c = invariant_of-self g c
+
+pub returns-clause-steps : goal.returns-clause-steps
+returns-clause-steps g c =
+    c.each_steps.ensures (event.OfferFor c.args.terminal c.args.select c.args.codes) _
+    c.match-offer.result (first_of (search rules, grind (arith, common_steps)))

@@ -5,6 +5,8 @@ use Rattle.bsc_line_model.specs.Line.{LineValue}
 use Rattle.bsc_line_model.specs.Terminals.{line_owner}
 use Rattle.bsc_line_model.specs.Carries.{OwnerActs}
 use Rattle.bsc_line.proofs.Carrying.{none_if_not_some, passes_silence}
+use Rattle.bsc_line_model.specs.declared.event.Event.TheVariants as event
+use Rattle.std.proofs.Common.{Ok}
 use Rattle.bsc_line.proofs.line.Line.silence.Goals as goal
 
 pub act_at-requires-clause-there : goal.act_at-requires-clause-there
@@ -54,3 +56,12 @@ returns-in-None-clause-does g c =
     (c.as_slice.ensures.value ∙ ap (λ (l : LineValue). l.terminals) c.self.view_is))
     (subst (λ (o : Option ℕ). OwnerActs o c.args.self.now c.act_at_control.new.self)
     (sym c.in-None.is) c.act_at_control.ensures.does)
+
+pub returns-in-Some-clause-steps : goal.returns-in-Some-clause-steps
+returns-in-Some-clause-steps g c =
+    c.each_steps.ensures event.Silence c.act_at.new.self (Ok tt) (returns-in-Some-clause-does g c)
+
+pub returns-in-None-clause-steps : goal.returns-in-None-clause-steps
+returns-in-None-clause-steps g c =
+    c.each_steps.ensures event.Silence c.act_at_control.new.self (Ok tt)
+    (returns-in-None-clause-does g c)
