@@ -23,7 +23,7 @@ impl<A: Allocator> Line<A> {
         ensures does { Does event.Silence self.old result self.new }
         ensures line { IsLine self.new }
     {
-        if self.sent.speaker().is_some() {
+        if self.sent.is_some() {
             return Err(LineError::Pending);
         }
         match line_owner(self.terminals.as_slice()) {
