@@ -42,13 +42,13 @@ impl Digest {
         self.number(code(answer));
         match line.pending() {
             None => self.number(0),
-            Some(sent) => self.transmission(sent),
+            Some(sent) => self.transmission(&sent),
         }
         self.number(usize::from(line.trusted()));
     }
 
     /// Adds the sender of a transmission, and its octets.
-    fn transmission(&mut self, sent: &Transmission) {
+    fn transmission(&mut self, sent: &Transmission<'_>) {
         let mut octets = Wire::new();
         encode(&sent.message, &mut octets);
         self.number(speaker_code(sent.speaker));

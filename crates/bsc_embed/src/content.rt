@@ -9,7 +9,7 @@ ghost use Rattle.bsc_embed.specs.Decoded.{KeepsRestOfCall, KeepsRestOfText};
 
 use bsc_frame::controls::{ETB_CODE, ETX_CODE};
 use bsc_frame::limits::{MAX_ADDRESS, MAX_CHARS, MAX_UNITS};
-use bsc_frame::{Address, End, Text, Unit, is_record_char};
+use bsc_frame::{Address, End, Text, TextBuffer, Unit, is_record_char};
 
 /// A unit of a text: `struct bsc_unit` of `bsc.h`. C may put any octet into any field.
 #[repr(C)]
@@ -136,7 +136,7 @@ impl Content {
     }
 
     /// Stores the text here.
-    pub(crate) fn put_text(&mut self, text: &Text)
+    pub(crate) fn put_text(&mut self, text: &Text<'_>)
         ensures text { text_in self.new ≡ Some text.now }
         ensures kept { KeepsRestOfText self.old self.new }
     {
@@ -147,10 +147,10 @@ impl Content {
         self.end = end_code(text.end());
     }
 
-    /// Returns the text stored here, if it is one. It is a separate function so that only this call
-    /// needs room for the units.
+    /// Returns the text stored here, if it is one. Its units are copied into the buffer. It is a
+    /// separate function so that only this call needs room for the units.
     #[inline(never)]
-    pub(crate) fn text(&self) -> Option<Text>
+    pub(crate) fn text<'a>(&self, buffer: &'a mut TextBuffer) -> Option<Text<'a>>
         ensures { result ≡ text_in self.now }
     {
         let count = self.count as usize;
@@ -165,6 +165,6 @@ impl Content {
         for place in 0..count {
             units[place] = self.units[place].unit()?;
         }
-        Some(Text::of(&units[..count], end))
+        Some(buffer.hold(&units[..count], end))
     }
 }

@@ -7,7 +7,7 @@ ghost use Rattle.bsc_embed.specs.Contents.{message_in};
 ghost use Rattle.bsc_embed.specs.Decoded.{StandsFor, KeepsRest, KeepsRestOfHeard, Tells};
 
 use crate::{Content, Kind};
-use bsc_frame::{Heard, Message, Short, decode, decode_short};
+use bsc_frame::{Heard, Message, Short, TextBuffer, decode, decode_short};
 
 /// Stores in the content what the short message holds, and returns its kind.
 fn put_short(short: &Short, content: &mut Content) -> Kind
@@ -33,7 +33,8 @@ fn decode_text(octets: &[u8], content: &mut Content) -> Kind
     requires { BeginsText octets.now }
     ensures { Tells octets.now result content.old content.new }
 {
-    match &decode(octets) {
+    let mut buffer = TextBuffer::new();
+    match &decode(octets, &mut buffer) {
         Heard::Whole(message) => match message {
             Message::Text(text) => {
                 content.put_text(text);

@@ -4,11 +4,16 @@ ghost use Rattle.bsc_embed.specs.Contents.{message_in};
 ghost use Rattle.bsc_embed.specs.Sent.{octets_within};
 
 use crate::{Content, Kind};
-use bsc_frame::{Message, Wire, encode};
+use bsc_frame::{Message, TextBuffer, Wire, encode};
 
-/// Returns the message of this kind with this content, if it is one.
+/// Returns the message of this kind with this content, if it is one. The units of a text are copied
+/// into the buffer.
 #[tactic(auto, unfolding(crate::specs::Contents::message_in))]
-fn message_of(number: u32, content: &Content) -> Option<Message>
+fn message_of<'a>(
+    number: u32,
+    content: &Content,
+    buffer: &'a mut TextBuffer,
+) -> Option<Message<'a>>
     ensures { result ≡ message_in number content.now }
 {
     match Kind::numbered(number)? {
@@ -17,7 +22,7 @@ fn message_of(number: u32, content: &Content) -> Option<Message>
         Kind::Call => Some(Message::Call(content.address()?)),
         Kind::Enq => Some(Message::Enq),
         Kind::Reply(reply) => Some(Message::Reply(reply)),
-        Kind::Text => Some(Message::Text(content.text()?)),
+        Kind::Text => Some(Message::Text(content.text(buffer)?)),
     }
 }
 
@@ -33,7 +38,8 @@ pub extern "C" fn bsc_encode(kind: u32, content: &Content, octets: &mut [u8]) ->
         ≡ octets_within (length octets.old) (message_in kind content.now)
         ++ drop result octets.old }
 {
-    let Some(message) = message_of(kind, content) else {
+    let mut buffer = TextBuffer::new();
+    let Some(message) = message_of(kind, content, &mut buffer) else {
         return 0;
     };
     let mut wire = Wire::new();

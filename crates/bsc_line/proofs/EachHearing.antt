@@ -6,10 +6,11 @@ use Rattle.std.proofs.lemmas.List.{get_or_default, length-set}
 use Rattle.bsc_frame.specs.declared.message.Message.{Message}
 use Rattle.bsc_frame.specs.declared.message.Heard.{Heard}
 use Rattle.bsc_tributary.specs.Tributary.{TributaryValue, TributaryStep, Hears}
-use Rattle.bsc_tributary.specs.Kept.{AfterHearing}
+use Rattle.bsc_tributary.specs.Kept.{AfterHearing, IsHearing}
+use Rattle.bsc_line_model.specs.declared.transmission.Speaker.{Speaker}
 use Rattle.bsc_line_model.specs.declared.transmission.Speaker.TheVariants.{Terminal}
 use Rattle.bsc_line_model.specs.declared.transmission.Transmission.{Transmission}
-use Rattle.bsc_line_model.specs.Transmission.{sent_by}
+use Rattle.bsc_line_model.specs.Transmission.{sent_by, speaker_of}
 use Rattle.bsc_line_model.specs.Line.{no_terminal, terminal_in}
 use Rattle.bsc_line_model.specs.Terminals.{answer, answer_of, EachHears, EachKeeps, or_first}
 use Rattle.bsc_line_model.specs.Terminals.{first_answer}
@@ -29,11 +30,28 @@ pub heeds_answer : (t : TributaryValue) (h : Heard) (u : TributaryValue) (out : 
     → Heeds t h u out → Heeds t h u (answer t h u)
 heeds_answer t h u out x = subst (λ (o : Option Message). Heeds t h u o) (sent_is t h u out x.row) x
 
+pub hearing_with_answer : (t : TributaryValue) (h : Heard) (u : TributaryValue)
+    (out : Option Message) → IsHearing t h u out → IsHearing t h u (answer t h u)
+hearing_with_answer t h u out x =
+    subst (λ (o : Option Message). IsHearing t h u o) (sent_is t h u out x.row) x
+
 -- a terminal that does not answer leaves the first answer unchanged
 pub first_answer_kept_by_quiet : (first : Option Transmission) (t : ℕ) → first
     ≡ or_first first (sent_by (Terminal t) None)
 first_answer_kept_by_quiet None t = refl
 first_answer_kept_by_quiet (Some s) t = refl
+
+-- what a terminal sent is kept if no answer was kept before
+pub first_answer_kept_if_none : (first next : Option Transmission) → speaker_of first ≡ None
+    → next ≡ or_first first next
+first_answer_kept_if_none None next e = refl
+first_answer_kept_if_none (Some s) next e = absurd (cc)
+
+-- and dropped if one was
+pub first_answer_kept_if_some : (first next : Option Transmission) (p : Speaker) → speaker_of first
+    ≡ Some p → first ≡ or_first first next
+first_answer_kept_if_some None next p e = absurd (cc)
+first_answer_kept_if_some (Some s) next p e = refl
 
 -- the first n answers depend only on the first n terminals
 pub first_answer_of_same_front : (old a b : List TributaryValue) (hears : ℕ → Heard) (n : ℕ)

@@ -19,7 +19,7 @@ pub(crate) enum Hearings<'a> {
 /// left in the buffer.
 #[tactic(auto, unfolding(bsc_line_model::specs::Hearing::heard_in))]
 pub(crate) fn hearing<'a>(item: Option<&[u8]>, buffer: &'a mut TextBuffer) -> Heard<'a>
-    ensures { result ≡ heard_in (octets_in item) }
+    ensures { result ≡ heard_in (octets_in item.entry) }
 {
     match item {
         Some(octets) => decode(octets, buffer),

@@ -1,6 +1,6 @@
 //! The pending transmission, and room for the answer to it.
 
-ghost use Rattle.std.specs.Prelude.{◌≡◌, None, Option, IfSome, length};
+ghost use Rattle.std.specs.Prelude.{◌≡◌, None, Option, IfSome, is_some, length};
 ghost use Rattle.bsc_frame.specs.declared.message.Message.{Message as MessageValue};
 ghost use Rattle.bsc_frame.specs.declared.message.Heard.TheVariants as h;
 ghost use Rattle.bsc_line_model.specs.declared.transmission.Transmission.{Transmission as TransmissionValue};
@@ -59,6 +59,13 @@ impl Pending {
         } else {
             self.first.transmission()
         }
+    }
+
+    /// Returns whether a transmission is pending.
+    pub(crate) fn is_some(&self) -> bool
+        ensures { result ≡ is_some self.now }
+    {
+        self.transmission().is_some()
     }
 
     /// Returns the sender of the pending transmission.
@@ -149,7 +156,7 @@ impl Pending {
 
 /// Returns the transmission as it is heard unspoiled.
 pub(crate) fn whole<'a>(sent: Option<Transmission<'a>>) -> Heard<'a>
-    ensures { IfSome sent (λ (s : TransmissionValue). result ≡ h.Whole s.message) }
+    ensures { IfSome sent.entry (λ (s : TransmissionValue). result ≡ h.Whole s.message) }
 {
     match sent {
         Some(sent) => Heard::Whole(sent.message),

@@ -1,6 +1,6 @@
 //! Room for one transmission, or for none.
 
-ghost use Rattle.std.specs.Prelude.{◌≡◌, None, Option, is_none};
+ghost use Rattle.std.specs.Prelude.{◌≡◌, None, Option};
 ghost use Rattle.bsc_frame.specs.declared.message.Message.{Message as MessageValue};
 ghost use Rattle.bsc_line_model.specs.Transmission.{sent_by, speaker_of};
 

@@ -9,8 +9,8 @@ use bsc_line_model::Transmission;
 
 /// Returns the transmission, whose message is within its limits.
 pub(crate) fn within_limits<'a>(sent: Option<Transmission<'a>>) -> Option<Transmission<'a>>
-    ensures value { result ≡ sent }
-    ensures limits { IfSome sent (λ (s : TransmissionValue). IsMessage s.message) }
+    ensures value { result ≡ sent.entry }
+    ensures limits { IfSome sent.entry (λ (s : TransmissionValue). IsMessage s.message) }
 {
     match sent {
         Some(sent) => {

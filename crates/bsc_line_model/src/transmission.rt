@@ -28,7 +28,7 @@ pub struct Transmission<'a> {
 impl<'a> Transmission<'a> {
     /// Returns the transmission by this station of the message, or `None` if there is no message.
     pub fn by(speaker: Speaker, message: Option<Message<'a>>) -> Option<Transmission<'a>>
-        ensures { result ≡ sent_by speaker message }
+        ensures { result ≡ sent_by speaker message.entry }
     {
         match message {
             Some(message) => Some(Transmission { speaker, message }),

@@ -7,7 +7,7 @@ use crate::trace::Who;
 use crate::watch::{Watch, live};
 use bsc_bid::Station;
 use bsc_connections::{LiveError, Monitor, Note};
-use bsc_frame::{Heard, Message};
+use bsc_frame::{Heard, MessageBuffer};
 use std::alloc::Allocator;
 use std::io::Write;
 
@@ -26,12 +26,12 @@ impl Station for Ended {
 
     ghost holds = { λ _. false };
 
-    fn answer(&mut self, _heard: &Heard, sent: &mut Option<Message>) {
-        *sent = None;
+    fn answer(&mut self, _heard: &Heard<'_>, sent: &mut MessageBuffer) {
+        sent.clear();
     }
 
-    fn act(&mut self, sent: &mut Option<Message>) {
-        *sent = None;
+    fn act(&mut self, sent: &mut MessageBuffer) {
+        sent.clear();
     }
 
     fn holds_line(&self) -> bool {

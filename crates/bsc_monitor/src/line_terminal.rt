@@ -11,7 +11,7 @@ use crate::{ChannelEnd, Party, Received};
 use bsc_bid::{Setup, Station, Terminal};
 use bsc_block::Record;
 use bsc_control::Way;
-use bsc_frame::{Heard, Message};
+use bsc_frame::{Heard, MessageBuffer};
 use bsc_tributary::Tributary;
 use std::alloc::Allocator;
 use std::marker::Model;
@@ -90,11 +90,11 @@ impl<A: Allocator> Station for LineTerminal<A> {
 
     ghost holds = { λ l. holds l.tributary.mode };
 
-    fn answer(&mut self, heard: &Heard, sent: &mut Option<Message>) {
+    fn answer(&mut self, heard: &Heard<'_>, sent: &mut MessageBuffer) {
         self.tributary.answer(heard, sent);
     }
 
-    fn act(&mut self, sent: &mut Option<Message>) {
+    fn act(&mut self, sent: &mut MessageBuffer) {
         self.tributary.act(sent);
     }
 

@@ -10,7 +10,7 @@ ghost use Rattle.bsc_monitor.specs.Traces.{who_shown};
 
 use bsc_carrier::CarrierError;
 use bsc_connections::Note;
-use bsc_frame::decode;
+use bsc_frame::{TextBuffer, decode};
 use bsc_frame::laws::{one_reading, reading};
 use bsc_print::{PrintError, put, write_chars, write_heard_name};
 use std::alloc::Allocator;
@@ -105,7 +105,8 @@ fn write_content<A: Allocator, W: Write>(
 {
     one_reading();
     reading();
-    write_heard_name(&decode(octets), out)?;
+    let mut buffer = TextBuffer::new();
+    write_heard_name(&decode(octets, &mut buffer), out)?;
     write_octets(alloc, octets, out)
 }
 

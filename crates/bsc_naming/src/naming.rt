@@ -9,7 +9,7 @@ ghost use Rattle.bsc_naming.specs.Lines.{last_part};
 ghost use Rattle.bsc_naming.specs.Errors.{IsLineError, IsNameError, IsPrintError};
 
 use crate::NamingError;
-use bsc_frame::decode;
+use bsc_frame::{TextBuffer, decode};
 use bsc_input::{is_blank, read_octets, split_at_first, split_line, without_return};
 use bsc_print::{Detail, write_shown};
 use std::alloc::Allocator;
@@ -177,7 +177,8 @@ fn write_transmission<A: Allocator + Copy, W: Write>(
         (Prints (shown detail) octets.now (W.contents out.old) (W.contents out.new)) }
     ensures fault { IfErr result IsPrintError }
 {
-    let heard = decode(octets);
+    let mut buffer = TextBuffer::new();
+    let heard = decode(octets, &mut buffer);
     write_shown(alloc, detail, &heard, out)?;
     Ok(())
 }

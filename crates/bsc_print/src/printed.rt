@@ -43,7 +43,7 @@ fn end_name(end: End) -> &'static str
 }
 
 /// Writes the name of a text.
-fn write_text_name<W: Write>(text: &Text, out: &mut W) -> Result<(), PrintError>
+fn write_text_name<W: Write>(text: &Text<'_>, out: &mut W) -> Result<(), PrintError>
     ensures ok { OnOk result
         (Appends (W.contents out.old) (W.contents out.new) (message_name (Message.Text text.now))) }
     ensures err { IfErr result (λ error. error ≡ PrintError.Output) }
@@ -59,7 +59,7 @@ fn write_text_name<W: Write>(text: &Text, out: &mut W) -> Result<(), PrintError>
 /// Writes the name of a message, without a line feed: a control sequence by its name, a call with
 /// its address, a text with its end and its number of units. After an error a part of the name may
 /// have been written.
-pub fn write_name<W: Write>(message: &Message, out: &mut W) -> Result<(), PrintError>
+pub fn write_name<W: Write>(message: &Message<'_>, out: &mut W) -> Result<(), PrintError>
     ensures ok { OnOk result
         (Appends (W.contents out.old) (W.contents out.new) (message_name message.now)) }
     ensures err { IfErr result (λ error. error ≡ PrintError.Output) }
@@ -78,7 +78,7 @@ pub fn write_name<W: Write>(message: &Message, out: &mut W) -> Result<(), PrintE
 
 /// Writes the name of what is heard, without a line feed: that of the message, `FAILED` or `NOISE`.
 /// After an error a part of it may have been written.
-pub fn write_heard_name<W: Write>(heard: &Heard, out: &mut W) -> Result<(), PrintError>
+pub fn write_heard_name<W: Write>(heard: &Heard<'_>, out: &mut W) -> Result<(), PrintError>
     ensures ok { OnOk result
         (Appends (W.contents out.old) (W.contents out.new) (name_of heard.now)) }
     ensures err { IfErr result (λ error. error ≡ PrintError.Output) }
@@ -91,7 +91,7 @@ pub fn write_heard_name<W: Write>(heard: &Heard, out: &mut W) -> Result<(), Prin
 }
 
 /// Writes the name, and a line feed.
-fn write_name_line<W: Write>(heard: &Heard, out: &mut W) -> Result<(), PrintError>
+fn write_name_line<W: Write>(heard: &Heard<'_>, out: &mut W) -> Result<(), PrintError>
     ensures ok { OnOk result
         (Appends (W.contents out.old) (W.contents out.new) (name_line heard.now)) }
     ensures err { IfErr result (λ error. error ≡ PrintError.Output) }
@@ -105,7 +105,7 @@ fn write_name_line<W: Write>(heard: &Heard, out: &mut W) -> Result<(), PrintErro
 pub fn write_shown<A: Allocator + Copy, W: Write>(
     alloc: A,
     detail: Detail,
-    heard: &Heard,
+    heard: &Heard<'_>,
     out: &mut W,
 ) -> Result<(), PrintError>
     ensures ok { OnOk result
@@ -121,7 +121,7 @@ pub fn write_shown<A: Allocator + Copy, W: Write>(
 /// Writes a line for each unit of a text. Writes nothing for anything else.
 fn write_units<A: Allocator + Copy, W: Write>(
     alloc: A,
-    heard: &Heard,
+    heard: &Heard<'_>,
     out: &mut W,
 ) -> Result<(), PrintError>
     ensures ok { OnOk result
@@ -137,7 +137,7 @@ fn write_units<A: Allocator + Copy, W: Write>(
 /// Writes a line for each unit of a message.
 fn write_message_units<A: Allocator + Copy, W: Write>(
     alloc: A,
-    message: &Message,
+    message: &Message<'_>,
     out: &mut W,
 ) -> Result<(), PrintError>
     ensures ok { OnOk result
@@ -153,7 +153,7 @@ fn write_message_units<A: Allocator + Copy, W: Write>(
 /// Writes a line for each unit of a text.
 fn write_text_units<A: Allocator + Copy, W: Write>(
     alloc: A,
-    text: &Text,
+    text: &Text<'_>,
     out: &mut W,
 ) -> Result<(), PrintError>
     ensures ok { OnOk result

@@ -24,7 +24,7 @@ fn write_speaker<W: Write>(speaker: Speaker, out: &mut W) -> Result<(), PrintErr
 }
 
 /// Writes the line of the trace for a transmission.
-fn write_sent<W: Write>(sent: &Transmission, out: &mut W) -> Result<(), PrintError>
+fn write_sent<W: Write>(sent: &Transmission<'_>, out: &mut W) -> Result<(), PrintError>
     ensures { OnOk result
         (Appends (W.contents out.old) (W.contents out.new) (pending_line (Some sent.now))) }
 {
@@ -44,6 +44,6 @@ pub(crate) fn write_pending<A: Allocator, W: Write>(
 {
     match line.pending() {
         None => put(b"quiet\n", out),
-        Some(sent) => write_sent(sent, out),
+        Some(sent) => write_sent(&sent, out),
     }
 }

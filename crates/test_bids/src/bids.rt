@@ -265,7 +265,7 @@ const EXCHANGES: &[Exchange] = &[
 
 /// The result of a call of the sender with this outcome and this message; None if they do not go
 /// together.
-fn told(outcome: Outcome, sent: &Option<Message>) -> Option<Then> {
+fn told(outcome: Outcome, sent: &Option<Message<'_>>) -> Option<Then> {
     match (outcome, sent) {
         (Outcome::Sends, Some(Message::Text(text))) => Some(Text(text.count(), text.end())),
         (Outcome::Sends, Some(Message::Enq)) => Some(Enq),
@@ -304,7 +304,7 @@ fn take<A: Allocator>(ends: &mut Ends<A>, step: &Step) -> Option<Then> {
             });
         }
     };
-    told(outcome, &ends.sent)
+    told(outcome, &ends.sent.message())
 }
 
 /// Whether a row has the expected results.

@@ -6,7 +6,7 @@ ghost use Rattle.std.specs.Prelude.{◌≡◌};
 use crate::turns::{Fate, heard_at_both, turn};
 use bsc_bid::{Outcome, Receiver, ReleaseError, Sender, Setup};
 use bsc_block::Record;
-use bsc_frame::{Heard, Message, Reply};
+use bsc_frame::{Heard, Message, MessageBuffer, Reply};
 use bsc_spool::{Queue, Spool};
 use std::alloc::Allocator;
 use std::marker::Model;
@@ -24,7 +24,7 @@ pub(crate) struct Ends<A: Allocator> {
     going: bool,
 
     /// What the sender sent last.
-    pub(crate) sent: Option<Message>,
+    pub(crate) sent: MessageBuffer,
 
     /// The receiver of the bids.
     receiver: Receiver,
@@ -56,7 +56,7 @@ impl<A: Allocator + Copy> Ends<A> {
             sender: Sender::new(setup),
             queue: Queue::new(alloc, setup.format()),
             going: false,
-            sent: None,
+            sent: MessageBuffer::new(),
             receiver,
             spool: Spool::new(alloc),
         }
@@ -103,21 +103,26 @@ impl<A: Allocator> Ends<A> {
 
     /// The reply of the receiver to what the sender sent last.
     pub(crate) fn arrive(&mut self) -> Option<Reply> {
-        let heard = Heard::Whole(self.sent.take()?);
-        self.receiver.heard(&heard, false, &mut self.spool)
+        let heard = Heard::Whole(self.sent.message()?);
+        let reply = self.receiver.heard(&heard, false, &mut self.spool);
+        self.sent.clear();
+        reply
     }
 
     /// A turn in which what the sender sent last meets this fate, and the sender hears this reply.
     pub(crate) fn turn(&mut self, fate: &Fate, reply: Option<Reply>) -> Outcome {
         self.going = true;
-        turn(
+        let mut sent = MessageBuffer::new();
+        let outcome = turn(
             &mut self.sender,
             &mut self.queue,
             &mut self.receiver,
             &mut self.spool,
-            &heard_at_both(self.sent.take(), fate, reply),
-            &mut self.sent,
-        )
+            &heard_at_both(self.sent.message(), fate, reply),
+            &mut sent,
+        );
+        self.sent = sent;
+        outcome
     }
 
     /// The line is taken from the sender.

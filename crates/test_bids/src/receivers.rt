@@ -1,7 +1,7 @@
 //! The replies of receivers, with refused growths of their spools.
 
 use bsc_bid::Receiver;
-use bsc_frame::{Reply, decode};
+use bsc_frame::{Reply, TextBuffer, decode};
 use bsc_spool::Spool;
 use std::alloc::Allocator;
 use std::test::Fail;
@@ -39,7 +39,7 @@ fn reply_to<A: Allocator>(
     octets: &[u8],
     urgent: bool,
 ) -> Option<Reply> {
-    receiver.heard(&decode(octets), urgent, spool)
+    receiver.heard(&decode(octets, &mut TextBuffer::new()), urgent, spool)
 }
 
 /// The place of the first hearing of a new receiver with another result.

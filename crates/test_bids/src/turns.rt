@@ -11,21 +11,21 @@ ghost use Rattle.bsc_bid.specs.Ready.{CountsOn, IsGoing, IsReady};
 ghost use Rattle.bsc_bid.specs.Receiver.{Rooms, rooms_left};
 
 use bsc_bid::{Outcome, Receiver, Sender};
-use bsc_frame::{Heard, Message, Reply};
+use bsc_frame::{Heard, Message, MessageBuffer, Reply};
 use bsc_spool::{Queue, Spool};
 use std::alloc::Allocator;
 
 /// What the two ends hear in one exchange.
 #[derive(Drop)]
-pub(crate) struct Hearings {
+pub(crate) struct Hearings<'a> {
     /// What the receiver hears of the sender's transmission; None if it is lost.
-    there: Option<Heard>,
+    there: Option<Heard<'a>>,
 
     /// Whether the receiver asks for the line.
     urgent: bool,
 
     /// What the sender hears of the reply; None if it is lost.
-    back: Option<Heard>,
+    back: Option<Heard<'a>>,
 }
 
 /// A turn in which the ends hear this.
@@ -34,8 +34,8 @@ pub(crate) fn turn<A: Allocator>(
     queue: &mut Queue<A>,
     receiver: &mut Receiver,
     spool: &mut Spool<A>,
-    hearings: &Hearings,
-    sent: &mut Option<Message>,
+    hearings: &Hearings<'_>,
+    sent: &mut MessageBuffer,
 ) -> Outcome
     requires { IsGoing sender.old.phase → CountsOn sender.old.phase (length (waiting queue.old)) }
     ensures law { let heard = unwrap_or hearings.now.there Noise in
@@ -87,7 +87,11 @@ pub(crate) enum Fate {
 
 /// What both ends hear if the sender's transmission meets this fate and the sender hears this
 /// reply.
-pub(crate) fn heard_at_both(sent: Option<Message>, fate: &Fate, reply: Option<Reply>) -> Hearings {
+pub(crate) fn heard_at_both<'a>(
+    sent: Option<Message<'a>>,
+    fate: &Fate,
+    reply: Option<Reply>,
+) -> Hearings<'a> {
     Hearings {
         there: match fate {
             Fate::Arrives => sent.map(Heard::Whole),

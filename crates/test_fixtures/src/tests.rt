@@ -4,7 +4,7 @@ use crate::lines::{address, setup, two_terminals, two_terminals_by_three};
 use crate::records::{are_front, are_records};
 use crate::{Full, octets};
 use bsc_block::{Record, Records, unpack};
-use bsc_frame::{Address, End, Heard, Message, Reply, Text, Wire, decode, encode};
+use bsc_frame::{Address, End, Heard, Message, Reply, Text, TextBuffer, Wire, decode, encode};
 use std::io::{ErrorKind, Write};
 use std::test::Fail;
 
@@ -31,7 +31,7 @@ fn transmissions_of_control_sequences_and_calls(rt: HostRuntime) {
 }
 
 /// Whether the text carries this many records, each with these characters.
-fn carries(text: &Text, count: usize, chars: &[u8]) -> bool {
+fn carries(text: &Text<'_>, count: usize, chars: &[u8]) -> bool {
     let block = unpack(text);
     for place in 0..block.count() {
         if block.chars(place) != chars {
@@ -49,14 +49,14 @@ fn transmissions_of_texts(rt: HostRuntime) -> Result<(), Fail> {
         (octets::TEXT_LAST_SEVEN, 7, End::Etx, b""),
         (octets::TEXT_FIRST_SEVEN, 7, End::Etb, b""),
     ] {
-        let Heard::Whole(Message::Text(text)) = decode(sent) else {
+        let Heard::Whole(Message::Text(text)) = decode(sent, &mut TextBuffer::new()) else {
             return Err("no text".into());
         };
         assert_eq!(rt; text.end(), end);
         assert!(rt; carries(&text, count, chars));
     }
-    assert!(rt; matches!(&decode(octets::BROKEN_TEXT), Heard::Failed));
-    assert!(rt; matches!(&decode(octets::NOISE), Heard::Noise));
+    assert!(rt; matches!(&decode(octets::BROKEN_TEXT, &mut TextBuffer::new()), Heard::Failed));
+    assert!(rt; matches!(&decode(octets::NOISE, &mut TextBuffer::new()), Heard::Noise));
     Ok(())
 }
 

@@ -4,7 +4,7 @@ ghost use Rattle.bsc_block.specs.Blocks.{AreShort};
 
 use bsc_block::{Block, Format, FormatError, Record, RecordError, Records, build, pack, unpack};
 use bsc_frame::limits::MAX_UNITS;
-use bsc_frame::{End, Heard, Message, Text, Wire, decode, encode};
+use bsc_frame::{End, Heard, Message, MessageBuffer, Text, TextBuffer, Wire, decode, encode};
 use std::alloc::Allocator;
 use std::test::Fail;
 
@@ -112,11 +112,11 @@ fn wire_of<A: Allocator>(records: &Records<A>, from: usize, format: Format) -> W
     requires few { length records.now.items - from ≤ MAX_UNITS }
     requires short { AreShort format.full records.now.items }
 {
-    let mut message = None;
+    let mut message = MessageBuffer::new();
     let count = records.len() - from;
     build(records, from, count, format, End::Etx, &mut message);
     let mut wire = Wire::new();
-    if let Some(message) = &message {
+    if let Some(message) = &message.message() {
         encode(message, &mut wire);
     }
     wire
@@ -155,8 +155,8 @@ fn several_records_are_one_text(rt: HostRuntime) -> Result<(), Fail> {
 }
 
 // The text of these octets.
-fn text_of(octets: &[u8]) -> Option<Text> {
-    match decode(octets) {
+fn text_of<'a>(octets: &[u8], buffer: &'a mut TextBuffer) -> Option<Text<'a>> {
+    match decode(octets, buffer) {
         Heard::Whole(Message::Text(text)) => Some(text),
         _ => None,
     }
@@ -174,7 +174,7 @@ fn holds(block: &Block<'_>, records: &[&[u8]]) -> bool {
 
 // Whether the octets are heard as a text of these records.
 fn carries(octets: &[u8], records: &[&[u8]]) -> bool {
-    match &decode(octets) {
+    match &decode(octets, &mut TextBuffer::new()) {
         Heard::Whole(Message::Text(text)) => holds(&unpack(text), records),
         _ => false,
     }
@@ -197,7 +197,8 @@ fn received_records_may_be_longer_than_sent_ones(rt: HostRuntime) {
 
 #[test]
 fn the_records_of_a_block_outlive_it(rt: HostRuntime) -> Result<(), Fail> {
-    let text = text_of(TWO_UNITS).ok_or("no text")?;
+    let mut buffer = TextBuffer::new();
+    let text = text_of(TWO_UNITS, &mut buffer).ok_or("no text")?;
     let (chars, copy) = {
         let block = unpack(&text);
         assert_eq!(rt; block.count(), 2);

@@ -3,10 +3,7 @@ ghost use Rattle.std.specs.Prelude.{◌≤◌};
 
 mod spoiled;
 
-use bsc_frame::{
-    Address, AddressError, End, Heard, Message, Short, Text, Unit, Wire, decode, decode_short,
-    encode,
-};
+use bsc_frame::{Address, AddressError, End, Heard, Message, Short, Text, TextBuffer, Unit, Wire, decode, decode_short, encode};
 
 /// The characters of a unit, and whether EM follows them.
 type UnitRow<'a> = (&'a [u8], bool);
@@ -162,7 +159,7 @@ const SAME_AS_HI: &[(&[u8], bool)] = &[
 ];
 
 // The name of what is heard, without its contents.
-fn kind(heard: &Heard) -> &'static str {
+fn kind(heard: &Heard<'_>) -> &'static str {
     match heard {
         Heard::Whole(Message::Eot) => "EOT",
         Heard::Whole(Message::Call(_)) => "CALL",
@@ -175,7 +172,7 @@ fn kind(heard: &Heard) -> &'static str {
 }
 
 // Whether the message is a text of these units with this end.
-fn is_text_of(heard: &Heard, units: &[UnitRow], end: End) -> bool {
+fn is_text_of(heard: &Heard<'_>, units: &[UnitRow], end: End) -> bool {
     match heard {
         Heard::Whole(Message::Text(text)) => has_units(text, units) && text.end() == end,
         _ => false,
@@ -183,7 +180,7 @@ fn is_text_of(heard: &Heard, units: &[UnitRow], end: End) -> bool {
 }
 
 // Whether the text has exactly these units.
-fn has_units(text: &Text, units: &[UnitRow]) -> bool {
+fn has_units(text: &Text<'_>, units: &[UnitRow]) -> bool {
     for place in 0..text.count() {
         let unit = text.unit(place);
         if units.get(place) != Some(&(unit.chars, unit.em)) {
@@ -194,7 +191,7 @@ fn has_units(text: &Text, units: &[UnitRow]) -> bool {
 }
 
 // Whether the octets are what is sent for the message, whatever the buffer contained before.
-fn sends(message: &Message, octets: &[u8]) -> bool {
+fn sends(message: &Message<'_>, octets: &[u8]) -> bool {
     let mut wire = Wire::new();
     wire.push(0x55);
     encode(message, &mut wire);
@@ -203,7 +200,7 @@ fn sends(message: &Message, octets: &[u8]) -> bool {
 
 // Whether the octets are heard as a call of these codes.
 fn hears_call(codes: &[u8], octets: &[u8]) -> bool {
-    match &decode(octets) {
+    match &decode(octets, &mut TextBuffer::new()) {
         Heard::Whole(Message::Call(address)) => address.codes() == codes,
         _ => false,
     }
@@ -211,7 +208,7 @@ fn hears_call(codes: &[u8], octets: &[u8]) -> bool {
 
 // Whether the octets are heard as a message that is sent as the same octets.
 fn is_sent_again(octets: &[u8]) -> bool {
-    match &decode(octets) {
+    match &decode(octets, &mut TextBuffer::new()) {
         Heard::Whole(message) => sends(message, octets),
         _ => false,
     }
@@ -219,7 +216,7 @@ fn is_sent_again(octets: &[u8]) -> bool {
 
 // Whether both are heard as whole messages that are equal.
 fn are_same(a: &[u8], b: &[u8]) -> bool {
-    match (&decode(a), &decode(b)) {
+    match (&decode(a, &mut TextBuffer::new()), &decode(b, &mut TextBuffer::new())) {
         (Heard::Whole(a), Heard::Whole(b)) => a == b,
         _ => false,
     }
@@ -228,7 +225,7 @@ fn are_same(a: &[u8], b: &[u8]) -> bool {
 #[test]
 fn control_sequences_are_read_and_sent(rt: HostRuntime) {
     for (octets, name) in CONTROLS {
-        assert_eq!(rt; kind(&decode(octets)), *name);
+        assert_eq!(rt; kind(&decode(octets, &mut TextBuffer::new())), *name);
         assert!(rt; is_sent_again(octets), "{name}");
     }
 }
@@ -236,7 +233,7 @@ fn control_sequences_are_read_and_sent(rt: HostRuntime) {
 #[test]
 fn what_is_heard_is_named(rt: HostRuntime) {
     for (octets, name) in NAMES {
-        assert_eq!(rt; kind(&decode(octets)), *name);
+        assert_eq!(rt; kind(&decode(octets, &mut TextBuffer::new())), *name);
     }
 }
 
@@ -255,7 +252,7 @@ fn kind_after(front: u8, count: usize) -> &'static str
     octets[count] = 0x16;
     octets[count + 1] = 0x04;
     match octets.get(..count + 2) {
-        Some(sent) => kind(&decode(sent)),
+        Some(sent) => kind(&decode(sent, &mut TextBuffer::new())),
         None => "",
     }
 }
@@ -307,7 +304,7 @@ fn short_messages_are_told_without_a_text(rt: HostRuntime) {
 #[test]
 fn texts_are_read_by_their_units(rt: HostRuntime) {
     for (octets, units, end) in TEXTS {
-        assert!(rt; is_text_of(&decode(octets), units, *end), "{octets:?}");
+        assert!(rt; is_text_of(&decode(octets, &mut TextBuffer::new()), units, *end), "{octets:?}");
     }
 }
 
@@ -323,7 +320,8 @@ fn texts_are_built_of_their_units(rt: HostRuntime) {
             em: true,
         },
     ];
-    let text = Text::of(&units, End::Etx);
+    let mut buffer = TextBuffer::new();
+    let text = buffer.hold(&units, End::Etx);
     assert!(rt; sends(&Message::Text(text), TWO_UNITS));
 }
 
@@ -366,11 +364,11 @@ fn units_have_at_most_144_characters(rt: HostRuntime) {
     for count in 0..=144usize {
         let check = if count % 2 == 0 { 0x83 } else { 0xc2 };
         let unit = (&[0x41; 144][..count], false);
-        let heard = decode(one_unit_of(count, check).as_slice());
+        let heard = decode(one_unit_of(count, check).as_slice(), &mut TextBuffer::new());
         assert!(rt; is_text_of(&heard, &[unit], End::Etx), "{count}");
     }
     let longer = one_unit_of(145, 0xc2);
-    assert_eq!(rt; kind(&decode(longer.as_slice())), "FAILED");
+    assert_eq!(rt; kind(&decode(longer.as_slice(), &mut TextBuffer::new())), "FAILED");
 }
 
 // The text of 144 characters A, with fill before the character at this place.
@@ -390,7 +388,7 @@ fn filled_at(place: usize) -> Wire {
 #[test]
 fn fill_is_dropped_at_each_place(rt: HostRuntime) {
     for place in 0..144usize {
-        let heard = decode(filled_at(place).as_slice());
+        let heard = decode(filled_at(place).as_slice(), &mut TextBuffer::new());
         assert!(rt; is_text_of(&heard, LONGEST, End::Etx), "{place}");
     }
 }
@@ -399,7 +397,7 @@ fn fill_is_dropped_at_each_place(rt: HostRuntime) {
 fn longest_text_has_1033_octets(rt: HostRuntime) {
     let octets = longest_text();
     assert_eq!(rt; octets.len(), 1033);
-    assert!(rt; is_text_of(&decode(octets.as_slice()), &[LONGEST_UNIT; 7], End::Etx));
+    assert!(rt; is_text_of(&decode(octets.as_slice(), &mut TextBuffer::new()), &[LONGEST_UNIT; 7], End::Etx));
     assert!(rt; is_sent_again(octets.as_slice()));
 }
 

@@ -1,7 +1,7 @@
 //! What a station heard of a transmission: the kind of message, and whether it is the one that was
 //! sent.
 
-use bsc_frame::{Heard, Message, Reply, Wire, decode, encode};
+use bsc_frame::{Heard, Message, Reply, TextBuffer, Wire, decode, encode};
 
 /// The kind of what is heard.
 #[derive(Clone, Copy, Debug, PartialEq, Eq)]
@@ -36,7 +36,7 @@ impl Default for Hearing {
 
 impl Kind {
     /// The kind of a message.
-    pub(crate) fn of(message: &Message) -> Kind {
+    pub(crate) fn of(message: &Message<'_>) -> Kind {
         match message {
             Message::Eot => Kind::Eot,
             Message::Call(_) => Kind::Call,
@@ -58,7 +58,7 @@ impl Kind {
 }
 
 /// The kind of a decoded transmission.
-fn kind_of(heard: &Heard) -> Kind {
+fn kind_of(heard: &Heard<'_>) -> Kind {
     match heard {
         Heard::Whole(message) => Kind::of(message),
         Heard::Failed => Kind::Failed,
@@ -67,7 +67,7 @@ fn kind_of(heard: &Heard) -> Kind {
 }
 
 /// The octets that are sent for the message.
-pub(crate) fn octets_of(message: &Message) -> Wire {
+pub(crate) fn octets_of(message: &Message<'_>) -> Wire {
     let mut octets = Wire::new();
     encode(message, &mut octets);
     octets
@@ -75,12 +75,12 @@ pub(crate) fn octets_of(message: &Message) -> Wire {
 
 /// Whether the message is encoded as these octets. Messages are compared by their encodings, not by
 /// `==`.
-pub(crate) fn is_sent_as(message: &Message, octets: &[u8]) -> bool {
+pub(crate) fn is_sent_as(message: &Message<'_>, octets: &[u8]) -> bool {
     octets_of(message).as_slice() == octets
 }
 
 /// Whether a whole message was heard whose encoding is these octets.
-fn is_itself(heard: &Heard, sent: &[u8]) -> bool {
+fn is_itself(heard: &Heard<'_>, sent: &[u8]) -> bool {
     match heard {
         Heard::Whole(message) => is_sent_as(message, sent),
         Heard::Failed => false,
@@ -98,7 +98,7 @@ pub(crate) fn hear(sent: &[u8], heard: Option<&[u8]>) -> Hearing {
 
 /// What a station hears if `sent` was sent and `octets` arrive.
 fn hear_octets(sent: &[u8], octets: &[u8]) -> Hearing {
-    let heard = decode(octets);
+    let heard = decode(octets, &mut TextBuffer::new());
     Hearing {
         kind: kind_of(&heard),
         itself: is_itself(&heard, sent),

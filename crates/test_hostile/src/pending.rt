@@ -46,7 +46,7 @@ fn is_due(channels: &[Channel], address: &Address) -> bool {
 }
 
 /// Whether the text carries the next records of this channel, at least one.
-fn carries_next<A: Allocator>(line: &Line<A>, terminal: usize, way: Way, text: &Text) -> bool {
+fn carries_next<A: Allocator>(line: &Line<A>, terminal: usize, way: Way, text: &Text<'_>) -> bool {
     let Some(view) = look(line, terminal, way) else {
         return false;
     };
@@ -66,7 +66,7 @@ fn is_next<A: Allocator>(
     line: &Line<A>,
     speaker: Speaker,
     addressed: Option<(usize, Way)>,
-    text: &Text,
+    text: &Text<'_>,
 ) -> bool {
     match speaker {
         Speaker::Terminal(terminal) => carries_next(line, terminal, Way::FromTerminal, text),
@@ -106,7 +106,7 @@ fn check_content<A: Allocator>(
     channels: &[Channel],
     speaker: Speaker,
     addressed: Option<(usize, Way)>,
-    message: &Message,
+    message: &Message<'_>,
 ) -> Result<(), Broken> {
     match message {
         Message::Call(address) if !is_due(channels, address) => Err(Broken::Call),

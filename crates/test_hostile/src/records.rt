@@ -5,7 +5,7 @@ ghost use Rattle.test_hostile.specs.Histories as digests;
 ghost use Rattle.test_fixtures.specs.Records.{Begins};
 
 use bsc_block::{Block, Records, unpack};
-use bsc_frame::{Heard, Message, Text, decode};
+use bsc_frame::{Heard, Message, Text, TextBuffer, decode};
 use std::alloc::Allocator;
 
 /// The digest of no records.
@@ -74,7 +74,7 @@ fn block_begins<A: Allocator>(block: &Block<'_>, records: &Records<A>, from: usi
 /// The number of records in the text, or None unless they are the first of these records from a
 /// place on.
 pub(crate) fn carried<A: Allocator>(
-    text: &Text,
+    text: &Text<'_>,
     records: &Records<A>,
     from: usize,
 ) -> Option<usize> {
@@ -88,7 +88,7 @@ pub(crate) fn carried<A: Allocator>(
 
 /// Whether these octets are a text with exactly these records from a place on.
 pub(crate) fn is_text_of<A: Allocator>(octets: &[u8], records: &Records<A>, from: usize) -> bool {
-    match decode(octets) {
+    match decode(octets, &mut TextBuffer::new()) {
         Heard::Whole(Message::Text(text)) => {
             carried(&text, records, from) == Some(records.len().saturating_sub(from))
         }

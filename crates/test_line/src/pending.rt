@@ -5,7 +5,7 @@ use bsc_line::{Line, Speaker, Transmission};
 use std::alloc::Allocator;
 
 /// The octets that are sent for a transmission.
-fn octets_of(sent: &Transmission) -> Wire {
+fn octets_of(sent: &Transmission<'_>) -> Wire {
     let mut octets = Wire::new();
     encode(&sent.message, &mut octets);
     octets
@@ -19,7 +19,7 @@ pub(crate) fn is_pending<A: Allocator>(line: &Line<A>, expected: Pending<'_>) ->
     match (line.pending(), expected) {
         (None, None) => true,
         (Some(sent), Some((speaker, octets))) => {
-            sent.speaker == speaker && octets_of(sent).as_slice() == octets
+            sent.speaker == speaker && octets_of(&sent).as_slice() == octets
         }
         _ => false,
     }
@@ -28,7 +28,7 @@ pub(crate) fn is_pending<A: Allocator>(line: &Line<A>, expected: Pending<'_>) ->
 /// Whether this station sent what is pending, and it begins with these octets.
 pub(crate) fn has_begun<A: Allocator>(line: &Line<A>, speaker: Speaker, front: &[u8]) -> bool {
     match line.pending() {
-        Some(sent) => sent.speaker == speaker && octets_of(sent).as_slice().starts_with(front),
+        Some(sent) => sent.speaker == speaker && octets_of(&sent).as_slice().starts_with(front),
         None => false,
     }
 }

@@ -85,7 +85,7 @@ impl Events {
         &mut self,
         choice: usize,
         doubtful: Option<(usize, Way)>,
-        pending: Option<&Transmission>,
+        pending: Option<Transmission<'_>>,
     ) -> Result<Next<'_>, AllocError> {
         match choice {
             0..=4 => self.offer_at(),
@@ -200,7 +200,7 @@ impl Events {
     }
 
     /// Keeps the octets of what is pending, and sometimes those of what was pending before it.
-    fn keep(&mut self, pending: Option<&Transmission>) -> Result<Pending, AllocError> {
+    fn keep(&mut self, pending: Option<Transmission<'_>>) -> Result<Pending, AllocError> {
         if self.random.one_in(4) {
             mem::swap(&mut self.octets, &mut self.earlier);
         }
@@ -211,11 +211,11 @@ impl Events {
         let mut octets = Wire::new();
         encode(&sent.message, &mut octets);
         self.octets.extend_from_slice(octets.as_slice())?;
-        Ok(kind_of(sent))
+        Ok(kind_of(&sent))
     }
 
     /// What is pending is carried or lost; if nothing is pending, a silence passes.
-    fn turn(&mut self, pending: Option<&Transmission>) -> Result<Next<'_>, AllocError> {
+    fn turn(&mut self, pending: Option<Transmission<'_>>) -> Result<Next<'_>, AllocError> {
         let pending = self.keep(pending)?;
         if pending == Pending::Nothing {
             return Ok(Next::Event(Event::Silence));
@@ -281,7 +281,7 @@ impl Events {
 }
 
 /// The kind of a transmission that is pending.
-fn kind_of(sent: &Transmission) -> Pending {
+fn kind_of(sent: &Transmission<'_>) -> Pending {
     match (sent.speaker, &sent.message) {
         (Speaker::Terminal(_), _) => Pending::Terminal,
         (Speaker::Control, Message::Call(_)) => Pending::Call,

@@ -6,7 +6,7 @@ ghost use Rattle.std.specs.Prelude.{◌≡◌};
 use bsc_bid::Station;
 use bsc_carrier::CarrierError;
 use bsc_connections::{LiveError, Monitor, Note};
-use bsc_frame::{Heard, Message, Reply};
+use bsc_frame::{Heard, MessageBuffer, Reply};
 
 /// Answers a message with ACK0 and a failed text with NAK, and sends EOT after a silence.
 #[derive(Drop)]
@@ -22,16 +22,16 @@ impl Station for Answers {
 
     ghost holds = { λ _. false };
 
-    fn answer(&mut self, heard: &Heard, sent: &mut Option<Message>) {
+    fn answer(&mut self, heard: &Heard<'_>, sent: &mut MessageBuffer) {
         match heard {
-            Heard::Noise => *sent = None,
-            Heard::Failed => *sent = Some(Message::Reply(Reply::Nak)),
-            Heard::Whole(_) => *sent = Some(Message::Reply(Reply::Ack0)),
+            Heard::Noise => sent.clear(),
+            Heard::Failed => sent.set_reply(Reply::Nak),
+            Heard::Whole(_) => sent.set_reply(Reply::Ack0),
         }
     }
 
-    fn act(&mut self, sent: &mut Option<Message>) {
-        *sent = Some(Message::Eot);
+    fn act(&mut self, sent: &mut MessageBuffer) {
+        sent.set_eot();
     }
 
     fn holds_line(&self) -> bool {

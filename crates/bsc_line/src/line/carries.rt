@@ -32,17 +32,26 @@ impl<A: Allocator> Line<A> {
         ensures line { IsLine self.new }
     {
         self.each_steps();
-        let Some(octets) = heard else {
-            return self.carry_as(&Heard::Noise);
-        };
+        match heard {
+            Some(octets) => self.carry_octets(octets),
+            None => self.carry_as(&Heard::Noise),
+        }
+    }
+
+    /// Lets the pending transmission be heard as these octets.
+    fn carry_octets(&mut self, octets: &[u8]) -> Result<(), LineError>
+        ensures does { Carries (λ (sent : TransmissionValue). heard octets.now) self.old result
+            self.new }
+        ensures line { IsLine self.new }
+    {
         match decode_short(octets) {
             Some(short) => self.carry_as(&short.heard()),
             None => self.carry_text(octets),
         }
     }
 
-    /// Lets octets that begin as a text be heard. This is a function of its own so that only a text
-    /// needs a buffer.
+    /// Lets the pending transmission be heard as these octets, which begin as a text. This is a
+    /// function of its own so that only a text needs a buffer.
     #[inline(never)]
     fn carry_text(&mut self, octets: &[u8]) -> Result<(), LineError>
         ensures does { Carries (λ (sent : TransmissionValue). heard octets.now) self.old result

@@ -26,7 +26,7 @@ impl<A: Allocator> Line<A> {
         ensures line { IsLine self.new }
     {
         self.each_steps();
-        if self.sent.speaker().is_some() {
+        if self.sent.is_some() {
             return Err(LineError::Pending);
         }
         match line_owner(self.terminals.as_slice()) {

@@ -1,7 +1,7 @@
 //! Transmissions that were spoiled on the line: cut short, with one bit inverted, and with damage
 //! that is not detected.
 use super::{HI, SHORTEST_CALL, UnitRow, hears_call, is_text_of, kind};
-use bsc_frame::{End, decode};
+use bsc_frame::{End, TextBuffer, decode};
 
 /// What the first octets of a call are heard as, by their number.
 const CALL_FRONTS: &[&str] = &[
@@ -60,7 +60,7 @@ const NAMES: &[(&[u8], &str)] = &[
 // Whether the first octets are heard as these names say, by their number.
 fn fronts_are(octets: &[u8], names: &[&str]) -> bool {
     for (count, name) in names.iter().enumerate() {
-        if octets.get(..count).map(|front| kind(&decode(front))) != Some(*name) {
+        if octets.get(..count).map(|front| kind(&decode(front, &mut TextBuffer::new()))) != Some(*name) {
             return false;
         }
     }
@@ -77,7 +77,7 @@ fn turned_bits_are(sent: &[u8], place: usize, name: &str) -> bool {
     for mask in [0x01, 0x02, 0x04, 0x08, 0x10, 0x20, 0x40, 0x80] {
         octets.copy_from_slice(sent);
         octets[place] ^= mask;
-        if kind(&decode(&octets)) != name {
+        if kind(&decode(&octets, &mut TextBuffer::new())) != name {
             return false;
         }
     }
@@ -114,13 +114,13 @@ fn one_turned_bit_of_a_call_without_its_second_syn_may_make_another_call(rt: Hos
 #[test]
 fn two_turned_bits_may_make_another_reply(rt: HostRuntime) {
     for (octets, name) in NAMES {
-        assert_eq!(rt; kind(&decode(octets)), *name);
+        assert_eq!(rt; kind(&decode(octets, &mut TextBuffer::new())), *name);
     }
 }
 
 #[test]
 fn damage_may_make_another_text(rt: HostRuntime) {
     for (octets, units) in TEXTS {
-        assert!(rt; is_text_of(&decode(octets), units, End::Etx), "{octets:?}");
+        assert!(rt; is_text_of(&decode(octets, &mut TextBuffer::new()), units, End::Etx), "{octets:?}");
     }
 }

@@ -10,12 +10,12 @@ use crate::pending::{Sent, find, read_pending};
 use crate::step::Effect;
 use crate::watch::{LineWatch, octets_heard};
 use bsc_control::Way;
-use bsc_frame::{Address, Heard, Message, decode};
+use bsc_frame::{Address, Heard, Message, TextBuffer, decode};
 use bsc_line::{Event, Line, Speaker};
 use std::alloc::Allocator;
 
 /// The address that a message calls.
-fn address_in(message: &Message) -> Option<Address> {
+fn address_in(message: &Message<'_>) -> Option<Address> {
     match message {
         Message::Call(address) => Some(*address),
         _ => None,
@@ -24,7 +24,7 @@ fn address_in(message: &Message) -> Option<Address> {
 
 /// The address that these octets call, if they are a call.
 fn called(octets: &[u8]) -> Option<Address> {
-    match decode(octets) {
+    match decode(octets, &mut TextBuffer::new()) {
         Heard::Whole(message) => address_in(&message),
         _ => None,
     }

@@ -1,4 +1,4 @@
--- `hear_all` lets each terminal hear, and returns the first answer.
+-- `hear_all` lets each terminal hear, and leaves the first answer.
 use Rattle.std.proofs.Common.{◌≡◌, length, refl, sym, ◌∙◌, ap, subst, arith, ℕ, Option}
 use Rattle.bsc_frame.specs.declared.message.Heard.{Heard}
 use Rattle.bsc_tributary.specs.Tributary.{TributaryValue}
@@ -15,8 +15,7 @@ pub loop-i-init : goal.loop-i-init
 loop-i-init g c =
     record {
       heard = none_have_heard c.args.terminals.now (hearing_of c.args.hearings.now);
-      first =
-          refl;
+      first = c.clear.ensures;
     }
 
 pub loop-i-preserved : goal.loop-i-preserved

@@ -1,4 +1,4 @@
--- `hear_in` lets each terminal hear, and returns the first answer.
+-- `hear_in` lets each terminal hear, and leaves the first answer.
 use Rattle.std.proofs.Common.{◌≡◌, length, ◌∙◌}
 use Rattle.bsc_tributary.specs.Tributary.{TributaryValue}
 use Rattle.bsc_line_model.specs.Terminals.{EachHears, EachKeeps, first_answer}
@@ -23,7 +23,7 @@ returns-clause-keeps g c =
 pub returns-clause-first : goal.returns-clause-first
 returns-clause-first g c =
     holds_back {S = TributaryValue}
-    (λ old new. c.hear_all.result
+    (λ old new. c.hear_all.new.first
     ≡ first_answer old (hearing_of c.args.hearings.now) new (length old)) _ _ _ _ _
     c.as_mut_slice.ensures.value (c.hear_all.auto.terminals ∙ c.as_mut_slice.ensures.len)
     c.hear_all.ensures.first

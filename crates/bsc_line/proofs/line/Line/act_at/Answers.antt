@@ -7,23 +7,23 @@ use Rattle.bsc_line.proofs.Carrying.{owner_terminal_acted}
 use Rattle.bsc_line.proofs.line.Line.act_at.Given as given
 use Rattle.bsc_line.proofs.line.Line.act_at.Goals as goal
 
-terminal_within_terminals : (g : given.Over) (c : goal.After-self-2-1 g) → c.args.terminal
+terminal_within_terminals : (g : given.Over) (c : goal.After-self-1 g) → c.args.terminal
     < length c.self.inside.terminals.items
 terminal_within_terminals g c =
     subst (λ (l : LineValue). c.args.terminal < terminal_count l) (sym c.self.view_is)
     c.requires.there
 
-terminal_acted : (g : given.Over) (c : goal.After-self-2-1 g) →
+terminal_acted : (g : given.Over) (c : goal.After-self-1 g) →
     TerminalActsAlone c.args.terminal (line_of c.self.inside.control c.self.inside.terminals.items
     c.self.inside.sent c.self.inside.trusted c.self.inside.addressed)
     (line_of c.self.inside.control (slice_set c.self.inside.terminals.items c.args.terminal
-    c.act.new.self) c.by-self-inside.result c.self.inside.trusted c.self.inside.addressed)
+    c.act.new.station) c.act.new.self c.self.inside.trusted c.self.inside.addressed)
 terminal_acted g c =
     owner_terminal_acted (line_of c.self.inside.control c.self.inside.terminals.items c.self.inside.sent
     c.self.inside.trusted c.self.inside.addressed) c.args.terminal
-    c.index_mut-station.result.now c.act.new.self c.act.new.sent c.by-self-inside.result
-    (terminal_within_terminals g c) c.index_mut-station.ensures.value c.act.ensures.row c.act.ensures.after
-    c.by-self-inside.ensures
+    c.index_mut-station.result.now c.act.new.station c.act.ensures.0 c.act.new.self
+    (terminal_within_terminals g c) c.index_mut-station.ensures.value c.act.ensures.1.0.row
+    c.act.ensures.1.0.after c.act.ensures.1.1
 
 pub invariant_of-self : goal.invariant_of-self
 invariant_of-self g c =
@@ -32,7 +32,7 @@ invariant_of-self g c =
     c.each_event.ensures.silence (line_of c.self.inside.control c.self.inside.terminals.items
     c.self.inside.sent c.self.inside.trusted c.self.inside.addressed)
     (line_of c.self.inside.control (slice_set c.self.inside.terminals.items c.args.terminal
-    c.act.new.self) c.by-self-inside.result c.self.inside.trusted c.self.inside.addressed)
+    c.act.new.station) c.act.new.self c.self.inside.trusted c.self.inside.addressed)
     c.self.invariant
     (record {
       nothing = ap (λ (l : LineValue). l.pending) c.self.view_is ∙ c.requires.nothing;
@@ -41,8 +41,8 @@ invariant_of-self g c =
           (line_of c.self.inside.control c.self.inside.terminals.items c.self.inside.sent
           c.self.inside.trusted c.self.inside.addressed)
           (line_of c.self.inside.control
-          (slice_set c.self.inside.terminals.items c.args.terminal c.act.new.self)
-          c.by-self-inside.result c.self.inside.trusted c.self.inside.addressed))
+          (slice_set c.self.inside.terminals.items c.args.terminal c.act.new.station)
+          c.act.new.self c.self.inside.trusted c.self.inside.addressed))
           owner (terminal_acted g c);
     })
 

@@ -7,19 +7,19 @@ use Rattle.bsc_line_model.specs.Carries.{ControlActsAlone, OwnerActs}
 use Rattle.bsc_line.proofs.line.Line.act_at_control.Given as given
 use Rattle.bsc_line.proofs.line.Line.act_at_control.Goals as goal
 
-control_acted : (g : given.Over) (c : goal.After-self-1 g) →
+control_acted : (g : given.Over) (c : goal.After-act g) →
     ControlActsAlone (line_of c.self.inside.control c.self.inside.terminals.items c.self.inside.sent
     c.self.inside.trusted c.self.inside.addressed)
-    (line_of c.act.new.self c.self.inside.terminals.items c.by-self-inside.result
+    (line_of c.act.new.station c.self.inside.terminals.items c.act.new.self
     c.self.inside.trusted c.self.inside.addressed)
 control_acted g c =
     record {
-      sent = c.act.new.sent;
-      row = c.act.ensures.row;
-      kept = c.act.ensures.after;
+      sent = c.act.ensures.0;
+      row = c.act.ensures.1.0.row;
+      kept = c.act.ensures.1.0.after;
       becomes =
-          ap (λ (o : Option Transmission). line_of c.act.new.self c.self.inside.terminals.items o
-          c.self.inside.trusted c.self.inside.addressed) c.by-self-inside.ensures;
+          ap (λ (o : Option Transmission). line_of c.act.new.station c.self.inside.terminals.items o
+          c.self.inside.trusted c.self.inside.addressed) c.act.ensures.1.1;
     }
 
 pub invariant_of-self : goal.invariant_of-self
@@ -28,7 +28,7 @@ invariant_of-self g c =
     sym (ap (λ (l : LineValue). line_owner l.terminals) c.self.view_is ∙ c.requires.nobody) in
     c.each_event.ensures.silence (line_of c.self.inside.control c.self.inside.terminals.items
     c.self.inside.sent c.self.inside.trusted c.self.inside.addressed)
-    (line_of c.act.new.self c.self.inside.terminals.items c.by-self-inside.result
+    (line_of c.act.new.station c.self.inside.terminals.items c.act.new.self
     c.self.inside.trusted c.self.inside.addressed) c.self.invariant
     (record {
       nothing = ap (λ (l : LineValue). l.pending) c.self.view_is ∙ c.requires.nothing;
@@ -36,7 +36,7 @@ invariant_of-self g c =
           (λ (o : Option ℕ). OwnerActs o
           (line_of c.self.inside.control c.self.inside.terminals.items c.self.inside.sent
           c.self.inside.trusted c.self.inside.addressed)
-          (line_of c.act.new.self c.self.inside.terminals.items c.by-self-inside.result
+          (line_of c.act.new.station c.self.inside.terminals.items c.act.new.self
           c.self.inside.trusted c.self.inside.addressed))
           nobody (control_acted g c);
     })

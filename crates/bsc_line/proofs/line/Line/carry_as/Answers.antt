@@ -11,19 +11,19 @@ use Rattle.bsc_line.proofs.line.Line.carry_as.Goals as goal
 pub carry_down-requires : goal.carry_down-requires
 carry_down-requires g c =
     from_control c.args.self.now
-    (ap (λ (l : LineValue). speaker_of l.pending) (sym c.self.view_is) ∙ sym c.speaker_of.ensures
+    (ap (λ (l : LineValue). speaker_of l.pending) (sym c.self.view_is) ∙ sym c.speaker.ensures
     ∙ c.in-Some-Control.is ∙ ap (λ (p : Speaker). Some p) c.in-Some-Control.field-0-is)
 
 pub carry_up-requires : goal.carry_up-requires
 carry_up-requires g c =
     from_terminal c.args.self.now c.in-Some-Terminal.field-0-0
-    (ap (λ (l : LineValue). speaker_of l.pending) (sym c.self.view_is) ∙ sym c.speaker_of.ensures
+    (ap (λ (l : LineValue). speaker_of l.pending) (sym c.self.view_is) ∙ sym c.speaker.ensures
     ∙ c.in-Some-Terminal.is ∙ ap (λ (p : Speaker). Some p) c.in-Some-Terminal.field-0-is)
 
 pub returns-in-Some-Control-clause-does : goal.returns-in-Some-Control-clause-does
 returns-in-Some-Control-clause-does g c =
     terminals_hear_pending (λ (s : Transmission). c.args.heard.now) c.args.self.now c.carry_down.new.self
-    (ap (λ (l : LineValue). speaker_of l.pending) (sym c.self.view_is) ∙ sym c.speaker_of.ensures
+    (ap (λ (l : LineValue). speaker_of l.pending) (sym c.self.view_is) ∙ sym c.speaker.ensures
     ∙ c.in-Some-Control.is ∙ ap (λ (p : Speaker). Some p) c.in-Some-Control.field-0-is)
     c.carry_down.ensures.does
 
@@ -31,6 +31,6 @@ pub returns-in-Some-Terminal-clause-does : goal.returns-in-Some-Terminal-clause-
 returns-in-Some-Terminal-clause-does g c =
     control_hears_pending (λ (s : Transmission). c.args.heard.now) c.args.self.now c.carry_up.new.self
     c.in-Some-Terminal.field-0-0
-    (ap (λ (l : LineValue). speaker_of l.pending) (sym c.self.view_is) ∙ sym c.speaker_of.ensures
+    (ap (λ (l : LineValue). speaker_of l.pending) (sym c.self.view_is) ∙ sym c.speaker.ensures
     ∙ c.in-Some-Terminal.is ∙ ap (λ (p : Speaker). Some p) c.in-Some-Terminal.field-0-is)
     c.carry_up.ensures.does

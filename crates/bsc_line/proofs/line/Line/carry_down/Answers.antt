@@ -25,11 +25,11 @@ addressed_after-self-inside-requires g c =
     omega arith
 
 -- the count is the number of terminals
-count_is_number_of_terminals : (g : given.Over) (c : goal.After-self-3-1 g) → c.len-count.result
+count_is_number_of_terminals : (g : given.Over) (c : goal.After-self-2-1 g) → c.len-count.result
     ≡ length c.self.inside.terminals.items
 count_is_number_of_terminals g c = omega arith
 
-trust_after_hearing : (g : given.Over) (c : goal.After-self-3-1 g) (s : Transmission) → c.self.inside.sent ≡ Some s
+trust_after_hearing : (g : given.Over) (c : goal.After-self-2-1 g) (s : Transmission) → c.self.inside.sent ≡ Some s
     →
     IsTrustAfter c.self.inside.trusted
     (IsHeardFairly s.message (length c.self.inside.terminals.items)
@@ -42,10 +42,10 @@ trust_after_hearing g c s e =
     (IsHeardFairly s.message c.len-count.result (hearing_of c.args.hearings.now))
     c.both-self-inside.ensures
     (said_of_pending (λ (z : Transmission). IsTrue c.is_down_fair-fair.result ↔ IsHeardFairly z.message
-    c.len-count.result (hearing_of c.args.hearings.now)) c.self.inside.sent s
-    c.is_down_fair-fair.ensures e))
+    c.len-count.result (hearing_of c.args.hearings.now)) c.transmission.result s
+    c.is_down_fair-fair.ensures (c.transmission.ensures ∙ e)))
 
-addressed_after_hearing : (g : given.Over) (c : goal.After-self-3-1 g) →
+addressed_after_hearing : (g : given.Over) (c : goal.After-self-2-1 g) →
     IsAddressedAfter (addresses_of c.self.inside.control) (length c.self.inside.terminals.items)
     (hearing_of c.args.hearings.now) c.self.inside.addressed
     c.addressed_after-self-inside.result
@@ -54,19 +54,19 @@ addressed_after_hearing g c =
     (hearing_of c.args.hearings.now) c.self.inside.addressed
     c.addressed_after-self-inside.result) (count_is_number_of_terminals g c) c.addressed_after-self-inside.ensures
 
-is_carried_down : (g : given.Over) (c : goal.After-self-3-1 g) (s : Transmission)
+is_carried_down : (g : given.Over) (c : goal.After-self-2-1 g) (s : Transmission)
     → c.self.inside.sent ≡ Some s →
     IsCarriedDown s.message (hearing_of c.args.hearings.now)
     (line_of c.self.inside.control c.self.inside.terminals.items c.self.inside.sent
     c.self.inside.trusted c.self.inside.addressed)
-    (line_of c.self.inside.control c.hear_in-self-inside.new.terminals.items
-    c.hear_in-self-inside.result c.both-self-inside.result c.addressed_after-self-inside.result)
+    (line_of c.self.inside.control c.hear_down.new.terminals.items
+    c.hear_down.new.self c.both-self-inside.result c.addressed_after-self-inside.result)
 is_carried_down g c s e =
     record {
       control = refl;
-      terminals = c.hear_in-self-inside.ensures.each;
-      kept = c.hear_in-self-inside.ensures.keeps;
-      pending = c.hear_in-self-inside.ensures.first;
+      terminals = c.hear_down.ensures.each;
+      kept = c.hear_down.ensures.keeps;
+      pending = c.hear_down.ensures.first;
       addressed = addressed_after_hearing g c;
       trusted = trust_after_hearing g c s e;
     }

@@ -1,8 +1,10 @@
 -- `carry_down_whole` carries an unspoiled transmission to the terminals.
 use Rattle.std.proofs.Common.{◌≡◌, ◌<◌, ℕ, length, Some, ◌∙◌, refl, ap, subst, arith}
+use Rattle.bsc_frame.specs.declared.message.Heard.{Heard}
 use Rattle.bsc_frame.specs.declared.message.Heard.TheVariants.{Whole}
 use Rattle.bsc_control.specs.Control.{terminals as addresses_of}
 use Rattle.bsc_line_model.specs.declared.transmission.Transmission.{Transmission}
+use Rattle.bsc_line_model.specs.Terminals.{EachHears, EachKeeps, first_answer}
 use Rattle.bsc_line_model.specs.Trust.{IsAddressedAfter}
 use Rattle.bsc_line_model.specs.Line.{LineValue, line_of}
 use Rattle.bsc_line_model.specs.Carries.{IsCarriedDown}
@@ -17,24 +19,35 @@ addressed_after-self-inside-requires g c =
     c.self.invariant.stations in
     omega arith
 
-is_carried_down_whole : (g : given.Over) (c : goal.After-self-2-1 g) (s : Transmission)
+is_carried_down_whole : (g : given.Over) (c : goal.After-hear_down_whole g) (s : Transmission)
     → c.self.inside.sent ≡ Some s →
     IsCarriedDown s.message (λ t. Whole s.message)
     (line_of c.self.inside.control c.self.inside.terminals.items c.self.inside.sent
     c.self.inside.trusted c.self.inside.addressed)
-    (line_of c.self.inside.control c.hear_in-self-inside.new.terminals.items
-    c.hear_in-self-inside.result c.self.inside.trusted c.addressed_after-self-inside.result)
+    (line_of c.self.inside.control c.hear_down_whole.new.terminals.items
+    c.hear_down_whole.new.self c.self.inside.trusted c.addressed_after-self-inside.result)
 is_carried_down_whole g c s e =
-    let heard : c.take_whole-heard.result ≡ Whole s.message =
-    said_of_pending (λ (z : Transmission). c.take_whole-heard.result ≡ Whole z.message)
-    c.self.inside.sent s c.take_whole-heard.ensures.heard e in
+    let heard : c.whole-heard.result ≡ Whole s.message =
+    said_of_pending (λ (z : Transmission). c.whole-heard.result ≡ Whole z.message)
+    c.transmission.result s c.whole-heard.ensures (c.transmission.ensures ∙ e) in
     let counted : c.len-count.result ≡ length c.self.inside.terminals.items = omega arith in
-    all_hear_what_was_sent s.message c.take_whole-heard.result _ _ heard refl
-    c.hear_in-self-inside.ensures.each c.hear_in-self-inside.ensures.keeps
-    c.hear_in-self-inside.ensures.first
+    all_hear_what_was_sent s.message (Whole s.message) _ _ refl refl
+    (said_of_pending (λ (z : Transmission). EachHears c.self.inside.terminals.items
+    (λ t. Whole z.message) c.hear_down_whole.new.terminals.items) c.self.inside.sent s
+    c.hear_down_whole.ensures.each e)
+    (said_of_pending (λ (z : Transmission). EachKeeps c.self.inside.terminals.items
+    (λ t. Whole z.message) c.hear_down_whole.new.terminals.items) c.self.inside.sent s
+    c.hear_down_whole.ensures.keeps e)
+    (said_of_pending (λ (z : Transmission). c.hear_down_whole.new.self
+    ≡ first_answer c.self.inside.terminals.items (λ t. Whole z.message)
+    c.hear_down_whole.new.terminals.items (length c.self.inside.terminals.items))
+    c.self.inside.sent s c.hear_down_whole.ensures.first e)
+    (subst (λ (x : Heard). IsAddressedAfter (addresses_of c.self.inside.control)
+    (length c.self.inside.terminals.items) (λ t. x) c.self.inside.addressed
+    c.addressed_after-self-inside.result) heard
     (subst (λ (n : ℕ). IsAddressedAfter (addresses_of c.self.inside.control) n
-    (λ t. c.take_whole-heard.result) c.self.inside.addressed
-    c.addressed_after-self-inside.result) counted c.addressed_after-self-inside.ensures)
+    (λ t. c.whole-heard.result) c.self.inside.addressed
+    c.addressed_after-self-inside.result) counted c.addressed_after-self-inside.ensures))
     refl
 
 pub invariant_of-self : goal.invariant_of-self

@@ -11,13 +11,13 @@ use Rattle.bsc_line.proofs.line.Line.carry_each.Goals as goal
 pub carry_down-requires : goal.carry_down-requires
 carry_down-requires g c =
     from_control c.args.self.now
-    (ap (λ (l : LineValue). speaker_of l.pending) (sym c.self.view_is) ∙ sym c.speaker_of.ensures
+    (ap (λ (l : LineValue). speaker_of l.pending) (sym c.self.view_is) ∙ sym c.speaker.ensures
     ∙ c.in-Some-Control.is ∙ ap (λ (p : Speaker). Some p) c.in-Some-Control.field-0-is)
 
 pub returns-in-Some-Terminal-clause-does : goal.returns-in-Some-Terminal-clause-does
 returns-in-Some-Terminal-clause-does g c = (
   from_terminal c.args.self.now c.in-Some-Terminal.field-0-0
-      (ap (λ (l : LineValue). speaker_of l.pending) (sym c.self.view_is) ∙ sym c.speaker_of.ensures
+      (ap (λ (l : LineValue). speaker_of l.pending) (sym c.self.view_is) ∙ sym c.speaker.ensures
       ∙ c.in-Some-Terminal.is ∙ ap (λ (p : Speaker). Some p) c.in-Some-Terminal.field-0-is),
   refl,
 )
@@ -26,7 +26,7 @@ pub returns-clause-does : goal.returns-clause-does
 returns-clause-does g c =
     let counted : c.len.result ≡ length c.self.inside.terminals.items = omega arith in
     each_hears_own_item c.args.self.now c.carry_down.new.self c.args.items.now
-    (ap (λ (l : LineValue). speaker_of l.pending) (sym c.self.view_is) ∙ sym c.speaker_of.ensures
+    (ap (λ (l : LineValue). speaker_of l.pending) (sym c.self.view_is) ∙ sym c.speaker.ensures
     ∙ c.in-Some-Control.is ∙ ap (λ (p : Speaker). Some p) c.in-Some-Control.field-0-is)
     (c.if-items-len.false ∙ counted ∙ ap (λ (l : LineValue). terminal_count l) c.self.view_is)
     c.carry_down.ensures.does

@@ -14,19 +14,19 @@ use Rattle.bsc_line.proofs.line.Line.carry_sent.Goals as goal
 pub carry_down_whole-requires : goal.carry_down_whole-requires
 carry_down_whole-requires g c =
     from_control c.args.self.now
-    (ap (λ (l : LineValue). speaker_of l.pending) (sym c.self.view_is) ∙ sym c.speaker_of.ensures
+    (ap (λ (l : LineValue). speaker_of l.pending) (sym c.self.view_is) ∙ sym c.speaker.ensures
     ∙ c.in-Some-Control.is ∙ ap (λ (p : Speaker). Some p) c.in-Some-Control.field-0-is)
 
 pub carry_up_whole-requires : goal.carry_up_whole-requires
 carry_up_whole-requires g c =
     from_terminal c.args.self.now c.in-Some-Terminal.field-0-0
-    (ap (λ (l : LineValue). speaker_of l.pending) (sym c.self.view_is) ∙ sym c.speaker_of.ensures
+    (ap (λ (l : LineValue). speaker_of l.pending) (sym c.self.view_is) ∙ sym c.speaker.ensures
     ∙ c.in-Some-Terminal.is ∙ ap (λ (p : Speaker). Some p) c.in-Some-Terminal.field-0-is)
 
 pub returns-in-Some-Control-clause-does : goal.returns-in-Some-Control-clause-does
 returns-in-Some-Control-clause-does g c =
     terminals_hear_pending (λ (s : Transmission). Whole s.message) c.args.self.now c.carry_down_whole.new.self
-    (ap (λ (l : LineValue). speaker_of l.pending) (sym c.self.view_is) ∙ sym c.speaker_of.ensures
+    (ap (λ (l : LineValue). speaker_of l.pending) (sym c.self.view_is) ∙ sym c.speaker.ensures
     ∙ c.in-Some-Control.is ∙ ap (λ (p : Speaker). Some p) c.in-Some-Control.field-0-is)
     c.carry_down_whole.ensures.does
 
@@ -34,7 +34,7 @@ pub returns-in-Some-Terminal-clause-does : goal.returns-in-Some-Terminal-clause-
 returns-in-Some-Terminal-clause-does g c =
     control_hears_pending (λ (s : Transmission). Whole s.message) c.args.self.now c.carry_up_whole.new.self
     c.in-Some-Terminal.field-0-0
-    (ap (λ (l : LineValue). speaker_of l.pending) (sym c.self.view_is) ∙ sym c.speaker_of.ensures
+    (ap (λ (l : LineValue). speaker_of l.pending) (sym c.self.view_is) ∙ sym c.speaker.ensures
     ∙ c.in-Some-Terminal.is ∙ ap (λ (p : Speaker). Some p) c.in-Some-Terminal.field-0-is)
     c.carry_up_whole.ensures.does
 

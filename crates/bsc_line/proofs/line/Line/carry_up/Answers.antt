@@ -8,26 +8,27 @@ use Rattle.bsc_line.proofs.Carrying.{flag_is_trust_after, said_of_pending}
 use Rattle.bsc_line.proofs.line.Line.carry_up.Given as given
 use Rattle.bsc_line.proofs.line.Line.carry_up.Goals as goal
 
-is_carried_up : (g : given.Over) (c : goal.After-self-2-1 g) (s : Transmission)
+is_carried_up : (g : given.Over) (c : goal.After-self-1 g) (s : Transmission)
     → c.self.inside.sent ≡ Some s →
     IsCarriedUp s.message c.args.heard.now
     (line_of c.self.inside.control c.self.inside.terminals.items c.self.inside.sent
     c.self.inside.trusted c.self.inside.addressed)
-    (line_of c.answer.new.self c.self.inside.terminals.items c.by-self-inside.result
+    (line_of c.answer.new.station c.self.inside.terminals.items c.answer.new.self
     c.both-self-inside.result c.self.inside.addressed)
 is_carried_up g c s e =
     record {
-      sent = c.answer.new.sent;
-      control = c.answer.ensures.row;
-      kept = c.answer.ensures.after;
+      sent = c.answer.ensures.0;
+      control = c.answer.ensures.1.0.row;
+      kept = c.answer.ensures.1.0.after;
       terminals = refl;
-      pending = c.by-self-inside.ensures;
+      pending = c.answer.ensures.1.1;
       addressed = refl;
       trusted =
           flag_is_trust_after c.self.inside.trusted c.is_up_fair-fair.result c.both-self-inside.result
           (IsFairlyHeard s.message c.args.heard.now) c.both-self-inside.ensures
           (said_of_pending (λ (z : Transmission). IsTrue c.is_up_fair-fair.result ↔ IsFairlyHeard z.message
-          c.args.heard.now) c.self.inside.sent s c.is_up_fair-fair.ensures e);
+          c.args.heard.now) c.transmission.result s c.is_up_fair-fair.ensures
+          (c.transmission.ensures ∙ e));
     }
 
 pub invariant_of-self : goal.invariant_of-self

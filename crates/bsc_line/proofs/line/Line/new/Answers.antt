@@ -11,7 +11,7 @@ new_terminals-requires g c =
 
 pub invariant_of-result : goal.invariant_of-result
 invariant_of-result g c =
-    c.each_event.ensures.new_line c.args.setup c.args.terminals.now c.args.poll_list.now
+    rw c.new-2.ensures (c.each_event.ensures.new_line c.args.setup c.args.terminals.now c.args.poll_list.now
     (line_of c.in_ok-control.control c.in_ok-terminals.terminals.items None true None)
     (record {
       control = c.in_ok-control.ensures.value;
@@ -21,7 +21,7 @@ invariant_of-result g c =
       trusted = refl;
       addressed = refl;
     })
-    c.in_ok-control.ensures.control
+    c.in_ok-control.ensures.control)
 
 pub returns-clause-line : goal.returns-clause-line
 returns-clause-line g c = invariant_of-result g c
