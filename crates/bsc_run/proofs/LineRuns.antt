@@ -1,6 +1,6 @@
 -- A run of a script is a run of the line over the events that were accepted.
-use Rattle.std.proofs.Common.{◌≡◌, ◌&&◌, ℕ, zero, suc, ◌+◌, Bool, true, false, if◌then◌else◌}
-use Rattle.std.proofs.Common.{nat_eq, IsTrue, List, [], ◌∷◌, ◌++◌, length, map, take, replicate}
+use Rattle.std.proofs.Common.{◌≡◌, ◌≤◌, ◌&&◌, ℕ, zero, suc, ◌+◌, Bool, true, false, if◌then◌else◌}
+use Rattle.std.proofs.Common.{nat_eq, IsTrue, List, [], ◌∷◌, ◌++◌, length, map, take, drop, replicate}
 use Rattle.std.proofs.Common.{All, inl, inr, Option, None, Some, Result, Ok, Err, OnOk}
 use Rattle.std.proofs.Common.{refl, sym, ◌∙◌, ap, subst, arith}
 use Rattle.std.proofs.lemmas.List.{length-map}
@@ -33,7 +33,7 @@ use Rattle.bsc_script.specs.Events.{heard_each, silence, ready, urgent_at, urgen
 use Rattle.bsc_run.specs.Crossing.{Streams}
 use Rattle.bsc_run.specs.declared.error.RunError.{RunError}
 use Rattle.bsc_run.specs.LineRuns.{asked_for, script_offers, PlaysVisit, PlaysRound}
-use Rattle.bsc_run.specs.LineRuns.{ArrivesAsAsked, RunsLine}
+use Rattle.bsc_run.specs.LineRuns.{ArrivesAsAsked, PlaysFrom, RunsLine}
 use Rattle.bsc_run.specs.Plays.{Playing, on_cable, Plays}
 use Rattle.bsc_run.specs.Steps.{OnCable, MayBe, Crossing, heard_as}
 
@@ -256,6 +256,90 @@ module _ {S : Type 0} (streams : Streams S) where
         alike = more.alike;
       }
 
+  -- a run from some place on
+  pub record Part (at i : ℕ) (steps : List NumberedEvent) (events : List Event) (old : OnCable S)
+      (result : Result (Unit {0}) RunError) (new : OnCable S) : Type 0 where
+    pub here : OnCable S
+    pub line : IsLine here.line
+    pub before : RunsFrom at old.line (take i events) (Ok tt) here.line
+    pub text : List ℕ
+    pub plays : Plays streams (drop i steps) (drop i events) here result new text
+
+  no_part : (i : ℕ) (events : List Event) → events ≡ [] → suc i ≤ length events → ⊥
+  no_part i events none within =
+      let empty : length events ≡ 0 = ap (λ (es : List Event). length es) none in omega arith
+
+  part_of_run : (at i : ℕ) (steps : List NumberedEvent) (events : List Event) (old : OnCable S)
+      (result : Result (Unit {0}) RunError) (new : OnCable S) (text : List ℕ) → IsLine old.line
+      → Plays streams steps events old result new text → i ≤ length events
+      → Part at i steps events old result new
+  part_of_run at zero steps events old result new text line p within =
+      record { here = old; line = line; before = refl; text = text; plays = p }
+  part_of_run at (suc i) [] events old (Ok done) new text line p within =
+      absurd (no_part i events p.3 within)
+  part_of_run at (suc i) [] events old (Err e) new text line p within = absurd p
+  part_of_run at (suc i) (step ∷ steps) events old result new text line (inl s) within =
+      absurd (no_part i events s.no_event within)
+  part_of_run at (suc i) (step ∷ steps) events old result new text line (inr g) within =
+      let count : length events ≡ suc (length g.later) =
+      ap (λ (es : List Event). length es) g.done in
+      let mid : OnCable S = record { line = g.mid; cable = g.between } in
+      let more : Part (at + 1) i steps g.later mid result new =
+      part_of_run (at + 1) i steps g.later mid result new g.rest g.line g.goes (omega arith) in
+      subst (λ (es : List Event). Part at (suc i) (step ∷ steps) es old result new) (sym g.done)
+      (record {
+        here = more.here;
+        line = more.line;
+        before =
+            runs_after at g.accepted.event old.line g.mid more.here.line (take i g.later) (Ok tt)
+            g.line g.accepted.done more.before;
+        text = more.text;
+        plays = more.plays;
+      })
+
+  visit_from : (laws : LineLaws) (steps : List NumberedEvent) (events : List Event)
+      (here : OnCable S) (result : Result (Unit {0}) RunError) (new : OnCable S) (text : List ℕ)
+      → IsLine here.line → Plays streams steps events here result new text
+      → PlaysVisit steps events here.line result new.line
+  visit_from laws steps events here result new text line p place begins h =
+      let n : ℕ = visit_length here.line (entry_at here.line place) in
+      let sent : SentRun 0 n here.line result new.line =
+      sent_run 0 n steps events here result new text p h.steps_are h.as_sent in
+      let done : (sent.answer ≡ Ok tt) × IsVisited here.line new.line place =
+      laws.visit here.line new.line (sent_times n) sent.answer line sent.runs place
+      (record { begins = begins; transmissions = refl; delays = h.delays }) in
+      (sent.alike done.0, done.1)
+
+  round_from : (laws : LineLaws) (steps : List NumberedEvent) (events : List Event)
+      (here : OnCable S) (result : Result (Unit {0}) RunError) (new : OnCable S) (text : List ℕ)
+      → IsLine here.line → Plays streams steps events here result new text
+      → PlaysRound steps events here.line result new.line
+  round_from laws steps events here result new text line p begins h =
+      let n : ℕ = round_length here.line in
+      let sent : SentRun 0 n here.line result new.line =
+      sent_run 0 n steps events here result new text p h.steps_are h.as_sent in
+      let done : (sent.answer ≡ Ok tt) × IsRoundDone here.line new.line =
+      laws.round here.line new.line (sent_times n) sent.answer line sent.runs
+      (record { begins = begins; transmissions = refl; delays = h.delays }) in
+      (sent.alike done.0, done.1)
+
+  plays_from : (laws : LineLaws) (i : ℕ) (steps : List NumberedEvent) (events : List Event)
+      (old : OnCable S) (result : Result (Unit {0}) RunError) (new : OnCable S)
+      → Part 0 i steps events old result new
+      → PlaysFrom i steps events old.line result new.line
+  plays_from laws i steps events old result new part = record {
+    here = part.here.line;
+    before = part.before;
+    after =
+        accepted_run 0 (drop i steps) (drop i events) part.here result new part.text part.plays;
+    visit =
+        visit_from laws (drop i steps) (drop i events) part.here result new part.text part.line
+        part.plays;
+    round =
+        round_from laws (drop i steps) (drop i events) part.here result new part.text part.line
+        part.plays;
+  }
+
   module _ (laws : LineLaws) (steps : List NumberedEvent) (events : List Event)
       (old new : Playing S) (result : Result (Unit {0}) RunError) (text : List ℕ)
       (line : IsLine old.line)
@@ -276,28 +360,6 @@ module _ {S : Type 0} (streams : Streams S) where
               is).arrived;
         }
 
-    plays_visit : PlaysVisit steps events old.line result new.line
-    plays_visit place begins h =
-        let sent : SentRun 0 (visit_length old.line (entry_at old.line place)) old.line result
-        new.line =
-        sent_run 0 (visit_length old.line (entry_at old.line place)) steps events (on_cable old)
-        result (on_cable new) text p h.steps_are h.as_sent in
-        let done : (sent.answer ≡ Ok tt) × IsVisited old.line new.line place =
-        laws.visit old.line new.line
-        (sent_times (visit_length old.line (entry_at old.line place))) sent.answer line sent.runs
-        place (record { begins = begins; transmissions = refl; delays = h.delays }) in
-        (sent.alike done.0, done.1)
-
-    plays_round : PlaysRound steps events old.line result new.line
-    plays_round begins h =
-        let sent : SentRun 0 (round_length old.line) old.line result new.line =
-        sent_run 0 (round_length old.line) steps events (on_cable old) result (on_cable new) text p
-        h.steps_are h.as_sent in
-        let done : (sent.answer ≡ Ok tt) × IsRoundDone old.line new.line =
-        laws.round old.line new.line (sent_times (round_length old.line)) sent.answer line
-        sent.runs (record { begins = begins; transmissions = refl; delays = h.delays }) in
-        (sent.alike done.0, done.1)
-
     runs_the_line : RunsLine steps events old.line result new.line
     runs_the_line =
         let runs : Runs old.line events (Ok tt) new.line =
@@ -308,8 +370,9 @@ module _ {S : Type 0} (streams : Streams S) where
           keeps = laws.keeps old.line new.line events (Ok tt) line runs;
           headline = laws.headline old.line new.line events (Ok tt) line runs;
           arrives = arrives_as_asked;
-          visit = plays_visit;
-          round = plays_round;
+          parts = λ i within.
+              plays_from laws i steps events (on_cable old) result (on_cable new)
+              (part_of_run 0 i steps events (on_cable old) result (on_cable new) text line p within);
         }
 
 -- a run of a script is a run of the line

@@ -1,7 +1,7 @@
 -- What a run of a script does to its line: it is a run of the line, of which the main promise and
 -- the delivery within a visit and a round hold.
-use Rattle.std.specs.Prelude.{◌≡◌, ◌&&◌, ℕ, IsTrue, nat_eq, if◌then◌else◌, List, [], ◌∷◌, ◌++◌}
-use Rattle.std.specs.Prelude.{length, map, take, replicate, All, Result, Ok, OnOk}
+use Rattle.std.specs.Prelude.{◌≡◌, ◌≤◌, ◌&&◌, ℕ, IsTrue, nat_eq, if◌then◌else◌, List, [], ◌∷◌, ◌++◌}
+use Rattle.std.specs.Prelude.{length, map, take, drop, replicate, All, Result, Ok, OnOk}
 use Rattle.bsc_directory.specs.declared.way.Way.{Way}
 use Rattle.bsc_directory.specs.declared.way.Way.TheVariants.{FromTerminal, ToTerminal}
 use Rattle.bsc_line_model.specs.declared.event.Event.{Event}
@@ -71,6 +71,17 @@ PlaysRound steps events old result new =
     BeginsVisit old 0 → AreHeard (round_length old) steps events old new
     → (result ≡ Ok tt) × IsRoundDone old new
 
+-- A script that was played, from the step at place i on. The line at that place is one to which the
+-- events before it lead, and from which the others lead to the new line. If the rest of the script
+-- is the transmissions of a visit or of a round that begins there, it is delivered.
+pub record PlaysFrom (i : ℕ) (steps : List NumberedEvent) (events : List Event) (old : LineValue)
+    (result : Result (Unit {0}) RunError) (new : LineValue) : Type 0 where
+  pub here : LineValue
+  pub before : Runs old (take i events) (Ok tt) here
+  pub after : Runs here (drop i events) (Ok tt) new
+  pub visit : PlaysVisit (drop i steps) (drop i events) here result new
+  pub round : PlaysRound (drop i steps) (drop i events) here result new
+
 -- The line made a run of these events, which are those of the script that were accepted. What every
 -- run of a line promises holds of it.
 pub record RunsLine (steps : List NumberedEvent) (events : List Event) (old : LineValue)
@@ -81,5 +92,4 @@ pub record RunsLine (steps : List NumberedEvent) (events : List Event) (old : Li
   pub headline : IsTrue new.trusted → KeepsRecords old events (Ok tt) new
   pub arrives : (t : ℕ) (way : Way) → IsChannel old t way
       → ArrivesAsAsked (take (length events) steps) old new t way
-  pub visit : PlaysVisit steps events old result new
-  pub round : PlaysRound steps events old result new
+  pub parts : (i : ℕ) → i ≤ length events → PlaysFrom i steps events old result new

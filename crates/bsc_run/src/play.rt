@@ -29,8 +29,9 @@ use std::io::{Read, Write};
 /// The events that were accepted are a run of the line, each with the octets that were read. So what
 /// `Line::run` promises holds of it: if the line is trusted at the end, the records that arrived on
 /// each channel are the first of those that were offered before and then by the script, in order
-/// and each once; and if the script is as many `carry` as a visit or a round takes, each of which
-/// was read as it was sent, the records that wait there are delivered.
+/// and each once; and if the script, from some step on, is as many `carry` as the visit or the round
+/// takes that begins there, each read as it was sent, and no spool is refused room, then the records
+/// that wait there are delivered.
 pub fn run_on<
     S: Read + Write + Drop,
     A: Allocator,
