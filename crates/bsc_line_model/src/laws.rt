@@ -14,7 +14,7 @@ ghost use Rattle.bsc_line_model.specs.StepLaws.{HoldsWhilePolled, NeverMismatche
 ghost use Rattle.bsc_line_model.specs.StepLaws.{NewChannelsAreEmpty, OneAnswers, AlikeIsFair};
 ghost use Rattle.bsc_line_model.specs.StepLaws.{FairIsAlike};
 ghost use Rattle.bsc_line_model.specs.Headline.{RunsKeepRecords};
-ghost use Rattle.bsc_line_model.specs.Octets.{FairInOctets};
+ghost use Rattle.bsc_line_model.specs.Octets.{AllFairInOctets, FairInOctets};
 ghost use Rattle.bsc_line_model.specs.Rounds.{RunsDeliverVisit, RunsDeliverRound, SeesLast};
 ghost use Rattle.bsc_line_model.specs.Rounds.{SeesEarlier};
 ghost use Rattle.bsc_line_model.specs.Together.{AreSound};
@@ -106,9 +106,11 @@ pub fn heard_alike()
 {}
 
 /// Octets are heard fairly exactly if they spell the message that was sent, or EOT of a call, or
-/// spell no message; a failed text is fair only if a text was sent.
+/// spell no message; a failed text is fair only if a text was sent. All terminals hear fairly
+/// exactly if each hears such octets, and a call is spelled by the octets at all of them or at none.
 pub fn fair_in_octets()
-    ensures { FairInOctets }
+    ensures one { FairInOctets }
+    ensures all { AllFairInOctets }
 {
     reading();
 }

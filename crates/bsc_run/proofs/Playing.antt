@@ -4,17 +4,17 @@ use Rattle.std.proofs.Common.{drop, get_or, inl, inr, Option, Result, Ok, Err, r
 use Rattle.std.proofs.Common.{arith, append_assoc, append-nil, add-one}
 use Rattle.std.specs.Io.KnownBytes.{Appends}
 use Rattle.std.proofs.KnownBytes.{Appends-nil, Appends-trans}
+use Rattle.bsc_line_model.specs.declared.event.Event.{Event}
 use Rattle.bsc_line_model.specs.Kept.{IsLine}
 use Rattle.bsc_script.specs.Actions.{NumberedEvent}
 use Rattle.bsc_run.specs.Crossing.{Streams}
 use Rattle.bsc_run.specs.declared.error.RunError.{RunError}
 use Rattle.bsc_run.specs.declared.error.RunError.TheVariants.{Refused}
-use Rattle.bsc_run.specs.declared.error.StepError.TheVariants as fault
-use Rattle.bsc_print.specs.declared.error.PrintError.TheVariants as print
 use Rattle.bsc_run.specs.Printed.{report_of}
 use Rattle.bsc_run.specs.Plays.{Playing, playing, on_cable, Plays, Played, Runs, TakesStep}
 use Rattle.bsc_run.specs.Plays.{WhereWhole}
 use Rattle.bsc_run.specs.Steps.{OnCable, Accepts, trace_after}
+use Rattle.bsc_run.proofs.LineRuns.{LineLaws, runs_line}
 
 drop_map_suc : {X Y : Type 0} (f : X → Y) (xs : List X) (i : ℕ) (x : X) → i < length xs → x
     ≡ get_or xs i x → drop i (map f xs) ≡ f x ∷ drop (suc i) (map f xs)
@@ -36,13 +36,15 @@ drop_map_all f (x ∷ xs) zero h = absurd (omega arith)
 drop_map_all f (x ∷ xs) (suc i) h = drop_map_all f xs i (omega arith)
 
 module _ {S : Type 0} (streams : Streams S) (all : List NumberedEvent) (first : Playing S) where
-  -- the text written so far, with the fact that a run of the remaining events makes a run of all
+  -- the text written and the events of the line so far, with the fact that a run of the remaining
+  -- events makes a run of all
   pub record HasPlayed (left : List NumberedEvent) (now : Playing S) : Type 0 where
     pub text : List ℕ
+    pub events : List Event
     pub written : Appends first.outside.held now.outside.held text
     pub goes : (result : Result (Unit {0}) RunError) (new : OnCable S) (rest : List ℕ)
-        → Plays streams left (on_cable now) result new rest
-        → Plays streams all (on_cable first) result new (text ++ rest)
+        (later : List Event) → Plays streams left later (on_cable now) result new rest
+        → Plays streams all (events ++ later) (on_cable first) result new (text ++ rest)
 
   -- an event is accepted
   pub has_played_more : (step : NumberedEvent) (left : List NumberedEvent) (mid new : Playing S)
@@ -52,18 +54,24 @@ module _ {S : Type 0} (streams : Streams S) (all : List NumberedEvent) (first : 
       → HasPlayed left new
   has_played_more step left mid new h line accepted written = record {
     text = h.text ++ trace_after step.event new.line;
+    events = h.events ++ accepted.event ∷ [];
     written = Appends-trans first.outside.held mid.outside.held new.outside.held h.text
         (trace_after step.event new.line) h.written written;
-    goes = λ result last rest p.
-        rw (append_assoc h.text (trace_after step.event new.line) rest)
-        (h.goes result last (trace_after step.event new.line ++ rest)
+    goes = λ result last rest later p.
+        rw (
+          append_assoc h.text (trace_after step.event new.line) rest,
+          append_assoc h.events (accepted.event ∷ []) later,
+        )
+        (h.goes result last (trace_after step.event new.line ++ rest) (accepted.event ∷ later)
         (inr record {
           mid = new.line;
           between = new.outside.cable;
           rest = rest;
+          later = later;
           line = line;
           accepted = accepted;
           printed = refl;
+          done = refl;
           goes = p;
         }));
   }
@@ -73,7 +81,8 @@ module _ {S : Type 0} (streams : Streams S) (all : List NumberedEvent) (first : 
       → Played streams all first (Ok tt) now
   has_played_all now h = record {
     text = h.text ++ [];
-    plays = h.goes (Ok tt) (on_cable now) [] (refl, refl, refl);
+    events = h.events ++ [];
+    plays = h.goes (Ok tt) (on_cable now) [] [] (refl, refl, refl, refl);
     written = rw (append-nil h.text) h.written;
   }
 
@@ -85,12 +94,14 @@ module _ {S : Type 0} (streams : Streams S) (all : List NumberedEvent) (first : 
       let r = t.refused line why refl in
       record {
         text = h.text ++ [];
-        plays = h.goes (Err (Refused line why)) (on_cable new) [] (inl record {
+        events = h.events ++ [];
+        plays = h.goes (Err (Refused line why)) (on_cable new) [] [] (inl record {
           why = why;
           answer = ap (λ n. Err (Refused n why)) r.0;
           refused = r.1;
           untouched = r.2;
           nothing = refl;
+          no_event = refl;
         });
         written = Appends-trans first.outside.held mid.outside.held new.outside.held h.text []
             h.written r.3;
@@ -99,20 +110,26 @@ module _ {S : Type 0} (streams : Streams S) (all : List NumberedEvent) (first : 
 
   -- no event has been performed
   pub has_played_none : HasPlayed all first
-  has_played_none =
-      record { text = []; written = Appends-nil first.outside.held; goes = λ result new rest p. p }
+  has_played_none = record {
+    text = [];
+    events = [];
+    written = Appends-nil first.outside.held;
+    goes = λ result new rest later p. p;
+  }
 
--- the report is written after the run
-pub runs_reported : {S : Type 0} (streams : Streams S) (steps : List NumberedEvent)
-    (old : Playing S) (result : Result (Unit {0}) RunError) (new : Playing S)
-    (holds : Option (List ℕ)) → Played streams steps old result new
-    → Appends new.outside.held holds (report_of new.line)
+-- the report is written after the run, which is a run of the line
+pub runs_reported : {S : Type 0} (laws : LineLaws) (streams : Streams S)
+    (steps : List NumberedEvent) (old : Playing S) (result : Result (Unit {0}) RunError)
+    (new : Playing S) (holds : Option (List ℕ)) → IsLine old.line
+    → Played streams steps old result new → Appends new.outside.held holds (report_of new.line)
     → Runs streams steps old result (playing new.line new.outside.cable holds)
-runs_reported streams steps old result new holds p written = record {
+runs_reported laws streams steps old result new holds line p written = record {
   text = p.text;
+  events = p.events;
   plays = p.plays;
   written = Appends-trans old.outside.held new.outside.held holds p.text (report_of new.line)
       p.written written;
+  line = runs_line laws streams steps p.events old new result p.text line p.plays;
 }
 
 -- a property of a run that no fault interrupted

@@ -4,6 +4,6 @@ pub mod Crossing
 pub mod Speaking
 pub mod Hearing
 pub mod Steps
+pub mod LineRuns
 pub mod Plays
 pub mod Runs
-pub mod LineRuns

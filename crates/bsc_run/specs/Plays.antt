@@ -3,24 +3,27 @@ use Rattle.std.specs.Prelude.{⊤, ◌≡◌, ◌⊎◌, ℕ, List, [], ◌∷�
 use Rattle.std.specs.Io.KnownBytes.{Appends}
 use Rattle.bsc_carrier.specs.Cable.{CableValue}
 use Rattle.bsc_line_model.specs.declared.error.LineError.{LineError}
+use Rattle.bsc_line_model.specs.declared.event.Event.{Event}
 use Rattle.bsc_line_model.specs.Line.{LineValue}
 use Rattle.bsc_line_model.specs.Kept.{IsLine}
 use Rattle.bsc_script.specs.Actions.{NumberedEvent}
 use Rattle.bsc_run.specs.declared.error.RunError.{RunError}
 use Rattle.bsc_run.specs.declared.error.RunError.TheVariants.{Refused}
+use Rattle.bsc_run.specs.LineRuns.{RunsLine}
 use Rattle.bsc_run.specs.Printed.{report_of}
 use Rattle.bsc_run.specs.Speaking.{Fits}
 use Rattle.bsc_run.specs.Crossing.{Streams}
 use Rattle.bsc_run.specs.Steps.{OnCable, Accepts, Refuses, trace_after}
 
 -- The event is the first that is refused: nothing crosses the cable and nothing is printed.
-pub record Stops {S : Type 0} (step : NumberedEvent) (old : OnCable S)
+pub record Stops {S : Type 0} (step : NumberedEvent) (events : List Event) (old : OnCable S)
     (result : Result (Unit {0}) RunError) (new : OnCable S) (text : List ℕ) : Type 0 where
   pub why : LineError
   pub answer : result ≡ Err (Refused step.line why)
   pub refused : Refuses step.event why old.line new.line
   pub untouched : new.cable ≡ old.cable
   pub nothing : text ≡ []
+  pub no_event : events ≡ []
 
 -- A cable, and what the output holds.
 pub record Outside (S : Type 0) : Type 0 where
@@ -42,26 +45,30 @@ on_cable p = record { line = p.line; cable = p.outside.cable }
 
 module _ {S : Type 0} (streams : Streams S) where
   -- The event is accepted. The run of the remaining events continues with the line and the cable
-  -- that it leaves, and prints the rest of the text.
-  pub record GoesOn (step : NumberedEvent) (old : OnCable S) (text : List ℕ)
-      (Rest : OnCable S → List ℕ → Type 0) : Type 0 where
+  -- that it leaves, and prints the rest of the text. `events` are the events of the line: the one
+  -- that this one is, and then those of the rest.
+  pub record GoesOn (step : NumberedEvent) (events : List Event) (old : OnCable S) (text : List ℕ)
+      (Rest : List Event → OnCable S → List ℕ → Type 0) : Type 0 where
     pub mid : LineValue
     pub between : CableValue S
     pub rest : List ℕ
+    pub later : List Event
     pub line : IsLine mid
     pub accepted : Accepts streams step.event old (record { line = mid; cable = between })
     pub printed : text ≡ trace_after step.event mid ++ rest
-    pub goes : Rest (record { line = mid; cable = between }) rest
+    pub done : events ≡ accepted.event ∷ later
+    pub goes : Rest later (record { line = mid; cable = between }) rest
 
-  -- The events are performed in order, up to the first that is refused, and this text is printed.
-  abbrev pub Plays : List NumberedEvent → OnCable S → Result (Unit {0}) RunError → OnCable S
-      → List ℕ → Type 0
-  Plays [] old (Ok done) new text =
-      (new.line ≡ old.line) × (new.cable ≡ old.cable) × (text ≡ [])
-  Plays [] old (Err e) new text = ⊥
-  Plays (step ∷ steps) old result new text =
-      Stops step old result new text
-      ⊎ GoesOn step old text (λ mid rest. Plays steps mid result new rest)
+  -- The events of a script are performed in order, up to the first that is refused, as these events
+  -- of the line, and this text is printed.
+  abbrev pub Plays : List NumberedEvent → List Event → OnCable S → Result (Unit {0}) RunError
+      → OnCable S → List ℕ → Type 0
+  Plays [] events old (Ok done) new text =
+      (new.line ≡ old.line) × (new.cable ≡ old.cable) × (text ≡ []) × (events ≡ [])
+  Plays [] events old (Err e) new text = ⊥
+  Plays (step ∷ steps) events old result new text =
+      Stops step events old result new text
+      ⊎ GoesOn step events old text (λ later mid rest. Plays steps later mid result new rest)
 
   -- One event of a script is performed or refused, and the text for it is written.
   pub record TakesStep (step : NumberedEvent) (old : Playing S)
@@ -78,15 +85,19 @@ module _ {S : Type 0} (streams : Streams S) where
   pub record Played (steps : List NumberedEvent) (old : Playing S)
       (result : Result (Unit {0}) RunError) (new : Playing S) : Type 0 where
     pub text : List ℕ
-    pub plays : Plays steps (on_cable old) result (on_cable new) text
+    pub events : List Event
+    pub plays : Plays steps events (on_cable old) result (on_cable new) text
     pub written : Appends old.outside.held new.outside.held text
 
   -- The text that a run of the events prints was written, and then the report of the line after it.
+  -- The line made the run of the events that the script says.
   pub record Runs (steps : List NumberedEvent) (old : Playing S)
       (result : Result (Unit {0}) RunError) (new : Playing S) : Type 0 where
     pub text : List ℕ
-    pub plays : Plays steps (on_cable old) result (on_cable new) text
+    pub events : List Event
+    pub plays : Plays steps events (on_cable old) result (on_cable new) text
     pub written : Appends old.outside.held new.outside.held (text ++ report_of new.line)
+    pub line : RunsLine steps events old.line result new.line
 
 -- P holds of a run that no fault interrupted: it reached the end of the script, or a refused event.
 abbrev pub WhereWhole : Result (Unit {0}) RunError → Type 0 → Type 0

@@ -1,7 +1,8 @@
 -- The effect of the events of a script on a line and a cable.
-use Rattle.std.specs.Prelude.{◌≡◌, ℕ, Bool, true, false, if◌then◌else◌, List, [], length, map}
+use Rattle.std.specs.Prelude.{◌≡◌, ◌⊎◌, ℕ, Bool, true, false, if◌then◌else◌, List, [], length, map}
 use Rattle.std.specs.Prelude.{Option, None, Some, Result, Ok, Err, OnOk}
 use Rattle.std.specs.Borrow.{Bor}
+use Rattle.std.specs.Str.{bytes_eq}
 use Rattle.bsc_frame.specs.declared.message.Message.{Message}
 use Rattle.bsc_frame.specs.Wire.{wire}
 use Rattle.bsc_carrier.specs.Cable.{CableValue}
@@ -24,14 +25,18 @@ use Rattle.bsc_run.specs.Speaking.{Fits}
 abbrev pub HasCodes : (Bor (List ℕ) → Event) → List ℕ → Event → Type 0
 HasCodes offer codes e = (told : Bor (List ℕ)) × (told.now ≡ codes) × (e ≡ offer told)
 
+-- The pending transmission is heard, as it was sent or as some octets.
+abbrev pub IsHearing : Event → Type 0
+IsHearing e = (e ≡ event.CarrySent) ⊎ ((octets : Bor (List ℕ)) × (e ≡ event.Carry (Some octets)))
+
 -- The events of the line for an event of a script. If octets or items are heard, there is one for
 -- each possible hearing.
 abbrev pub MayBe : Asked → Event → Type 0
 MayBe (offer_at t codes) e = HasCodes (event.OfferAt t) codes e
 MayBe (offer_for t s codes) e = HasCodes (event.OfferFor t s) codes e
-MayBe carry e = (octets : Bor (List ℕ)) × (e ≡ event.Carry (Some octets))
+MayBe carry e = IsHearing e
 MayBe lose e = e ≡ event.Carry None
-MayBe (heard given) e = (octets : Bor (List ℕ)) × (e ≡ event.Carry (Some octets))
+MayBe (heard given) e = IsHearing e
 MayBe (heard_each items) e =
     (words : Bor (List (Option (Bor (List ℕ))))) × (length words.now ≡ length items)
     × (e ≡ event.CarryEach words)
@@ -44,6 +49,12 @@ MayBe (release t way) e = e ≡ event.Release t way
 -- An event of a script is refused, whatever would have been heard.
 abbrev pub Refuses : Asked → LineError → LineValue → LineValue → Type 0
 Refuses asked why old new = (e : Event) → MayBe asked e → Does e old (Err why) new
+
+-- The event of the line for octets that were read at the far end: the transmission is heard as it
+-- was sent if they are the octets of its message, and otherwise as these octets.
+abbrev pub heard_as : Message → Bor (List ℕ) → Event
+heard_as message octets =
+    if bytes_eq octets.now (wire message) then event.CarrySent else event.Carry (Some octets)
 
 -- A line, and the cable that its transmissions cross.
 pub record OnCable (S : Type 0) : Type 0 where
@@ -66,7 +77,7 @@ module _ {S : Type 0} (streams : Streams S) where
       (old new : CableValue S) : Type 0 where
     pub octets : Bor (List ℕ)
     pub sends : Sends sent l octets.now old new
-    pub is : e ≡ event.Carry (Some octets)
+    pub is : e ≡ heard_as sends.transmission.message octets
 
   -- The items cross the cable, and each terminal hears the octets that were read at its end.
   pub record HearsItems (items : List (Option (List ℕ))) (e : Event) (old new : CableValue S)

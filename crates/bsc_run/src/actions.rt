@@ -14,14 +14,14 @@ ghost use Rattle.bsc_script.specs.Actions.{event_in};
 ghost use Rattle.bsc_run.specs.Crossing.{connection_count, streams_of};
 ghost use Rattle.bsc_script.specs.Events.{carry, heard as heard_event, heard_each};
 ghost use Rattle.bsc_run.specs.Faults.{told};
-ghost use Rattle.bsc_run.specs.Hearing.{IsRefusedEach, WasSent};
+ghost use Rattle.bsc_run.specs.Hearing.{IsRefusedEach, ReadsAsSent, WasSent};
 ghost use Rattle.bsc_run.specs.Speaking.{Fits};
 ghost use Rattle.bsc_run.specs.Steps.{Acts, Sends};
 
 use crate::crossing::{cross, cross_each, slices};
 use crate::error::StepError;
 use bsc_carrier::{Cable, Octets};
-use bsc_frame::laws::one_reading;
+use bsc_frame::laws::{one_reading, reading};
 use bsc_frame::{Wire, encode};
 use bsc_line::{Line, LineError, Speaker};
 use bsc_script::{Action, HeardOctets};
@@ -160,9 +160,21 @@ fn send_given<S: Read + Write + Drop, A: Allocator, B: Allocator>(
 fn hear<B: Allocator>(line: &mut Line<B>, octets: &[u8])
     requires { line.old.pending ≢ None }
     ensures does { Does (event.Carry (Some octets.entry)) line.old (Ok tt) line.new }
+    ensures reads { ReadsAsSent line.old }
     ensures line { IsLine line.new }
 {
+    reads_as_sent(line);
     line.carry(Some(octets)).unwrap();
+}
+
+/// States that the octets of the pending transmission are heard as its message, for contracts to
+/// rest on.
+fn reads_as_sent<B: Allocator>(line: &Line<B>)
+    ensures { ReadsAsSent line.now }
+{
+    one_reading();
+    reading();
+    let _pending = line.pending();
 }
 
 /// Sends each item over the connection with its number; each terminal hears the octets that are

@@ -3,7 +3,6 @@
 ghost use Rattle.std.specs.Prelude.{◌≡◌, map, OnOk};
 ghost use Rattle.std.specs.Io.KnownBytes.{Appends};
 ghost use Rattle.bsc_script.specs.Actions.{event_in, numbered};
-ghost use Rattle.bsc_run.specs.LineRuns.{RunsLine};
 ghost use Rattle.bsc_run.specs.Crossing.{streams_of};
 ghost use Rattle.bsc_run.specs.Plays.{TakesStep, Played, Runs, WhereWhole, playing};
 ghost use Rattle.bsc_run.specs.Speaking.{Fits};
@@ -15,6 +14,7 @@ use crate::report::write_report;
 use crate::trace::write_pending;
 use bsc_carrier::Cable;
 use bsc_line::Line;
+use bsc_line_model::laws::{every_run, headline, round, visit};
 use bsc_print::PrintError;
 use bsc_script::{Action, Step};
 use std::alloc::Allocator;
@@ -25,6 +25,13 @@ use std::io::{Read, Write};
 /// (`carry`, `lose`, `heard`, `heard-each` and `silence`), and the report at the end, also if an
 /// event is refused. After `Output`, `Socket` and `Memory` there is no report, and what was written
 /// before stays.
+///
+/// The events that were accepted are a run of the line, each with the octets that were read. So what
+/// `Line::run` promises holds of it: if the line is trusted at the end, the records that arrived on
+/// each channel are the first of those that were offered before and then by the script, in order
+/// and each once; and if the script, from some step on, is as many `carry` as the visit or the round
+/// takes that begins there, each read as it was sent, and no spool is refused room, then the records
+/// that wait there are delivered.
 pub fn run_on<
     S: Read + Write + Drop,
     A: Allocator,
@@ -40,14 +47,14 @@ pub fn run_on<
     out: &mut W,
 ) -> Result<(), RunError>
     requires { Fits line.old cable.old }
-    ensures does { WhereWhole result (Runs (streams_of S.contents S.remaining)
+    ensures { WhereWhole result (Runs (streams_of S.contents S.remaining)
         (map numbered steps.now) (playing line.old cable.old (W.contents out.old)) result
         (playing line.new cable.new (W.contents out.new))) }
-
-    // The line went through a run of its own events, so the laws of every run of a line apply to
-    // it.
-    ensures line { WhereWhole result (RunsLine line.old result line.new) }
 {
+    every_run();
+    headline();
+    visit();
+    round();
     match play(alloc, line, steps, cable, out) {
         Ok(()) => Ok(write_report(alloc, line, out)?),
         Err(RunError::Refused { line: number, why }) => {

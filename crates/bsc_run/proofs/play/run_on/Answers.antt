@@ -4,7 +4,6 @@ use Rattle.bsc_run.specs.Crossing.{streams_of}
 use Rattle.bsc_run.specs.declared.error.RunError.TheVariants.{Refused}
 use Rattle.bsc_script.specs.Actions.{numbered}
 use Rattle.bsc_run.specs.Plays.{playing}
-use Rattle.bsc_run.proofs.LineRuns.{runs_line}
 use Rattle.bsc_run.proofs.Playing.{runs_reported}
 use Rattle.bsc_run.proofs.play.run_on.Goals as goal
 
@@ -15,15 +14,15 @@ returns-in_ok-write_report-in-Ok g c =
     let new =
     playing c.play.new.line c.play.new.cable (g.W.Write.contents c.play.new.out) in
     let holds = g.W.Write.contents c.write_report.new.out in
-    let does =
-    runs_reported streams (map numbered c.args.steps.now) old (Ok tt) new holds
-    c.in-Ok.ensures c.in_ok-write_report-in-Ok.ensures in
-    record {
-      does = does;
-      line =
-          runs_line streams (map numbered c.args.steps.now) old (Ok tt)
-          (playing c.play.new.line c.play.new.cable holds) does;
-    }
+    runs_reported
+    (record {
+      keeps = c.every_run.ensures;
+      headline = c.headline.ensures;
+      visit = c.visit.ensures;
+      round = c.round.ensures;
+    })
+    streams (map numbered c.args.steps.now) old (Ok tt) new holds c.requires.line
+    c.in-Ok.ensures c.in_ok-write_report-in-Ok.ensures
 
 pub returns-in_ok-write_report-in-Err-Refused : goal.returns-in_ok-write_report-in-Err-Refused
 returns-in_ok-write_report-in-Err-Refused g c =
@@ -34,12 +33,12 @@ returns-in_ok-write_report-in-Err-Refused g c =
     playing c.play.new.line c.play.new.cable (g.W.Write.contents c.play.new.out) in
     let holds = g.W.Write.contents c.write_report-in-Err-Refused.new.out in
     let result = Err (Refused c.in-Err-Refused.number c.in-Err-Refused.why) in
-    let does =
-    runs_reported streams (map numbered c.args.steps.now) old result new holds played
-    c.in_ok-write_report-in-Err-Refused.ensures in
-    record {
-      does = does;
-      line =
-          runs_line streams (map numbered c.args.steps.now) old result
-          (playing c.play.new.line c.play.new.cable holds) does;
-    }
+    runs_reported
+    (record {
+      keeps = c.every_run.ensures;
+      headline = c.headline.ensures;
+      visit = c.visit.ensures;
+      round = c.round.ensures;
+    })
+    streams (map numbered c.args.steps.now) old result new holds c.requires.line played
+    c.in_ok-write_report-in-Err-Refused.ensures

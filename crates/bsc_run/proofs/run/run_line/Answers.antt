@@ -1,4 +1,5 @@
 -- Shows that the cable fits the new line, and that the run is one of the configuration.
+use Rattle.bsc_run.proofs.LineRuns.{arrived_on_new_line}
 use Rattle.bsc_run.proofs.Playing.{where_whole}
 use Rattle.bsc_run.proofs.Speaking.{new_line_fits}
 use Rattle.bsc_run.proofs.run.run_line.Goals as goal
@@ -22,10 +23,14 @@ returns-in-Ok g c =
       c.terminal_list-terminals.ensures.value,
       c.poll_list-poll_list.ensures.value,
     ) at c.in-Ok.ensures.value in
-    let runs = rw c.steps.ensures at c.run_on.ensures.does in
+    let runs = rw c.steps.ensures at c.run_on.ensures in
     where_whole c.run_on.result (λ r. record {
       begun = c.in-Ok.line;
       ended = c.run_on.new.line;
       new_line = new;
       runs = r;
+      arrived =
+          arrived_on_new_line c.args.config.now.setup c.args.config.now.terminals
+          c.args.config.now.poll_list c.args.script.now r.events c.in-Ok.line c.run_on.new.line
+          c.run_on.result c.in-Ok.ensures.line new r.line;
     }) runs
