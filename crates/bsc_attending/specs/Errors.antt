@@ -39,6 +39,7 @@ abbrev pub live_error : LiveError → AttendingError
 live_error live.Wait = attending.Connections sockets.Sockets
 live_error live.Count = attending.Connections sockets.Sockets
 live_error live.Output = attending.Output
+live_error live.Unprinted = attending.Unprinted
 live_error live.Memory = attending.Memory
 
 -- The errors of options.
@@ -77,6 +78,7 @@ IsLate (attending.Closed error) = Unit {0}
 IsLate attending.InDoubt = Unit {0}
 IsLate attending.Undelivered = Unit {0}
 IsLate attending.Output = Unit {0}
+IsLate attending.Unprinted = Unit {0}
 IsLate attending.Memory = Unit {0}
 IsLate _ = ⊥
 

@@ -54,6 +54,11 @@ pub enum AttendingError {
     #[error("output fault")]
     Output,
 
+    /// Standard output did not accept records that arrived. They were not acknowledged, and the
+    /// station has ended.
+    #[error("records that arrived could not be printed")]
+    Unprinted,
+
     /// An allocation failed.
     #[error("out of memory")]
     Memory,
@@ -142,6 +147,7 @@ impl From<LiveError> for AttendingError {
                 error: SocketsError::Sockets,
             },
             LiveError::Output => AttendingError::Output,
+            LiveError::Unprinted => AttendingError::Unprinted,
             LiveError::Memory => AttendingError::Memory,
         }
     }

@@ -30,7 +30,8 @@ struct Watching<'a, T: Drop, O, D> {
 /// Runs the station that the words ask for. The configuration and all records are read and checked
 /// before a connection is made. Records are printed when they arrive, and the report when the
 /// station ends. `InDoubt` and `Undelivered` are returned after the report is printed, and so is
-/// `Closed`, when a fault closed the connection of a terminal.
+/// `Closed`, when a fault closed the connection of a terminal. `Unprinted` is returned when records
+/// that arrived could not be printed; they were not acknowledged, and the report is tried.
 pub fn station<R: Read, H: Files + Network, W: Write>(
     alloc: Global,
     words: &StationWords,
@@ -55,10 +56,23 @@ fn run<H: Network, W: Write>(
 ) -> Result<(), AttendingError>
     ensures { IfErr result IsLate }
 {
-    match prepared {
+    let result = match prepared {
         Prepared::Control { control } => run_control(alloc, settings, control, machine, out),
         Prepared::Terminal { terminal } => run_terminal(alloc, settings, terminal, machine, out),
+    };
+    if let Err(AttendingError::Unprinted) = result {
+        try_report(alloc, prepared, out);
     }
+    result
+}
+
+/// Tries to print the report of a station whose records could not be printed.
+fn try_report<W: Write>(alloc: Global, prepared: &Prepared, out: &mut W) {
+    // The output has failed before; if it does not accept the report either, nothing is lost by it.
+    let _ = match prepared {
+        Prepared::Control { control } => write_report(alloc, control, out),
+        Prepared::Terminal { terminal } => write_report(alloc, terminal, out),
+    };
 }
 
 /// Returns the connections that the control station asks for: one for each terminal, or one for

@@ -32,12 +32,13 @@ running_status_of (running.Run error) = run_status_of error
 running_status_of _ = 1
 
 -- The exit status of a failed station: 2 for wrong usage, 3 for records in doubt, 4 for undelivered
--- records.
+-- records, 6 for records that arrived and could not be printed.
 abbrev pub attending_status_of : AttendingError → ℕ
 attending_status_of (attending.WrongValue why) = 2
 attending_status_of (attending.WrongTogether why) = 2
 attending_status_of attending.InDoubt = 3
 attending_status_of attending.Undelivered = 4
+attending_status_of attending.Unprinted = 6
 attending_status_of _ = 1
 
 -- The exit status of a fault: 2 for wrong usage, that of a run or a station, otherwise 1.

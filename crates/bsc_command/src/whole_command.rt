@@ -10,7 +10,7 @@ ghost use Rattle.bsc_command.specs.Program.{IsFaultAt, IsObeyed};
 
 use crate::help::help_or_fault;
 use crate::{Fault, perform, status};
-use bsc_attending::Network;
+use bsc_attending::{AttendingError, Network};
 use bsc_input::Files;
 use bsc_running::Cables;
 use bsc_words::read_words;
@@ -70,7 +70,19 @@ fn obey_given<R: Read, H: Files + Cables + Network, W: Write>(
     }
 }
 
-/// Flushes the buffer, and returns the outcome of the work, or `Output` if the flush fails.
+/// Returns whether a station could not print the records that arrived.
+fn is_unprinted(fault: &Fault) -> bool {
+    match fault {
+        Fault::Attending { error } => match error {
+            AttendingError::Unprinted => true,
+            _ => false,
+        },
+        _ => false,
+    }
+}
+
+/// Flushes the buffer, and returns the outcome of the work, or `Output` if the flush fails. Of a
+/// station that could not print its records the fault says that already, and stays.
 fn flush_after<W: Write + Drop>(
     outcome: Result<(), Fault>,
     out: &mut BufWriter<W>,
@@ -80,9 +92,10 @@ fn flush_after<W: Write + Drop>(
     ensures flushed { OnOk result (writer_buffer out.new ≡ []) }
     ensures fault { IfErr result (λ fault. IsPrintFault fault ⊎ (outcome ≡ Err fault)) }
 {
-    match out.flush() {
-        Ok(()) => outcome,
-        Err(_) => Err(Fault::Output),
+    match (out.flush(), outcome) {
+        (Ok(()), outcome) => outcome,
+        (Err(_), Err(fault)) if is_unprinted(&fault) => Err(fault),
+        (Err(_), _) => Err(Fault::Output),
     }
 }
 
@@ -102,7 +115,8 @@ pub fn fail<E: Write>(fault: &Fault, errors: &mut E) -> u8
 /// Does the work that the arguments ask for, and returns the exit status: 0 if the work succeeded
 /// or the help or the version was printed, otherwise that of the fault, which `fail` reports. The
 /// first argument is the name of the program. The output is flushed even after a fault; if the
-/// flush fails, the fault is `Output`. If the arguments are not available, `words` is the fault.
+/// flush fails, the fault is `Output`, or stays that of records that could not be printed. If the
+/// arguments are not available, `words` is the fault.
 pub fn command<R: Read, H: Files + Cables + Network, W: Write + Drop, E: Write>(
     alloc: Global,
     words: Result<Vec<String>, Fault>,

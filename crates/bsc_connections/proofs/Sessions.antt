@@ -1,6 +1,6 @@
 -- What the streams of a connection carry, step by step.
 use Rattle.std.proofs.Common.{◌≡◌, ◌≢◌, ℕ, Bool, true, false, List, [], ◌∷◌, ◌++◌, length}
-use Rattle.std.proofs.Common.{slice_get, slice_set, Option, None, Some, Result, Ok, ◌⊎◌, inl, inr}
+use Rattle.std.proofs.Common.{slice_get, slice_set, Option, None, Some, Result, Ok, Err, ◌⊎◌, inl, inr}
 use Rattle.std.proofs.Common.{refl, sym, ◌∙◌, ap, subst, append_assoc, append-nil, nat_eq}
 use Rattle.std.proofs.KnownBytes.{Consumes-nil, Appends-nil, Consumes-trans, Appends-trans}
 use Rattle.std.proofs.lemmas.Bool.{eqb-false}
@@ -22,14 +22,16 @@ use Rattle.bsc_bid.specs.declared.station.Station as station_of
 use Rattle.bsc_connections.specs.Parts.{ConnectionParts, SessionParts}
 use Rattle.bsc_connections.specs.Connections.{ConnectionValue, Takes, TakesOpen, Sends}
 use Rattle.bsc_connections.specs.Histories.{Happening, WasHeard, WasSilent, HasJoined}
+use Rattle.bsc_connections.specs.Histories.{HasClosed}
 use Rattle.bsc_connections.specs.Histories.{sent_where_some}
 use Rattle.bsc_connections.specs.Histories.{heard_in, heard_at, sent_in, all_sent, IsNoJoining}
 use Rattle.bsc_connections.specs.Histories.{NobodyJoins}
 use Rattle.bsc_connections.specs.Attending.{SendsAll, IsTakenAt, ReadsAt, TimesOut, Joins, Does}
-use Rattle.bsc_connections.specs.Attending.{ended, goes_on, first_closed, first_awaiting}
+use Rattle.bsc_connections.specs.Attending.{ended, goes_on, fails, first_closed}
+use Rattle.bsc_connections.specs.Attending.{first_awaiting, Answers}
 use Rattle.bsc_connections.specs.Attending.{Session, session_of}
 use Rattle.bsc_connections.specs.Streams.{Carries, CarriedAt, CarriesFromStart, CarriesSinceJoining}
-use Rattle.bsc_connections.specs.Streams.{CarriesHistory}
+use Rattle.bsc_connections.specs.Streams.{CarriesHistory, carried_at}
 use Rattle.bsc_connections.proofs.OnePlace.{other_place_unchanged, changed_place_has_new}
 use Rattle.bsc_connections.proofs.OnePlace.{related_at_place, same_or_other_place}
 use Rattle.bsc_connections.proofs.OnePlace.{heard_at_same_place}
@@ -360,12 +362,13 @@ module _ {R W F : Type 0} (parts : ConnectionParts R W F)
       (sym is) came
 
   -- ---- one step after another
-  module _ {S : Type 0} (station : station_of.Ghosts S) where
-    abbrev session : SessionParts S R W F
-    session = record { station = station; connection = parts }
+  module _ {S M : Type 0} (station : station_of.Ghosts S)
+      (is_told : M → S → Happening → Result Bool LiveError → M → Type 0) where
+    abbrev session : SessionParts S R W F M
+    session = record { station = station; connection = parts; is_told = is_told }
 
     abbrev Now : Type 0
-    Now = Session S C
+    Now = Session S C M
 
     abbrev starts : F → Type 0
     starts framing = parts.framing.starts framing
@@ -393,121 +396,114 @@ module _ {R W F : Type 0} (parts : ConnectionParts R W F)
     nobody_joins_by_sending place None = tt
     nobody_joins_by_sending place (Some m) = (tt, tt)
 
-    went_by_read : (taken : Taken) (at place : ℕ) (old : Now) (happened : List Happening)
-        (new : Now) (b : C)
-        → ReadsAt session at taken old happened new
+    -- What is sent, or nothing, after something that happened.
+    went_by_answer : (place : ℕ) (happening : Happening) (answer : Option Message)
+        (old between : Now) (happened : List Happening) (result : Result Bool LiveError) (new : Now)
+        (b : C) → IsNoJoining place happening
+        → ((m : C) → slice_get between.connections place ≡ Some m → m.ends ≢ None
+        → Came place (heard_in place happening) (sent_in happening) old.connections m)
+        → Answers session happening answer between happened result new
         → slice_get new.connections place ≡ Some b → b.ends ≢ None
         → Went place old.connections happened b
-    went_by_read Whole at place old happened new b (between, taken, h) is is_up =
+    went_by_answer place happening answer old between happened result new b none first a is is_up =
+        let r = a.replies in
+        let happens : happened ≡ happening ∷ sent_where_some r.sent = a.happens
+        ∙ ap (λ (more : List Happening). happening ∷ more) r.happens in
         inl (
-          subst (NobodyJoins place) (sym h.happens) (tt, nobody_joins_by_sending place h.sent),
-          came_for_equal_history place old.connections b happened (WasHeard at (last
-              h.connection.framing)
-              ∷ sent_where_some h.sent) h.happens
-              (came_in_turn place (heard_in place (WasHeard at (last h.connection.framing))) []
-              (heard_at place (sent_where_some h.sent)) (all_sent (sent_where_some h.sent))
-              old.connections between b
-              (λ m there m_up. came_heard_by_read at place old.connections between h.connection m
-              taken
-              h.at there m_up)
-              (came_sent h.sent place between new.connections b h.sends is is_up)),
+          subst (NobodyJoins place) (sym happens) (none, nobody_joins_by_sending place r.sent),
+          came_for_equal_history place old.connections b happened
+              (happening ∷ sent_where_some r.sent) happens
+              (came_in_turn place (heard_in place happening) (sent_in happening)
+              (heard_at place (sent_where_some r.sent)) (all_sent (sent_where_some r.sent))
+              old.connections between.connections b first
+              (came_sent r.sent place between.connections new.connections b r.sends is is_up)),
         )
-    went_by_read Nothing at place old happened new b (taken, same, none) is is_up =
-        went_if_nothing_happened place old.connections happened b none
+
+    went_by_read : (taken : Taken) (at place : ℕ) (old : Now) (happened : List Happening)
+        (result : Result Bool LiveError) (new : Now) (b : C)
+        → ReadsAt session at taken old happened result new
+        → slice_get new.connections place ≡ Some b → b.ends ≢ None
+        → Went place old.connections happened b
+    went_by_read Whole at place old happened result new b (between, taken, h) is is_up =
+        went_by_answer place (WasHeard at (last h.connection.framing)) h.answer old
+        (record old { connections = between }) happened result new b tt
+        (λ m there m_up. came_heard_by_read at place old.connections between h.connection m taken
+        h.at there m_up)
+        h.answers is is_up
+    went_by_read Nothing at place old happened result new b (taken, same, none) is is_up =
+        went_if_nothing_happened place old.connections happened b none.0
         (came_nothing_by_part Nothing (λ c. refl) at place old.connections new.connections b taken
         is is_up)
-    went_by_read Interrupted at place old happened new b (taken, same, none) is is_up =
-        went_if_nothing_happened place old.connections happened b none
+    went_by_read Interrupted at place old happened result new b (taken, same, none) is is_up =
+        went_if_nothing_happened place old.connections happened b none.0
         (came_nothing_by_part Interrupted (λ c. refl) at place old.connections new.connections b
-        taken is
-        is_up)
-    went_by_read Part at place old happened new b (taken, same, none) is is_up =
-        went_if_nothing_happened place old.connections happened b none
+        taken is is_up)
+    went_by_read Part at place old happened result new b (taken, same, none) is is_up =
+        went_if_nothing_happened place old.connections happened b none.0
         (came_nothing_by_part Part (λ c. refl) at place old.connections new.connections b taken is
         is_up)
-    went_by_read (Closed why) at place old happened new b (taken, same, none) is is_up =
-        went_if_nothing_happened place old.connections happened b none
-        (came_nothing_by_part (Closed why) (λ c. refl) at place old.connections new.connections b
-        taken is
-        is_up)
+    went_by_read (Closed why) at place old happened result new b (taken, same, one) is is_up =
+        inl (
+          subst (NobodyJoins place) (sym one.0) (tt, tt),
+          came_for_equal_history place old.connections b happened (HasClosed at why ∷ []) one.0
+              (came_nothing_by_part (Closed why) (λ c. refl) at place old.connections
+              new.connections b taken is is_up),
+        )
 
-    went_by_joining : (free : Option ℕ) (place : ℕ) (before : List C)
-        (happened : List Happening) (after : List C) (b : C)
-        → Joins session free before happened after
-        → slice_get after place ≡ Some b → b.ends ≢ None → Went place before happened b
-    went_by_joining None place before happened after b (same, none) is is_up =
-        went_if_nothing_happened place before happened b none (came_nothing_if_unchanged place
-        before after b same is is_up)
-    went_by_joining (Some at) place before happened after b (inl (same, none)) is is_up =
-        went_if_nothing_happened place before happened b none (came_nothing_if_unchanged place
-        before after b same is is_up)
-    went_by_joining (Some at) place before happened after b (inr (changes, joined)) is is_up =
-        elim (place_after_change at place (λ b a. (a.ends ≢ None) × starts a.framing) before after b
-        changes
-        is) [
+    went_by_joining : (free : Option ℕ) (place : ℕ) (old : Now)
+        (happened : List Happening) (result : Result Bool LiveError) (new : Now) (b : C)
+        → Joins session free old happened result new
+        → slice_get new.connections place ≡ Some b → b.ends ≢ None
+        → Went place old.connections happened b
+    went_by_joining None place old happened result new b (same, none) is is_up =
+        went_if_nothing_happened place old.connections happened b none.0
+        (came_nothing_if_unchanged place old.connections new.connections b same is is_up)
+    went_by_joining (Some at) place old happened result new b (inl (same, none)) is is_up =
+        went_if_nothing_happened place old.connections happened b none.0
+        (came_nothing_if_unchanged place old.connections new.connections b same is is_up)
+    went_by_joining (Some at) place old happened result new b (inr (changes, joined)) is is_up =
+        elim (place_after_change at place (λ b a. (a.ends ≢ None) × starts a.framing)
+        old.connections new.connections b changes is) [
           | inl (same, (a, was, (up, fresh))) ↦ inr
-              (joined ∙ ap (λ (n : ℕ). HasJoined n ∷ []) same, fresh)
+              (joined.0 ∙ ap (λ (n : ℕ). HasJoined n ∷ []) same, fresh)
           | inr (other, was) ↦
               inl (
-                subst (NobodyJoins place) (sym joined) (eqb-false at place other, tt),
-                came_for_equal_history place before b happened (HasJoined at ∷ []) joined
-                    (b, was, carries_nothing b is_up),
+                subst (NobodyJoins place) (sym joined.0) (eqb-false at place other, tt),
+                came_for_equal_history place old.connections b happened (HasJoined at ∷ [])
+                    joined.0 (b, was, carries_nothing b is_up),
               )
         ]
 
     went_by_time_out : (awaiting : Option ℕ) (place : ℕ) (old : Now) (happened : List Happening)
-        (new : Now) (b : C)
-        → TimesOut session awaiting old happened new
+        (result : Result Bool LiveError) (new : Now) (b : C)
+        → TimesOut session awaiting old happened result new
         → slice_get new.connections place ≡ Some b → b.ends ≢ None
         → Went place old.connections happened b
-    went_by_time_out None place old happened new b silent is is_up =
-        inl (
-          subst (NobodyJoins place) (sym silent.happens) (
-            tt,
-            nobody_joins_by_sending place
-                silent.sent,
-          ),
-          came_for_equal_history place old.connections b happened (WasSilent ∷ sent_where_some
-              silent.sent)
-              silent.happens
-              (came_sent silent.sent place old.connections new.connections b silent.sends is is_up),
-        )
-    went_by_time_out (Some at) place old happened new b h is is_up =
-        inl (
-          subst (NobodyJoins place) (sym h.heard.happens) (
-            tt,
-            nobody_joins_by_sending place
-                h.heard.sent,
-          ),
-          came_for_equal_history place old.connections b happened (WasHeard at (last
-              h.heard.connection.framing)
-              ∷ sent_where_some h.heard.sent) h.heard.happens
-              (came_in_turn place (heard_in place (WasHeard at (last h.heard.connection.framing)))
-              []
-              (heard_at place (sent_where_some h.heard.sent))
-              (all_sent (sent_where_some h.heard.sent)) old.connections h.between b
-              (λ m there m_up. came_heard_by_change at place
-              (λ b a. (a.ends ≡ b.ends) × parts.framing.ends b.framing true a.framing)
-              (λ x y y_up ended. carries_gap x y y_up ended.0 ended.1) old.connections h.between
-              h.heard.connection m h.ended h.heard.at there m_up)
-              (came_sent h.heard.sent place h.between new.connections b h.heard.sends is is_up)),
-        )
+    went_by_time_out None place old happened result new b silent is is_up =
+        went_by_answer place WasSilent silent.answer old old happened result new b tt
+        (λ m there m_up. (m, there, carries_nothing m m_up)) silent.answers is is_up
+    went_by_time_out (Some at) place old happened result new b h is is_up =
+        went_by_answer place (WasHeard at (last h.heard.connection.framing)) h.heard.answer old
+        (record old { connections = h.between }) happened result new b tt
+        (λ m there m_up. came_heard_by_change at place
+        (λ b a. (a.ends ≡ b.ends) × parts.framing.ends b.framing true a.framing)
+        (λ x y y_up ended. carries_gap x y y_up ended.0 ended.1) old.connections h.between
+        h.heard.connection m h.ended h.heard.at there m_up)
+        h.heard.answers is is_up
 
     went_by_event : (awaited : Awaited) (place : ℕ) (old : Now) (happened : List Happening)
-        (new : Now) (b : C)
-        → Does session awaited old happened new
+        (result : Result Bool LiveError) (new : Now) (b : C)
+        → Does session awaited old happened result new
         → slice_get new.connections place ≡ Some b → b.ends ≢ None
         → Went place old.connections happened b
-    went_by_event (Octets at) place old happened new b (taken, reads) is is_up =
-        went_by_read taken at place old happened new b reads is is_up
-    went_by_event Newcomer place old happened new b (same, joins) is is_up =
-        went_by_joining (first_closed old.connections) place old.connections happened
-        new.connections
-        b joins is is_up
-    went_by_event TimeOut place old happened new b times is is_up =
+    went_by_event (Octets at) place old happened result new b (taken, reads) is is_up =
+        went_by_read taken at place old happened result new b reads is is_up
+    went_by_event Newcomer place old happened result new b (same, joins) is is_up =
+        went_by_joining (first_closed old.connections) place old happened result new b joins is
+        is_up
+    went_by_event TimeOut place old happened result new b times is is_up =
         went_by_time_out (first_awaiting parts.framing.awaits old.connections) place old happened
-        new b
-        times is is_up
+        result new b times is is_up
 
     -- A step, followed by what was carried after it.
     carries_with_step_first : (place : ℕ) (before between : List C) (happened history : List
@@ -567,23 +563,52 @@ module _ {R W F : Type 0} (parts : ConnectionParts R W F)
               )
         ]
 
-pub carries_history : {S R W F T : Type 0} (parts : SessionParts S R W F)
+-- What was done at a place is what it carries, if nothing follows.
+carries_one_step : {R W F : Type 0} (parts : ConnectionParts R W F)
+    (gives : F → List ℕ → List (List ℕ) → F → Type 0) (place : ℕ)
+    (before : List (ConnectionValue R W F)) (happened : List Happening) (now : ConnectionValue R W F)
+    (nothing : Carries parts gives (record { heard = []; sent = [] }) now now)
+    → ((NobodyJoins place happened
+    × CarriedAt parts gives place (carried_at place happened) before now)
+    ⊎ ((happened ≡ HasJoined place ∷ []) × parts.framing.starts now.framing))
+    → CarriesFromStart parts gives place happened before now
+    ⊎ CarriesSinceJoining parts gives place happened now
+carries_one_step parts gives place before happened now nothing (inl carried) = inl carried
+carries_one_step parts gives place before happened now nothing (inr (joined, none)) =
+    inr (record {
+      sooner = [];
+      later = [];
+      is = joined;
+      last = tt;
+      joined = now;
+      nothing_arrived = none;
+      carries = nothing;
+    })
+
+pub carries_history : {S R W F M T : Type 0} (parts : SessionParts S R W F M)
     (gives : F → List ℕ → List (List ℕ) → F → Type 0)
     (fits : Fits parts.connection.framing.feeds parts.connection.framing.ends
     parts.connection.framing.last gives)
     (waits : T → Wait → Result Awaited LiveError → T → Type 0) → CarriesHistory parts gives waits
-carries_history parts gives fits waits old new [] place now (ended station connections) is is_up =
+carries_history parts gives fits waits old new [] place now (ended station connections monitor) is
+    is_up =
     inl (
       tt,
       came_nothing_if_unchanged parts.connection gives fits place old.connections new.connections
-          now connections is
-          is_up,
+          now connections is is_up,
     )
 carries_history parts gives fits waits old new whole place now
-    (goes_on {mid = mid} {happened = happened} {history = history} step rest) is is_up =
-    carries_with_step_first parts.connection gives fits parts.station place old.connections
-    mid.connections
-    happened history now
-    (λ m there m_up. went_by_event parts.connection gives fits parts.station step.awaited place
-    (session_of old) happened (session_of mid) m step.does there m_up)
+    (goes_on {mid = mid} {happened = happened} {history = history} {is_more = is_more} step rest) is
+    is_up =
+    carries_with_step_first parts.connection gives fits parts.station parts.is_told place
+    old.connections mid.connections happened history now
+    (λ m there m_up. went_by_event parts.connection gives fits parts.station parts.is_told
+    step.awaited place (session_of old) happened (Ok is_more) (session_of mid) m step.does there
+    m_up)
     (carries_history parts gives fits waits mid new history place now rest is is_up)
+carries_history parts gives fits waits old new happened place now (fails {error = error} step) is
+    is_up =
+    carries_one_step parts.connection gives place old.connections happened now
+    (carries_nothing parts.connection gives fits now is_up)
+    (went_by_event parts.connection gives fits parts.station parts.is_told step.awaited place
+    (session_of old) happened (Err error) (session_of new) now step.does is is_up)

@@ -3,6 +3,7 @@ use Rattle.std.specs.Prelude.{⊤, ◌≢◌, ℕ, List, [], ◌∷◌, nat_eq, 
 use Rattle.std.specs.List.{AllByRecursion, flat_map}
 use Rattle.bsc_frame.specs.declared.message.Message.{Message}
 use Rattle.bsc_frame.specs.Wire.{wire}
+use Rattle.bsc_carrier.specs.declared.error.CarrierError.{CarrierError}
 
 -- One thing that happened.
 pub data Happening : Type 0 where
@@ -14,6 +15,8 @@ pub data Happening : Type 0 where
   WasSent : (octets : List ℕ) → Happening
   -- A peer took the connection at this place.
   HasJoined : (place : ℕ) → Happening
+  -- The connection at this place is closed: by this fault, or by its peer between transmissions.
+  HasClosed : (place : ℕ) (why : Option CarrierError) → Happening
 
 -- The history of what was sent: one entry, or none if nothing was sent.
 abbrev pub sent_where_some : Option Message → List Happening

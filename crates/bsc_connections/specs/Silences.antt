@@ -1,5 +1,5 @@
 -- When a station is told of a silence.
-use Rattle.std.specs.Prelude.{◌≡◌, ℕ, ◌+◌, List, [], ◌∷◌, Option, None, Result}
+use Rattle.std.specs.Prelude.{◌≡◌, ℕ, ◌+◌, Bool, List, [], ◌∷◌, Option, None, Result}
 use Rattle.bsc_connections.specs.declared.awaited.Awaited.{Awaited}
 use Rattle.bsc_connections.specs.declared.awaited.Awaited.TheVariants.{TimeOut}
 use Rattle.bsc_connections.specs.declared.awaited.Wait.{Wait}
@@ -22,11 +22,12 @@ silences_due TimeOut None = 1
 silences_due awaited awaiting = 0
 
 -- Every step has as many silences as are due.
-abbrev pub TellsEachSilence : {S R W F T : Type 0} → SessionParts S R W F
+abbrev pub TellsEachSilence : {S R W F M T : Type 0} → SessionParts S R W F M
     → (T → Wait → Result Awaited LiveError → T → Type 0) → Type 0
-TellsEachSilence {S} {R} {W} {F} {T} parts waits =
-    (old new : Attended S (ConnectionValue R W F) T) (happened : List Happening)
-    (step : Steps parts waits old happened new)
+TellsEachSilence {S} {R} {W} {F} {M} {T} parts waits =
+    (old new : Attended S (ConnectionValue R W F) M T) (happened : List Happening)
+    (result : Result Bool LiveError)
+    (step : Steps parts waits old happened result new)
     → silences happened
     ≡ silences_due step.awaited
     (first_awaiting parts.connection.framing.awaits old.connections)

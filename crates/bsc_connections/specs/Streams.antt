@@ -102,11 +102,11 @@ module _ {R W F : Type 0} (parts : ConnectionParts R W F)
 
 -- In every session, the streams of a connection that is open at its end carried everything the
 -- history has of it and nothing else: what was heard at its place, and all that was sent.
-abbrev pub CarriesHistory : {S R W F T : Type 0} → SessionParts S R W F
+abbrev pub CarriesHistory : {S R W F M T : Type 0} → SessionParts S R W F M
     → (F → List ℕ → List (List ℕ) → F → Type 0)
     → (T → Wait → Result Awaited LiveError → T → Type 0) → Type 0
-CarriesHistory {S} {R} {W} {F} {T} parts gives waits =
-    (old new : Attended S (ConnectionValue R W F) T) (history : List Happening)
+CarriesHistory {S} {R} {W} {F} {M} {T} parts gives waits =
+    (old new : Attended S (ConnectionValue R W F) M T) (history : List Happening)
     (place : ℕ) (now : ConnectionValue R W F)
     → Attends parts waits old history new
     → slice_get new.connections place ≡ Some now → now.ends ≢ None

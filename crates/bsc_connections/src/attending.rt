@@ -1,24 +1,28 @@
 //! Runs a station: what happens on its connections is handled one event at a time.
 
 ghost use Rattle.std.specs.Prelude.{◌≡◌, ◌<◌, length, List, true, false, is_none, IfSome, IfOk};
-ghost use Rattle.std.specs.Prelude.{OnOk};
+ghost use Rattle.std.specs.Prelude.{OnOk, Option};
 ghost use Rattle.std.specs.List.{AllZip};
+ghost use Rattle.bsc_bid.specs.Station.{IsSent};
+ghost use Rattle.bsc_frame.specs.declared.message.Message.{Message};
 ghost use Rattle.bsc_connections.specs.Parts.{connection_parts, session_parts};
 ghost use Rattle.bsc_connections.specs.Connections.{Sends};
 ghost use Rattle.bsc_connections.specs.Histories.{Happening};
 ghost use Rattle.bsc_connections.specs.Attending.{Attends, StepsOrFails, Does, HearsLast, IsSilent};
 ghost use Rattle.bsc_connections.specs.Attending.{IsTakenAt, first_awaiting, first_closed};
-ghost use Rattle.bsc_connections.specs.Attending.{wait_for};
+ghost use Rattle.bsc_connections.specs.Attending.{Replies, wait_for};
 
 use crate::{Awaited, Connection, Framing, LiveError, Monitor, Note, Taken, Wait, Waiter};
 use bsc_bid::Station;
 use bsc_frame::Wire;
 use std::io::{Read, Write};
 
-/// Attends a station over these connections until the monitor ends it. What the station sends is
-/// written to every open connection before anything else is heard. A connection that fails or ends
-/// is closed for good, and a peer that connects later takes its place. Returns at once with any
-/// error of the waiter or of the monitor, and with `Count` after 2^64 - 1 steps.
+/// Attends a station over these connections until the monitor ends it. The monitor is told what the
+/// station heard, or that a time-out passed, before the station's answer is written. If it accepts
+/// that, the answer is written to every open connection before anything else is heard; if it
+/// refuses, nothing is written. A connection that fails or ends is closed for good, and a peer that
+/// connects later takes its place. Returns at once with any error of the waiter or of the monitor,
+/// and with `Count` after 2^64 - 1 steps.
 pub fn attend<
     S: Station,
     R: Read + Drop,
@@ -33,10 +37,20 @@ pub fn attend<
     monitor: &mut M,
 ) -> Result<(), LiveError>
     ensures attends { (history : List Happening)
-        × Attends (session_parts S.Station R.Read W.Write F.Framing) T.waits
-        (record { station = station.old; connections = connections.old; waiter = waiter.old })
+        × Attends (session_parts S.Station R.Read W.Write F.Framing M.is_told) T.waits
+        (record {
+          station = station.old;
+          connections = connections.old;
+          monitor = monitor.old;
+          waiter = waiter.old;
+        })
         history
-        (record { station = station.new; connections = connections.new; waiter = waiter.new }) }
+        (record {
+          station = station.new;
+          connections = connections.new;
+          monitor = monitor.new;
+          waiter = waiter.new;
+        }) }
     ensures ended { OnOk result (M.has_ended monitor.new ≡ true) }
 {
     'steps: for _ in 0..u64::MAX {
@@ -61,10 +75,21 @@ fn step<
     waiter: &mut T,
     monitor: &mut M,
 ) -> Result<bool, LiveError>
-    ensures steps { StepsOrFails (session_parts S.Station R.Read W.Write F.Framing) T.waits
-        (record { station = station.old; connections = connections.old; waiter = waiter.old })
+    ensures steps { StepsOrFails (session_parts S.Station R.Read W.Write F.Framing M.is_told)
+        T.waits
+        (record {
+          station = station.old;
+          connections = connections.old;
+          monitor = monitor.old;
+          waiter = waiter.old;
+        })
         result
-        (record { station = station.new; connections = connections.new; waiter = waiter.new }) }
+        (record {
+          station = station.new;
+          connections = connections.new;
+          monitor = monitor.new;
+          waiter = waiter.new;
+        }) }
     ensures ended { IfOk result (λ goes_on. goes_on ≡ false → M.has_ended monitor.new ≡ true) }
 {
     match waiter.wait(wait_for(connections))? {
@@ -120,26 +145,38 @@ fn send_all<R: Read + Drop, W: Write + Drop, F: Framing + Drop>(
     }
 }
 
-/// Lets the station hear the last transmission of the connection at this place, and sends its
-/// answer. Returns whether it answered; `wire` then holds the octets sent.
-fn hear_at<S: Station, R: Read + Drop, W: Write + Drop, F: Framing + Drop>(
-    station: &mut S,
+/// Sends the answer of the station, if there is one and the monitor has accepted what happened, and
+/// then tells the monitor what was sent. `told` is what the monitor returned before. Returns the
+/// first error of the monitor, or whether the station is attended further.
+fn reply<S: Station, R: Read + Drop, W: Write + Drop, F: Framing + Drop, M: Monitor<S>>(
+    station: &S,
     connections: &mut [Connection<R, W, F>],
-    place: usize,
-    wire: &mut Wire,
-) -> bool
-    requires { place < length connections.old }
-    ensures hears { (happened : List Happening)
-        × HearsLast (session_parts S.Station R.Read W.Write F.Framing)
-        place (record { station = station.old; connections = connections.old }) happened
-        (record { station = station.new; connections = connections.new }) }
-    ensures count { length connections.new ≡ length connections.old }
+    told: Result<bool, LiveError>,
+    is_sent: bool,
+    octets: &[u8],
+    monitor: &mut M,
+) -> Result<bool, LiveError>
+    requires { IfOk told (λ goes_on. goes_on ≡ false → M.has_ended monitor.old ≡ true) }
+    ensures replies { (answer : Option Message) → IsSent answer is_sent octets.now
+        → (happened : List Happening)
+        × Replies (session_parts S.Station R.Read W.Write F.Framing M.is_told) told answer
+        (record { station = station.now; connections = connections.old; monitor = monitor.old })
+        happened result
+        (record { station = station.now; connections = connections.new; monitor = monitor.new }) }
+    ensures ended { IfOk result (λ goes_on. goes_on ≡ false → M.has_ended monitor.new ≡ true) }
 {
-    let is_sent = station.hear(connections[place].octets(), wire);
-    if is_sent {
-        send_all(connections, wire);
+    let goes_on = match told {
+        Ok(goes_on) => goes_on,
+        Err(error) => return Err(error),
+    };
+    if !is_sent {
+        return Ok(goes_on);
     }
-    is_sent
+    send_all(connections, octets);
+    match monitor.note(station, Note::Sent { octets }) {
+        Ok(goes_on_later) => Ok(goes_on_later && goes_on),
+        Err(error) => Err(error),
+    }
 }
 
 /// Reads once at this place. If the read completes a transmission, the station hears it.
@@ -158,10 +195,11 @@ fn read_at<
     monitor: &mut M,
 ) -> Result<bool, LiveError>
     ensures does { (happened : List Happening)
-        × Does (session_parts S.Station R.Read W.Write F.Framing)
+        × Does (session_parts S.Station R.Read W.Write F.Framing M.is_told)
         (Awaited.Octets connection)
-        (record { station = station.old; connections = connections.old }) happened
-        (record { station = station.new; connections = connections.new }) }
+        (record { station = station.old; connections = connections.old; monitor = monitor.old })
+        happened result
+        (record { station = station.new; connections = connections.new; monitor = monitor.new }) }
     ensures ended { IfOk result (λ goes_on. goes_on ≡ false → M.has_ended monitor.new ≡ true) }
 {
     match take_at(connections, connection) {
@@ -193,8 +231,8 @@ fn take_at<R: Read + Drop, W: Write + Drop, F: Framing + Drop>(
     connections[place].take()
 }
 
-/// Lets the station hear the last transmission of the connection at this place, sends its answer,
-/// and tells the monitor of both.
+/// Lets the station hear the last transmission of the connection at this place, tells the monitor
+/// what was heard, and sends the station's answer if the monitor accepts.
 fn answer_at<S: Station, R: Read + Drop, W: Write + Drop, F: Framing + Drop, M: Monitor<S>>(
     station: &mut S,
     connections: &mut [Connection<R, W, F>],
@@ -203,32 +241,18 @@ fn answer_at<S: Station, R: Read + Drop, W: Write + Drop, F: Framing + Drop, M: 
 ) -> Result<bool, LiveError>
     requires { connection < length connections.old }
     ensures hears { (happened : List Happening)
-        × HearsLast (session_parts S.Station R.Read W.Write F.Framing)
-        connection (record { station = station.old; connections = connections.old }) happened
-        (record { station = station.new; connections = connections.new }) }
+        × HearsLast (session_parts S.Station R.Read W.Write F.Framing M.is_told)
+        connection
+        (record { station = station.old; connections = connections.old; monitor = monitor.old })
+        happened result
+        (record { station = station.new; connections = connections.new; monitor = monitor.new }) }
     ensures ended { IfOk result (λ goes_on. goes_on ≡ false → M.has_ended monitor.new ≡ true) }
 {
     let mut wire = Wire::new();
-    let is_sent = hear_at(station, connections, connection, &mut wire);
     let octets = connections[connection].octets();
-    let goes_on = monitor.note(station, Note::Heard { connection, octets })?;
-    Ok(note_sent(station, is_sent, &wire, monitor)? && goes_on)
-}
-
-/// Tells the monitor what was sent, if anything was.
-fn note_sent<S: Station, M: Monitor<S>>(
-    station: &S,
-    is_sent: bool,
-    octets: &[u8],
-    monitor: &mut M,
-) -> Result<bool, LiveError>
-    ensures kept { M.has_ended monitor.old ≡ true → M.has_ended monitor.new ≡ true }
-    ensures ended { IfOk result (λ goes_on. goes_on ≡ false → M.has_ended monitor.new ≡ true) }
-{
-    if is_sent {
-        return monitor.note(station, Note::Sent { octets });
-    }
-    Ok(true)
+    let is_sent = station.hear(octets, &mut wire);
+    let told = monitor.note(station, Note::Heard { connection, octets });
+    reply(station, connections, told, is_sent, &wire, monitor)
 }
 
 /// Handles the end of a wait in which nothing arrived. This is the gap that ends a transmission if
@@ -239,9 +263,11 @@ fn time_out<S: Station, R: Read + Drop, W: Write + Drop, F: Framing + Drop, M: M
     monitor: &mut M,
 ) -> Result<bool, LiveError>
     ensures does { (happened : List Happening)
-        × Does (session_parts S.Station R.Read W.Write F.Framing)
-        Awaited.TimeOut (record { station = station.old; connections = connections.old }) happened
-        (record { station = station.new; connections = connections.new }) }
+        × Does (session_parts S.Station R.Read W.Write F.Framing M.is_told)
+        Awaited.TimeOut
+        (record { station = station.old; connections = connections.old; monitor = monitor.old })
+        happened result
+        (record { station = station.new; connections = connections.new; monitor = monitor.new }) }
     ensures ended { IfOk result (λ goes_on. goes_on ≡ false → M.has_ended monitor.new ≡ true) }
 {
     match first_awaiting(connections) {
@@ -254,41 +280,24 @@ fn time_out<S: Station, R: Read + Drop, W: Write + Drop, F: Framing + Drop, M: M
     }
 }
 
-/// Tells the station of a silence, and sends its answer. Returns whether it answered; `wire` then
-/// holds the octets sent.
-fn tell_silence<S: Station, R: Read + Drop, W: Write + Drop, F: Framing + Drop>(
-    station: &mut S,
-    connections: &mut [Connection<R, W, F>],
-    wire: &mut Wire,
-) -> bool
-    ensures { (happened : List Happening)
-        × IsSilent (session_parts S.Station R.Read W.Write F.Framing)
-        (record { station = station.old; connections = connections.old }) happened
-        (record { station = station.new; connections = connections.new }) }
-{
-    let is_sent = station.silence(wire);
-    if is_sent {
-        send_all(connections, wire);
-    }
-    is_sent
-}
-
-/// Tells the station of a silence, sends its answer, and tells the monitor of both.
+/// Tells the station of a silence, tells the monitor of it, and sends the station's answer if the
+/// monitor accepts.
 fn silence<S: Station, R: Read + Drop, W: Write + Drop, F: Framing + Drop, M: Monitor<S>>(
     station: &mut S,
     connections: &mut [Connection<R, W, F>],
     monitor: &mut M,
 ) -> Result<bool, LiveError>
     ensures silent { (happened : List Happening)
-        × IsSilent (session_parts S.Station R.Read W.Write F.Framing)
-        (record { station = station.old; connections = connections.old }) happened
-        (record { station = station.new; connections = connections.new }) }
+        × IsSilent (session_parts S.Station R.Read W.Write F.Framing M.is_told)
+        (record { station = station.old; connections = connections.old; monitor = monitor.old })
+        happened result
+        (record { station = station.new; connections = connections.new; monitor = monitor.new }) }
     ensures ended { IfOk result (λ goes_on. goes_on ≡ false → M.has_ended monitor.new ≡ true) }
 {
     let mut wire = Wire::new();
-    let is_sent = tell_silence(station, connections, &mut wire);
-    let goes_on = monitor.note(station, Note::Silence)?;
-    Ok(note_sent(station, is_sent, &wire, monitor)? && goes_on)
+    let is_sent = station.silence(&mut wire);
+    let told = monitor.note(station, Note::Silence);
+    reply(station, connections, told, is_sent, &wire, monitor)
 }
 
 /// Returns the place of the first connection that is closed.
@@ -321,9 +330,11 @@ fn join<
     monitor: &mut M,
 ) -> Result<bool, LiveError>
     ensures does { (happened : List Happening)
-        × Does (session_parts S.Station R.Read W.Write F.Framing)
-        Awaited.Newcomer (record { station = station.old; connections = connections.old }) happened
-        (record { station = station.new; connections = connections.new }) }
+        × Does (session_parts S.Station R.Read W.Write F.Framing M.is_told)
+        Awaited.Newcomer
+        (record { station = station.old; connections = connections.old; monitor = monitor.old })
+        happened result
+        (record { station = station.new; connections = connections.new; monitor = monitor.new }) }
     ensures ended { IfOk result (λ goes_on. goes_on ≡ false → M.has_ended monitor.new ≡ true) }
 {
     let Some(connection) = first_closed(connections) else {

@@ -42,9 +42,13 @@ pub enum LiveError {
     #[error("too much happened")]
     Count,
 
-    /// The monitor could not print what it was told.
+    /// The monitor could not print what happened.
     #[error("output fault")]
     Output,
+
+    /// The monitor could not print the records that arrived. They are not acknowledged.
+    #[error("records that arrived could not be printed")]
+    Unprinted,
 
     /// Memory could not be allocated.
     #[error("out of memory")]

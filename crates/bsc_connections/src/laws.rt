@@ -11,7 +11,7 @@ ghost use Rattle.bsc_connections.specs.Streams.{CarriesHistory, GivesRecords, Gi
 ghost use Rattle.bsc_connections.specs.Streams.{SplitsAll};
 
 use crate::limits::MOST_WITHOUT_GAP;
-use crate::{Framing, Gaps, SocketRecords, Waiter};
+use crate::{Framing, Gaps, Monitor, SocketRecords, Waiter};
 use bsc_bid::Station;
 use std::io::{Read, Write};
 
@@ -39,9 +39,9 @@ pub fn gaps()
 /// from when its peer joined. Each transmission that was heard at its place came in one record of
 /// its input, in order; a record that has begun is kept over time-outs; and one record of each
 /// transmission that was sent was written to its output, in order.
-pub fn streams<S: Station, R: Read + Drop, W: Write + Drop, T: Waiter<R, W>>()
+pub fn streams<S: Station, R: Read + Drop, W: Write + Drop, T: Waiter<R, W>, M: Monitor<S>>()
     ensures history { CarriesHistory
-        (session_parts S.Station R.Read W.Write ⟦<SocketRecords as Framing>⟧)
+        (session_parts S.Station R.Read W.Write ⟦<SocketRecords as Framing>⟧ M.is_told)
         GivesRecords T.waits }
     ensures records { (old new : RecordsValue) (given : List ℕ) (heard : List (List ℕ))
         → SplitsAll old given heard new }
@@ -52,13 +52,26 @@ pub fn streams<S: Station, R: Read + Drop, W: Write + Drop, T: Waiter<R, W>>()
 /// transmissions that were heard at its place are the octets of its input as gaps divide them, the
 /// first 2,049 of each; and the octets of each transmission that was sent were written to its
 /// output, in order.
-pub fn streams_by_gaps<S: Station, R: Read + Drop, W: Write + Drop, T: Waiter<R, W>>()
-    ensures { CarriesHistory (session_parts S.Station R.Read W.Write ⟦<Gaps as Framing>⟧)
+pub fn streams_by_gaps<
+    S: Station,
+    R: Read + Drop,
+    W: Write + Drop,
+    T: Waiter<R, W>,
+    M: Monitor<S>,
+>()
+    ensures { CarriesHistory (session_parts S.Station R.Read W.Write ⟦<Gaps as Framing>⟧ M.is_told)
         GivesByGaps T.waits }
 {}
 
 /// A step of a session has one silence if the time passed while no transmission had begun that a
 /// gap would end, and none otherwise. In that state a wait is for a time-out.
-pub fn silences<S: Station, R: Read + Drop, W: Write + Drop, F: Framing + Drop, T: Waiter<R, W>>()
-    ensures { TellsEachSilence (session_parts S.Station R.Read W.Write F.Framing) T.waits }
+pub fn silences<
+    S: Station,
+    R: Read + Drop,
+    W: Write + Drop,
+    F: Framing + Drop,
+    T: Waiter<R, W>,
+    M: Monitor<S>,
+>()
+    ensures { TellsEachSilence (session_parts S.Station R.Read W.Write F.Framing M.is_told) T.waits }
 {}

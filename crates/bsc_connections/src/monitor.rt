@@ -1,11 +1,15 @@
 //! The monitor that watches a station.
 
-ghost use Rattle.std.specs.Prelude.{◌≡◌, Bool, true, not, IfOk};
+ghost use Rattle.std.specs.Prelude.{◌≡◌, Bool, true, not, IfOk, Result};
+ghost use Rattle.bsc_connections.specs.declared.awaited.LiveError.{LiveError as LiveErrorValue};
+ghost use Rattle.bsc_connections.specs.Histories.{Happening};
+ghost use Rattle.bsc_connections.specs.Notes.{told_by};
 
 use crate::LiveError;
 use bsc_carrier::CarrierError;
 
-/// What happened; a monitor is told after the station has acted.
+/// What happened. A monitor is told of it after the station has acted, and before the station's
+/// answer is sent.
 #[derive(Clone, Copy, Debug)]
 pub enum Note<'a> {
     /// These octets were heard on the connection at this place.
@@ -17,7 +21,7 @@ pub enum Note<'a> {
     /// A time-out has passed.
     Silence,
 
-    /// These octets were sent on every open connection.
+    /// These octets were sent on every open connection. The monitor is told of them after that.
     Sent {
         octets: &'a [u8],
     },
@@ -35,14 +39,20 @@ pub enum Note<'a> {
     },
 }
 
-/// Sees what happens to a station of type `S`, and decides when to end.
+/// Sees what happens to a station of type `S`, accepts or refuses it, and decides when to end.
 pub trait Monitor<S> {
     /// Whether the station is no longer to be attended.
     ghost has_ended: { Self → Bool };
 
+    /// What it does when it is told of something: the monitor before, the station as it is then,
+    /// what happened, the result, the monitor after.
+    ghost is_told: { Self → S → Happening → Result Bool LiveErrorValue → Self → Type 0 };
+
     /// Takes note of an event. Returns false if the station is no longer to be attended; every
-    /// later note then returns false as well.
+    /// later note then returns false as well. An error refuses the event: the station's answer to
+    /// it is not sent, and the station is no longer attended.
     fn note(&mut self, station: &S, note: Note<'_>) -> Result<bool, LiveError>
+        ensures told { is_told self.old station.now (told_by note.entry) result self.new }
         ensures answer { IfOk result (λ goes_on. goes_on ≡ not (has_ended self.new)) }
         ensures kept { has_ended self.old ≡ true → has_ended self.new ≡ true };
 }

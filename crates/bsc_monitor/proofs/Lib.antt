@@ -2,3 +2,4 @@ pub mod Firsts
 pub mod Offered
 pub mod Counts
 pub mod Followed
+mod Sending

@@ -8,3 +8,4 @@ pub mod Progress
 pub mod Rounds
 pub mod Traces
 pub mod Visits
+pub mod Watching

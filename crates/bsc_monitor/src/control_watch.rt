@@ -4,7 +4,7 @@ use crate::ended::LastWatch;
 use crate::progress::Progress;
 use crate::trace::Who;
 use crate::watch::Watch;
-use crate::{Limits, Timer};
+use crate::{Limits, Party, Timer};
 use bsc_connections::{LiveError, Monitor, Note};
 use bsc_control::Control;
 use std::alloc::Allocator;
@@ -53,7 +53,13 @@ impl<'a, A: Allocator + Copy, T: Timer + Drop, W: Write, D: Write> ControlWatch<
 
 impl<'a, A: Allocator + Copy, T: Timer + Drop, W: Write, D: Write, B: Allocator> Monitor<Control<B>>
     for ControlWatch<'a, A, T, W, D> {
+    ghost use Rattle.bsc_monitor.specs.Watching.{Sees, output_of};
+
     ghost has_ended = { λ w. w.progress.ended };
+
+    ghost is_told = { λ old station happening result new.
+        Sees ⟦<Control<B> as Party>⟧ station happening result
+        (output_of W.contents old.watch) (output_of W.contents new.watch) };
 
     fn note(&mut self, station: &Control<B>, note: Note<'_>) -> Result<bool, LiveError> {
         let found = self.watch.see(station, Who::Control, &note)?;

@@ -1,6 +1,16 @@
-//! The law of visits. It is about the definitions only.
+//! The laws of visits and of the order in which records are printed and transmissions are sent.
+//! They are about the definitions only.
 
+ghost use Rattle.bsc_connections.specs.Parts.{session_parts};
 ghost use Rattle.bsc_monitor.specs.Visits.{FollowsNew, FollowsHearing, FollowsSilence};
+ghost use Rattle.bsc_monitor.specs.Watching.{PrintsBeforeSending, output_of};
+
+use crate::{ControlWatch, LineTerminal, Party, TerminalWatch, Timer};
+use bsc_bid::Station;
+use bsc_connections::{Framing, Monitor, Waiter};
+use bsc_control::Control;
+use std::alloc::Allocator;
+use std::io::{Read, Write};
 
 /// The visit to an entry, as it is counted from the control station's own task and place after each
 /// of its transmissions, ends exactly when the table of the control station goes on from the poll
@@ -9,4 +19,28 @@ pub fn visits()
     ensures new_control { FollowsNew }
     ensures hearing { FollowsHearing }
     ensures silence { FollowsSilence }
+{}
+
+/// What a station that is watched sends, it sends after the records that had arrived at it were
+/// printed: in every step of a session in which something is sent, exactly the records that were
+/// not printed before are. So whatever the peer counts as delivered was printed.
+pub fn printed_before_sent<
+    R: Read + Drop,
+    W: Write + Drop,
+    F: Framing + Drop,
+    Q: Waiter<R, W>,
+    A: Allocator + Copy,
+    B: Allocator,
+    T: Timer + Drop,
+    O: Write + 'static,
+    D: Write + 'static,
+>()
+    ensures control { PrintsBeforeSending
+        (session_parts ⟦<Control<B> as Station>⟧ R.Read W.Write F.Framing
+        ⟦<ControlWatch<'static, A, T, O, D> as Monitor<Control<B>>>⟧.is_told)
+        Q.waits ⟦<Control<B> as Party>⟧ (λ w. output_of O.contents w.watch) }
+    ensures terminal { PrintsBeforeSending
+        (session_parts ⟦<LineTerminal<B> as Station>⟧ R.Read W.Write F.Framing
+        ⟦<TerminalWatch<'static, A, T, O, D> as Monitor<LineTerminal<B>>>⟧.is_told)
+        Q.waits ⟦<LineTerminal<B> as Party>⟧ (λ w. output_of O.contents w.watch) }
 {}

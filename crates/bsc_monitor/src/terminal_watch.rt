@@ -2,7 +2,7 @@
 
 use crate::trace::Who;
 use crate::watch::Watch;
-use crate::{LineTerminal, Timer};
+use crate::{LineTerminal, Party, Timer};
 use bsc_carrier::CarrierError;
 use bsc_connections::{LiveError, Monitor, Note};
 use std::alloc::Allocator;
@@ -41,7 +41,13 @@ impl<'a, A: Allocator + Copy, T: Timer + Drop, W: Write, D: Write> TerminalWatch
 impl<'a, A: Allocator + Copy, T: Timer + Drop, W: Write, D: Write, B: Allocator> Monitor<
     LineTerminal<B>,
 > for TerminalWatch<'a, A, T, W, D> {
+    ghost use Rattle.bsc_monitor.specs.Watching.{Sees, output_of};
+
     ghost has_ended = { λ w. w.ended };
+
+    ghost is_told = { λ old station happening result new.
+        Sees ⟦<LineTerminal<B> as Party>⟧ station happening result
+        (output_of W.contents old.watch) (output_of W.contents new.watch) };
 
     fn note(&mut self, station: &LineTerminal<B>, note: Note<'_>) -> Result<bool, LiveError> {
         let me = Who::Terminal(station.line_number());

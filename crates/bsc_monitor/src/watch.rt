@@ -1,5 +1,9 @@
 //! The output while a station is attended.
 
+ghost use Rattle.std.specs.Prelude.{◌≡◌, OnOk};
+ghost use Rattle.bsc_connections.specs.Notes.{told_by};
+ghost use Rattle.bsc_monitor.specs.Watching.{PrintsArrivals, Sees, output_of};
+
 use crate::arrivals::print_arrivals;
 use crate::trace::{Who, write_fault, write_note};
 use crate::{Form, Party, Timer};
@@ -65,38 +69,53 @@ impl<'a, A: Allocator + Copy, T: Timer + Drop, W: Write, D: Write> Watch<'a, A, 
         })
     }
 
-    /// Prints the output for an event. Returns whether a record arrived.
+    /// Prints the output for an event: its line of the trace, and the records that have arrived.
+    /// Returns whether a record has. An error refuses the event: `Unprinted` if a record could not
+    /// be written or the output could not be flushed.
     pub(crate) fn see<P: Party>(
         &mut self,
         station: &P,
         me: Who,
         note: &Note<'_>,
-    ) -> Result<bool, LiveError> {
-        let told = self.tell(me, note);
-        live(told)?;
+    ) -> Result<bool, LiveError>
+        ensures { Sees P.Party station.now (told_by note.now) result
+            (output_of W.contents self.old) (output_of W.contents self.new) }
+    {
+        live(self.tell(me, note))?;
         match note {
-            Note::Heard { .. } => live(self.print_records(station)),
-            _ => Ok(false),
+            Note::Heard { .. } | Note::Silence => self.print_records(station),
+            Note::Sent { .. } | Note::Joined { .. } | Note::Closed { .. } => Ok(false),
         }
     }
 
-    /// Prints the records that arrived.
-    fn print_records<P: Party>(&mut self, station: &P) -> Result<bool, PrintError> {
-        // There is a count for each channel on which the station receives.
+    /// Prints the records that have arrived and are not printed yet, and flushes the output.
+    /// Returns whether there was one.
+    fn print_records<P: Party>(&mut self, station: &P) -> Result<bool, LiveError>
+        ensures { OnOk result (PrintsArrivals P.Party station.now
+            (output_of W.contents self.old) (output_of W.contents self.new)) }
+    {
+        // There is a count for each channel on which the station of this watch receives.
         if self.printed.len() != station.spools() {
-            return Ok(false);
+            return Err(LiveError::Unprinted);
         }
-        print_arrivals(
+        let printed = print_arrivals(
             self.alloc,
             self.printing.form,
             station,
             &mut self.printed,
             self.out,
-        )
+        );
+        match printed {
+            Ok(found) => Ok(found),
+            Err(PrintError::Output) => Err(LiveError::Unprinted),
+            Err(PrintError::Memory) => Err(LiveError::Memory),
+        }
     }
 
     /// Prints the line for an event: a line of the trace, or without a trace only that of a fault.
-    pub(crate) fn tell(&mut self, me: Who, note: &Note<'_>) -> Result<(), PrintError> {
+    pub(crate) fn tell(&mut self, me: Who, note: &Note<'_>) -> Result<(), PrintError>
+        ensures { output_of W.contents self.new ≡ output_of W.contents self.old }
+    {
         if self.printing.trace {
             let time = self.timer.milliseconds();
             return write_note(self.alloc, time, me, note, self.errors);
@@ -105,7 +124,7 @@ impl<'a, A: Allocator + Copy, T: Timer + Drop, W: Write, D: Write> Watch<'a, A, 
     }
 }
 
-/// Converts the result of printing to that of attending a station.
+/// Converts the result of printing a line of the trace to that of attending a station.
 pub(crate) fn live<V: Drop>(printed: Result<V, PrintError>) -> Result<V, LiveError> {
     match printed {
         Ok(value) => Ok(value),

@@ -319,6 +319,11 @@ const STATIONS: &[Row] = &[
         1,
     ),
     (
+        Cause::Attending(Stops::Live(LiveError::Unprinted)),
+        "records that arrived could not be printed",
+        6,
+    ),
+    (
         Cause::Attending(Stops::Live(LiveError::Memory)),
         "out of memory",
         1,

@@ -1,12 +1,14 @@
 //! A terminal attended over a scripted connection. The octets are those of docs/PROTOCOL.md.
 
-use crate::fakes::{Counting, Scripted, connections};
+use crate::fakes::{Counting, Scripted, Unflushed, connections};
 use crate::stations::sending_terminal;
 use bsc_carrier::CarrierError;
-use bsc_connections::attend;
+use bsc_connections::{LiveError, attend};
 use bsc_monitor::{Form, LineTerminal, Printing, TerminalWatch, Watch, write_report};
 use std::alloc::Global;
+use std::io::Write;
 use std::test::Fail;
+use test_fixtures::Full;
 
 /// What a control station sends to a terminal: a poll, which is answered with a text; ACK1; a
 /// selection; a text; EOT.
@@ -106,5 +108,44 @@ fn a_fault_of_a_connection_is_told(rt: HostRuntime) -> Result<(), Fail> {
     let short = &TO_TERMINAL[..TO_TERMINAL.len() - 1];
     let wanted = (PRINTED, TOLD, Some(CarrierError::Short));
     assert!(rt; prints(rt.alloc(), PRINTING, short, wanted)?);
+    Ok(())
+}
+
+/// The end of the trace of a terminal that cannot print the record that arrives: the text is heard,
+/// and nothing is sent after it.
+const REFUSED_END: &[u8] = b"+5 control heard CALL a 161604ff16166185ff
++6 terminal 0 sent ACK0 161610b0ff
++7 control heard TEXT ETX 1 161602c84919839bff
+";
+
+/// Whether a terminal ends with `Unprinted` over this output, and sends nothing after the text.
+fn refuses<W: Write>(alloc: Global, out: &mut W) -> Result<bool, Fail> {
+    const PRINTING: Printing = Printing {
+        form: Form::Hexadecimal,
+        trace: true,
+    };
+    let mut terminal = sending_terminal(alloc)?;
+    let mut trace = Vec::new(alloc);
+    let mut connections = connections(alloc, TO_TERMINAL)?;
+    let timer = Counting { asked: 0 };
+    let watch = Watch::new(alloc, &terminal, PRINTING, timer, out, &mut trace)?;
+    let mut watch = TerminalWatch::new(watch);
+    let mut waiter = Scripted { steps: b"" };
+    let result = attend(&mut terminal, &mut connections, &mut waiter, &mut watch);
+    Ok(result == Err(LiveError::Unprinted) && trace.ends_with(REFUSED_END))
+}
+
+/// Whichever write of the line of a record fails, the text that brought the record is not
+/// acknowledged. The line `to 0: 4849` is written in more than one part.
+#[test]
+fn a_record_that_is_not_written_is_not_acknowledged(rt: HostRuntime) -> Result<(), Fail> {
+    assert!(rt; refuses(rt.alloc(), &mut Full { left: 0 })?);
+    assert!(rt; refuses(rt.alloc(), &mut Full { left: 1 })?);
+    Ok(())
+}
+
+#[test]
+fn a_record_that_is_not_flushed_is_not_acknowledged(rt: HostRuntime) -> Result<(), Fail> {
+    assert!(rt; refuses(rt.alloc(), &mut Unflushed)?);
     Ok(())
 }

@@ -35,6 +35,20 @@ impl Write for Taking {
     }
 }
 
+/// Accepts everything that is written, and cannot pass it on.
+#[derive(Drop)]
+pub(crate) struct Unflushed;
+
+impl Write for Unflushed {
+    fn write(&mut self, octets: &[u8]) -> io::Result<usize> {
+        Ok(octets.len())
+    }
+
+    fn flush(&mut self) -> io::Result<()> {
+        Err(io::Error::from(io::ErrorKind::StorageFull))
+    }
+}
+
 /// A clock that is one millisecond later each time that it is read.
 #[derive(Drop)]
 pub(crate) struct Counting {

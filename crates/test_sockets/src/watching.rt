@@ -101,6 +101,8 @@ impl Expects {
 impl Monitor<Answers> for Expects {
     ghost has_ended = { λ expects. expects.has_ended };
 
+    ghost is_told = { λ _ _ _ _ _. Unit {0} };
+
     fn note(&mut self, _station: &Answers, note: Note<'_>) -> Result<bool, LiveError> {
         if !self.is_next(&note) {
             return Err(LiveError::Output);

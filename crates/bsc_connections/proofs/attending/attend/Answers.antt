@@ -27,4 +27,4 @@ steps-preserved g c = λ history last rest.
     c.steps.invariant whole last step
 
 pub returns-clause-attends : goal.returns-clause-attends
-returns-clause-attends g c = c.steps.invariant [] _ (ended refl refl)
+returns-clause-attends g c = c.steps.invariant [] _ (ended refl refl refl)

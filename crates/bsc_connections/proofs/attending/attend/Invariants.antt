@@ -10,10 +10,22 @@ use Rattle.bsc_connections.proofs.attending.attend.Given as goal
 abbrev pub invariant-steps : goal.invariant-steps
 invariant-steps g l =
     (history : List Happening) (last : Attended g.row.S.Denot
-    (ConnectionValue g.row.R.Denot g.row.W.Denot g.row.F.Denot) g.row.T.Denot)
-    → Attends (session_parts g.S.Station g.R.Read g.W.Write g.F.Framing) g.T.Waiter.waits
-    (record { station = l.station; connections = l.connections; waiter = l.waiter }) history last
+    (ConnectionValue g.row.R.Denot g.row.W.Denot g.row.F.Denot) g.row.M.Denot
+    g.row.T.Denot)
+    → Attends (session_parts g.S.Station g.R.Read g.W.Write g.F.Framing g.M.Monitor.is_told)
+    g.T.Waiter.waits
+    (record {
+      station = l.station;
+      connections = l.connections;
+      monitor = l.monitor;
+      waiter = l.waiter;
+    }) history last
     → (whole : List Happening)
-    × Attends (session_parts g.S.Station g.R.Read g.W.Write g.F.Framing) g.T.Waiter.waits
-    (record { station = l.fn.station; connections = l.fn.connections; waiter = l.fn.waiter }) whole
-    last
+    × Attends (session_parts g.S.Station g.R.Read g.W.Write g.F.Framing g.M.Monitor.is_told)
+    g.T.Waiter.waits
+    (record {
+      station = l.fn.station;
+      connections = l.fn.connections;
+      monitor = l.fn.monitor;
+      waiter = l.fn.waiter;
+    }) whole last

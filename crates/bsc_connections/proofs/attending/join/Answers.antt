@@ -19,9 +19,16 @@ returns-clause-does g c =
       (
         refl,
         subst (λ (o : Option ℕ). Joins
-            (session_parts g.S.Station g.R.Read g.W.Write g.F.Framing) o
-            c.args.connections.now (HasJoined place ∷ [])
-            (slice_set c.args.connections.now place c.new.result)) is
+            (session_parts g.S.Station g.R.Read g.W.Write g.F.Framing g.M.Monitor.is_told) o
+            (record {
+              station = c.args.station.now;
+              connections = c.args.connections.now;
+              monitor = c.args.monitor.now;
+            }) (HasJoined place ∷ []) c.note.result (record {
+              station = c.args.station.now;
+              connections = slice_set c.args.connections.now place c.new.result;
+              monitor = c.note.new.self;
+            })) is
             (inr (
               (
                 _,
@@ -31,7 +38,7 @@ returns-clause-does g c =
                 refl,
                 (some_is_not_none c.new.result.ends _ c.new.ensures.is_open, c.new.ensures.starts),
               ),
-              refl,
+              (refl, c.note.ensures.told),
             )),
       ),
     )

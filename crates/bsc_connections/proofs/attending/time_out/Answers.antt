@@ -20,11 +20,16 @@ returns-in-Some-clause-does g c =
     let (happened, heard) = c.answer_at.ensures.hears in (
       happened,
       subst (λ (o : Option ℕ). TimesOut
-          (session_parts g.S.Station g.R.Read g.W.Write g.F.Framing) o
-          (record { station = c.args.station.now; connections = c.args.connections.now })
-          happened (record {
+          (session_parts g.S.Station g.R.Read g.W.Write g.F.Framing g.M.Monitor.is_told) o
+          (record {
+            station = c.args.station.now;
+            connections = c.args.connections.now;
+            monitor = c.args.monitor.now;
+          })
+          happened c.answer_at.result (record {
             station = c.answer_at.new.station;
             connections = c.answer_at.new.connections;
+            monitor = c.answer_at.new.monitor;
           })) is
           (record {
             between = _;

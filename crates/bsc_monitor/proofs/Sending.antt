@@ -1,0 +1,168 @@
+-- What is sent in a session is sent after the records that arrived are printed.
+use Rattle.std.proofs.Common.{◌≡◌, ◌≢◌, ℕ, ◌<◌, ◌≤◌, Bool, List, [], ◌∷◌, length, Option, None, Some}
+use Rattle.std.proofs.Common.{Result, Ok, Err, inl, inr, refl, sym, ◌∙◌, ap, subst, arith, max}
+use Rattle.std.proofs.Common.{slice_index, OnOk}
+use Rattle.bsc_frame.specs.declared.message.Message.{Message}
+use Rattle.bsc_connections.specs.declared.awaited.Awaited.{Awaited}
+use Rattle.bsc_connections.specs.declared.awaited.Awaited.TheVariants.{Octets, Newcomer, TimeOut}
+use Rattle.bsc_connections.specs.declared.awaited.Wait.{Wait}
+use Rattle.bsc_connections.specs.declared.awaited.LiveError.{LiveError}
+use Rattle.bsc_connections.specs.declared.connection.Taken.{Taken}
+use Rattle.bsc_connections.specs.declared.connection.Taken.TheVariants.{Nothing, Interrupted, Part}
+use Rattle.bsc_connections.specs.declared.connection.Taken.TheVariants.{Whole, Closed}
+use Rattle.bsc_connections.specs.Parts.{SessionParts}
+use Rattle.bsc_connections.specs.Connections.{ConnectionValue}
+use Rattle.bsc_connections.specs.Histories.{Happening, WasHeard, WasSilent, sent_where_some}
+use Rattle.bsc_connections.specs.Histories.{all_sent}
+use Rattle.bsc_connections.specs.Attending.{Session, session_of, Answers, Replies, TellsSent}
+use Rattle.bsc_connections.specs.Attending.{sent_if_accepted, ReadsAt, TimesOut, Joins, Does}
+use Rattle.bsc_connections.specs.Attending.{first_awaiting, first_closed, Steps, Attended}
+use Rattle.bsc_monitor.specs.Arrivals.{arrived_on}
+use Rattle.bsc_monitor.specs.Watching.{Output, PrintsArrivals, Sees, ArePrinted}
+use Rattle.bsc_monitor.specs.Watching.{PrintsBeforeSending}
+use Rattle.bsc_monitor.specs.declared.party.Party as party_of
+
+-- A count that is at least the number of records.
+at_most_counted : (old arrived new : ℕ) → new ≡ max old arrived → arrived ≤ new
+at_most_counted old arrived new is = omega (arith, is)
+
+module _ {S R W F M Z : Type 0} (parts : SessionParts S R W F M) (party : party_of.Ghosts S Z)
+    (output : M → Output)
+    (sees : (before : M) (station : S) (happening : Happening) (result : Result Bool LiveError)
+    (after : M) → parts.is_told before station happening result after
+    → Sees party station happening result (output before) (output after)) where
+  abbrev Now : Type 0
+  Now = Session S (ConnectionValue R W F) M
+
+  -- The records are printed between these two states of the monitor.
+  abbrev Prints : S → M → M → Type 0
+  Prints station before after = PrintsArrivals party station (output before) (output after)
+
+  -- If something is sent it was printed before.
+  printed_if_sent : (sent : Option Message) (told : Result Bool LiveError) (answer : Option Message)
+      (station : S) (first before after : M) (later : Result Bool LiveError)
+      → sent ≡ sent_if_accepted told answer → all_sent (sent_where_some sent) ≢ []
+      → ((goes_on : Bool) → told ≡ Ok goes_on → Prints station first before)
+      → TellsSent parts sent station before later after → Prints station first after
+  printed_if_sent None told answer station first before after later accepted some prints tells =
+      absurd (some refl)
+  printed_if_sent (Some m) (Err error) answer station first before after later accepted some prints
+      tells =
+      let clash : Some m ≡ None = accepted in absurd cc
+  printed_if_sent (Some m) (Ok goes_on) answer station first before after later accepted some prints
+      tells =
+      subst (λ (o : Output). PrintsArrivals party station (output first) o)
+      (sym (sees before station _ later after tells)) (prints goes_on refl)
+
+  printed_by_answer : (happening : Happening) (answer : Option Message) (old : Now)
+      (happened : List Happening) (result : Result Bool LiveError) (new : Now)
+      → ((told : Result Bool LiveError) (goes_on : Bool) (monitor : M) → told ≡ Ok goes_on
+      → parts.is_told old.monitor new.station happening told monitor
+      → Prints new.station old.monitor monitor)
+      → ((more : List Happening) → all_sent (happening ∷ more) ≡ all_sent more)
+      → Answers parts happening answer old happened result new → all_sent happened ≢ []
+      → Prints new.station old.monitor new.monitor
+  printed_by_answer happening answer old happened result new prints unsent a some =
+      let r = a.replies in
+      printed_if_sent r.sent a.told answer new.station old.monitor a.monitor new.monitor
+      r.told_later r.accepted
+      (λ none. some (ap all_sent a.happens ∙ unsent a.later ∙ ap all_sent r.happens ∙ none))
+      (λ goes_on is. prints a.told goes_on a.monitor is a.tells) r.tells_sent
+
+  -- The station heard something, or was told of a silence.
+  prints_heard : (place : ℕ) (octets : List ℕ) (station : S) (before : M)
+      (told : Result Bool LiveError) (goes_on : Bool) (after : M) → told ≡ Ok goes_on
+      → parts.is_told before station (WasHeard place octets) told after
+      → Prints station before after
+  prints_heard place octets station before told goes_on after is tells =
+      subst (λ (r : Result Bool LiveError). OnOk r (Prints station before after)) is
+      (sees before station (WasHeard place octets) told after tells)
+
+  prints_silent : (station : S) (before : M) (told : Result Bool LiveError) (goes_on : Bool)
+      (after : M) → told ≡ Ok goes_on → parts.is_told before station WasSilent told after
+      → Prints station before after
+  prints_silent station before told goes_on after is tells =
+      subst (λ (r : Result Bool LiveError). OnOk r (Prints station before after)) is
+      (sees before station WasSilent told after tells)
+
+  nothing_sent : (happened other : List Happening) → happened ≡ other → all_sent other ≡ []
+      → all_sent happened ≢ [] → ⊥
+  nothing_sent happened other is none some = some (ap all_sent is ∙ none)
+
+  printed_by_hearing : (place : ℕ) (octets : List ℕ) (answer : Option Message) (old : Now)
+      (happened : List Happening) (result : Result Bool LiveError) (new : Now)
+      → Answers parts (WasHeard place octets) answer old happened result new
+      → all_sent happened ≢ [] → Prints new.station old.monitor new.monitor
+  printed_by_hearing place octets answer old happened result new a some =
+      printed_by_answer (WasHeard place octets) answer old happened result new
+      (λ told goes_on monitor is tells.
+      prints_heard place octets new.station old.monitor told goes_on monitor is tells)
+      (λ more. refl) a some
+
+  printed_by_read : (taken : Taken) (place : ℕ) (old : Now) (happened : List Happening)
+      (result : Result Bool LiveError) (new : Now)
+      → ReadsAt parts place taken old happened result new → all_sent happened ≢ []
+      → Prints new.station old.monitor new.monitor
+  printed_by_read Whole place old happened result new (between, taken, h) some =
+      printed_by_hearing place (parts.connection.framing.last h.connection.framing) h.answer
+      (record old { connections = between }) happened result new h.answers some
+  printed_by_read Nothing place old happened result new (taken, same, none) some =
+      absurd (nothing_sent happened [] none.0 refl some)
+  printed_by_read Interrupted place old happened result new (taken, same, none) some =
+      absurd (nothing_sent happened [] none.0 refl some)
+  printed_by_read Part place old happened result new (taken, same, none) some =
+      absurd (nothing_sent happened [] none.0 refl some)
+  printed_by_read (Closed why) place old happened result new (taken, same, one) some =
+      absurd (nothing_sent happened _ one.0 refl some)
+
+  printed_by_joining : (free : Option ℕ) (old : Now) (happened : List Happening)
+      (result : Result Bool LiveError) (new : Now) → Joins parts free old happened result new
+      → all_sent happened ≢ [] → Prints new.station old.monitor new.monitor
+  printed_by_joining None old happened result new (same, none) some =
+      absurd (nothing_sent happened [] none.0 refl some)
+  printed_by_joining (Some place) old happened result new (inl (same, none)) some =
+      absurd (nothing_sent happened [] none.0 refl some)
+  printed_by_joining (Some place) old happened result new (inr (changes, joined)) some =
+      absurd (nothing_sent happened _ joined.0 refl some)
+
+  printed_by_time_out : (awaiting : Option ℕ) (old : Now) (happened : List Happening)
+      (result : Result Bool LiveError) (new : Now)
+      → TimesOut parts awaiting old happened result new → all_sent happened ≢ []
+      → Prints new.station old.monitor new.monitor
+  printed_by_time_out None old happened result new silent some =
+      printed_by_answer WasSilent silent.answer old happened result new
+      (λ told goes_on monitor is tells.
+      prints_silent new.station old.monitor told goes_on monitor is tells)
+      (λ more. refl) silent.answers some
+  printed_by_time_out (Some place) old happened result new h some =
+      printed_by_hearing place (parts.connection.framing.last h.heard.connection.framing)
+      h.heard.answer (record old { connections = h.between }) happened result new h.heard.answers
+      some
+
+  printed_by_event : (awaited : Awaited) (old : Now) (happened : List Happening)
+      (result : Result Bool LiveError) (new : Now)
+      → Does parts awaited old happened result new → all_sent happened ≢ []
+      → Prints new.station old.monitor new.monitor
+  printed_by_event (Octets place) old happened result new (taken, reads) some =
+      printed_by_read taken place old happened result new reads some
+  printed_by_event Newcomer old happened result new (same, joins) some =
+      printed_by_joining (first_closed old.connections) old happened result new joins some
+  printed_by_event TimeOut old happened result new times some =
+      printed_by_time_out (first_awaiting parts.connection.framing.awaits old.connections) old
+      happened result new times some
+
+  -- What is printed is all that arrived.
+  all_are_printed : (station : S) (old new : Output) → PrintsArrivals party station old new
+      → ArePrinted party station new
+  all_are_printed station old new prints channel below =
+      at_most_counted (slice_index old.counts channel)
+      (length (arrived_on party station channel)) (slice_index new.counts channel)
+      (prints.counted channel below)
+
+  pub prints_before_sending : {T : Type 0}
+      (waits : T → Wait → Result Awaited LiveError → T → Type 0)
+      → PrintsBeforeSending parts waits party output
+  prints_before_sending waits old new happened result step some =
+      let prints =
+      printed_by_event step.awaited (session_of old) happened result (session_of new) step.does some
+      in (prints, all_are_printed new.station (output old.monitor) (output new.monitor) prints)

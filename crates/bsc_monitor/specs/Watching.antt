@@ -1,0 +1,63 @@
+-- What a watch prints when it is told what happened.
+use Rattle.std.specs.Prelude.{◌≡◌, ◌≢◌, ℕ, ◌<◌, ◌≤◌, Bool, List, [], length, Option, Result, OnOk}
+use Rattle.std.specs.Prelude.{slice_index}
+use Rattle.std.specs.Io.KnownBytes.{Appends}
+use Rattle.bsc_connections.specs.declared.awaited.LiveError.{LiveError}
+use Rattle.bsc_connections.specs.declared.awaited.Awaited.{Awaited}
+use Rattle.bsc_connections.specs.declared.awaited.Wait.{Wait}
+use Rattle.bsc_connections.specs.Parts.{SessionParts}
+use Rattle.bsc_connections.specs.Connections.{ConnectionValue}
+use Rattle.bsc_connections.specs.Histories.{Happening, WasHeard, WasSilent, all_sent}
+use Rattle.bsc_connections.specs.Attending.{Attended, Steps}
+use Rattle.bsc_report.specs.Channels.{each_below}
+use Rattle.bsc_monitor.specs.Arrivals.{AreCounted, arrivals_of, arrived_on}
+use Rattle.bsc_monitor.specs.declared.arrivals.Form.{Form}
+use Rattle.bsc_monitor.specs.declared.party.Party as party_of
+use Rattle.bsc_monitor.specs.declared.watch.Watch.{Watch}
+
+-- The form in which a watch prints records, the number of records printed for each channel, and
+-- what its writer holds, as far as that is known.
+pub record Output : Type 0 where
+  pub form : Form
+  pub counts : List ℕ
+  pub contents : Option (List ℕ)
+
+abbrev pub output_of : {A T W D : Type 0} → (W → Option (List ℕ)) → Watch A T W D → Output
+output_of contents w =
+    record { form = w.printing.form; counts = w.printed.items; contents = contents w.out.now }
+
+-- What is known of a station with memory of type M, and the station.
+module _ {P M : Type 0} (party : party_of.Ghosts P M) (station : P) where
+  -- The lines of the records that had not been printed are written, each once and in order, channel
+  -- by channel, and counted; there is a count for each channel on which the station receives.
+  pub record PrintsArrivals (old new : Output) : Type 0 where
+    pub channels : length old.counts ≡ party.receives station
+    pub text : Appends old.contents new.contents
+        (each_below (arrivals_of party station old.form old.counts) (party.receives station))
+    pub counted : AreCounted party station old.counts new.counts (party.receives station)
+    pub form : new.form ≡ old.form
+
+  -- The watch is told this by the station. If it accepts what the station heard, or a silence, all
+  -- records that arrived are printed. Of anything else it prints no record.
+  abbrev pub Sees : Happening → Result Bool LiveError → Output → Output → Type 0
+  Sees (WasHeard place octets) result old new = OnOk result (PrintsArrivals old new)
+  Sees WasSilent result old new = OnOk result (PrintsArrivals old new)
+  Sees _ result old new = new ≡ old
+
+  -- Every record that arrived at the station has been printed.
+  abbrev pub ArePrinted : Output → Type 0
+  ArePrinted output =
+      (channel : ℕ) → channel < party.receives station
+      → length (arrived_on party station channel) ≤ slice_index output.counts channel
+
+-- In every step of a session in which the station sends something, the records that have arrived at
+-- it are printed: the lines of those that had not been printed before, and of no others.
+abbrev pub PrintsBeforeSending : {S R W F M T Z : Type 0} → SessionParts S R W F M
+    → (T → Wait → Result Awaited LiveError → T → Type 0) → party_of.Ghosts S Z → (M → Output)
+    → Type 0
+PrintsBeforeSending {S} {R} {W} {F} {M} {T} {Z} parts waits party output =
+    (old new : Attended S (ConnectionValue R W F) M T) (happened : List Happening)
+    (result : Result Bool LiveError)
+    → Steps parts waits old happened result new → all_sent happened ≢ []
+    → PrintsArrivals party new.station (output old.monitor) (output new.monitor)
+    × ArePrinted party new.station (output new.monitor)
