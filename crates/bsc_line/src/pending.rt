@@ -51,6 +51,7 @@ impl Pending {
     }
 
     /// Lends the pending transmission, or returns `None` if nothing is pending.
+    #[inline(always)]
     pub(crate) fn transmission(&self) -> Option<Transmission<'_>>
         ensures { result ≡ self.entry.now }
     {

@@ -47,6 +47,7 @@ impl TransmissionBuffer {
     }
 
     /// Lends the transmission, or returns `None` if there is none.
+    #[inline(always)]
     pub(crate) fn transmission(&self) -> Option<Transmission<'_>>
         ensures { result ≡ self.entry.now }
     {

@@ -40,15 +40,15 @@ loop-place-preserved c = record {
       (sym c.unit.ensures ∙ ap (option_map text_unit) c.in_ok-units.was);
 }
 
-pub of-requires-clause-each : goal.of-requires-clause-each
-of-requires-clause-each c =
+pub hold-requires-clause-each : goal.hold-requires-clause-each
+hold-requires-clause-each c =
     units_are (take c.args.self.now.count c.args.self.now.units) _
     (units_read c.args.self.now.units c.loop-place.units c.loop-place.place c.args.self.now.count
     c.loop-place.auto.place-end c.loop-place-test.false c.loop-place.invariant.units)
 
 pub returns : goal.returns
 returns c =
-    sym (rw c.of.ensures
+    sym (rw c.hold.ensures
     (text_here c.args.self.now _ (omega (arith, c.if-count-eq0.false)) c.if-count-gt-MAX_UNITS.false
     (sym c.end_of.ensures ∙ c.in_ok-end.was)
     (units_read c.args.self.now.units c.loop-place.units c.loop-place.place c.args.self.now.count
