@@ -52,3 +52,4 @@ pub mod Delivered
 pub mod DelaysGrow
 pub mod FairRuns
 pub mod Numbers
+pub mod Examples

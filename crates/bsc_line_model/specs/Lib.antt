@@ -17,3 +17,4 @@ pub mod EveryRun
 pub mod Octets
 pub mod Rounds
 pub mod TurnedBits
+pub mod Examples

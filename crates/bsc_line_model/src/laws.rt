@@ -13,6 +13,10 @@ ghost use Rattle.bsc_line_model.specs.StepLaws.{RefusedChangesNothing, TrustOnly
 ghost use Rattle.bsc_line_model.specs.StepLaws.{HoldsWhilePolled, NeverMismatches};
 ghost use Rattle.bsc_line_model.specs.StepLaws.{NewChannelsAreEmpty, OneAnswers, AlikeIsFair};
 ghost use Rattle.bsc_line_model.specs.StepLaws.{FairIsAlike};
+ghost use Rattle.bsc_line_model.specs.Examples.{FirstLands, NoDoubleLands, NoGapLands};
+ghost use Rattle.bsc_line_model.specs.Examples.{NoOtherLands, NoTwoMove, NoDoubleArrives};
+ghost use Rattle.bsc_line_model.specs.Examples.{NoGapArrives, NoOtherArrives, NoneIsKnownEarly};
+ghost use Rattle.bsc_line_model.specs.Examples.{NoneReachesOther, VisitBegins};
 ghost use Rattle.bsc_line_model.specs.Headline.{RunsKeepRecords};
 ghost use Rattle.bsc_line_model.specs.Octets.{AllFairInOctets, FairInOctets};
 ghost use Rattle.bsc_line_model.specs.Rounds.{RunsDeliverVisit, RunsDeliverRound, SeesLast};
@@ -169,4 +173,26 @@ pub fn round()
 pub fn seen_terminals()
     ensures last { SeesLast }
     ensures earlier { SeesEarlier }
+{}
+
+/// What the definitions of moves and of the main promise exclude, shown on values: that a record
+/// lands twice, that one lands without the one before it, that one lands in another spool or in
+/// two, that one is counted as delivered and did not arrive, and that one reaches a terminal while
+/// another channel is addressed. Beside them, the first record does land.
+pub fn wrong_arrivals()
+    ensures lands { FirstLands }
+    ensures double_lands { NoDoubleLands }
+    ensures gap_lands { NoGapLands }
+    ensures other_lands { NoOtherLands }
+    ensures two_move { NoTwoMove }
+    ensures double_arrives { NoDoubleArrives }
+    ensures gap_arrives { NoGapArrives }
+    ensures other_arrives { NoOtherArrives }
+    ensures known_early { NoneIsKnownEarly }
+    ensures reaches_other { NoneReachesOther }
+{}
+
+/// There is a line on which a visit of the first entry begins, and so a round.
+pub fn visit_begins()
+    ensures { VisitBegins }
 {}
