@@ -79,9 +79,18 @@ fn connections_of<R: Read + Drop, W: Write + Drop, F: Framing + Drop>(
     Ok(connections)
 }
 
-impl<R: Read + Drop, W: Write + Drop, Q: Waiter<R, W> + Drop> Connections<R, W, Q> {
+/// Connections over which a station can be attended.
+pub(crate) trait Attend {
     /// Attends a station over the connections until the monitor ends it.
-    pub(crate) fn attend<S: Station, M: Monitor<S>>(
+    fn attend<S: Station, M: Monitor<S>>(
+        &mut self,
+        station: &mut S,
+        monitor: &mut M,
+    ) -> Result<(), LiveError>;
+}
+
+impl<R: Read + Drop, W: Write + Drop, Q: Waiter<R, W> + Drop> Attend for Connections<R, W, Q> {
+    fn attend<S: Station, M: Monitor<S>>(
         &mut self,
         station: &mut S,
         monitor: &mut M,

@@ -1,6 +1,7 @@
 //! The reasons why a station fails.
 ghost use Rattle.std.specs.Prelude.{◌≡◌};
 
+use crate::Reason;
 use bsc_carrier::CarrierError;
 use bsc_config::ConfigError;
 use bsc_connections::LiveError;
@@ -16,11 +17,11 @@ use thiserror::Error;
 pub enum AttendingError {
     /// The value of an option is wrong, for this reason.
     #[error("{why}")]
-    WrongValue { why: &'static str },
+    WrongValue { why: Reason },
 
     /// The options conflict, or one is missing, for this reason.
     #[error("{why}")]
-    WrongTogether { why: &'static str },
+    WrongTogether { why: Reason },
 
     /// The text of the configuration or of records could not be read.
     #[error("{error}")]

@@ -10,9 +10,11 @@ mod error;
 mod network;
 mod offering;
 mod preparing;
+mod reason;
 mod settings;
 mod stations;
 
 pub use error::AttendingError;
 pub use network::{Network, Opened, Place, Wanted};
+pub use reason::Reason;
 pub use stations::station;

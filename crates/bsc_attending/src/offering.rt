@@ -4,9 +4,9 @@ ghost use Rattle.std.specs.Prelude.{◌≡◌, IfErr, IfOk};
 ghost use Rattle.bsc_attending.specs.Errors.{IsOfferError};
 ghost use Rattle.bsc_block.specs.Blocks.{AreShort};
 
-use crate::AttendingError;
 use crate::AttendingError::WrongValue;
 use crate::settings::Role;
+use crate::{AttendingError, Reason};
 use bsc_asked::StationWords;
 use bsc_bid::Setup;
 use bsc_block::Record;
@@ -163,9 +163,7 @@ fn offer_for<R: Read, F: Files>(
     ensures { IfErr result IsOfferError }
 {
     let Some(offer) = offer_of(text) else {
-        return Err(WrongValue {
-            why: "--offer takes T.S=PATH at the control station",
-        });
+        return Err(WrongValue { why: Reason::Offer });
     };
     let Offer {
         terminal,
@@ -174,7 +172,7 @@ fn offer_for<R: Read, F: Files>(
     } = offer;
     if terminal >= control.terminals() || select >= control.addresses(terminal) {
         return Err(WrongValue {
-            why: "--offer names a channel that is not in CONFIG",
+            why: Reason::NoSuchChannel,
         });
     }
     let records = records_at(alloc, path, control.setup(), input, files)?;

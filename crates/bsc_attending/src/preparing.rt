@@ -4,10 +4,10 @@
 ghost use Rattle.std.specs.Prelude.{IfErr};
 ghost use Rattle.bsc_attending.specs.Errors.{IsPreparingError};
 
-use crate::AttendingError;
 use crate::AttendingError::{WrongTogether, WrongValue};
 use crate::offering::{offer_all_at_terminal, offer_all_for_terminals, repeats_standard_input};
 use crate::settings::Role;
+use crate::{AttendingError, Reason};
 use bsc_asked::StationWords;
 use bsc_config::{Config, read_config};
 use bsc_control::Control;
@@ -37,8 +37,9 @@ pub(crate) fn prepare<R: Read, F: Files>(
     ensures { IfErr result IsPreparingError }
 {
     if repeats_standard_input(words, role) {
-        let why = "CONFIG and --offer cannot name standard input more than once";
-        return Err(WrongTogether { why });
+        return Err(WrongTogether {
+            why: Reason::StandardInput,
+        });
     }
     let text = read_text(alloc, words.config.as_str(), input, files)?;
     let config = read_config(alloc, &text)?;
@@ -75,8 +76,9 @@ fn terminal<R: Read, F: Files>(
     ensures { IfErr result IsPreparingError }
 {
     if number >= config.terminals() {
-        let why = "--terminal names a terminal that is not in CONFIG";
-        return Err(WrongValue { why });
+        return Err(WrongValue {
+            why: Reason::NoSuchTerminal,
+        });
     }
     let mut terminal = new_terminal(alloc, config, number);
     let setup = config.setup();

@@ -4,7 +4,7 @@ ghost use Rattle.std.specs.Prelude.{IfErr};
 ghost use Rattle.bsc_attending.specs.Errors.{IsWordsError};
 
 use crate::AttendingError::{WrongTogether, WrongValue};
-use crate::{AttendingError, Place};
+use crate::{AttendingError, Place, Reason};
 use bsc_asked::StationWords;
 use bsc_monitor::{Form, Limits, Printing};
 
@@ -33,8 +33,16 @@ pub(crate) enum Role {
 /// The settings in the options of `station`.
 #[derive(Clone, Copy)]
 pub(crate) struct StationSettings<'a> {
-    pub(crate) role: Role,
     pub(crate) place: Place<'a>,
+    pub(crate) options: Options,
+}
+
+/// The settings apart from the place of the connections.
+#[derive(Clone, Copy)]
+pub(crate) struct Options {
+    pub(crate) role: Role,
+    /// Whether peers connect to the station.
+    pub(crate) listens: bool,
     pub(crate) shared: bool,
     pub(crate) raw: bool,
     /// The gap in milliseconds.
@@ -66,7 +74,7 @@ fn number(
     given: &Option<String>,
     unless_given: u64,
     most: u64,
-    why: &'static str,
+    why: Reason,
 ) -> Result<u64, AttendingError>
     ensures { IfErr result IsWordsError }
 {
@@ -90,11 +98,11 @@ fn read_role(words: &StationWords) -> Result<Role, AttendingError>
                 number: usize::from(number),
             }),
             Err(_) => Err(WrongValue {
-                why: "--terminal takes the number of a terminal",
+                why: Reason::Terminal,
             }),
         },
         _ => Err(WrongTogether {
-            why: "either --control or --terminal must say which station it is",
+            why: Reason::Station,
         }),
     }
 }
@@ -106,9 +114,7 @@ fn read_place(words: &StationWords) -> Result<Place<'_>, AttendingError>
     match (given_text(&words.listen), given_text(&words.connect)) {
         (Some(address), None) => Ok(Place::Listen { address }),
         (None, Some(address)) => Ok(Place::Connect { address }),
-        _ => Err(WrongTogether {
-            why: "either --listen or --connect must say where its connections are",
-        }),
+        _ => Err(WrongTogether { why: Reason::Place }),
     }
 }
 
@@ -121,12 +127,16 @@ fn read_limits(words: &StationWords) -> Result<Limits, AttendingError>
         Some(text) => match number_of(text, u64::MAX) {
             Some(rounds) => Some(rounds),
             None => return Err(WrongValue {
-                why: "--rounds takes a number from 1 up",
+                why: Reason::Rounds,
             }),
         },
     };
-    let why = "--idle-rounds takes a number from 1 up";
-    let idle_rounds = number(&words.idle_rounds, IDLE_ROUNDS, u64::MAX, why)?;
+    let idle_rounds = number(
+        &words.idle_rounds,
+        IDLE_ROUNDS,
+        u64::MAX,
+        Reason::IdleRounds,
+    )?;
     Ok(Limits {
         rounds,
         idle_rounds,
@@ -140,18 +150,20 @@ fn check_together(words: &StationWords, role: Role) -> Result<(), AttendingError
     let counts = words.rounds.is_some() || words.idle_rounds.is_some();
     match role {
         Role::Control if words.connect.is_some() && !words.shared => {
-            let why = "--control with --connect needs --shared";
-            return Err(WrongTogether { why });
+            return Err(WrongTogether {
+                why: Reason::ManyPeers,
+            });
         }
         Role::Terminal { .. } if words.shared || counts => {
-            let why = "--shared, --rounds and --idle-rounds need --control";
-            return Err(WrongTogether { why });
+            return Err(WrongTogether {
+                why: Reason::OnlyControl,
+            });
         }
         _ => {}
     }
     if words.gap.is_some() && !words.raw {
         return Err(WrongTogether {
-            why: "--gap needs --raw",
+            why: Reason::GapWithoutRaw,
         });
     }
     Ok(())
@@ -176,14 +188,28 @@ pub(crate) fn read_settings(words: &StationWords) -> Result<StationSettings<'_>,
 {
     let role = read_role(words)?;
     let place = read_place(words)?;
+    let options = read_options(words, role, listens(place))?;
+    Ok(StationSettings { place, options })
+}
+
+/// Returns whether peers connect to the station.
+fn listens(place: Place<'_>) -> bool {
+    match place {
+        Place::Listen { .. } => true,
+        Place::Connect { .. } => false,
+    }
+}
+
+/// Reads the settings apart from the place of the connections.
+fn read_options(words: &StationWords, role: Role, listens: bool) -> Result<Options, AttendingError>
+    ensures { IfErr result IsWordsError }
+{
     check_together(words, role)?;
-    let why = "--gap takes milliseconds, 1 to 3600000";
-    let gap = number(&words.gap, GAP, MAX_TIME, why)?;
-    let why = "--time-out takes milliseconds, 1 to 3600000";
-    let time_out = number(&words.time_out, TIME_OUT, MAX_TIME, why)?;
-    Ok(StationSettings {
+    let gap = number(&words.gap, GAP, MAX_TIME, Reason::Gap)?;
+    let time_out = number(&words.time_out, TIME_OUT, MAX_TIME, Reason::TimeOut)?;
+    Ok(Options {
         role,
-        place,
+        listens,
         shared: words.shared,
         raw: words.raw,
         gap,

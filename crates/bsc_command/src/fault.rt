@@ -120,10 +120,10 @@ pub(crate) fn attending_fault(alloc: Global, error: AttendingError) -> Fault
 {
     match error {
         AttendingError::WrongValue { why } => {
-            words_fault(alloc, Shown::Station, ErrorKind::InvalidValue, why)
+            words_fault(alloc, Shown::Station, ErrorKind::InvalidValue, why.text())
         }
         AttendingError::WrongTogether { why } => {
-            words_fault(alloc, Shown::Station, ErrorKind::ArgumentConflict, why)
+            words_fault(alloc, Shown::Station, ErrorKind::ArgumentConflict, why.text())
         }
         error => Fault::Attending { error },
     }
