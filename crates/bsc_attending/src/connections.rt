@@ -1,6 +1,7 @@
 //! The connections of a station, and attending the station over them.
 
-ghost use Rattle.std.specs.Prelude.{IfErr};
+ghost use Rattle.std.specs.Prelude.{◌≡◌, IfErr, IfOk};
+ghost use Rattle.bsc_attending.specs.Framings.{is_raw};
 ghost use Rattle.bsc_attending.specs.Errors.{IsLate};
 
 use crate::{AttendingError, Network, Opened, Wanted};
@@ -35,17 +36,17 @@ pub(crate) struct Connections<R: Drop, W: Drop, Q: Drop> {
 /// Makes these connections.
 pub(crate) fn connect<H: Network>(
     alloc: Global,
-    raw: bool,
     wanted: &Wanted<'_>,
     machine: &mut H,
 ) -> Result<Connections<H::Reader, H::Writer, H::Waiter>, AttendingError>
-    ensures { IfErr result IsLate }
+    ensures framing { IfOk result (λ made. is_raw made.framed ≡ wanted.now.raw) }
+    ensures late { IfErr result IsLate }
 {
     let Opened {
         waiter,
         connections,
     } = machine.open(wanted)?;
-    let framed = in_framing(alloc, raw, connections)?;
+    let framed = in_framing(alloc, wanted.raw, connections)?;
     Ok(Connections { waiter, framed })
 }
 
@@ -55,7 +56,8 @@ fn in_framing<R: Read + Drop, W: Write + Drop>(
     raw: bool,
     directions: Vec<(R, W)>,
 ) -> Result<Framed<R, W>, AttendingError>
-    ensures { IfErr result IsLate }
+    ensures framing { IfOk result (λ framed. is_raw framed ≡ raw) }
+    ensures late { IfErr result IsLate }
 {
     if raw {
         let connections = connections_of(alloc, directions)?;
@@ -79,9 +81,18 @@ fn connections_of<R: Read + Drop, W: Write + Drop, F: Framing + Drop>(
     Ok(connections)
 }
 
-impl<R: Read + Drop, W: Write + Drop, Q: Waiter<R, W> + Drop> Connections<R, W, Q> {
+/// Connections over which a station can be attended.
+pub(crate) trait Attend {
     /// Attends a station over the connections until the monitor ends it.
-    pub(crate) fn attend<S: Station, M: Monitor<S>>(
+    fn attend<S: Station, M: Monitor<S>>(
+        &mut self,
+        station: &mut S,
+        monitor: &mut M,
+    ) -> Result<(), LiveError>;
+}
+
+impl<R: Read + Drop, W: Write + Drop, Q: Waiter<R, W> + Drop> Attend for Connections<R, W, Q> {
+    fn attend<S: Station, M: Monitor<S>>(
         &mut self,
         station: &mut S,
         monitor: &mut M,

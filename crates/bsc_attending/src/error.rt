@@ -6,6 +6,7 @@ use bsc_config::ConfigError;
 use bsc_connections::LiveError;
 use bsc_input::TextError;
 use bsc_monitor::OfferError;
+use bsc_options::OptionError;
 use bsc_print::PrintError;
 use bsc_sockets::SocketsError;
 use std::alloc::{AllocError, AllocFailed};
@@ -76,6 +77,21 @@ impl<T: Drop> From<AllocFailed<T>> for AttendingError {
 
     fn from(_error: AllocFailed<T>) -> AttendingError {
         AttendingError::Memory
+    }
+}
+
+impl From<OptionError> for AttendingError {
+    ghost use Rattle.bsc_attending.specs.Errors.{IsOptionError};
+
+    ghost from_gives = { IsOptionError };
+
+    fn from(error: OptionError) -> AttendingError {
+        let why = error.reason();
+        if error.is_conflict() {
+            AttendingError::WrongTogether { why }
+        } else {
+            AttendingError::WrongValue { why }
+        }
     }
 }
 

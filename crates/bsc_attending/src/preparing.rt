@@ -5,14 +5,14 @@ ghost use Rattle.std.specs.Prelude.{IfErr};
 ghost use Rattle.bsc_attending.specs.Errors.{IsPreparingError};
 
 use crate::AttendingError;
-use crate::AttendingError::{WrongTogether, WrongValue};
-use crate::offering::{offer_all_at_terminal, offer_all_for_terminals, repeats_standard_input};
-use crate::settings::Role;
+use crate::AttendingError::WrongValue;
+use crate::offering::{offer_all_at_terminal, offer_all_for_terminals};
 use bsc_asked::StationWords;
 use bsc_config::{Config, read_config};
 use bsc_control::Control;
 use bsc_input::{Files, read_text};
 use bsc_monitor::{LineTerminal, new_control, new_terminal};
+use bsc_options::Role;
 use std::alloc::Global;
 use std::io::Read;
 
@@ -36,10 +36,6 @@ pub(crate) fn prepare<R: Read, F: Files>(
 ) -> Result<Prepared, AttendingError>
     ensures { IfErr result IsPreparingError }
 {
-    if repeats_standard_input(words, role) {
-        let why = "CONFIG and --offer cannot name standard input more than once";
-        return Err(WrongTogether { why });
-    }
     let text = read_text(alloc, words.config.as_str(), input, files)?;
     let config = read_config(alloc, &text)?;
     match role {

@@ -3,15 +3,16 @@
 ghost use Rattle.std.specs.Prelude.{◌≡◌, IfErr};
 ghost use Rattle.bsc_attending.specs.Errors.{IsEarly, IsLate, outcome_of};
 
-use crate::connections::{Connections, connect};
+use crate::connections::{Attend, connect};
 use crate::preparing::{Prepared, prepare};
-use crate::settings::{StationSettings, read_settings};
-use crate::{AttendingError, Network, Place, Wanted};
+use crate::wanted::{listens, wanted_by_control, wanted_by_terminal};
+use crate::{AttendingError, Network, Wanted};
 use bsc_asked::StationWords;
 use bsc_carrier::CarrierError;
-use bsc_connections::{LiveError, Waiter};
+use bsc_connections::LiveError;
 use bsc_control::Control;
 use bsc_input::Files;
+use bsc_options::{StationSettings, read_settings};
 use bsc_monitor::{
     ControlWatch, Ended, LineTerminal, Standing, TerminalWatch, Timer, Watch, station_standing,
     write_report,
@@ -42,129 +43,83 @@ pub fn station<R: Read, H: Files + Network, W: Write>(
 {
     let settings = read_settings(words)?;
     let mut prepared = prepare(alloc, words, settings.role, input, machine)?;
-    run(alloc, &settings, &mut prepared, machine, out)
+    let closed = open(alloc, &settings, &mut prepared, machine, out)?;
+    conclude(alloc, &settings, &prepared, closed, out)
 }
 
-/// Runs a station with its records.
-fn run<H: Network, W: Write>(
+/// Makes the connections of a station, attends the station until it ends, and returns the fault
+/// that closed the connection of a terminal, if any.
+fn open<H: Network, W: Write>(
     alloc: Global,
     settings: &StationSettings<'_>,
     prepared: &mut Prepared,
     machine: &mut H,
     out: &mut W,
-) -> Result<(), AttendingError>
+) -> Result<Option<CarrierError>, AttendingError>
     ensures { IfErr result IsLate }
 {
-    match prepared {
-        Prepared::Control { control } => run_control(alloc, settings, control, machine, out),
-        Prepared::Terminal { terminal } => run_terminal(alloc, settings, terminal, machine, out),
-    }
-}
-
-/// Returns the connections that the control station asks for: one for each terminal, or one for
-/// all. It waits for twice the time-out, so that a terminal that holds the line acts first.
-fn wanted_by_control<'a>(settings: &StationSettings<'a>, terminals: usize) -> Wanted<'a> {
-    Wanted {
-        place: settings.place,
-        connections: if settings.shared { 1 } else { terminals },
-        stays: listens(settings.place),
-        begins: true,
-        time_out: settings.time_out.saturating_mul(2),
-        gap: settings.gap,
-    }
-}
-
-/// Returns the connection that a terminal asks for.
-fn wanted_by_terminal<'a>(settings: &StationSettings<'a>) -> Wanted<'a> {
-    Wanted {
-        place: settings.place,
-        connections: 1,
-        stays: false,
-        begins: false,
-        time_out: settings.time_out,
-        gap: settings.gap,
-    }
-}
-
-/// Returns whether peers connect to the station.
-fn listens(place: Place<'_>) -> bool {
-    match place {
-        Place::Listen { .. } => true,
-        Place::Connect { .. } => false,
-    }
-}
-
-/// Attends the control station until it ends, and prints its report.
-fn run_control<H: Network, W: Write>(
-    alloc: Global,
-    settings: &StationSettings<'_>,
-    control: &mut Control<Global>,
-    machine: &mut H,
-    out: &mut W,
-) -> Result<(), AttendingError>
-    ensures { IfErr result IsLate }
-{
-    open_for_control(alloc, settings, control, machine, out)?;
-    write_report(alloc, control, out)?;
-    outcome(station_standing(control))
-}
-
-/// Makes the connections of the control station, and attends it.
-fn open_for_control<H: Network, W: Write>(
-    alloc: Global,
-    settings: &StationSettings<'_>,
-    control: &mut Control<Global>,
-    machine: &mut H,
-    out: &mut W,
-) -> Result<(), AttendingError>
-    ensures { IfErr result IsLate }
-{
-    let wanted = wanted_by_control(settings, control.terminals());
-    let mut connections = connect(alloc, settings.raw, &wanted, machine)?;
+    let wanted = wanted_by(settings, prepared);
+    let mut connections = connect(alloc, &wanted, machine)?;
     let (timer, mut trace) = (machine.timer(), machine.trace());
     let watching = Watching {
         timer,
         out,
         trace: &mut trace,
     };
-    attend_control(alloc, settings, control, &mut connections, watching)
+    attend(alloc, settings, prepared, &mut connections, watching)
 }
 
-/// Attends the control station until it ends.
-fn attend_control<
-    R: Read + Drop,
-    W: Write + Drop,
-    Q: Waiter<R, W> + Drop,
-    T: Timer + Drop,
-    O: Write,
-    D: Write,
->(
+/// Returns the connections that a station asks for.
+fn wanted_by<'a>(settings: &StationSettings<'a>, prepared: &Prepared) -> Wanted<'a> {
+    match prepared {
+        Prepared::Control { control } => wanted_by_control(settings, control.terminals()),
+        Prepared::Terminal { .. } => wanted_by_terminal(settings),
+    }
+}
+
+/// Attends a station over its connections until it ends, and returns the fault that closed the
+/// connection of a terminal, if any.
+fn attend<C: Attend, T: Timer + Drop, O: Write, D: Write>(
+    alloc: Global,
+    settings: &StationSettings<'_>,
+    prepared: &mut Prepared,
+    connections: &mut C,
+    watching: Watching<'_, T, O, D>,
+) -> Result<Option<CarrierError>, AttendingError>
+    ensures { IfErr result IsLate }
+{
+    match prepared {
+        Prepared::Control { control } => {
+            attend_control(alloc, settings, control, connections, watching)
+        }
+        Prepared::Terminal { terminal } => {
+            attend_terminal(alloc, settings, terminal, connections, watching)
+        }
+    }
+}
+
+/// Attends the control station until it ends. No fault of a connection ends it.
+fn attend_control<C: Attend, T: Timer + Drop, O: Write, D: Write>(
     alloc: Global,
     settings: &StationSettings<'_>,
     control: &mut Control<Global>,
-    connections: &mut Connections<R, W, Q>,
+    connections: &mut C,
     watching: Watching<'_, T, O, D>,
-) -> Result<(), AttendingError>
+) -> Result<Option<CarrierError>, AttendingError>
     ensures { IfErr result IsLate }
 {
     let Watching { timer, out, trace } = watching;
     let watch = Watch::new(alloc, control, settings.printing, timer, out, trace)?;
     let watch = ControlWatch::new(control, watch, settings.limits, listens(settings.place));
-    Ok(attend_until_answered(control, connections, watch)?)
+    attend_until_answered(control, connections, watch)?;
+    Ok(None)
 }
 
 /// Attends the control station until it ends, and then its connections until its last call is
 /// answered.
-fn attend_until_answered<
-    R: Read + Drop,
-    W: Write + Drop,
-    Q: Waiter<R, W> + Drop,
-    T: Timer + Drop,
-    O: Write,
-    D: Write,
->(
+fn attend_until_answered<C: Attend, T: Timer + Drop, O: Write, D: Write>(
     control: &mut Control<Global>,
-    connections: &mut Connections<R, W, Q>,
+    connections: &mut C,
     mut watch: ControlWatch<'_, Global, T, O, D>,
 ) -> Result<(), LiveError> {
     connections.attend(control, &mut watch)?;
@@ -174,59 +129,12 @@ fn attend_until_answered<
     connections.attend(&mut Ended, &mut watch.into_last())
 }
 
-/// Attends a terminal until its connection is closed, and prints its report.
-fn run_terminal<H: Network, W: Write>(
-    alloc: Global,
-    settings: &StationSettings<'_>,
-    terminal: &mut LineTerminal<Global>,
-    machine: &mut H,
-    out: &mut W,
-) -> Result<(), AttendingError>
-    ensures { IfErr result IsLate }
-{
-    let closed = open_for_terminal(alloc, settings, terminal, machine, out)?;
-    write_report(alloc, terminal, out)?;
-    match closed {
-        Some(error) => Err(AttendingError::Closed { error }),
-        None => outcome(station_standing(terminal)),
-    }
-}
-
-/// Makes the connection of a terminal, attends the terminal until the connection is closed, and
-/// returns the fault that closed it, if any.
-fn open_for_terminal<H: Network, W: Write>(
-    alloc: Global,
-    settings: &StationSettings<'_>,
-    terminal: &mut LineTerminal<Global>,
-    machine: &mut H,
-    out: &mut W,
-) -> Result<Option<CarrierError>, AttendingError>
-    ensures { IfErr result IsLate }
-{
-    let wanted = wanted_by_terminal(settings);
-    let mut connections = connect(alloc, settings.raw, &wanted, machine)?;
-    let (timer, mut trace) = (machine.timer(), machine.trace());
-    let watching = Watching {
-        timer,
-        out,
-        trace: &mut trace,
-    };
-    attend_terminal(alloc, settings, terminal, &mut connections, watching)
-}
-
 /// Attends a terminal until its connection is closed, and returns the fault that closed it, if any.
-fn attend_terminal<
-    R: Read + Drop,
-    W: Write + Drop,
-    Q: Waiter<R, W> + Drop,
-    T: Timer + Drop,
-    O: Write,
-    D: Write,
->(
+fn attend_terminal<C: Attend, T: Timer + Drop, O: Write, D: Write>(
     alloc: Global,
     settings: &StationSettings<'_>,
     terminal: &mut LineTerminal<Global>,
-    connections: &mut Connections<R, W, Q>,
+    connections: &mut C,
     watching: Watching<'_, T, O, D>,
 ) -> Result<Option<CarrierError>, AttendingError>
     ensures { IfErr result IsLate }
@@ -236,6 +144,45 @@ fn attend_terminal<
     let mut watch = TerminalWatch::new(watch);
     connections.attend(terminal, &mut watch)?;
     Ok(watch.closed())
+}
+
+/// Prints the report of a station that has ended, and returns its result: a fault that closed its
+/// connection comes first.
+fn conclude<W: Write>(
+    alloc: Global,
+    settings: &StationSettings<'_>,
+    prepared: &Prepared,
+    closed: Option<CarrierError>,
+    out: &mut W,
+) -> Result<(), AttendingError>
+    ensures { IfErr result IsLate }
+{
+    let standing = report(alloc, settings, prepared, out)?;
+    match closed {
+        Some(error) => Err(AttendingError::Closed { error }),
+        None => outcome(standing),
+    }
+}
+
+/// Prints the report of a station, and returns the state of the channels on which it sends.
+fn report<W: Write>(
+    alloc: Global,
+    settings: &StationSettings<'_>,
+    prepared: &Prepared,
+    out: &mut W,
+) -> Result<Standing, AttendingError>
+    ensures { IfErr result IsLate }
+{
+    match prepared {
+        Prepared::Control { control } => {
+            write_report(alloc, settings.reported, control, out)?;
+            Ok(station_standing(control))
+        }
+        Prepared::Terminal { terminal } => {
+            write_report(alloc, settings.reported, terminal, out)?;
+            Ok(station_standing(terminal))
+        }
+    }
 }
 
 /// Returns the result of a station that ended in this state.

@@ -2,9 +2,9 @@
 
 use crate::arrivals::print_arrivals;
 use crate::trace::{Who, write_fault, write_note};
-use crate::{Form, Party, Timer};
+use crate::{Party, Timer};
 use bsc_connections::{LiveError, Note};
-use bsc_print::PrintError;
+use bsc_print::{Form, PrintError};
 use std::alloc::{AllocError, Allocator};
 use std::io::Write;
 
