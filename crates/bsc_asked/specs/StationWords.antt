@@ -13,10 +13,13 @@ pub record AskedWords : Type 0 where
   pub raw : Bool
   pub gap : Option (List ℕ)
   pub time_out : Option (List ℕ)
+  pub patience : Option (List ℕ)
   pub rounds : Option (List ℕ)
   pub idle_rounds : Option (List ℕ)
   pub offers : List (List ℕ)
   pub text : Bool
+  pub bytes : Bool
+  pub report_records : Bool
   pub trace : Bool
 
 -- The value of the arguments in the code.
@@ -31,9 +34,12 @@ asked_words w = record {
   raw = w.raw;
   gap = option_map string_bytes w.gap;
   time_out = option_map string_bytes w.time_out;
+  patience = option_map string_bytes w.patience;
   rounds = option_map string_bytes w.rounds;
   idle_rounds = option_map string_bytes w.idle_rounds;
   offers = map string_bytes w.offers.items;
   text = w.text;
+  bytes = w.bytes;
+  report_records = w.report_records;
   trace = w.trace;
 }

@@ -31,6 +31,9 @@ pub struct StationWords {
     /// The time-out in milliseconds.
     pub time_out: Option<String>,
 
+    /// How long a station tries to connect, in milliseconds.
+    pub patience: Option<String>,
+
     /// The number of rounds after which the control station ends.
     pub rounds: Option<String>,
 
@@ -40,8 +43,14 @@ pub struct StationWords {
     /// The records that are offered, as paths; at the control station each with its channel.
     pub offers: Vec<String>,
 
-    /// Whether records that arrive are printed as text.
+    /// Whether records are printed as text, with escapes.
     pub text: bool,
+
+    /// Whether records are printed as they stand.
+    pub bytes: bool,
+
+    /// Whether the report repeats the records that arrived.
+    pub report_records: bool,
 
     /// Whether a trace of the transmissions is printed.
     pub trace: bool,

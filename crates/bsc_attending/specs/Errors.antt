@@ -1,5 +1,5 @@
 -- The errors of a station for those of its parts, and the errors of each part of its work.
-use Rattle.std.specs.Prelude.{Result, Ok, Err, if◌then◌else◌}
+use Rattle.std.specs.Prelude.{◌≡◌, true, false, Result, Ok, Err, if◌then◌else◌}
 use Rattle.bsc_config.specs.declared.error.ConfigError.{ConfigError}
 use Rattle.bsc_config.specs.declared.error.ConfigError.TheVariants as config
 use Rattle.bsc_input.specs.declared.texts.TextError.{TextError}
@@ -8,6 +8,8 @@ use Rattle.bsc_connections.specs.declared.awaited.LiveError.{LiveError}
 use Rattle.bsc_connections.specs.declared.awaited.LiveError.TheVariants as live
 use Rattle.bsc_print.specs.declared.error.PrintError.{PrintError}
 use Rattle.bsc_print.specs.declared.error.PrintError.TheVariants as print
+use Rattle.bsc_options.specs.Errors.{is_conflict, reason}
+use Rattle.bsc_options.specs.declared.error.OptionError.{OptionError}
 use Rattle.bsc_sockets.specs.declared.error.SocketsError.{SocketsError}
 use Rattle.bsc_sockets.specs.declared.error.SocketsError.TheVariants as sockets
 use Rattle.bsc_monitor.specs.declared.standing.Standing.{Standing}
@@ -41,6 +43,15 @@ live_error live.Count = attending.Connections sockets.Sockets
 live_error live.Output = attending.Output
 live_error live.Unprinted = attending.Unprinted
 live_error live.Memory = attending.Memory
+
+-- The error for options that are refused: they conflict or one is missing, or a value is wrong, with
+-- the reason in words.
+abbrev pub IsOptionError : OptionError → AttendingError → Type 0
+IsOptionError error (attending.WrongTogether why) =
+    (is_conflict error ≡ true) × (why.now ≡ reason error)
+IsOptionError error (attending.WrongValue why) =
+    (is_conflict error ≡ false) × (why.now ≡ reason error)
+IsOptionError error _ = ⊥
 
 -- The errors of options.
 abbrev pub IsWordsError : AttendingError → Type 0

@@ -1,1 +1,3 @@
 pub mod Errors
+pub mod Framings
+pub mod Wanted

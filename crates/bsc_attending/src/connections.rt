@@ -1,6 +1,7 @@
 //! The connections of a station, and attending the station over them.
 
-ghost use Rattle.std.specs.Prelude.{IfErr};
+ghost use Rattle.std.specs.Prelude.{◌≡◌, IfErr, IfOk};
+ghost use Rattle.bsc_attending.specs.Framings.{is_raw};
 ghost use Rattle.bsc_attending.specs.Errors.{IsLate};
 
 use crate::{AttendingError, Network, Opened, Wanted};
@@ -35,17 +36,17 @@ pub(crate) struct Connections<R: Drop, W: Drop, Q: Drop> {
 /// Makes these connections.
 pub(crate) fn connect<H: Network>(
     alloc: Global,
-    raw: bool,
     wanted: &Wanted<'_>,
     machine: &mut H,
 ) -> Result<Connections<H::Reader, H::Writer, H::Waiter>, AttendingError>
-    ensures { IfErr result IsLate }
+    ensures framing { IfOk result (λ made. is_raw made.framed ≡ wanted.now.raw) }
+    ensures late { IfErr result IsLate }
 {
     let Opened {
         waiter,
         connections,
     } = machine.open(wanted)?;
-    let framed = in_framing(alloc, raw, connections)?;
+    let framed = in_framing(alloc, wanted.raw, connections)?;
     Ok(Connections { waiter, framed })
 }
 
@@ -55,7 +56,8 @@ fn in_framing<R: Read + Drop, W: Write + Drop>(
     raw: bool,
     directions: Vec<(R, W)>,
 ) -> Result<Framed<R, W>, AttendingError>
-    ensures { IfErr result IsLate }
+    ensures framing { IfOk result (λ framed. is_raw framed ≡ raw) }
+    ensures late { IfErr result IsLate }
 {
     if raw {
         let connections = connections_of(alloc, directions)?;

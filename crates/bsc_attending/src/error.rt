@@ -1,12 +1,12 @@
 //! The reasons why a station fails.
 ghost use Rattle.std.specs.Prelude.{◌≡◌};
 
-use crate::Reason;
 use bsc_carrier::CarrierError;
 use bsc_config::ConfigError;
 use bsc_connections::LiveError;
 use bsc_input::TextError;
 use bsc_monitor::OfferError;
+use bsc_options::OptionError;
 use bsc_print::PrintError;
 use bsc_sockets::SocketsError;
 use std::alloc::{AllocError, AllocFailed};
@@ -17,11 +17,11 @@ use thiserror::Error;
 pub enum AttendingError {
     /// The value of an option is wrong, for this reason.
     #[error("{why}")]
-    WrongValue { why: Reason },
+    WrongValue { why: &'static str },
 
     /// The options conflict, or one is missing, for this reason.
     #[error("{why}")]
-    WrongTogether { why: Reason },
+    WrongTogether { why: &'static str },
 
     /// The text of the configuration or of records could not be read.
     #[error("{error}")]
@@ -82,6 +82,21 @@ impl<T: Drop> From<AllocFailed<T>> for AttendingError {
 
     fn from(_error: AllocFailed<T>) -> AttendingError {
         AttendingError::Memory
+    }
+}
+
+impl From<OptionError> for AttendingError {
+    ghost use Rattle.bsc_attending.specs.Errors.{IsOptionError};
+
+    ghost from_gives = { IsOptionError };
+
+    fn from(error: OptionError) -> AttendingError {
+        let why = error.reason();
+        if error.is_conflict() {
+            AttendingError::WrongTogether { why }
+        } else {
+            AttendingError::WrongValue { why }
+        }
     }
 }
 

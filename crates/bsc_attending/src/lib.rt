@@ -10,11 +10,10 @@ mod error;
 mod network;
 mod offering;
 mod preparing;
-mod reason;
-mod settings;
 mod stations;
+mod wanted;
 
 pub use error::AttendingError;
-pub use network::{Network, Opened, Place, Wanted};
-pub use reason::Reason;
+pub use network::{Network, Opened};
 pub use stations::station;
+pub use wanted::Wanted;

@@ -4,85 +4,16 @@ ghost use Rattle.std.specs.Prelude.{◌≡◌, IfErr, IfOk};
 ghost use Rattle.bsc_attending.specs.Errors.{IsOfferError};
 ghost use Rattle.bsc_block.specs.Blocks.{AreShort};
 
+use crate::AttendingError;
 use crate::AttendingError::WrongValue;
-use crate::settings::Role;
-use crate::{AttendingError, Reason};
-use bsc_asked::StationWords;
 use bsc_bid::Setup;
 use bsc_block::Record;
 use bsc_control::Control;
-use bsc_input::{Files, STANDARD_INPUT, read_text};
+use bsc_input::{Files, read_text};
 use bsc_monitor::{LineTerminal, OfferError, offer_at_terminal, offer_for_terminal, read_records};
+use bsc_options::{Offer, offer_of};
 use std::alloc::Global;
 use std::io::Read;
-
-/// The path of the records of an option and, at the control station, the channel to which they go.
-struct Offer<'a> {
-    terminal: usize,
-    select: usize,
-    path: &'a str,
-}
-
-/// Returns the number that a text spells, 0 to 255.
-fn number_of(text: &str) -> Option<usize> {
-    match text.parse::<u8>() {
-        Ok(number) => Some(usize::from(number)),
-        Err(_) => None,
-    }
-}
-
-/// Returns the terminal and its selection address in `T.S`, or address 0 in `T`.
-fn channel_of(text: &str) -> Option<(usize, usize)> {
-    match text.split_once('.') {
-        Some((terminal, select)) => Some((number_of(terminal)?, number_of(select)?)),
-        None => Some((number_of(text)?, 0)),
-    }
-}
-
-/// The text of the channel, if there is one, and the path of what is offered at the control
-/// station.
-fn channel_and_path(text: &str) -> (Option<&str>, &str) {
-    match text.split_once('=') {
-        Some((channel, path)) => (Some(channel), path),
-        None => (None, text),
-    }
-}
-
-/// What a text offers at the control station: `T.S=PATH` or `T=PATH`.
-fn offer_of(text: &str) -> Option<Offer<'_>> {
-    let (channel, path) = channel_and_path(text);
-    let (terminal, select) = channel_of(channel?)?;
-    Some(Offer {
-        terminal,
-        select,
-        path,
-    })
-}
-
-/// Returns the path in an option of this station.
-fn path_of(text: &str, role: Role) -> &str {
-    match role {
-        Role::Terminal { .. } => text,
-        Role::Control => {
-            let (_, path) = channel_and_path(text);
-            path
-        }
-    }
-}
-
-/// Whether standard input is given more than once.
-pub(crate) fn repeats_standard_input(words: &StationWords, role: Role) -> bool {
-    let mut given = words.config.as_str() == STANDARD_INPUT;
-    for offer in &words.offers {
-        if path_of(offer.as_str(), role) == STANDARD_INPUT {
-            if given {
-                return true;
-            }
-            given = true;
-        }
-    }
-    false
-}
 
 /// Returns the error for a text with a line that is not a record.
 fn offer_error(alloc: Global, path: &str, error: OfferError) -> AttendingError
@@ -163,7 +94,9 @@ fn offer_for<R: Read, F: Files>(
     ensures { IfErr result IsOfferError }
 {
     let Some(offer) = offer_of(text) else {
-        return Err(WrongValue { why: Reason::Offer });
+        return Err(WrongValue {
+            why: "--offer takes T.S=PATH at the control station",
+        });
     };
     let Offer {
         terminal,
@@ -172,7 +105,7 @@ fn offer_for<R: Read, F: Files>(
     } = offer;
     if terminal >= control.terminals() || select >= control.addresses(terminal) {
         return Err(WrongValue {
-            why: Reason::NoSuchChannel,
+            why: "--offer names a channel that is not in CONFIG",
         });
     }
     let records = records_at(alloc, path, control.setup(), input, files)?;

@@ -4,15 +4,15 @@
 ghost use Rattle.std.specs.Prelude.{IfErr};
 ghost use Rattle.bsc_attending.specs.Errors.{IsPreparingError};
 
-use crate::AttendingError::{WrongTogether, WrongValue};
-use crate::offering::{offer_all_at_terminal, offer_all_for_terminals, repeats_standard_input};
-use crate::settings::Role;
-use crate::{AttendingError, Reason};
+use crate::AttendingError;
+use crate::AttendingError::WrongValue;
+use crate::offering::{offer_all_at_terminal, offer_all_for_terminals};
 use bsc_asked::StationWords;
 use bsc_config::{Config, read_config};
 use bsc_control::Control;
 use bsc_input::{Files, read_text};
 use bsc_monitor::{LineTerminal, new_control, new_terminal};
+use bsc_options::Role;
 use std::alloc::Global;
 use std::io::Read;
 
@@ -36,11 +36,6 @@ pub(crate) fn prepare<R: Read, F: Files>(
 ) -> Result<Prepared, AttendingError>
     ensures { IfErr result IsPreparingError }
 {
-    if repeats_standard_input(words, role) {
-        return Err(WrongTogether {
-            why: Reason::StandardInput,
-        });
-    }
     let text = read_text(alloc, words.config.as_str(), input, files)?;
     let config = read_config(alloc, &text)?;
     match role {
@@ -76,9 +71,8 @@ fn terminal<R: Read, F: Files>(
     ensures { IfErr result IsPreparingError }
 {
     if number >= config.terminals() {
-        return Err(WrongValue {
-            why: Reason::NoSuchTerminal,
-        });
+        let why = "--terminal names a terminal that is not in CONFIG";
+        return Err(WrongValue { why });
     }
     let mut terminal = new_terminal(alloc, config, number);
     let setup = config.setup();

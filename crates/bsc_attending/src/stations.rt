@@ -5,13 +5,14 @@ ghost use Rattle.bsc_attending.specs.Errors.{IsEarly, IsLate, outcome_of};
 
 use crate::connections::{Attend, connect};
 use crate::preparing::{Prepared, prepare};
-use crate::settings::{Options, StationSettings, read_settings};
+use crate::wanted::{listens, wanted_by_control, wanted_by_terminal};
 use crate::{AttendingError, Network, Wanted};
 use bsc_asked::StationWords;
 use bsc_carrier::CarrierError;
 use bsc_connections::LiveError;
 use bsc_control::Control;
 use bsc_input::Files;
+use bsc_options::{StationSettings, read_settings};
 use bsc_monitor::{
     ControlWatch, Ended, LineTerminal, Standing, TerminalWatch, Timer, Watch, station_standing,
     write_report,
@@ -42,10 +43,8 @@ pub fn station<R: Read, H: Files + Network, W: Write>(
     ensures early { IfErr result (λ error. IsEarly error → out.new ≡ out.old) }
 {
     let settings = read_settings(words)?;
-    match prepare(alloc, words, settings.options.role, input, machine) {
-        Ok(mut prepared) => run(alloc, &settings, &mut prepared, machine, out),
-        Err(error) => Err(error),
-    }
+    let mut prepared = prepare(alloc, words, settings.role, input, machine)?;
+    run(alloc, &settings, &mut prepared, machine, out)
 }
 
 /// Attends a station over the connections that it makes, and then prints its report.
@@ -59,19 +58,15 @@ fn run<H: Network, W: Write>(
     ensures { IfErr result IsLate }
 {
     match open(alloc, settings, prepared, machine, out) {
-        Ok(closed) => conclude(alloc, prepared, closed, out),
+        Ok(closed) => conclude(alloc, settings, prepared, closed, out),
         Err(AttendingError::Unprinted) => {
-            try_report(alloc, prepared, out);
+            // The output has failed before; if it does not accept the report either, nothing is
+            // lost by it.
+            let _ = report(alloc, settings, prepared, out);
             Err(AttendingError::Unprinted)
         }
         Err(error) => Err(error),
     }
-}
-
-/// Tries to print the report of a station whose records could not be printed.
-fn try_report<W: Write>(alloc: Global, prepared: &Prepared, out: &mut W) {
-    // The output has failed before; if it does not accept the report either, nothing is lost by it.
-    let _ = report(alloc, prepared, out);
 }
 
 /// Makes the connections of a station, attends the station until it ends, and returns the fault
@@ -86,20 +81,14 @@ fn open<H: Network, W: Write>(
     ensures { IfErr result IsLate }
 {
     let wanted = wanted_by(settings, prepared);
-    let mut connections = connect(alloc, settings.options.raw, &wanted, machine)?;
+    let mut connections = connect(alloc, &wanted, machine)?;
     let (timer, mut trace) = (machine.timer(), machine.trace());
     let watching = Watching {
         timer,
         out,
         trace: &mut trace,
     };
-    attend(
-        alloc,
-        &settings.options,
-        prepared,
-        &mut connections,
-        watching,
-    )
+    attend(alloc, settings, prepared, &mut connections, watching)
 }
 
 /// Returns the connections that a station asks for.
@@ -108,43 +97,13 @@ fn wanted_by<'a>(settings: &StationSettings<'a>, prepared: &Prepared) -> Wanted<
         Prepared::Control { control } => wanted_by_control(settings, control.terminals()),
         Prepared::Terminal { .. } => wanted_by_terminal(settings),
     }
-    result
-}
-
-/// Returns the connections that the control station asks for: one for each terminal, or one for
-/// all. It waits for twice the time-out, so that a terminal that holds the line acts first.
-fn wanted_by_control<'a>(settings: &StationSettings<'a>, terminals: usize) -> Wanted<'a> {
-    Wanted {
-        place: settings.place,
-        connections: if settings.options.shared {
-            1
-        } else {
-            terminals
-        },
-        stays: settings.options.listens,
-        begins: true,
-        time_out: settings.options.time_out.saturating_mul(2),
-        gap: settings.options.gap,
-    }
-}
-
-/// Returns the connection that a terminal asks for.
-fn wanted_by_terminal<'a>(settings: &StationSettings<'a>) -> Wanted<'a> {
-    Wanted {
-        place: settings.place,
-        connections: 1,
-        stays: false,
-        begins: false,
-        time_out: settings.options.time_out,
-        gap: settings.options.gap,
-    }
 }
 
 /// Attends a station over its connections until it ends, and returns the fault that closed the
 /// connection of a terminal, if any.
 fn attend<C: Attend, T: Timer + Drop, O: Write, D: Write>(
     alloc: Global,
-    options: &Options,
+    settings: &StationSettings<'_>,
     prepared: &mut Prepared,
     connections: &mut C,
     watching: Watching<'_, T, O, D>,
@@ -153,10 +112,10 @@ fn attend<C: Attend, T: Timer + Drop, O: Write, D: Write>(
 {
     match prepared {
         Prepared::Control { control } => {
-            attend_control(alloc, options, control, connections, watching)
+            attend_control(alloc, settings, control, connections, watching)
         }
         Prepared::Terminal { terminal } => {
-            attend_terminal(alloc, options, terminal, connections, watching)
+            attend_terminal(alloc, settings, terminal, connections, watching)
         }
     }
 }
@@ -164,7 +123,7 @@ fn attend<C: Attend, T: Timer + Drop, O: Write, D: Write>(
 /// Attends the control station until it ends. No fault of a connection ends it.
 fn attend_control<C: Attend, T: Timer + Drop, O: Write, D: Write>(
     alloc: Global,
-    options: &Options,
+    settings: &StationSettings<'_>,
     control: &mut Control<Global>,
     connections: &mut C,
     watching: Watching<'_, T, O, D>,
@@ -172,8 +131,8 @@ fn attend_control<C: Attend, T: Timer + Drop, O: Write, D: Write>(
     ensures { IfErr result IsLate }
 {
     let Watching { timer, out, trace } = watching;
-    let watch = Watch::new(alloc, control, options.printing, timer, out, trace)?;
-    let watch = ControlWatch::new(control, watch, options.limits, options.listens);
+    let watch = Watch::new(alloc, control, settings.printing, timer, out, trace)?;
+    let watch = ControlWatch::new(control, watch, settings.limits, listens(settings.place));
     attend_until_answered(control, connections, watch)?;
     Ok(None)
 }
@@ -195,7 +154,7 @@ fn attend_until_answered<C: Attend, T: Timer + Drop, O: Write, D: Write>(
 /// Attends a terminal until its connection is closed, and returns the fault that closed it, if any.
 fn attend_terminal<C: Attend, T: Timer + Drop, O: Write, D: Write>(
     alloc: Global,
-    options: &Options,
+    settings: &StationSettings<'_>,
     terminal: &mut LineTerminal<Global>,
     connections: &mut C,
     watching: Watching<'_, T, O, D>,
@@ -203,7 +162,7 @@ fn attend_terminal<C: Attend, T: Timer + Drop, O: Write, D: Write>(
     ensures { IfErr result IsLate }
 {
     let Watching { timer, out, trace } = watching;
-    let watch = Watch::new(alloc, terminal, options.printing, timer, out, trace)?;
+    let watch = Watch::new(alloc, terminal, settings.printing, timer, out, trace)?;
     let mut watch = TerminalWatch::new(watch);
     connections.attend(terminal, &mut watch)?;
     Ok(watch.closed())
@@ -213,13 +172,14 @@ fn attend_terminal<C: Attend, T: Timer + Drop, O: Write, D: Write>(
 /// connection comes first.
 fn conclude<W: Write>(
     alloc: Global,
+    settings: &StationSettings<'_>,
     prepared: &Prepared,
     closed: Option<CarrierError>,
     out: &mut W,
 ) -> Result<(), AttendingError>
     ensures { IfErr result IsLate }
 {
-    let standing = report(alloc, prepared, out)?;
+    let standing = report(alloc, settings, prepared, out)?;
     match closed {
         Some(error) => Err(AttendingError::Closed { error }),
         None => outcome(standing),
@@ -229,6 +189,7 @@ fn conclude<W: Write>(
 /// Prints the report of a station, and returns the state of the channels on which it sends.
 fn report<W: Write>(
     alloc: Global,
+    settings: &StationSettings<'_>,
     prepared: &Prepared,
     out: &mut W,
 ) -> Result<Standing, AttendingError>
@@ -236,11 +197,11 @@ fn report<W: Write>(
 {
     match prepared {
         Prepared::Control { control } => {
-            write_report(alloc, control, out)?;
+            write_report(alloc, settings.reported, control, out)?;
             Ok(station_standing(control))
         }
         Prepared::Terminal { terminal } => {
-            write_report(alloc, terminal, out)?;
+            write_report(alloc, settings.reported, terminal, out)?;
             Ok(station_standing(terminal))
         }
     }

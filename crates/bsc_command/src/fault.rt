@@ -120,10 +120,10 @@ pub(crate) fn attending_fault(alloc: Global, error: AttendingError) -> Fault
 {
     match error {
         AttendingError::WrongValue { why } => {
-            words_fault(alloc, Shown::Station, ErrorKind::InvalidValue, why.text())
+            words_fault(alloc, Shown::Station, ErrorKind::InvalidValue, why)
         }
         AttendingError::WrongTogether { why } => {
-            words_fault(alloc, Shown::Station, ErrorKind::ArgumentConflict, why.text())
+            words_fault(alloc, Shown::Station, ErrorKind::ArgumentConflict, why)
         }
         error => Fault::Attending { error },
     }

@@ -2,7 +2,7 @@
 use Rattle.std.specs.Prelude.{◌≡◌, ℕ, ◌<◌, List, length, max, slice_index}
 use Rattle.bsc_report.specs.Channels.{channel_name}
 use Rattle.bsc_monitor.specs.Printed.{arrival_lines, records_at}
-use Rattle.bsc_monitor.specs.declared.arrivals.Form.{Form}
+use Rattle.bsc_print.specs.declared.form.Form.{Form}
 use Rattle.bsc_monitor.specs.declared.party.Party as party_of
 
 -- What is known of a station with memory of type M, and the station. Its channels are those on

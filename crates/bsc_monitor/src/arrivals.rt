@@ -4,7 +4,7 @@ ghost use Rattle.std.specs.Prelude.{◌≡◌, ◌<◌, length, drop, Ok, OnOk, 
 ghost use Rattle.std.specs.List.{flat_map};
 ghost use Rattle.std.specs.Io.KnownBytes.{Appends};
 ghost use Rattle.bsc_report.specs.Channels.{channel_name, each_below};
-ghost use Rattle.bsc_monitor.specs.Printed.{arrival_line, record_shown};
+ghost use Rattle.bsc_monitor.specs.Printed.{arrival_line};
 ghost use Rattle.bsc_monitor.specs.Arrivals.{AreCounted, AsManyArePrinted, MoreArePrinted};
 ghost use Rattle.bsc_monitor.specs.Arrivals.{arrivals_of};
 ghost use Rattle.bsc_monitor.specs.Arrivals.{channel_arrivals, counted};
@@ -12,20 +12,10 @@ ghost use Rattle.bsc_monitor.specs.Arrivals.{channel_arrivals, counted};
 use crate::{Party, Received};
 use bsc_block::Records;
 use bsc_control::Way;
-use bsc_print::{PrintError, put, write_chars};
+use bsc_print::{Form, PrintError, put, write_in_form};
 use bsc_report::write_channel_name;
 use std::alloc::Allocator;
 use std::io::Write;
-
-/// The form in which the characters of an arriving record are printed.
-#[derive(Clone, Copy)]
-pub enum Form {
-    /// In hexadecimal text, as in the report.
-    Hexadecimal,
-
-    /// As they are.
-    Text,
-}
 
 /// The parts of the name of a channel.
 #[derive(Clone, Copy)]
@@ -131,22 +121,6 @@ fn print_record<A: Allocator, W: Write>(
 {
     write_channel_name(channel.addresses, channel.number, channel.way, out)?;
     put(b": ", out)?;
-    print_chars(alloc, form, chars, out)?;
+    write_in_form(alloc, form, chars, out)?;
     put(b"\n", out)
-}
-
-/// Prints the characters of a record.
-fn print_chars<A: Allocator, W: Write>(
-    alloc: A,
-    form: Form,
-    chars: &[u8],
-    out: &mut W,
-) -> Result<(), PrintError>
-    ensures { OnOk result (Appends (W.contents out.old) (W.contents out.new)
-        (record_shown form chars.now)) }
-{
-    match form {
-        Form::Hexadecimal => write_chars(alloc, chars, out),
-        Form::Text => put(chars, out),
-    }
 }

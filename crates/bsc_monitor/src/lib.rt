@@ -32,7 +32,6 @@ mod trace;
 mod visits;
 mod watch;
 
-pub use arrivals::Form;
 pub use channel_end::ChannelEnd;
 pub use control_watch::ControlWatch;
 pub use ended::{Ended, LastWatch};

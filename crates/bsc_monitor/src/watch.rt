@@ -6,9 +6,9 @@ ghost use Rattle.bsc_monitor.specs.Watching.{PrintsArrivals, Sees, output_of};
 
 use crate::arrivals::print_arrivals;
 use crate::trace::{Who, write_fault, write_note};
-use crate::{Form, Party, Timer};
+use crate::{Party, Timer};
 use bsc_connections::{LiveError, Note};
-use bsc_print::PrintError;
+use bsc_print::{Form, PrintError};
 use std::alloc::{AllocError, Allocator};
 use std::io::Write;
 

@@ -1,7 +1,8 @@
 -- The output for a channel, and texts that follow one another.
 use Rattle.std.specs.Prelude.{ℕ, zero, suc, Bool, nat_eq, if◌then◌else◌, List, [], ◌++◌, codes}
 use Rattle.std.specs.Fmt.{decimal}
-use Rattle.bsc_print.specs.Names.{chars_shown}
+use Rattle.bsc_print.specs.Forms.{in_form}
+use Rattle.bsc_print.specs.declared.form.Form.{Form}
 use Rattle.bsc_directory.specs.declared.way.Way.{Way}
 use Rattle.bsc_directory.specs.declared.way.Way.TheVariants.{FromTerminal, ToTerminal}
 
@@ -20,9 +21,9 @@ channel_name count t (ToTerminal s) = codes "to " ++ decimal t ++ address_name c
 abbrev pub doubt_shown : Bool → List ℕ
 doubt_shown doubt = if doubt then codes ", in doubt\n" else codes "\n"
 
--- The line for a record: its codes in hexadecimal text.
-abbrev pub record_line : List ℕ → List ℕ
-record_line r = codes "  " ++ chars_shown r ++ codes "\n"
+-- The line for a record in a form.
+abbrev pub record_line : Form → List ℕ → List ℕ
+record_line form r = codes "  " ++ in_form form r ++ codes "\n"
 
 -- The texts for the numbers below n, in order.
 abbrev pub each_below : (ℕ → List ℕ) → ℕ → List ℕ

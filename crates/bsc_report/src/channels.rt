@@ -7,7 +7,7 @@ ghost use Rattle.bsc_report.specs.Channels.{channel_name, doubt_shown, record_li
 
 use bsc_block::Records;
 use bsc_directory::Way;
-use bsc_print::{PrintError, put, write_chars};
+use bsc_print::{Form, PrintError, put, write_in_form};
 use std::alloc::Allocator;
 use std::io::Write;
 
@@ -40,18 +40,20 @@ pub fn doubt_text(doubt: bool) -> &'static [u8]
     if doubt { b", in doubt\n" } else { b"\n" }
 }
 
-/// Writes a line for each record. After an error a part of the output may have been written.
+/// Writes a line for each record, in this form. After an error a part of the output may have been
+/// written.
 pub fn write_records<A: Allocator + Copy, B: Allocator, W: Write>(
     alloc: A,
+    form: Form,
     records: &Records<B>,
     out: &mut W,
 ) -> Result<(), PrintError>
     ensures { OnOk result
         (Appends (W.contents out.old) (W.contents out.new)
-        (flat_map record_line records.now.items)) }
+        (flat_map (record_line form) records.now.items)) }
 {
     'records: for place in 0..records.len() {
-        write_record(alloc, records.chars(place), out)?;
+        write_record(alloc, form, records.chars(place), out)?;
     }
     Ok(())
 }
@@ -59,13 +61,14 @@ pub fn write_records<A: Allocator + Copy, B: Allocator, W: Write>(
 /// Writes the line for a record with these characters.
 fn write_record<A: Allocator, W: Write>(
     alloc: A,
+    form: Form,
     chars: &[u8],
     out: &mut W,
 ) -> Result<(), PrintError>
     ensures { OnOk result
-        (Appends (W.contents out.old) (W.contents out.new) (record_line chars.now)) }
+        (Appends (W.contents out.old) (W.contents out.new) (record_line form chars.now)) }
 {
     put(b"  ", out)?;
-    write_chars(alloc, chars, out)?;
+    write_in_form(alloc, form, chars, out)?;
     put(b"\n", out)
 }

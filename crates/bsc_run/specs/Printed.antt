@@ -6,6 +6,7 @@ use Rattle.std.specs.List.{flat_map}
 use Rattle.std.specs.Fmt.{decimal}
 use Rattle.bsc_frame.specs.declared.message.Heard.TheVariants.{Whole}
 use Rattle.bsc_print.specs.Names.{name_line}
+use Rattle.bsc_print.specs.declared.form.Form.TheVariants.{Hexadecimal}
 use Rattle.bsc_report.specs.Channels.{channel_name, doubt_shown, record_line, each_below}
 use Rattle.bsc_bid.specs.Channel.{Channel}
 use Rattle.bsc_bid.specs.Sender.{is_in_doubt}
@@ -40,7 +41,7 @@ abbrev pub channel_lines : LineValue → ℕ → Way → List ℕ
 channel_lines l t way =
     channel_name (select_count l t) t way ++ counts_shown (channel_of l t way)
     ++ doubt_shown (is_in_doubt (phase_of l t way))
-    ++ flat_map record_line (channel_of l t way).spooled
+    ++ flat_map (record_line Hexadecimal) (channel_of l t way).spooled
 
 -- The lines for a terminal: the channel from it, and then those to it.
 abbrev pub terminal_lines : LineValue → ℕ → List ℕ

@@ -10,7 +10,7 @@ ghost use Rattle.bsc_run.specs.Printed.{report_of};
 
 use bsc_control::Way;
 use bsc_line::Line;
-use bsc_print::{PrintError, put};
+use bsc_print::{Form, PrintError, put};
 use bsc_report::{doubt_text, write_channel_name, write_records};
 use std::alloc::Allocator;
 use std::io::Write;
@@ -76,7 +76,8 @@ fn write_channel<A: Allocator + Copy, B: Allocator, W: Write>(
     write_channel_name(line.addresses(terminal), terminal, way, out)?;
     write_counts(line, terminal, way, out)?;
     put(doubt_text(line.in_doubt(terminal, way)), out)?;
-    write_records(alloc, line.spooled(terminal, way), out)
+    let records = line.spooled(terminal, way);
+    write_records(alloc, Form::Hexadecimal, records, out)
 }
 
 /// Writes the numbers of records offered, known and spooled on a channel.

@@ -20,10 +20,13 @@ station_app =
     ∷ flag (codes "raw")
     ∷ option (codes "gap")
     ∷ option (codes "time-out")
+    ∷ option (codes "patience")
     ∷ option (codes "rounds")
     ∷ option (codes "idle-rounds")
     ∷ value_list (codes "offer")
     ∷ flag (codes "text")
+    ∷ flag (codes "bytes")
+    ∷ flag (codes "report-records")
     ∷ flag (codes "trace")
     ∷ [])
 
@@ -43,9 +46,12 @@ words_in rows = record {
   raw = given (codes "raw") rows;
   gap = first_of (codes "gap") rows;
   time_out = first_of (codes "time-out") rows;
+  patience = first_of (codes "patience") rows;
   rounds = first_of (codes "rounds") rows;
   idle_rounds = first_of (codes "idle-rounds") rows;
   offers = unwrap_or (all_of (codes "offer") rows) [];
   text = given (codes "text") rows;
+  bytes = given (codes "bytes") rows;
+  report_records = given (codes "report-records") rows;
   trace = given (codes "trace") rows;
 }

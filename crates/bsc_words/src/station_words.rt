@@ -26,10 +26,13 @@ pub(crate) fn station_words(
         raw: is_given(matches, "raw"),
         gap: option_text(alloc, matches, "gap")?,
         time_out: option_text(alloc, matches, "time-out")?,
+        patience: option_text(alloc, matches, "patience")?,
         rounds: option_text(alloc, matches, "rounds")?,
         idle_rounds: option_text(alloc, matches, "idle-rounds")?,
         offers: option_texts(alloc, matches, "offer")?,
         text: is_given(matches, "text"),
+        bytes: is_given(matches, "bytes"),
+        report_records: is_given(matches, "report-records"),
         trace: is_given(matches, "trace"),
     })
 }

@@ -104,13 +104,19 @@ pub(crate) const STATION: Subcommand = Subcommand {
             id: "gap",
             given: Value,
             value: "MS",
-            help: "The gap in milliseconds, 1 to 3600000, 50 unless given; needs --raw",
+            help: "The gap in milliseconds, less than the time-out, 50 unless given; needs --raw",
         },
         Entry {
             id: "time-out",
             given: Value,
             value: "MS",
             help: "The time-out in milliseconds, 1 to 3600000, 3000 unless given",
+        },
+        Entry {
+            id: "patience",
+            given: Value,
+            value: "MS",
+            help: "How long to try to connect, in milliseconds; the time-out unless given",
         },
         Entry {
             id: "rounds",
@@ -134,7 +140,19 @@ pub(crate) const STATION: Subcommand = Subcommand {
             id: "text",
             given: Flag,
             value: "",
-            help: "Print records that arrive as text",
+            help: "Print records as text on one line, with escapes",
+        },
+        Entry {
+            id: "bytes",
+            given: Flag,
+            value: "",
+            help: "Print records as they stand",
+        },
+        Entry {
+            id: "report-records",
+            given: Flag,
+            value: "",
+            help: "Repeat the records that arrived in the report",
         },
         Entry {
             id: "trace",

@@ -1,12 +1,13 @@
 //! The machine on which the program runs: its files, its loopback address, its network, its clock
 //! and standard error.
 
-use bsc_attending::{Network, Opened, Place, Wanted};
+use bsc_attending::{Network, Opened, Wanted};
 use bsc_carrier::Cable;
 use bsc_carrier::limits::MAX_CONNECTIONS;
 use bsc_input::{Files, InputError, read_input};
 use bsc_loopback::{LoopbackError, connect};
 use bsc_monitor::Timer;
+use bsc_options::Place;
 use bsc_running::Cables;
 use bsc_sockets::{
     Begun, ConnectionSettings, Listening, Peers, Reading, Sockets, SocketsError, Writing,
@@ -18,10 +19,14 @@ use std::io;
 use std::io::{Error, ErrorKind, Write};
 use std::net::Net;
 use std::rt::Files as Filing;
+use std::thread::sleep;
 use std::time::{Clock, Duration, Instant};
 
 /// The time that a listening station waits for each peer before it gives up, in milliseconds.
 const PATIENCE: u64 = 60_000;
+
+/// The time between two attempts to connect, in milliseconds.
+const BETWEEN_ATTEMPTS: u64 = 100;
 
 /// The machine of this runtime.
 #[derive(Drop)]
@@ -87,6 +92,35 @@ impl<R: AllocGlobal + Net> Cables for Machine<'_, R> {
     }
 }
 
+/// Connects to the peer at this address, and tries again as long as nobody is there and the
+/// patience lasts.
+fn connect_within<'a, R: AllocGlobal + Clock + Net>(
+    runtime: &'a R,
+    address: &str,
+    patience: Duration,
+    settings: ConnectionSettings,
+) -> Result<Begun<'a, R, Global>, SocketsError> {
+    let Ok(start) = Instant::now(runtime) else {
+        return Err(SocketsError::Sockets);
+    };
+    let mut left = patience;
+    for _ in 0..u64::MAX {
+        match connect_to(runtime, runtime.alloc(), address, left, settings) {
+            Err(SocketsError::NobodyThere) => {}
+            result => return result,
+        }
+        let Ok(passed) = start.elapsed(runtime) else {
+            return Err(SocketsError::Sockets);
+        };
+        left = patience.saturating_sub(passed);
+        if left.is_zero() {
+            break;
+        }
+        sleep(runtime, Duration::from_millis(BETWEEN_ATTEMPTS).min(left));
+    }
+    Err(SocketsError::NobodyThere)
+}
+
 /// Makes the connections that a station asks for.
 fn begin<'a, R: AllocGlobal + Clock + Net>(
     runtime: &'a R,
@@ -98,13 +132,10 @@ fn begin<'a, R: AllocGlobal + Clock + Net>(
         begins: wanted.begins,
     };
     match wanted.place {
-        Place::Connect { address } => connect_to(
-            runtime,
-            runtime.alloc(),
-            address,
-            settings.time_out,
-            settings,
-        ),
+        Place::Connect { address } => {
+            let patience = Duration::from_millis(wanted.patience);
+            connect_within(runtime, address, patience, settings)
+        }
         Place::Listen { address } => {
             let listening = Listening::bind(runtime, address)?;
             let peers = Peers {

@@ -9,12 +9,23 @@ mod machine;
 use bsc_command::{Fault, command, fail, not_text};
 use machine::{Errors, Machine};
 use std::alloc::Global;
+use std::fs::File;
 use std::io::{BufWriter, ErrorKind};
 use std::process::ExitCode;
 use std::rt::Env;
 use std::{env, io};
 
+/// The path of the null device.
+const NULL_DEVICE: &str = "/dev/null";
+
 fn main(rt: HostRuntime) -> ExitCode {
+    // The system gives the lowest free descriptor. So those of the three standard streams that are
+    // closed become the null device, and not a socket on which records would then be printed.
+    let _held = (
+        File::open(&rt, NULL_DEVICE),
+        File::open(&rt, NULL_DEVICE),
+        File::open(&rt, NULL_DEVICE),
+    );
     let mut errors = Errors { runtime: &rt };
     ExitCode::from(match BufWriter::new(rt.alloc(), io::writer(&rt)) {
         Ok(mut out) => {

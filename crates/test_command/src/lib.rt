@@ -16,6 +16,8 @@ mod machine;
 #[cfg(test)]
 mod naming;
 #[cfg(test)]
+mod options;
+#[cfg(test)]
 mod runs;
 #[cfg(test)]
 mod sizes;

@@ -1,13 +1,14 @@
 //! A machine for tests, with one file, one scripted connection and no sockets, and commands that
 //! run on it.
 
-use bsc_attending::{Network, Opened, Place, Wanted};
+use bsc_attending::{Network, Opened, Wanted};
 use bsc_carrier::Cable;
 use bsc_command::{Fault, command};
 use bsc_connections::{Awaited, LiveError, Wait, Waiter};
 use bsc_input::{Files, InputError};
 use bsc_loopback::LoopbackError;
 use bsc_monitor::Timer;
+use bsc_options::Place;
 use bsc_running::Cables;
 use bsc_sockets::SocketsError;
 use std::alloc::{AllocError, Global};
@@ -104,9 +105,18 @@ impl Waiter<Pieces, Vec<u8>> for Scripted {
     fn turn_away(&mut self) {}
 }
 
-/// What a station requested: whether it listens, the number of connections, whether others may
-/// connect later, whether it begins, its time-out and its gap.
-pub(crate) type Asking = (bool, usize, bool, bool, u64, u64);
+/// What a station requested of its machine.
+#[derive(Clone, Copy, Debug, PartialEq, Eq)]
+pub(crate) struct Asking {
+    pub(crate) listens: bool,
+    pub(crate) connections: usize,
+    pub(crate) raw: bool,
+    pub(crate) stays: bool,
+    pub(crate) begins: bool,
+    pub(crate) time_out: u64,
+    pub(crate) gap: u64,
+    pub(crate) patience: u64,
+}
 
 /// The octets of a connection, at most one piece in each read, and the waits before them.
 #[derive(Clone, Copy)]
@@ -168,14 +178,16 @@ impl Network for Machine {
             Place::Listen { .. } => true,
             Place::Connect { .. } => false,
         };
-        self.asking = Some((
+        self.asking = Some(Asking {
             listens,
-            wanted.connections,
-            wanted.stays,
-            wanted.begins,
-            wanted.time_out,
-            wanted.gap,
-        ));
+            connections: wanted.connections,
+            raw: wanted.raw,
+            stays: wanted.stays,
+            begins: wanted.begins,
+            time_out: wanted.time_out,
+            gap: wanted.gap,
+            patience: wanted.patience,
+        });
         let reader = Pieces {
             left: self.scene.pieces,
             piece: b"",

@@ -1,7 +1,7 @@
 //! Whole stations run by their words, over a scripted connection. The octets are those of
 //! docs/PROTOCOL.md.
 
-use crate::machine::{Case, Due, Scene, first_wrong};
+use crate::machine::{Asking, Case, Due, Scene, first_wrong};
 use std::test::Fail;
 
 /// What terminal 0 hears: a poll, which it answers with a text; ACK1; a selection; a text; EOT.
@@ -40,7 +40,31 @@ const ANSWERS: &[&[u8]] = &[
 ];
 
 /// The output of terminal 0 with a record to send, if it hears this.
-const TERMINAL: &str = "to 0: HI\nfrom 0: offered 1, known 1\nto 0: spooled 1\n  4849\n";
+const TERMINAL: &str = "to 0: HI\nfrom 0: offered 1, known 1\nto 0: spooled 1\n";
+
+/// What a terminal that connects requests, without further options.
+const CONNECTING: Asking = Asking {
+    listens: false,
+    connections: 1,
+    raw: false,
+    stays: false,
+    begins: false,
+    time_out: 3_000,
+    gap: 50,
+    patience: 3_000,
+};
+
+/// What a control station that listens requests, without further options.
+const CONTROLLING: Asking = Asking {
+    listens: true,
+    connections: 2,
+    raw: false,
+    stays: true,
+    begins: true,
+    time_out: 6_000,
+    gap: 50,
+    patience: 3_000,
+};
 
 const CASES: &[Case] = &[
     Case {
@@ -62,7 +86,7 @@ const CASES: &[Case] = &[
             steps: b"",
         },
         due: Due {
-            asking: Some((false, 1, false, false, 3_000, 50)),
+            asking: Some(CONNECTING),
             out: TERMINAL,
             errors: "",
             status: 0,
@@ -92,7 +116,14 @@ const CASES: &[Case] = &[
             steps: b"rtrtrtrtrt",
         },
         due: Due {
-            asking: Some((true, 1, false, false, 9, 7)),
+            asking: Some(Asking {
+                listens: true,
+                raw: true,
+                time_out: 9,
+                gap: 7,
+                patience: 9,
+                ..CONNECTING
+            }),
             out: TERMINAL,
             errors: "",
             status: 0,
@@ -114,7 +145,7 @@ const CASES: &[Case] = &[
             steps: b"",
         },
         due: Due {
-            asking: Some((false, 1, false, false, 3_000, 50)),
+            asking: Some(CONNECTING),
             out: "from 1: offered 0, known 0\nto 1: spooled 0\n",
             errors: "bscline: connection closed: the input ended within a record\n",
             status: 1,
@@ -136,7 +167,7 @@ const CASES: &[Case] = &[
             steps: b"",
         },
         due: Due {
-            asking: Some((false, 1, false, false, 3_000, 50)),
+            asking: Some(CONNECTING),
             out: "from 1: offered 0, known 0\nto 1: spooled 0\n",
             errors: "bscline: connection closed: the length of a record is wrong\n",
             status: 1,
@@ -161,7 +192,7 @@ const CASES: &[Case] = &[
             steps: b"trrrrrr",
         },
         due: Due {
-            asking: Some((true, 2, true, true, 6_000, 50)),
+            asking: Some(CONTROLLING),
             out: "from 0: spooled 0\nto 0: offered 1, known 1\nfrom 1: spooled 0\n\
             to 1: offered 0, known 0\n",
             errors: "",
@@ -180,6 +211,9 @@ const CASES: &[Case] = &[
             "0=-",
             "--time-out",
             "40",
+            "--raw",
+            "--gap",
+            "9",
         ]),
         input: Some("HI\n"),
         takes: true,
@@ -188,7 +222,14 @@ const CASES: &[Case] = &[
             steps: b"t",
         },
         due: Due {
-            asking: Some((false, 1, false, true, 80, 50)),
+            asking: Some(Asking {
+                begins: true,
+                raw: true,
+                time_out: 80,
+                gap: 9,
+                patience: 40,
+                ..CONNECTING
+            }),
             out: "from 0: spooled 0\nto 0: offered 1, known 0\nfrom 1: spooled 0\n\
             to 1: offered 0, known 0\n",
             errors: "bscline: records not delivered\n",

@@ -43,7 +43,8 @@ const ASKED: &[Row] = &[
         ],
         "Station(StationWords { config: \"c\", control: true, terminal: None, \
 listen: Some(\"h:1\"), connect: None, shared: false, raw: false, gap: None, time_out: None, \
-rounds: None, idle_rounds: None, offers: [], text: false, trace: true })",
+patience: None, rounds: None, idle_rounds: None, offers: [], text: false, bytes: false, \
+report_records: false, trace: true })",
     ),
     (
         &[
@@ -65,11 +66,14 @@ rounds: None, idle_rounds: None, offers: [], text: false, trace: true })",
             "--rounds=7",
             "--idle-rounds",
             "6",
+            "--patience=5",
+            "--bytes",
+            "--report-records",
         ],
         "Station(StationWords { config: \"c\", control: false, terminal: Some(\"1\"), \
 listen: None, connect: Some(\"h:1\"), shared: true, raw: true, gap: Some(\"9\"), \
-time_out: Some(\"8\"), rounds: Some(\"7\"), idle_rounds: Some(\"6\"), \
-offers: [\"a\", \"b\"], text: true, trace: false })",
+time_out: Some(\"8\"), patience: Some(\"5\"), rounds: Some(\"7\"), idle_rounds: Some(\"6\"), \
+offers: [\"a\", \"b\"], text: true, bytes: true, report_records: true, trace: false })",
     ),
     (&["bscline"], "Names"),
     (&["bscline", "show"], "Show"),
@@ -163,13 +167,17 @@ Options:
       --connect <ADDRESS>  Connect to a peer at this address
       --shared             Reach all terminals by one connection
       --raw                Send octets as they stand; a gap ends a transmission
-      --gap <MS>           The gap in milliseconds, 1 to 3600000, 50 unless given; needs --raw
+      --gap <MS>           The gap in milliseconds, less than the time-out, 50 unless given; needs \
+--raw
       --time-out <MS>      The time-out in milliseconds, 1 to 3600000, 3000 unless given
+      --patience <MS>      How long to try to connect, in milliseconds; the time-out unless given
       --rounds <N>         End after N rounds of the poll list
       --idle-rounds <N>    End after N idle rounds in a row, 2 unless given
       --offer <OFFER>      Offer the lines of PATH: at a terminal PATH, at the control station \
 T.S=PATH
-      --text               Print records that arrive as text
+      --text               Print records as text on one line, with escapes
+      --bytes              Print records as they stand
+      --report-records     Repeat the records that arrived in the report
       --trace              Print what is sent and heard on standard error
   -h, --help               Print help
 

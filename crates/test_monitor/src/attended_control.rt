@@ -5,8 +5,9 @@ use crate::stations::sending_control;
 use bsc_connections::attend;
 use bsc_control::Control;
 use bsc_monitor::{
-    ControlWatch, Ended, Form, Limits, Printing, Standing, Watch, station_standing, write_report,
+    ControlWatch, Ended, Limits, Printing, Standing, Watch, station_standing, write_report,
 };
+use bsc_print::Form;
 use std::alloc::Global;
 use std::test::Fail;
 
@@ -80,7 +81,8 @@ fn attend_control(
     Ok(())
 }
 
-/// Does the same for a control station with one record for terminal 0, and writes its report.
+/// Does the same for a control station with one record for terminal 0, and writes its report without
+/// the records that arrived.
 /// Returns the standing of its channels.
 fn attend_and_report(
     alloc: Global,
@@ -90,7 +92,7 @@ fn attend_and_report(
 ) -> Result<Standing, Fail> {
     let mut control = sending_control(alloc)?;
     attend_control(alloc, &mut control, attended, out, trace)?;
-    write_report(alloc, &control, out)?;
+    write_report(alloc, None, &control, out)?;
     Ok(station_standing(&control))
 }
 
@@ -126,7 +128,6 @@ fn a_control_station_ends_after_a_round(rt: HostRuntime) -> Result<(), Fail> {
     };
     const PRINTED: &[u8] = b"from 0: 4849
 from 0: spooled 1
-  4849
 to 0: offered 1, known 1
 from 1: spooled 0
 to 1: offered 0, known 0

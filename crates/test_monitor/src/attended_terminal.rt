@@ -4,7 +4,8 @@ use crate::fakes::{Counting, Scripted, Unflushed, connections};
 use crate::stations::sending_terminal;
 use bsc_carrier::CarrierError;
 use bsc_connections::{LiveError, attend};
-use bsc_monitor::{Form, LineTerminal, Printing, TerminalWatch, Watch, write_report};
+use bsc_monitor::{LineTerminal, Printing, TerminalWatch, Watch, write_report};
+use bsc_print::Form;
 use std::alloc::Global;
 use std::io::Write;
 use std::test::Fail;
@@ -49,7 +50,8 @@ fn attend_terminal(
     Ok(watch.closed())
 }
 
-/// Does the same for terminal 0 with one record to send, and writes its report.
+/// Does the same for terminal 0 with one record to send, and writes its report with the records that
+/// arrived.
 fn attend_and_report(
     alloc: Global,
     printing: Printing,
@@ -59,7 +61,7 @@ fn attend_and_report(
 ) -> Result<Option<CarrierError>, Fail> {
     let mut terminal = sending_terminal(alloc)?;
     let closed = attend_terminal(alloc, &mut terminal, printing, octets, out, trace)?;
-    write_report(alloc, &terminal, out)?;
+    write_report(alloc, Some(printing.form), &terminal, out)?;
     Ok(closed)
 }
 
@@ -94,15 +96,14 @@ fn a_terminal_sends_and_receives(rt: HostRuntime) -> Result<(), Fail> {
     Ok(())
 }
 
-/// Without a trace, only faults of the connection are reported; characters may be printed
-/// unchanged.
+/// Without a trace, only faults of the connection are reported; characters may be printed as text.
 #[test]
 fn a_fault_of_a_connection_is_told(rt: HostRuntime) -> Result<(), Fail> {
     const PRINTING: Printing = Printing {
         form: Form::Text,
         trace: false,
     };
-    const PRINTED: &[u8] = b"to 0: HI\nfrom 0: offered 1, known 1\nto 0: spooled 1\n  4849\n";
+    const PRINTED: &[u8] = b"to 0: HI\nfrom 0: offered 1, known 1\nto 0: spooled 1\n  HI\n";
     const TOLD: &[u8] = b"connection 0 closed: the input ended within a record\n";
     // The last record is cut short.
     let short = &TO_TERMINAL[..TO_TERMINAL.len() - 1];

@@ -13,7 +13,7 @@ use test_fixtures::configurations::TWO_TERMINALS;
 /// failed; each has to be reported as an output fault.
 fn failing_writes(alloc: Global, control: &Control<Global>) -> Result<usize, PrintError> {
     for left in 0..99usize {
-        match write_report(alloc, control, &mut Full { left }) {
+        match write_report(alloc, None, control, &mut Full { left }) {
             Ok(()) => return Ok(left),
             Err(PrintError::Output) => {}
             Err(error) => return Err(error),

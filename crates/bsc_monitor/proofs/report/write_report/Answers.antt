@@ -8,5 +8,5 @@ terminals-preserved g c =
     let s = c.args.station.now in
     each_below_more (g.W.Write.contents c.args.out.now) (g.W.Write.contents c.terminals.out)
     (g.W.Write.contents c.write_terminal.new.out)
-    (λ t. terminal_lines (g.P.Party.selects s t) (g.P.Party.numbers s t) (g.P.Party.ends s t))
+    (λ t. terminal_lines c.args.repeated (g.P.Party.selects s t) (g.P.Party.numbers s t) (g.P.Party.ends s t))
     c.terminals.terminal c.terminals.invariant c.in_ok-write_terminal.ensures

@@ -8,5 +8,5 @@ abbrev pub invariant-terminals : goal.invariant-terminals
 invariant-terminals g l =
     let s = l.station in
     Appends (g.W.Write.contents l.initial.out) (g.W.Write.contents l.out)
-    (each_below (λ t. terminal_lines (g.P.Party.selects s t) (g.P.Party.numbers s t)
+    (each_below (λ t. terminal_lines l.repeated (g.P.Party.selects s t) (g.P.Party.numbers s t)
     (g.P.Party.ends s t)) l.terminal)

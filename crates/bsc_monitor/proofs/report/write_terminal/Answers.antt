@@ -13,14 +13,14 @@ selects-preserved g c =
     let t = c.args.terminal in
     each_below_more (g.W.Write.contents c.write_channel.new.out) (g.W.Write.contents c.selects.out)
     (g.W.Write.contents c.write_channel-in-selects.new.out)
-    (λ n. channel_lines (g.P.Party.selects s t) (g.P.Party.numbers s t) (g.P.Party.ends s t)
+    (λ n. channel_lines c.args.repeated (g.P.Party.selects s t) (g.P.Party.numbers s t) (g.P.Party.ends s t)
     (ToTerminal n)) c.selects.select c.selects.invariant c.in_ok-write_channel-2.ensures
 
 pub returns : goal.returns
 returns g c =
     let s = c.args.station.now in
     let t = c.args.terminal in
-    let line = channel_lines (g.P.Party.selects s t) (g.P.Party.numbers s t) (g.P.Party.ends s t) in
+    let line = channel_lines c.args.repeated (g.P.Party.selects s t) (g.P.Party.numbers s t) (g.P.Party.ends s t) in
     let all : c.selects.select ≡ g.P.Party.selects s t =
     omega (arith, c.addresses-select-end.ensures) in
     let selects = rw all at c.selects.invariant in

@@ -9,5 +9,5 @@ abbrev pub invariant-selects : goal.invariant-selects
 invariant-selects g l =
     let s = l.station in
     Appends (g.W.Write.contents l.initial.out) (g.W.Write.contents l.out)
-    (each_below (λ n. channel_lines (g.P.Party.selects s l.terminal)
+    (each_below (λ n. channel_lines l.repeated (g.P.Party.selects s l.terminal)
     (g.P.Party.numbers s l.terminal) (g.P.Party.ends s l.terminal) (ToTerminal n)) l.select)

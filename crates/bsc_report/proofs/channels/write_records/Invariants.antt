@@ -8,4 +8,4 @@ use Rattle.bsc_report.proofs.channels.write_records.Given as goal
 abbrev pub invariant-records : goal.invariant-records
 invariant-records g l =
     Appends (g.W.Write.contents l.initial.out) (g.W.Write.contents l.out)
-    (flat_map record_line (take l.place l.records.items))
+    (flat_map (record_line l.form) (take l.place l.records.items))

@@ -3,6 +3,7 @@ use Rattle.std.specs.List.{flat_map}
 use Rattle.bsc_bid.specs.Sender.{is_in_doubt}
 use Rattle.bsc_line_model.specs.Line.{channel_of, phase_of}
 use Rattle.bsc_line_model.specs.Offers.{select_count}
+use Rattle.bsc_print.specs.declared.form.Form.TheVariants.{Hexadecimal}
 use Rattle.bsc_report.specs.Channels.{channel_name, doubt_shown, record_line}
 use Rattle.bsc_run.specs.Printed.{counts_shown}
 use Rattle.bsc_run.proofs.Appending.{four_on_ok}
@@ -20,5 +21,5 @@ returns g c =
     (g.W.Write.contents c.write_counts.new.out) (g.W.Write.contents c.put.new.out)
     (g.W.Write.contents c.write_records.new.out) (channel_name (select_count l t) t way)
     (counts_shown (channel_of l t way)) (doubt_shown (is_in_doubt (phase_of l t way)))
-    (flat_map record_line (channel_of l t way).spooled) c.write_records.result name
+    (flat_map (record_line Hexadecimal) (channel_of l t way).spooled) c.write_records.result name
     c.in_ok-write_counts.ensures doubt records

@@ -26,12 +26,15 @@ returns c =
     let raw = c.is_given-3.ensures ∙ flag_is (codes "raw") in
     let gap = c.in_ok-option_text-4.ensures ∙ first_value-rows found (codes "gap") in
     let time_out = c.in_ok-option_text-5.ensures ∙ first_value-rows found (codes "time-out") in
-    let rounds = c.in_ok-option_text-6.ensures ∙ first_value-rows found (codes "rounds") in
-    let idle_rounds = c.in_ok-option_text-7.ensures
+    let patience = c.in_ok-option_text-6.ensures ∙ first_value-rows found (codes "patience") in
+    let rounds = c.in_ok-option_text-7.ensures ∙ first_value-rows found (codes "rounds") in
+    let idle_rounds = c.in_ok-option_text-8.ensures
     ∙ first_value-rows found (codes "idle-rounds") in
     let offers = c.in_ok-option_texts.ensures ∙ many in
     let text = c.is_given-4.ensures ∙ flag_is (codes "text") in
-    let trace = c.is_given-5.ensures ∙ flag_is (codes "trace") in
+    let bytes = c.is_given-5.ensures ∙ flag_is (codes "bytes") in
+    let report_records = c.is_given-6.ensures ∙ flag_is (codes "report-records") in
+    let trace = c.is_given-7.ensures ∙ flag_is (codes "trace") in
     λ i. record {
       config = config i;
       control = control i;
@@ -42,9 +45,12 @@ returns c =
       raw = raw i;
       gap = gap i;
       time_out = time_out i;
+      patience = patience i;
       rounds = rounds i;
       idle_rounds = idle_rounds i;
       offers = offers i;
       text = text i;
+      bytes = bytes i;
+      report_records = report_records i;
       trace = trace i;
     }

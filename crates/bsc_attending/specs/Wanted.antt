@@ -1,0 +1,65 @@
+-- The connections that a station asks for.
+use Rattle.std.specs.Prelude.{ℕ, ◌*◌, ◌-◌, ◌^◌, min, Bool, true, false, if◌then◌else◌}
+use Rattle.bsc_options.specs.Settings.{PlaceValue, SettingsValue, connects_to, listens_at}
+use Rattle.bsc_options.specs.Settings.{place_value}
+use Rattle.bsc_attending.specs.declared.wanted.Wanted.{Wanted}
+
+-- The connections: their place and number, whether their octets are raw, whether other peers may
+-- connect later, whether the station begins, and its times in milliseconds.
+pub record WantedValue : Type 0 where
+  pub place : PlaceValue
+  pub connections : ℕ
+  pub raw : Bool
+  pub stays : Bool
+  pub begins : Bool
+  pub time_out : ℕ
+  pub gap : ℕ
+  pub patience : ℕ
+
+abbrev pub wanted_value : Wanted → WantedValue
+wanted_value w = record {
+  place = place_value w.place;
+  connections = w.connections;
+  raw = w.raw;
+  stays = w.stays;
+  begins = w.begins;
+  time_out = w.time_out;
+  gap = w.gap;
+  patience = w.patience;
+}
+
+-- Whether peers connect to the station.
+abbrev pub is_listening : PlaceValue → Bool
+is_listening (listens_at address) = true
+is_listening (connects_to address) = false
+
+-- Twice a time, up to the largest value of 64 bits.
+abbrev pub twice : ℕ → ℕ
+twice time = min (time * 2) (2 ^ 64 - 1)
+
+-- The control station begins, and asks for a connection for each terminal, or one for all. Its
+-- time-out is twice that of the terminals.
+abbrev pub control_wants : SettingsValue → ℕ → WantedValue
+control_wants s terminals = record {
+  place = s.place;
+  connections = if s.shared then 1 else terminals;
+  raw = s.raw;
+  stays = is_listening s.place;
+  begins = true;
+  time_out = twice s.times.time_out;
+  gap = s.times.gap;
+  patience = s.times.patience;
+}
+
+-- A terminal asks for one connection.
+abbrev pub terminal_wants : SettingsValue → WantedValue
+terminal_wants s = record {
+  place = s.place;
+  connections = 1;
+  raw = s.raw;
+  stays = false;
+  begins = false;
+  time_out = s.times.time_out;
+  gap = s.times.gap;
+  patience = s.times.patience;
+}

@@ -1,0 +1,82 @@
+//! The connections that a station asks for.
+
+ghost use Rattle.std.specs.Prelude.{◌≡◌};
+ghost use Rattle.bsc_options.specs.Settings.{place_value, settings_value};
+ghost use Rattle.bsc_attending.specs.Wanted.{control_wants, is_listening, terminal_wants};
+ghost use Rattle.bsc_attending.specs.Wanted.{wanted_value};
+
+use bsc_options::{Place, StationSettings};
+
+/// The connections that a station asks for.
+#[derive(Clone, Copy)]
+pub struct Wanted<'a> {
+    /// Their place.
+    pub place: Place<'a>,
+
+    /// The number of connections: 1 to 64, or 1 if a peer listens.
+    pub connections: usize,
+
+    /// Whether transmissions are raw octets and end at gaps.
+    pub raw: bool,
+
+    /// Whether other peers may connect later in place of those that have gone.
+    pub stays: bool,
+
+    /// Whether the first wait ends at once, so that the station makes the first call.
+    pub begins: bool,
+
+    /// The time-out in milliseconds.
+    pub time_out: u64,
+
+    /// The gap in milliseconds.
+    pub gap: u64,
+
+    /// How long to try to connect, in milliseconds.
+    pub patience: u64,
+}
+
+/// Returns the connections that the control station asks for: one for each terminal, or one for
+/// all. It waits for twice the time-out, so that a terminal that holds the line acts first.
+pub(crate) fn wanted_by_control<'a>(
+    settings: &StationSettings<'a>,
+    terminals: usize,
+) -> Wanted<'a>
+    ensures { wanted_value result ≡ control_wants (settings_value settings.now) terminals }
+{
+    Wanted {
+        place: settings.place,
+        connections: if settings.shared { 1 } else { terminals },
+        raw: settings.raw,
+        stays: listens(settings.place),
+        begins: true,
+        time_out: settings.times.time_out.saturating_mul(2),
+        gap: settings.times.gap,
+        patience: settings.times.patience,
+    }
+}
+
+/// Returns the connection that a terminal asks for.
+pub(crate) fn wanted_by_terminal<'a>(settings: &StationSettings<'a>) -> Wanted<'a>
+    ensures { wanted_value result ≡ terminal_wants (settings_value settings.now) }
+{
+    Wanted {
+        place: settings.place,
+        connections: 1,
+        raw: settings.raw,
+        stays: false,
+        begins: false,
+        time_out: settings.times.time_out,
+        gap: settings.times.gap,
+        patience: settings.times.patience,
+    }
+}
+
+/// Whether peers connect to the station.
+pub(crate) fn listens(place: Place<'_>) -> bool
+    ensures { result ≡ is_listening (place_value place.entry) }
+{
+    match place {
+        Place::Listen { .. } => true,
+        Place::Connect { .. } => false,
+    }
+}

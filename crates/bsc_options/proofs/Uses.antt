@@ -1,0 +1,66 @@
+-- The uses of standard input, by the first texts that are offered.
+use Rattle.std.proofs.Common.{◌≡◌, ◌+◌, ◌≤◌, ◌<◌, ℕ, zero, suc, Bool, true, false, List, [], ◌∷◌}
+use Rattle.std.proofs.Common.{map, take, take_all, length, get_or, refl, ap, sym, ◌∙◌, arith}
+use Rattle.std.proofs.Common.{string_bytes}
+use Rattle.std.specs.Prelude.{String, count_by, if◌then◌else◌}
+use Rattle.std.proofs.lemmas.List.Sums.{count_by_more_no, count_by_more_yes, sum_by-cons}
+use Rattle.std.proofs.lemmas.List.Sums.{sum_by-take-le}
+use Rattle.bsc_asked.specs.StationWords.{asked_words}
+use Rattle.bsc_asked.specs.declared.station_words.StationWords.{StationWords}
+use Rattle.bsc_options.specs.declared.settings.Role.{Role}
+use Rattle.bsc_options.specs.Inputs.{is_input, path_in, uses_of_input}
+
+-- whether a text that is offered names standard input
+abbrev pub names_input : {Z : Type 0} → Role → String Z → Bool
+names_input role offer = is_input (path_in role (string_bytes offer))
+
+-- one for true
+abbrev pub one_if : Bool → ℕ
+one_if b = if b then 1 else 0
+
+-- the use as the configuration
+abbrev pub uses_before : StationWords → ℕ
+uses_before words = one_if (is_input (string_bytes words.config))
+
+count_cons : {X : Type 0} (p : X → Bool) (x : X) (xs : List X)
+    → count_by p (x ∷ xs) ≡ one_if (p x) + count_by p xs
+count_cons p x xs = sum_by-cons (λ y. one_if (p y)) x xs
+
+count_paths : {Z : Type 0} (role : Role) (offers : List (String Z))
+    → count_by is_input (map (path_in role) (map string_bytes offers))
+    ≡ count_by (names_input role) offers
+count_paths role [] = refl
+count_paths role (offer ∷ offers) =
+    count_cons is_input (path_in role (string_bytes offer))
+    (map (path_in role) (map string_bytes offers))
+    ∙ ap (λ n. one_if (names_input role offer) + n) (count_paths role offers)
+    ∙ sym (count_cons (names_input role) offer offers)
+
+-- all uses
+pub uses_all : (words : StationWords) (role : Role)
+    → uses_of_input (asked_words words) role
+    ≡ uses_before words + count_by (names_input role) words.offers.items
+uses_all words role =
+    let asked = asked_words words in
+    let first = count_cons is_input asked.config (map (path_in role) asked.offers) in
+    let paths = count_paths role words.offers.items in
+    omega arith
+
+-- the uses so far are no more than all
+pub uses_within : (words : StationWords) (role : Role) (n : ℕ)
+    → uses_before words + count_by (names_input role) (take n words.offers.items)
+    ≤ uses_of_input (asked_words words) role
+uses_within words role n =
+    let all = uses_all words role in
+    let front =
+    sum_by-take-le (λ o. one_if (names_input role o)) words.offers.items n in
+    omega arith
+
+-- one more text
+pub uses_more : {X : Type 0} (p : X → Bool) (xs : List X) (n : ℕ) (x : X) (b : Bool)
+    → n < length xs → x ≡ get_or xs n x → p x ≡ b
+    → count_by p (take (n + 1) xs) ≡ count_by p (take n xs) + one_if b
+uses_more p xs n x true below here e =
+    let more = count_by_more_yes p xs n x below (ap p (sym here) ∙ e) in omega arith
+uses_more p xs n x false below here e =
+    let more = count_by_more_no p xs n x below (ap p (sym here) ∙ e) in omega arith

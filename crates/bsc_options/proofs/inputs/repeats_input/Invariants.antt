@@ -1,0 +1,10 @@
+-- Standard input is used once so far if it is used, and otherwise not at all.
+use Rattle.std.proofs.Common.{◌≡◌, ◌+◌, take}
+use Rattle.std.specs.Prelude.{count_by}
+use Rattle.bsc_options.proofs.Uses.{names_input, one_if, uses_before}
+use Rattle.bsc_options.proofs.inputs.repeats_input.Given as goal
+
+abbrev pub invariant-offers : goal.invariant-offers
+invariant-offers l =
+    one_if l.is_used ≡ uses_before l.words
+    + count_by (names_input l.role) (take l.offer-index l.words.offers.items)

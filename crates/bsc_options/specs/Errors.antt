@@ -1,0 +1,47 @@
+-- The reasons for refusing options, in words.
+use Rattle.std.specs.Prelude.{ℕ, List, Bool, true, false, codes}
+use Rattle.bsc_options.specs.declared.error.OptionError.{OptionError}
+use Rattle.bsc_options.specs.declared.error.OptionError.TheVariants.{Station, TerminalNumber, Place}
+use Rattle.bsc_options.specs.declared.error.OptionError.TheVariants.{ConnectNeedsShared}
+use Rattle.bsc_options.specs.declared.error.OptionError.TheVariants.{NeedsControl}
+use Rattle.bsc_options.specs.declared.error.OptionError.TheVariants.{PatienceNeedsConnect}
+use Rattle.bsc_options.specs.declared.error.OptionError.TheVariants.{GapNeedsRaw, TextAndBytes}
+use Rattle.bsc_options.specs.declared.error.OptionError.TheVariants.{RepeatedInput, Gap, TimeOut}
+use Rattle.bsc_options.specs.declared.error.OptionError.TheVariants.{GapNotBelowTimeOut, Patience}
+use Rattle.bsc_options.specs.declared.error.OptionError.TheVariants.{Rounds, IdleRounds}
+
+-- Each reason names the options at fault.
+abbrev pub reason : OptionError → List ℕ
+reason Station = codes "either --control or --terminal must say which station it is"
+reason TerminalNumber = codes "--terminal takes the number of a terminal"
+reason Place = codes "either --listen or --connect must say where its connections are"
+reason ConnectNeedsShared = codes "--control with --connect needs --shared"
+reason NeedsControl = codes "--shared, --rounds and --idle-rounds need --control"
+reason PatienceNeedsConnect = codes "--patience needs --connect"
+reason GapNeedsRaw = codes "--gap needs --raw"
+reason TextAndBytes = codes "--text and --bytes cannot both be given"
+reason RepeatedInput = codes "CONFIG and --offer cannot name standard input more than once"
+reason Gap = codes "--gap takes milliseconds, 1 to 3600000"
+reason TimeOut = codes "--time-out takes milliseconds, 1 to 3600000"
+reason GapNotBelowTimeOut = codes "with --raw the gap must be less than the time-out"
+reason Patience = codes "--patience takes milliseconds, 1 to 3600000"
+reason Rounds = codes "--rounds takes a number from 1 up"
+reason IdleRounds = codes "--idle-rounds takes a number from 1 up"
+
+-- Whether options contradict one another or one is missing; otherwise the value of one is wrong.
+abbrev pub is_conflict : OptionError → Bool
+is_conflict Station = true
+is_conflict TerminalNumber = false
+is_conflict Place = true
+is_conflict ConnectNeedsShared = true
+is_conflict NeedsControl = true
+is_conflict PatienceNeedsConnect = true
+is_conflict GapNeedsRaw = true
+is_conflict TextAndBytes = true
+is_conflict RepeatedInput = true
+is_conflict Gap = false
+is_conflict TimeOut = false
+is_conflict GapNotBelowTimeOut = true
+is_conflict Patience = false
+is_conflict Rounds = false
+is_conflict IdleRounds = false

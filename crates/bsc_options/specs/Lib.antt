@@ -1,0 +1,6 @@
+pub mod Errors
+pub mod Readings
+pub mod Numbers
+pub mod Inputs
+pub mod Offers
+pub mod Settings

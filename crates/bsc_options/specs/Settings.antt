@@ -1,0 +1,156 @@
+-- The settings in the options of a station.
+use Rattle.std.specs.Prelude.{ℕ, ◌-◌, ◌^◌, nat_le, ◌&&◌, ◌||◌, not, Bool, true, false, List}
+use Rattle.std.specs.Prelude.{Option, Some, None, is_some, ok_or, Result, Ok, Err}
+use Rattle.std.specs.Prelude.{if◌then◌else◌}
+use Rattle.bsc_asked.specs.StationWords.{AskedWords}
+use Rattle.bsc_print.specs.declared.form.Form.{Form}
+use Rattle.bsc_print.specs.declared.form.Form.TheVariants.{Hexadecimal, Text, Bytes}
+use Rattle.bsc_monitor.specs.declared.rounds.Limits.{Limits}
+use Rattle.bsc_monitor.specs.declared.watch.Printing.{Printing}
+use Rattle.bsc_options.specs.declared.error.OptionError.{OptionError}
+use Rattle.bsc_options.specs.declared.error.OptionError.TheVariants as error
+use Rattle.bsc_options.specs.declared.settings.Role.{Role}
+use Rattle.bsc_options.specs.declared.settings.Role.TheVariants.{Control, Terminal}
+use Rattle.bsc_options.specs.declared.settings.Place.{Place}
+use Rattle.bsc_options.specs.declared.settings.Place.TheVariants.{Listen, Connect}
+use Rattle.bsc_options.specs.declared.settings.Times.{Times}
+use Rattle.bsc_options.specs.declared.settings.StationSettings.{StationSettings}
+use Rattle.bsc_options.specs.Inputs.{repeats_input}
+use Rattle.bsc_options.specs.Numbers.{number_within}
+use Rattle.bsc_options.specs.Readings.{◌>>=◌}
+
+-- The station with this number, if it is one.
+abbrev pub terminal_of : Option ℕ → Result Role OptionError
+terminal_of None = Err error.TerminalNumber
+terminal_of (Some number) = Ok (Terminal number)
+
+-- The station that is run: exactly one of the control station and a terminal.
+abbrev pub role_in : Bool → Option (List ℕ) → Result Role OptionError
+role_in true None = Ok Control
+role_in true (Some text) = Err error.Station
+role_in false None = Err error.Station
+role_in false (Some text) = terminal_of (number_within 0 255 text)
+
+-- The place of the connections: peers connect at this address, or a peer listens there.
+pub data PlaceValue : Type 0 where
+  listens_at : List ℕ → PlaceValue
+  connects_to : List ℕ → PlaceValue
+
+abbrev pub place_value : Place → PlaceValue
+place_value (Listen address) = listens_at address.now
+place_value (Connect address) = connects_to address.now
+
+-- The place that is given: exactly one.
+abbrev pub place_in : Option (List ℕ) → Option (List ℕ) → Result PlaceValue OptionError
+place_in (Some address) None = Ok (listens_at address)
+place_in None (Some address) = Ok (connects_to address)
+place_in None None = Err error.Place
+place_in (Some listen) (Some connect) = Err error.Place
+
+-- An error, if a rule is broken.
+abbrev pub unless : Bool → OptionError → Result (Unit {0}) OptionError
+unless broken why = if broken then Err why else Ok tt
+
+-- The options that this station may not have, or needs: a control station that connects reaches all
+-- terminals by one connection; only a control station counts rounds.
+abbrev pub fits_role : AskedWords → Role → Result (Unit {0}) OptionError
+fits_role w Control = unless (is_some w.connect && not w.shared) error.ConnectNeedsShared
+fits_role w (Terminal number) =
+    unless (w.shared || (is_some w.rounds || is_some w.idle_rounds)) error.NeedsControl
+
+-- The options fit the station and one another.
+abbrev pub fits_together : AskedWords → Role → Result (Unit {0}) OptionError
+fits_together w role = do
+  of_role ← fits_role w role
+  patience ← unless (is_some w.patience && not (is_some w.connect)) error.PatienceNeedsConnect
+  gap ← unless (is_some w.gap && not w.raw) error.GapNeedsRaw
+  form ← unless (w.text && w.bytes) error.TextAndBytes
+  unless (repeats_input w role) error.RepeatedInput
+
+-- The number in the text of an option, from `least` to `most`, or `absent` if it is not given.
+abbrev pub number_in : OptionError → ℕ → ℕ → ℕ → Option (List ℕ) → Result ℕ OptionError
+number_in why least most absent None = Ok absent
+number_in why least most absent (Some text) = ok_or (number_within least most text) why
+
+-- An hour in milliseconds.
+abbrev pub hour : ℕ
+hour = 3600000
+
+-- The times of a station in milliseconds. The gap is 50 and the time-out 3000 unless given, and the
+-- patience is the time-out. With raw octets the gap is less than the time-out: otherwise no
+-- transmission would end before a silence.
+abbrev pub times_in : AskedWords → Result Times OptionError
+times_in w = do
+  gap ← number_in error.Gap 1 hour 50 w.gap
+  time_out ← number_in error.TimeOut 1 hour 3000 w.time_out
+  below ← unless (w.raw && nat_le time_out gap) error.GapNotBelowTimeOut
+  patience ← number_in error.Patience 1 hour time_out w.patience
+  Ok (record { gap = gap; time_out = time_out; patience = patience })
+
+-- The number of rounds, if it is limited.
+abbrev pub rounds_in : Option (List ℕ) → Result (Option ℕ) OptionError
+rounds_in None = Ok None
+rounds_in (Some text) = do
+  rounds ← ok_or (number_within 1 (2 ^ 64 - 1) text) error.Rounds
+  Ok (Some rounds)
+
+-- The limits at which a control station ends: after two idle rounds in a row unless given.
+abbrev pub limits_in : AskedWords → Result Limits OptionError
+limits_in w = do
+  rounds ← rounds_in w.rounds
+  idle_rounds ← number_in error.IdleRounds 1 (2 ^ 64 - 1) 2 w.idle_rounds
+  Ok (record { rounds = rounds; idle_rounds = idle_rounds })
+
+-- The form of records in the output.
+abbrev pub form_in : Bool → Bool → Form
+form_in text bytes = if text then Text else (if bytes then Bytes else Hexadecimal)
+
+-- The output of a station.
+abbrev pub printing_in : AskedWords → Printing
+printing_in w = record { form = form_in w.text w.bytes; trace = w.trace }
+
+-- The settings of a station.
+pub record SettingsValue : Type 0 where
+  pub role : Role
+  pub place : PlaceValue
+  pub shared : Bool
+  pub raw : Bool
+  pub times : Times
+  pub limits : Limits
+  pub printing : Printing
+  pub reported : Option Form
+
+abbrev pub settings_value : StationSettings → SettingsValue
+settings_value s = record {
+  role = s.role;
+  place = place_value s.place;
+  shared = s.shared;
+  raw = s.raw;
+  times = s.times;
+  limits = s.limits;
+  printing = s.printing;
+  reported = s.reported;
+}
+
+-- The form in which the report repeats the records, if it does.
+abbrev pub reported_in : AskedWords → Option Form
+reported_in w = if w.report_records then Some (form_in w.text w.bytes) else None
+
+-- The settings in the options, or the first reason for refusing them.
+abbrev pub settings_in : AskedWords → Result SettingsValue OptionError
+settings_in w = do
+  role ← role_in w.control w.terminal
+  place ← place_in w.listen w.connect
+  fits ← fits_together w role
+  times ← times_in w
+  limits ← limits_in w
+  Ok (record {
+    role = role;
+    place = place;
+    shared = w.shared;
+    raw = w.raw;
+    times = times;
+    limits = limits;
+    printing = printing_in w;
+    reported = reported_in w;
+  })

@@ -1,0 +1,55 @@
+//! The rules by which options fit the station and one another.
+
+ghost use Rattle.std.specs.Prelude.{◌≡◌, is_some, option_map, string_bytes};
+ghost use Rattle.bsc_asked.specs.StationWords.{asked_words};
+ghost use Rattle.bsc_options.specs.Settings.{fits_role, fits_together, unless as error_unless};
+
+use crate::inputs::repeats_input;
+use crate::{OptionError, Role};
+use bsc_asked::StationWords;
+
+/// Returns an error if a rule is broken.
+pub(crate) fn unless(is_broken: bool, why: OptionError) -> Result<(), OptionError>
+    ensures { result ≡ error_unless is_broken why }
+{
+    if is_broken { Err(why) } else { Ok(()) }
+}
+
+/// Whether an option is given.
+fn is_given(option: &Option<String>) -> bool
+    ensures { result ≡ is_some (option_map string_bytes option.now) }
+{
+    match option {
+        Some(_) => true,
+        None => false,
+    }
+}
+
+/// Checks the options that only one kind of station may have, or needs.
+fn check_role(words: &StationWords, role: Role) -> Result<(), OptionError>
+    ensures { result ≡ fits_role (asked_words words.now) role }
+{
+    match role {
+        Role::Control => {
+            let is_broken = is_given(&words.connect) && !words.shared;
+            unless(is_broken, OptionError::ConnectNeedsShared)
+        }
+        Role::Terminal { .. } => {
+            let is_broken =
+                words.shared || is_given(&words.rounds) || is_given(&words.idle_rounds);
+            unless(is_broken, OptionError::NeedsControl)
+        }
+    }
+}
+
+/// Checks that the options fit the station and one another.
+pub(crate) fn check_together(words: &StationWords, role: Role) -> Result<(), OptionError>
+    ensures { result ≡ fits_together (asked_words words.now) role }
+{
+    check_role(words, role)?;
+    let is_broken = is_given(&words.patience) && !is_given(&words.connect);
+    unless(is_broken, OptionError::PatienceNeedsConnect)?;
+    unless(is_given(&words.gap) && !words.raw, OptionError::GapNeedsRaw)?;
+    unless(words.text && words.bytes, OptionError::TextAndBytes)?;
+    unless(repeats_input(words, role), OptionError::RepeatedInput)
+}

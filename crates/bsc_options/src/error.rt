@@ -1,0 +1,105 @@
+//! The reasons for refusing the options of a station.
+
+ghost use Rattle.std.specs.Prelude.{◌≡◌};
+ghost use Rattle.bsc_options.specs.Errors.{is_conflict, reason};
+
+/// The reason for refusing the options of a station: the first of these, in this order, that
+/// applies.
+#[derive(Clone, Copy, Debug, PartialEq, Eq)]
+pub enum OptionError {
+    /// Not exactly one of `--control` and `--terminal` is given.
+    Station,
+
+    /// The value of `--terminal` is not a number from 0 to 255.
+    TerminalNumber,
+
+    /// Not exactly one of `--listen` and `--connect` is given.
+    Place,
+
+    /// `--control` and `--connect` are given without `--shared`.
+    ConnectNeedsShared,
+
+    /// `--shared`, `--rounds` or `--idle-rounds` is given without `--control`.
+    NeedsControl,
+
+    /// `--patience` is given without `--connect`.
+    PatienceNeedsConnect,
+
+    /// `--gap` is given without `--raw`.
+    GapNeedsRaw,
+
+    /// `--text` and `--bytes` are both given.
+    TextAndBytes,
+
+    /// Standard input is named more than once, by CONFIG and `--offer`.
+    RepeatedInput,
+
+    /// The value of `--gap` is not a number of milliseconds up to an hour.
+    Gap,
+
+    /// The value of `--time-out` is not a number of milliseconds up to an hour.
+    TimeOut,
+
+    /// The gap of `--raw` is not less than the time-out.
+    GapNotBelowTimeOut,
+
+    /// The value of `--patience` is not a number of milliseconds up to an hour.
+    Patience,
+
+    /// The value of `--rounds` is not a number from 1 up.
+    Rounds,
+
+    /// The value of `--idle-rounds` is not a number from 1 up.
+    IdleRounds,
+}
+
+impl OptionError {
+    /// Returns the reason in words; it names the options at fault.
+    pub fn reason(self) -> &'static str
+        ensures { result.now ≡ reason self }
+    {
+        match self {
+            OptionError::Station => "either --control or --terminal must say which station it is",
+            OptionError::TerminalNumber => "--terminal takes the number of a terminal",
+            OptionError::Place => "either --listen or --connect must say where its connections are",
+            OptionError::ConnectNeedsShared => "--control with --connect needs --shared",
+            OptionError::NeedsControl => "--shared, --rounds and --idle-rounds need --control",
+            OptionError::PatienceNeedsConnect => "--patience needs --connect",
+            OptionError::GapNeedsRaw => "--gap needs --raw",
+            OptionError::TextAndBytes => "--text and --bytes cannot both be given",
+            OptionError::RepeatedInput => {
+                "CONFIG and --offer cannot name standard input more than once"
+            }
+            OptionError::Gap => "--gap takes milliseconds, 1 to 3600000",
+            OptionError::TimeOut => "--time-out takes milliseconds, 1 to 3600000",
+            OptionError::GapNotBelowTimeOut => "with --raw the gap must be less than the time-out",
+            OptionError::Patience => "--patience takes milliseconds, 1 to 3600000",
+            OptionError::Rounds => "--rounds takes a number from 1 up",
+            OptionError::IdleRounds => "--idle-rounds takes a number from 1 up",
+        }
+    }
+
+    /// Whether options contradict one another or one is missing; otherwise the value of one is
+    /// wrong.
+    pub fn is_conflict(self) -> bool
+        ensures { result ≡ is_conflict self }
+    {
+        match self {
+            OptionError::Station
+            | OptionError::Place
+            | OptionError::ConnectNeedsShared
+            | OptionError::NeedsControl
+            | OptionError::PatienceNeedsConnect
+            | OptionError::GapNeedsRaw
+            | OptionError::TextAndBytes
+            | OptionError::RepeatedInput
+            | OptionError::GapNotBelowTimeOut => true,
+            OptionError::TerminalNumber
+            | OptionError::Gap
+            | OptionError::TimeOut
+            | OptionError::Patience
+            | OptionError::Rounds
+            | OptionError::IdleRounds => false,
+        }
+    }
+}

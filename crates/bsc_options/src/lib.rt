@@ -1,0 +1,17 @@
+//! The options of `bscline station`: what their texts mean, which of them contradict one another,
+//! and the channels to which records are offered.
+//!
+//! The standard, GA27-3004, defines no options; all of this is this project's own.
+#![tactic(auto)]
+
+mod checks;
+mod error;
+mod inputs;
+mod numbers;
+mod offers;
+mod settings;
+mod splitting;
+
+pub use error::OptionError;
+pub use offers::{Offer, offer_of};
+pub use settings::{Place, Role, StationSettings, Times, read_settings};

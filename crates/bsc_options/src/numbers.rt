@@ -1,0 +1,25 @@
+//! Numbers in decimal digits.
+
+ghost use Rattle.std.specs.Prelude.{◌≡◌};
+ghost use Rattle.bsc_options.specs.Numbers.{number_within as number_in_text};
+
+/// Returns the number that a text spells, if it is from `least` to `most`: decimal digits, with or
+/// without one plus sign before them.
+pub(crate) fn number_within(text: &str, least: u64, most: u64) -> Option<u64>
+    ensures { result ≡ number_in_text least most text.now }
+{
+    match text.parse::<u64>() {
+        Ok(number) if least <= number && number <= most => Some(number),
+        _ => None,
+    }
+}
+
+/// Returns the number from 0 to 255 that a text spells.
+pub(crate) fn octet_in(text: &str) -> Option<usize>
+    ensures { result ≡ number_in_text 0 255 text.now }
+{
+    match text.parse::<u8>() {
+        Ok(number) => Some(usize::from(number)),
+        Err(_) => None,
+    }
+}

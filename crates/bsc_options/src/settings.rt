@@ -1,0 +1,240 @@
+//! The settings in the options of a station.
+
+ghost use Rattle.std.specs.Prelude.{◌≡◌, option_map, string_bytes};
+ghost use Rattle.bsc_asked.specs.StationWords.{asked_words};
+ghost use Rattle.bsc_options.specs.Readings.{Gives};
+ghost use Rattle.bsc_options.specs.Settings.{form_in, limits_in, number_in, place_in, place_value};
+ghost use Rattle.bsc_options.specs.Settings.{printing_in, reported_in, role_in, rounds_in};
+ghost use Rattle.bsc_options.specs.Settings.{settings_in, settings_value, times_in};
+
+use crate::OptionError;
+use crate::checks::{check_together, unless};
+use crate::numbers::{number_within, octet_in};
+use bsc_asked::StationWords;
+use bsc_monitor::{Limits, Printing};
+use bsc_print::Form;
+
+/// The gap in milliseconds, unless given.
+const GAP: u64 = 50;
+
+/// The time-out in milliseconds, unless given.
+const TIME_OUT: u64 = 3_000;
+
+/// The number of idle rounds in a row after which a control station ends, unless given.
+const IDLE_ROUNDS: u64 = 2;
+
+/// The maximum of each time, in milliseconds: one hour.
+const HOUR: u64 = 3_600_000;
+
+/// The station of a line that is run.
+#[derive(Clone, Copy)]
+pub enum Role {
+    /// The control station.
+    Control,
+
+    /// The terminal with this number, counted from 0.
+    Terminal { number: usize },
+}
+
+/// The place of the connections of a station.
+#[derive(Clone, Copy)]
+pub enum Place<'a> {
+    /// Peers connect at this address.
+    Listen { address: &'a str },
+
+    /// A peer listens at this address.
+    Connect { address: &'a str },
+}
+
+/// The times of a station, in milliseconds.
+#[derive(Clone, Copy)]
+pub struct Times {
+    /// The gap that ends a transmission of raw octets, less than the time-out for these.
+    pub gap: u64,
+
+    /// The time-out.
+    pub time_out: u64,
+
+    /// How long a station tries to connect.
+    pub patience: u64,
+}
+
+/// The settings of a station.
+#[derive(Clone, Copy)]
+pub struct StationSettings<'a> {
+    /// Which station it is.
+    pub role: Role,
+
+    /// The place of its connections.
+    pub place: Place<'a>,
+
+    /// Whether the control station reaches all terminals by one connection.
+    pub shared: bool,
+
+    /// Whether transmissions are raw octets and end at gaps.
+    pub raw: bool,
+
+    /// Its times.
+    pub times: Times,
+
+    /// The limits at which a control station ends.
+    pub limits: Limits,
+
+    /// Its output while it runs.
+    pub printing: Printing,
+
+    /// The form in which the report repeats the records that arrived; `None` if it does not.
+    pub reported: Option<Form>,
+}
+
+/// Returns the text of an option, if it is given.
+fn text_of(option: &Option<String>) -> Option<&str>
+    ensures { option_map (λ text. text.now) result ≡ option_map string_bytes option.now }
+{
+    match option {
+        Some(text) => Some(text.as_str()),
+        None => None,
+    }
+}
+
+/// Returns the station that is run.
+fn role_of(control: bool, terminal: Option<&str>) -> Result<Role, OptionError>
+    ensures { result ≡ role_in control (option_map (λ text. text.now) terminal.entry) }
+{
+    match terminal {
+        None if control => Ok(Role::Control),
+        Some(text) if !control => match octet_in(text) {
+            Some(number) => Ok(Role::Terminal { number }),
+            None => Err(OptionError::TerminalNumber),
+        },
+        _ => Err(OptionError::Station),
+    }
+}
+
+/// Returns the place of the connections.
+fn place_of<'a>(
+    listen: Option<&'a str>,
+    connect: Option<&'a str>,
+) -> Result<Place<'a>, OptionError>
+    ensures { Gives place_value result (place_in (option_map (λ text. text.now) listen.entry)
+        (option_map (λ text. text.now) connect.entry)) }
+{
+    match (listen, connect) {
+        (Some(address), None) => Ok(Place::Listen { address }),
+        (None, Some(address)) => Ok(Place::Connect { address }),
+        _ => Err(OptionError::Place),
+    }
+}
+
+/// Returns the number of an option from `least` to `most`, or `absent` if it is not given.
+fn number(
+    option: &Option<String>,
+    least: u64,
+    most: u64,
+    absent: u64,
+    why: OptionError,
+) -> Result<u64, OptionError>
+    ensures { result ≡ number_in why least most absent (option_map string_bytes option.now) }
+{
+    match option {
+        None => Ok(absent),
+        Some(text) => match number_within(text.as_str(), least, most) {
+            Some(number) => Ok(number),
+            None => Err(why),
+        },
+    }
+}
+
+/// Returns the times. With raw octets the gap has to be less than the time-out.
+fn read_times(words: &StationWords) -> Result<Times, OptionError>
+    ensures { result ≡ times_in (asked_words words.now) }
+{
+    let gap = number(&words.gap, 1, HOUR, GAP, OptionError::Gap)?;
+    let time_out = number(&words.time_out, 1, HOUR, TIME_OUT, OptionError::TimeOut)?;
+    unless(words.raw && time_out <= gap, OptionError::GapNotBelowTimeOut)?;
+    let patience = number(&words.patience, 1, HOUR, time_out, OptionError::Patience)?;
+    Ok(Times {
+        gap,
+        time_out,
+        patience,
+    })
+}
+
+/// Returns the number of rounds, if it is limited.
+fn read_rounds(rounds: &Option<String>) -> Result<Option<u64>, OptionError>
+    ensures { result ≡ rounds_in (option_map string_bytes rounds.now) }
+{
+    match rounds {
+        None => Ok(None),
+        Some(text) => match number_within(text.as_str(), 1, u64::MAX) {
+            Some(rounds) => Ok(Some(rounds)),
+            None => Err(OptionError::Rounds),
+        },
+    }
+}
+
+/// Returns the limits at which a control station ends.
+fn read_limits(words: &StationWords) -> Result<Limits, OptionError>
+    ensures { result ≡ limits_in (asked_words words.now) }
+{
+    let rounds = read_rounds(&words.rounds)?;
+    let why = OptionError::IdleRounds;
+    let idle_rounds = number(&words.idle_rounds, 1, u64::MAX, IDLE_ROUNDS, why)?;
+    Ok(Limits {
+        rounds,
+        idle_rounds,
+    })
+}
+
+/// Returns the form of records in the output.
+fn form_of(words: &StationWords) -> Form
+    ensures { result ≡ form_in words.now.text words.now.bytes }
+{
+    if words.text {
+        Form::Text
+    } else if words.bytes {
+        Form::Bytes
+    } else {
+        Form::Hexadecimal
+    }
+}
+
+/// Returns the output of the station.
+fn printing_of(words: &StationWords) -> Printing
+    ensures { result ≡ printing_in (asked_words words.now) }
+{
+    Printing {
+        form: form_of(words),
+        trace: words.trace,
+    }
+}
+
+/// Returns the form in which the report repeats the records that arrived, if it does.
+fn reported_of(words: &StationWords) -> Option<Form>
+    ensures { result ≡ reported_in (asked_words words.now) }
+{
+    if words.report_records { Some(form_of(words)) } else { None }
+}
+
+/// Reads the settings in the options, or returns the first reason for refusing them, in the order
+/// of the checks: the station, the place of its connections, what does not fit together, the times,
+/// and the limits.
+pub fn read_settings(words: &StationWords) -> Result<StationSettings<'_>, OptionError>
+    ensures { Gives settings_value result (settings_in (asked_words words.now)) }
+{
+    let role = role_of(words.control, text_of(&words.terminal))?;
+    let place = place_of(text_of(&words.listen), text_of(&words.connect))?;
+    check_together(words, role)?;
+    let times = read_times(words)?;
+    let limits = read_limits(words)?;
+    Ok(StationSettings {
+        role,
+        place,
+        shared: words.shared,
+        raw: words.raw,
+        times,
+        limits,
+        printing: printing_of(words),
+        reported: reported_of(words),
+    })
+}

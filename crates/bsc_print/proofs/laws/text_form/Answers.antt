@@ -1,0 +1,9 @@
+-- The law of the text of records.
+use Rattle.bsc_print.proofs.Escapes.{has_one_reading, is_one_line}
+use Rattle.bsc_print.proofs.laws.text_form.Goals as goal
+
+pub returns-clause-line : goal.returns-clause-line
+returns-clause-line c = is_one_line
+
+pub returns-clause-reading : goal.returns-clause-reading
+returns-clause-reading c = has_one_reading

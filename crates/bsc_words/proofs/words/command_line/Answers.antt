@@ -1,0 +1,21 @@
+-- Shows that the program has the rows of the table as its commands.
+use Rattle.std.proofs.Common.{rules, ◌≡◌, ◌∙◌, ap, List, [], ◌∷◌, Result, Ok, Err, IfOk}
+use Rattle.clap.specs.Words.{App, Shape, app_of}
+use Rattle.bsc_words.specs.CommandLine.{name_app, program_app, run_app, show_app}
+use Rattle.bsc_words.specs.StationWords.{station_app}
+use Rattle.bsc_words.specs.Options.{with_shapes}
+use Rattle.bsc_words.proofs.words.command_line.Goals as goal
+
+-- the commands of a program that is known
+of_program : {C E : Type 0} (f : C → App) (built : Result C E) (a b : App) (shapes : List Shape)
+    → a ≡ b → IfOk built (λ c. f c ≡ with_shapes a shapes)
+    → IfOk built (λ c. f c ≡ with_shapes b shapes)
+of_program f (Ok c) a b shapes e h = h ∙ ap (λ p. with_shapes p shapes) e
+of_program f (Err error) a b shapes e h = tt
+
+pub returns : goal.returns
+returns c =
+    let program : app_of c.version-program.result ≡ program_app = search rules in
+    of_program app_of c.with_subcommands.result (app_of c.version-program.result) program_app
+    (name_app.top ∷ show_app.top ∷ run_app.top ∷ station_app.top ∷ []) program
+    c.with_subcommands.ensures
