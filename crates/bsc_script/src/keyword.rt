@@ -1,5 +1,6 @@
 //! The first words of the lines of a script.
 ghost use Rattle.std.specs.Prelude.{◌≡◌};
+ghost use Rattle.std.specs.Str.{bytes_eq};
 ghost use Rattle.bsc_script.specs.Events.{keyword_of};
 
 /// The first word of a line with an event.
@@ -20,35 +21,42 @@ pub(crate) enum Keyword {
     Release,
 }
 
+/// Whether the word consists of these characters.
+fn spells(word: &[u8], text: &str) -> bool
+    ensures { result ≡ bytes_eq word.now text.now }
+{
+    word == text.as_bytes()
+}
+
 /// Returns the keyword that the word spells, or `None` if it is not a keyword.
 pub(crate) fn read_keyword(word: &[u8]) -> Option<Keyword>
     ensures { result ≡ keyword_of word.now }
 {
-    if word == b"offer-at".as_slice() {
+    if spells(word, "offer-at") {
         Some(Keyword::OfferAt)
-    } else if word == b"offer-for".as_slice() {
+    } else if spells(word, "offer-for") {
         Some(Keyword::OfferFor)
-    } else if word == b"offer-to".as_slice() {
+    } else if spells(word, "offer-to") {
         Some(Keyword::OfferTo)
-    } else if word == b"carry".as_slice() {
+    } else if spells(word, "carry") {
         Some(Keyword::Carry)
-    } else if word == b"lose".as_slice() {
+    } else if spells(word, "lose") {
         Some(Keyword::Lose)
-    } else if word == b"heard".as_slice() {
+    } else if spells(word, "heard") {
         Some(Keyword::Heard)
-    } else if word == b"heard-each".as_slice() {
+    } else if spells(word, "heard-each") {
         Some(Keyword::HeardEach)
-    } else if word == b"silence".as_slice() {
+    } else if spells(word, "silence") {
         Some(Keyword::Silence)
-    } else if word == b"ready".as_slice() {
+    } else if spells(word, "ready") {
         Some(Keyword::Ready)
-    } else if word == b"unready".as_slice() {
+    } else if spells(word, "unready") {
         Some(Keyword::Unready)
-    } else if word == b"urgent-at".as_slice() {
+    } else if spells(word, "urgent-at") {
         Some(Keyword::UrgentAt)
-    } else if word == b"urgent-for".as_slice() {
+    } else if spells(word, "urgent-for") {
         Some(Keyword::UrgentFor)
-    } else if word == b"release".as_slice() {
+    } else if spells(word, "release") {
         Some(Keyword::Release)
     } else {
         None
