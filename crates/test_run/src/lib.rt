@@ -10,6 +10,8 @@ mod devices;
 #[cfg(test)]
 mod growths;
 #[cfg(test)]
+mod largest;
+#[cfg(test)]
 mod loopback;
 #[cfg(test)]
 mod memory;

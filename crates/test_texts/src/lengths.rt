@@ -61,3 +61,25 @@ fn a_poll_list_has_255_entries_at_most(rt: HostRuntime) -> Result<(), Fail> {
     assert!(rt; entries_have(alloc, 256, "config: poll list entry 255 is wrong")?);
     Ok(())
 }
+
+/// A document that begins with a comment of this many octets.
+fn commented(alloc: Global, octets: usize) -> Result<String, Fail> {
+    let mut text = format!(in alloc; "#")?;
+    for _ in 1..octets {
+        text.push_str("x")?;
+    }
+    text.push_str("\nversion = 1\npoll_list = [0, 1]")?;
+    text.push_str(TERMINALS)?;
+    Ok(text)
+}
+
+/// A configuration has no limit of its own; an input has 1,048,576 octets at most.
+#[test]
+fn a_configuration_may_be_as_long_as_an_input(rt: HostRuntime) -> Result<(), Fail> {
+    let alloc = rt.alloc();
+    for octets in [16_384, 65_536, 1_048_000usize] {
+        let document = commented(alloc, octets)?;
+        assert!(rt; is_answer(alloc, document.as_str(), "read")?);
+    }
+    Ok(())
+}
