@@ -12,11 +12,11 @@ use bsc_carrier::CarrierError;
 use bsc_connections::LiveError;
 use bsc_control::Control;
 use bsc_input::Files;
-use bsc_options::{StationSettings, read_settings};
 use bsc_monitor::{
     ControlWatch, Ended, LineTerminal, Standing, TerminalWatch, Timer, Watch, station_standing,
     write_report,
 };
+use bsc_options::{StationSettings, read_settings};
 use std::alloc::Global;
 use std::io::{Read, Write};
 

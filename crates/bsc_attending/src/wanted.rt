@@ -37,10 +37,7 @@ pub struct Wanted<'a> {
 
 /// Returns the connections that the control station asks for: one for each terminal, or one for
 /// all. It waits for twice the time-out, so that a terminal that holds the line acts first.
-pub(crate) fn wanted_by_control<'a>(
-    settings: &StationSettings<'a>,
-    terminals: usize,
-) -> Wanted<'a>
+pub(crate) fn wanted_by_control<'a>(settings: &StationSettings<'a>, terminals: usize) -> Wanted<'a>
     ensures { wanted_value result ≡ control_wants (settings_value settings.now) terminals }
 {
     Wanted {

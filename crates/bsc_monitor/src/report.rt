@@ -54,7 +54,14 @@ fn write_terminal<A: Allocator + Copy, P: Party, W: Write>(
 {
     write_channel(alloc, repeated, station, terminal, Way::FromTerminal, out)?;
     'selects: for select in 0..station.addresses(terminal) {
-        write_channel(alloc, repeated, station, terminal, Way::ToTerminal(select), out)?;
+        write_channel(
+            alloc,
+            repeated,
+            station,
+            terminal,
+            Way::ToTerminal(select),
+            out,
+        )?;
     }
     Ok(())
 }

@@ -35,8 +35,7 @@ fn check_role(words: &StationWords, role: Role) -> Result<(), OptionError>
             unless(is_broken, OptionError::ConnectNeedsShared)
         }
         Role::Terminal { .. } => {
-            let is_broken =
-                words.shared || is_given(&words.rounds) || is_given(&words.idle_rounds);
+            let is_broken = words.shared || is_given(&words.rounds) || is_given(&words.idle_rounds);
             unless(is_broken, OptionError::NeedsControl)
         }
     }

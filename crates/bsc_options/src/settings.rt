@@ -112,10 +112,7 @@ fn role_of(control: bool, terminal: Option<&str>) -> Result<Role, OptionError>
 }
 
 /// Returns the place of the connections.
-fn place_of<'a>(
-    listen: Option<&'a str>,
-    connect: Option<&'a str>,
-) -> Result<Place<'a>, OptionError>
+fn place_of<'a>(listen: Option<&'a str>, connect: Option<&'a str>) -> Result<Place<'a>, OptionError>
     ensures { Gives place_value result (place_in (option_map (λ text. text.now) listen.entry)
         (option_map (λ text. text.now) connect.entry)) }
 {
@@ -151,7 +148,10 @@ fn read_times(words: &StationWords) -> Result<Times, OptionError>
 {
     let gap = number(&words.gap, 1, HOUR, GAP, OptionError::Gap)?;
     let time_out = number(&words.time_out, 1, HOUR, TIME_OUT, OptionError::TimeOut)?;
-    unless(words.raw && time_out <= gap, OptionError::GapNotBelowTimeOut)?;
+    unless(
+        words.raw && time_out <= gap,
+        OptionError::GapNotBelowTimeOut,
+    )?;
     let patience = number(&words.patience, 1, HOUR, time_out, OptionError::Patience)?;
     Ok(Times {
         gap,
@@ -213,7 +213,11 @@ fn printing_of(words: &StationWords) -> Printing
 fn reported_of(words: &StationWords) -> Option<Form>
     ensures { result ≡ reported_in (asked_words words.now) }
 {
-    if words.report_records { Some(form_of(words)) } else { None }
+    if words.report_records {
+        Some(form_of(words))
+    } else {
+        None
+    }
 }
 
 /// Reads the settings in the options, or returns the first reason for refusing them, in the order

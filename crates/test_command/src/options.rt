@@ -14,6 +14,7 @@ type Front = &'static [&'static str];
 
 /// The commands to which the options of the tables are added.
 const NOTHING: Front = &["bscline", "station", "line.toml"];
+
 const TERMINAL: Front = &[
     "bscline",
     "station",
@@ -23,6 +24,7 @@ const TERMINAL: Front = &[
     "--connect",
     "h:1",
 ];
+
 const CONTROL: Front = &[
     "bscline",
     "station",
@@ -147,6 +149,9 @@ fn contradicting_options_are_refused(rt: HostRuntime) -> Result<(), Fail> {
 fn fitting_options_are_accepted(rt: HostRuntime) -> Result<(), Fail> {
     const RAW: &[&str] = &["--raw", "--gap", "99", "--time-out", "100", "--text"];
     assert_eq!(rt; refusal(rt.alloc(), TERMINAL, RAW)?, None);
-    assert_eq!(rt; refusal(rt.alloc(), CONTROL, &["--gap", "9", "--raw"])?, None);
+    assert_eq!(rt;
+        refusal(rt.alloc(), CONTROL, &["--gap", "9", "--raw"])?,
+        None
+    );
     Ok(())
 }
