@@ -3,7 +3,7 @@
 ghost use Rattle.std.specs.Prelude.{◌≡◌, ◌≤◌};
 
 use bsc_block::{Format, Record, unpack};
-use bsc_frame::Message;
+use bsc_frame::{Message, MessageBuffer};
 use bsc_spool::{Queue, Spool};
 use std::test::Fail;
 use test_alloc::{Refusal, Refusing};
@@ -41,9 +41,9 @@ fn is_delivered(
     let Some(next) = queue.next() else {
         return false;
     };
-    let mut message = None;
+    let mut message = MessageBuffer::new();
     queue.text(next.count, next.end, &mut message);
-    let Some(Message::Text(text)) = &message else {
+    let Some(Message::Text(text)) = &message.message() else {
         return false;
     };
     if !spool.make_room() {

@@ -49,7 +49,8 @@ fn transmissions_of_texts(rt: HostRuntime) -> Result<(), Fail> {
         (octets::TEXT_LAST_SEVEN, 7, End::Etx, b""),
         (octets::TEXT_FIRST_SEVEN, 7, End::Etb, b""),
     ] {
-        let Heard::Whole(Message::Text(text)) = decode(sent, &mut TextBuffer::new()) else {
+        let mut buffer = TextBuffer::new();
+        let Heard::Whole(Message::Text(text)) = decode(sent, &mut buffer) else {
             return Err("no text".into());
         };
         assert_eq!(rt; text.end(), end);

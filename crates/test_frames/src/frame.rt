@@ -279,7 +279,7 @@ fn more_than_2048_octets_are_noise(rt: HostRuntime) {
     assert_eq!(rt; kind_after(0x16, 2047), "NOISE");
 }
 
-// What the octets are heard as without room for a text; None if they begin as a text.
+// What the octets are heard as without a buffer; None if they begin as a text.
 fn short_kind(octets: &[u8]) -> Option<&'static str> {
     match decode_short(octets) {
         Some(Short::Eot) => Some("EOT"),
@@ -364,7 +364,8 @@ fn units_have_at_most_144_characters(rt: HostRuntime) {
     for count in 0..=144usize {
         let check = if count % 2 == 0 { 0x83 } else { 0xc2 };
         let unit = (&[0x41; 144][..count], false);
-        let heard = decode(one_unit_of(count, check).as_slice(), &mut TextBuffer::new());
+        let mut buffer = TextBuffer::new();
+        let heard = decode(one_unit_of(count, check).as_slice(), &mut buffer);
         assert!(rt; is_text_of(&heard, &[unit], End::Etx), "{count}");
     }
     let longer = one_unit_of(145, 0xc2);
@@ -388,7 +389,8 @@ fn filled_at(place: usize) -> Wire {
 #[test]
 fn fill_is_dropped_at_each_place(rt: HostRuntime) {
     for place in 0..144usize {
-        let heard = decode(filled_at(place).as_slice(), &mut TextBuffer::new());
+        let mut buffer = TextBuffer::new();
+        let heard = decode(filled_at(place).as_slice(), &mut buffer);
         assert!(rt; is_text_of(&heard, LONGEST, End::Etx), "{place}");
     }
 }

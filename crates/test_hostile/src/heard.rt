@@ -98,7 +98,8 @@ pub(crate) fn hear(sent: &[u8], heard: Option<&[u8]>) -> Hearing {
 
 /// What a station hears if `sent` was sent and `octets` arrive.
 fn hear_octets(sent: &[u8], octets: &[u8]) -> Hearing {
-    let heard = decode(octets, &mut TextBuffer::new());
+    let mut buffer = TextBuffer::new();
+    let heard = decode(octets, &mut buffer);
     Hearing {
         kind: kind_of(&heard),
         itself: is_itself(&heard, sent),
