@@ -89,7 +89,12 @@ impl Receiver {
     }
 
     /// Takes a text if there is room for it, and returns the reply.
-    fn take_text<A: Allocator>(&mut self, text: &Text<'_>, urgent: bool, spool: &mut Spool<A>) -> Reply
+    fn take_text<A: Allocator>(
+        &mut self,
+        text: &Text<'_>,
+        urgent: bool,
+        spool: &mut Spool<A>,
+    ) -> Reply
         ensures { Receives self.old spool.old (Heard.Whole (Message.Text text.now)) urgent
             (record { receiver = self.new; spool = spool.new; reply = Some result }) }
     {

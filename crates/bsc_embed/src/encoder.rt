@@ -9,11 +9,7 @@ use bsc_frame::{Message, TextBuffer, Wire, encode};
 /// Returns the message of this kind with this content, if it is one. The units of a text are copied
 /// into the buffer.
 #[tactic(auto, unfolding(crate::specs::Contents::message_in))]
-fn message_of<'a>(
-    number: u32,
-    content: &Content,
-    buffer: &'a mut TextBuffer,
-) -> Option<Message<'a>>
+fn message_of<'a>(number: u32, content: &Content, buffer: &'a mut TextBuffer) -> Option<Message<'a>>
     ensures { result ≡ message_in number content.now }
 {
     match Kind::numbered(number)? {

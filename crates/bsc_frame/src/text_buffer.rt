@@ -83,8 +83,8 @@ impl TextBuffer {
         }
     }
 
-    /// Replaces the units by these, 1 to 7 of at most 144 record characters each, and lends the text
-    /// of them with this end.
+    /// Replaces the units by these, 1 to 7 of at most 144 record characters each, and lends the
+    /// text of them with this end.
     pub fn hold(&mut self, units: &[Unit], end: End) -> Text<'_>
         requires some { 0 < length units.now }
         requires most { length units.now ≤ MAX_UNITS }

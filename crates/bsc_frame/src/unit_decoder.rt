@@ -1,7 +1,8 @@
 //! From octets to the units of a text.
 ghost use Rattle.std.specs.Prelude.{◌≡◌, ◌<◌, [], length, map, All, None, IfSome, IfNone, false};
 ghost use Rattle.bsc_octet.specs.Octet.{IsOdd, code_in};
-ghost use Rattle.bsc_frame.specs.TextBuffers.{buffer_units, IsTextBuffer, AddsUnit, TakesUnit, ReadsText};
+ghost use Rattle.bsc_frame.specs.TextBuffers.{buffer_units, IsTextBuffer, AddsUnit, TakesUnit};
+ghost use Rattle.bsc_frame.specs.TextBuffers.{ReadsText};
 ghost use Rattle.bsc_frame.specs.Reading.{IsFront, AreParts, after_start, read_unit, unit_before};
 ghost use Rattle.bsc_frame.specs.Reading.{unit_at, units_at};
 
@@ -103,8 +104,8 @@ fn take_front<'a>(
     Some((ending, rest))
 }
 
-/// Reads the first unit, adds it to the buffer, and returns the code of its ending character and the
-/// octets after its check. Returns `None` if there is no such unit.
+/// Reads the first unit, adds it to the buffer, and returns the code of its ending character and
+/// the octets after its check. Returns `None` if there is no such unit.
 fn take_unit<'a>(
     after_us: bool,
     octets: &'a [u8],

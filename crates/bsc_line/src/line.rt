@@ -18,8 +18,8 @@ ghost use Rattle.bsc_line_model.specs.Offers.{select_count};
 ghost use Rattle.bsc_line_model.specs.Kept.{IsLine, IsNewLine};
 
 use crate::pending::Pending;
-use crate::within_limits::within_limits;
 use crate::terminals::new_terminals;
+use crate::within_limits::within_limits;
 use bsc_bid::{Setup, Terminal};
 use bsc_block::Records;
 use bsc_control::{Control, SetupError, Way};

@@ -81,7 +81,12 @@ impl Pending {
     }
 
     /// Lets a station hear this; then its answer is pending.
-    pub(crate) fn answer<S: Station>(&mut self, speaker: Speaker, station: &mut S, heard: &Heard<'_>)
+    pub(crate) fn answer<S: Station>(
+        &mut self,
+        speaker: Speaker,
+        station: &mut S,
+        heard: &Heard<'_>,
+    )
         ensures { (sent : Option MessageValue) × (S.hears station.old heard.now station.new sent
             × (self.new ≡ sent_by speaker sent)) }
     {

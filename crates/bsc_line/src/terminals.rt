@@ -108,8 +108,8 @@ fn hear_at<A: Allocator>(
     }
 }
 
-/// Lets each terminal hear what arrives at its place, and leaves the answer of the terminal with the
-/// least number among those that answer.
+/// Lets each terminal hear what arrives at its place, and leaves the answer of the terminal with
+/// the least number among those that answer.
 fn hear_all<A: Allocator>(
     terminals: &mut [Tributary<A>],
     hearings: &Hearings<'_>,

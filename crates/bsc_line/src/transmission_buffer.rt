@@ -65,7 +65,12 @@ impl TransmissionBuffer {
     }
 
     /// Lets a station hear this, and keeps its answer.
-    pub(crate) fn answer<S: Station>(&mut self, speaker: Speaker, station: &mut S, heard: &Heard<'_>)
+    pub(crate) fn answer<S: Station>(
+        &mut self,
+        speaker: Speaker,
+        station: &mut S,
+        heard: &Heard<'_>,
+    )
         ensures { (sent : Option MessageValue) × (S.hears station.old heard.now station.new sent
             × (self.new ≡ sent_by speaker sent)) }
     {

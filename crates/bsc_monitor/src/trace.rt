@@ -10,8 +10,8 @@ ghost use Rattle.bsc_monitor.specs.Traces.{who_shown};
 
 use bsc_carrier::CarrierError;
 use bsc_connections::Note;
-use bsc_frame::{TextBuffer, decode};
 use bsc_frame::laws::{one_reading, reading};
+use bsc_frame::{TextBuffer, decode};
 use bsc_print::{PrintError, put, write_chars, write_heard_name};
 use std::alloc::Allocator;
 use std::io::Write;

@@ -56,7 +56,12 @@ fn transmissions_of_texts(rt: HostRuntime) -> Result<(), Fail> {
         assert_eq!(rt; text.end(), end);
         assert!(rt; carries(&text, count, chars));
     }
-    assert!(rt; matches!(&decode(octets::BROKEN_TEXT, &mut TextBuffer::new()), Heard::Failed));
+    assert!(rt;
+        matches!(
+            &decode(octets::BROKEN_TEXT, &mut TextBuffer::new()),
+            Heard::Failed
+        )
+    );
     assert!(rt; matches!(&decode(octets::NOISE, &mut TextBuffer::new()), Heard::Noise));
     Ok(())
 }

@@ -3,7 +3,10 @@ ghost use Rattle.std.specs.Prelude.{◌≤◌};
 
 mod spoiled;
 
-use bsc_frame::{Address, AddressError, End, Heard, Message, Short, Text, TextBuffer, Unit, Wire, decode, decode_short, encode};
+use bsc_frame::{
+    Address, AddressError, End, Heard, Message, Short, Text, TextBuffer, Unit, Wire, decode,
+    decode_short, encode,
+};
 
 /// The characters of a unit, and whether EM follows them.
 type UnitRow<'a> = (&'a [u8], bool);
@@ -216,7 +219,10 @@ fn is_sent_again(octets: &[u8]) -> bool {
 
 // Whether both are heard as whole messages that are equal.
 fn are_same(a: &[u8], b: &[u8]) -> bool {
-    match (&decode(a, &mut TextBuffer::new()), &decode(b, &mut TextBuffer::new())) {
+    match (
+        &decode(a, &mut TextBuffer::new()),
+        &decode(b, &mut TextBuffer::new()),
+    ) {
         (Heard::Whole(a), Heard::Whole(b)) => a == b,
         _ => false,
     }
@@ -304,7 +310,10 @@ fn short_messages_are_told_without_a_text(rt: HostRuntime) {
 #[test]
 fn texts_are_read_by_their_units(rt: HostRuntime) {
     for (octets, units, end) in TEXTS {
-        assert!(rt; is_text_of(&decode(octets, &mut TextBuffer::new()), units, *end), "{octets:?}");
+        assert!(rt;
+            is_text_of(&decode(octets, &mut TextBuffer::new()), units, *end),
+            "{octets:?}"
+        );
     }
 }
 
@@ -369,7 +378,10 @@ fn units_have_at_most_144_characters(rt: HostRuntime) {
         assert!(rt; is_text_of(&heard, &[unit], End::Etx), "{count}");
     }
     let longer = one_unit_of(145, 0xc2);
-    assert_eq!(rt; kind(&decode(longer.as_slice(), &mut TextBuffer::new())), "FAILED");
+    assert_eq!(rt;
+        kind(&decode(longer.as_slice(), &mut TextBuffer::new())),
+        "FAILED"
+    );
 }
 
 // The text of 144 characters A, with fill before the character at this place.
@@ -399,7 +411,13 @@ fn fill_is_dropped_at_each_place(rt: HostRuntime) {
 fn longest_text_has_1033_octets(rt: HostRuntime) {
     let octets = longest_text();
     assert_eq!(rt; octets.len(), 1033);
-    assert!(rt; is_text_of(&decode(octets.as_slice(), &mut TextBuffer::new()), &[LONGEST_UNIT; 7], End::Etx));
+    assert!(rt;
+        is_text_of(
+            &decode(octets.as_slice(), &mut TextBuffer::new()),
+            &[LONGEST_UNIT; 7],
+            End::Etx
+        )
+    );
     assert!(rt; is_sent_again(octets.as_slice()));
 }
 

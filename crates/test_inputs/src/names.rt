@@ -86,7 +86,14 @@ fn are_chars(chars: &[u8], shown: &[u8], alloc: Global) -> bool {
 // Whether this is printed for the octets.
 fn is_shown(octets: &[u8], detail: Detail, shown: &[u8], alloc: Global) -> bool {
     let mut out = Vec::new(alloc);
-    write_shown(alloc, detail, &decode(octets, &mut TextBuffer::new()), &mut out).is_ok() && out.as_slice() == shown
+    write_shown(
+        alloc,
+        detail,
+        &decode(octets, &mut TextBuffer::new()),
+        &mut out,
+    )
+    .is_ok()
+        && out.as_slice() == shown
 }
 
 #[test]
@@ -114,7 +121,12 @@ fn both_details(rt: HostRuntime) {
 #[test]
 fn failing_write(rt: HostRuntime) {
     for left in 0..8usize {
-        let answer = write_shown(rt.alloc(), Detail::Units, &decode(TEXT, &mut TextBuffer::new()), &mut Full { left });
+        let answer = write_shown(
+            rt.alloc(),
+            Detail::Units,
+            &decode(TEXT, &mut TextBuffer::new()),
+            &mut Full { left },
+        );
         assert!(rt; answer == Err(PrintError::Output), "{left}");
     }
     assert!(rt; write_name_of(CALL, &mut Full { left: 1 }) == Err(PrintError::Output));
@@ -126,7 +138,12 @@ fn failing_write(rt: HostRuntime) {
 // refused something, and the whole output otherwise.
 fn is_shown_or_refused(alloc: &Refusing, kept: Global) -> bool {
     let mut out = Vec::new(kept);
-    let answer = write_shown(alloc, Detail::Units, &decode(TEXT, &mut TextBuffer::new()), &mut out);
+    let answer = write_shown(
+        alloc,
+        Detail::Units,
+        &decode(TEXT, &mut TextBuffer::new()),
+        &mut out,
+    );
     if alloc.refused() == 0 {
         answer == Ok(()) && out.as_slice() == UNITS
     } else {

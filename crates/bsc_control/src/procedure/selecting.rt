@@ -57,12 +57,7 @@ impl<A: Allocator> Procedure<A> {
 
     /// Acts on a silence after a selection: the call, or ENQ if ENQ was sent last, is sent again
     /// while a try is left, else the next call is made.
-    pub(crate) fn fail_selection(
-        &mut self,
-        select: usize,
-        enquired: bool,
-        sent: &mut MessageBuffer,
-    )
+    pub(crate) fn fail_selection(&mut self, select: usize, enquired: bool, sent: &mut MessageBuffer)
         requires { select < length (peer self.old).outbounds }
         ensures row { record { control = self.new; sent = sent.new }
             ≡ silence_in self.old (Task.Selecting select enquired) }

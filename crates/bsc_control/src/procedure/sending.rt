@@ -32,7 +32,12 @@ impl<A: Allocator> Procedure<A> {
     }
 
     /// Hears a transmission during a bid.
-    pub(crate) fn hear_sending(&mut self, select: usize, heard: &Heard<'_>, sent: &mut MessageBuffer)
+    pub(crate) fn hear_sending(
+        &mut self,
+        select: usize,
+        heard: &Heard<'_>,
+        sent: &mut MessageBuffer,
+    )
         requires { select < length (peer self.old).outbounds }
         ensures row { record { control = self.new; sent = sent.new }
             ≡ bid_step self.old select

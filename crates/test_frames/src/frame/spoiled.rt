@@ -60,7 +60,11 @@ const NAMES: &[(&[u8], &str)] = &[
 // Whether the first octets are heard as these names say, by their number.
 fn fronts_are(octets: &[u8], names: &[&str]) -> bool {
     for (count, name) in names.iter().enumerate() {
-        if octets.get(..count).map(|front| kind(&decode(front, &mut TextBuffer::new()))) != Some(*name) {
+        if octets
+            .get(..count)
+            .map(|front| kind(&decode(front, &mut TextBuffer::new())))
+            != Some(*name)
+        {
             return false;
         }
     }
@@ -121,6 +125,9 @@ fn two_turned_bits_may_make_another_reply(rt: HostRuntime) {
 #[test]
 fn damage_may_make_another_text(rt: HostRuntime) {
     for (octets, units) in TEXTS {
-        assert!(rt; is_text_of(&decode(octets, &mut TextBuffer::new()), units, End::Etx), "{octets:?}");
+        assert!(rt;
+            is_text_of(&decode(octets, &mut TextBuffer::new()), units, End::Etx),
+            "{octets:?}"
+        );
     }
 }
