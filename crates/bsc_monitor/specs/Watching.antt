@@ -11,7 +11,7 @@ use Rattle.bsc_connections.specs.Histories.{Happening, WasHeard, WasSilent, all_
 use Rattle.bsc_connections.specs.Attending.{Attended, Steps}
 use Rattle.bsc_report.specs.Channels.{each_below}
 use Rattle.bsc_monitor.specs.Arrivals.{AreCounted, arrivals_of, arrived_on}
-use Rattle.bsc_monitor.specs.declared.arrivals.Form.{Form}
+use Rattle.bsc_print.specs.declared.form.Form.{Form}
 use Rattle.bsc_monitor.specs.declared.party.Party as party_of
 use Rattle.bsc_monitor.specs.declared.watch.Watch.{Watch}
 
