@@ -63,6 +63,7 @@ station_fault (attending.Closed error) f h = subst IsStationFault (sym h) tt
 station_fault attending.InDoubt f h = subst IsStationFault (sym h) tt
 station_fault attending.Undelivered f h = subst IsStationFault (sym h) tt
 station_fault attending.Output f h = subst IsStationFault (sym h) tt
+station_fault attending.Unprinted f h = subst IsStationFault (sym h) tt
 station_fault attending.Memory f h = subst IsStationFault (sym h) tt
 
 -- a fault that comes before anything is printed is an error that comes before it
@@ -78,4 +79,5 @@ early_station (attending.Closed error) f h early = subst IsEarly h early
 early_station attending.InDoubt f h early = subst IsEarly h early
 early_station attending.Undelivered f h early = subst IsEarly h early
 early_station attending.Output f h early = subst IsEarly h early
+early_station attending.Unprinted f h early = subst IsEarly h early
 early_station attending.Memory f h early = subst IsEarly h early

@@ -60,10 +60,13 @@ module _ {S : Type 0} (contents remaining : S → Option (List ℕ)) where
             new_line = runs.new_line;
             runs = record {
               text = runs.runs.text;
+              events = runs.runs.events;
               plays = runs.runs.plays;
               written = Appends-kept a b c (runs.runs.text ++ report_of runs.ended)
                   runs.runs.written k;
+              line = runs.runs.line;
             };
+            arrived = runs.arrived;
           };
         };
       }

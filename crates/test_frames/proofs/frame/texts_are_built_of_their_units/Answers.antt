@@ -3,9 +3,9 @@ use Rattle.std.proofs.Common.{arith, refl}
 use Rattle.bsc_frame.specs.Octet.{is_record_char}
 use Rattle.test_frames.proofs.frame.texts_are_built_of_their_units.Goals as goal
 
-pub of-text-requires-clause-each : goal.of-text-requires-clause-each
+pub hold-text-requires-clause-each : goal.hold-text-requires-clause-each
 unfolding is_record_char
-of-text-requires-clause-each g c = (
+hold-text-requires-clause-each g c = (
   record { most = omega arith; each = (refl, (refl, tt)) },
   (record { most = omega arith; each = tt }, tt),
 )
