@@ -44,8 +44,8 @@ live_error live.Output = attending.Output
 live_error live.Unprinted = attending.Unprinted
 live_error live.Memory = attending.Memory
 
--- The error for options that are refused: they conflict or one is missing, or a value is wrong, with
--- the reason in words.
+-- The error for options that are refused: they conflict or one is missing, or a value is wrong,
+-- with the reason in words.
 abbrev pub IsOptionError : OptionError → AttendingError → Type 0
 IsOptionError error (attending.WrongTogether why) =
     (is_conflict error ≡ true) × (why.now ≡ reason error)

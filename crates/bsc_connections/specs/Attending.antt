@@ -101,8 +101,8 @@ module _ {S R W F M : Type 0} (parts : SessionParts S R W F M) where
       parts.is_told before station (WasSent (wire m)) result after
 
   -- The station has an answer, and the monitor has returned this when it was told what happened. If
-  -- it accepted that, the answer is sent, and then the monitor is told what was sent. If it refused,
-  -- nothing is sent, and its error is the result.
+  -- it accepted that, the answer is sent, and then the monitor is told what was sent. If it
+  -- refused, nothing is sent, and its error is the result.
   pub record Replies (told : Result Bool LiveError) (answer : Option Message) (old : Now)
       (happened : List Happening) (result : Result Bool LiveError) (new : Now) : Type 0 where
     pub sent : Option Message

@@ -4,8 +4,8 @@
 //! they spell, whatever leading pads and SYN fill the equipment at the other end uses, and
 //! distinguishes a text that failed from noise. [`decode_short`] does the same without a buffer for
 //! octets that do not begin as a text. A [`Message`] is small: the units of a text are borrowed
-//! from a [`TextBuffer`] or a [`MessageBuffer`], which the caller has. Nothing here waits, allocates
-//! or keeps state between transmissions.
+//! from a [`TextBuffer`] or a [`MessageBuffer`], which the caller has. Nothing here waits,
+//! allocates or keeps state between transmissions.
 //!
 //! The code set, which is the octet of each code, the control characters, the check of a unit and
 //! the codes of records and addresses, is `bsc_octet`; here only their order is known. Layers above

@@ -26,12 +26,12 @@ use std::io::{Read, Write};
 /// event is refused. After `Output`, `Socket` and `Memory` there is no report, and what was written
 /// before stays.
 ///
-/// The events that were accepted are a run of the line, each with the octets that were read. So what
-/// `Line::run` promises holds of it: if the line is trusted at the end, the records that arrived on
-/// each channel are the first of those that were offered before and then by the script, in order
-/// and each once; and if the script, from some step on, is as many `carry` as the visit or the round
-/// takes that begins there, each read as it was sent, and no spool is refused room, then the records
-/// that wait there are delivered.
+/// The events that were accepted are a run of the line, each with the octets that were read. So
+/// what `Line::run` promises holds of it: if the line is trusted at the end, the records that
+/// arrived on each channel are the first of those that were offered before and then by the script,
+/// in order and each once; and if the script, from some step on, is as many `carry` as the visit or
+/// the round takes that begins there, each read as it was sent, and no spool is refused room, then
+/// the records that wait there are delivered.
 pub fn run_on<
     S: Read + Write + Drop,
     A: Allocator,

@@ -1,5 +1,5 @@
-//! A run on a line with the greatest number of terminals: each of them hears an item of its own, and
-//! the report has them all.
+//! A run on a line with the greatest number of terminals: each of them hears an item of its own,
+//! and the report has them all.
 
 use bsc_config::{Config, read_config};
 use bsc_loopback::connect;
