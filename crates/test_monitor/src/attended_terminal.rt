@@ -119,21 +119,34 @@ const REFUSED_END: &[u8] = b"+5 control heard CALL a 161604ff16166185ff
 +7 control heard TEXT ETX 1 161602c84919839bff
 ";
 
-/// Whether a terminal ends with `Unprinted` over this output, and sends nothing after the text.
-fn refuses<W: Write>(alloc: Global, out: &mut W) -> Result<bool, Fail> {
+/// Attends a terminal until it ends. Returns whether it ended because a record that arrived could
+/// not be printed.
+fn ends_unprinted<W: Write>(
+    alloc: Global,
+    terminal: &mut LineTerminal<Global>,
+    out: &mut W,
+    trace: &mut Vec<u8>,
+) -> Result<bool, Fail> {
     const PRINTING: Printing = Printing {
         form: Form::Hexadecimal,
         trace: true,
     };
-    let mut terminal = sending_terminal(alloc)?;
-    let mut trace = Vec::new(alloc);
     let mut connections = connections(alloc, TO_TERMINAL)?;
-    let timer = Counting { asked: 0 };
-    let watch = Watch::new(alloc, &terminal, PRINTING, timer, out, &mut trace)?;
+    let watch = Watch::new(alloc, terminal, PRINTING, Counting { asked: 0 }, out, trace)?;
     let mut watch = TerminalWatch::new(watch);
     let mut waiter = Scripted { steps: b"" };
-    let result = attend(&mut terminal, &mut connections, &mut waiter, &mut watch);
-    Ok(result == Err(LiveError::Unprinted) && trace.ends_with(REFUSED_END))
+    match attend(terminal, &mut connections, &mut waiter, &mut watch) {
+        Err(LiveError::Unprinted) => Ok(true),
+        _ => Ok(false),
+    }
+}
+
+/// Whether a terminal ends with `Unprinted` over this output, and sends nothing after the text.
+fn refuses<W: Write>(alloc: Global, out: &mut W) -> Result<bool, Fail> {
+    let mut terminal = sending_terminal(alloc)?;
+    let mut trace = Vec::new(alloc);
+    let is_unprinted = ends_unprinted(alloc, &mut terminal, out, &mut trace)?;
+    Ok(is_unprinted && trace.ends_with(REFUSED_END))
 }
 
 /// Whichever write of the line of a record fails, the text that brought the record is not
