@@ -1,6 +1,6 @@
 //! The options of a station, and the reasons for refusing them.
 
-use bsc_asked::Asked;
+use bsc_asked::{Asked, StationWords};
 use bsc_options::{OptionError, read_settings};
 use bsc_words::read_words;
 use std::alloc::{AllocError, Global};
@@ -50,6 +50,14 @@ fn joined(
     Ok(words)
 }
 
+/// Returns the reason for which these words of a station are refused; `None` if they are not.
+fn refusal_of(words: &StationWords) -> Option<OptionError> {
+    match read_settings(words) {
+        Ok(_settings) => None,
+        Err(error) => Some(error),
+    }
+}
+
 /// Returns the reason for which the options are refused; `None` if they are not.
 fn refusal(
     alloc: Global,
@@ -57,13 +65,12 @@ fn refusal(
     options: &[&'static str],
 ) -> Result<Option<OptionError>, AllocError> {
     let words = joined(alloc, front, options)?;
-    Ok(match read_words(alloc, &words) {
-        Ok(Asked::Station(words)) => match read_settings(&words) {
-            Ok(_) => None,
-            Err(error) => Some(error),
-        },
+    let asked = read_words(alloc, &words);
+    let refusal = match &asked {
+        Ok(Asked::Station(words)) => refusal_of(words),
         _ => None,
-    })
+    };
+    Ok(refusal)
 }
 
 /// The place of the first row with options that are not refused for its reason.
