@@ -11,8 +11,9 @@ use Rattle.bsc_frame.specs.declared.message.Message.{Message}
 use Rattle.bsc_frame.specs.Wire.{wire}
 use Rattle.bsc_carrier.specs.declared.error.CarrierError.{CarrierError}
 use Rattle.bsc_connections.specs.declared.awaited.Awaited.{Awaited}
-use Rattle.bsc_connections.specs.declared.awaited.Awaited.TheVariants.{Octets, Newcomer, TimeOut}
-use Rattle.bsc_connections.specs.declared.awaited.Wait.{Wait}
+use Rattle.bsc_connections.specs.declared.awaited.Awaited.TheVariants.{Octets, Newcomer, Gap}
+use Rattle.bsc_connections.specs.declared.awaited.Awaited.TheVariants.{TimeOut}
+use Rattle.bsc_connections.specs.declared.awaited.Waiter as waiter_of
 use Rattle.bsc_connections.specs.declared.awaited.LiveError.{LiveError}
 use Rattle.bsc_connections.specs.declared.connection.Taken.{Taken}
 use Rattle.bsc_connections.specs.declared.connection.Taken.TheVariants.{Nothing, Interrupted, Part}
@@ -26,10 +27,9 @@ use Rattle.bsc_connections.specs.Histories.{HasClosed}
 use Rattle.bsc_connections.specs.Histories.{sent_where_some}
 use Rattle.bsc_connections.specs.Histories.{heard_in, heard_at, sent_in, all_sent, IsNoJoining}
 use Rattle.bsc_connections.specs.Histories.{NobodyJoins}
-use Rattle.bsc_connections.specs.Attending.{SendsAll, IsTakenAt, ReadsAt, TimesOut, Joins, Does}
-use Rattle.bsc_connections.specs.Attending.{ended, goes_on, fails, first_closed}
-use Rattle.bsc_connections.specs.Attending.{first_awaiting, Answers}
-use Rattle.bsc_connections.specs.Attending.{Session, session_of}
+use Rattle.bsc_connections.specs.Attending.{SendsAll, IsTakenAt, ReadsAt, GapPasses, JoinsAs}
+use Rattle.bsc_connections.specs.Attending.{Joins, Does, ended, goes_on, fails, fails_to_wait}
+use Rattle.bsc_connections.specs.Attending.{first_closed, awaits_gap, Answers, Around, Session}
 use Rattle.bsc_connections.specs.Streams.{Carries, CarriedAt, CarriesFromStart, CarriesSinceJoining}
 use Rattle.bsc_connections.specs.Streams.{CarriesHistory, carried_at}
 use Rattle.bsc_connections.proofs.OnePlace.{other_place_unchanged, changed_place_has_new}
@@ -362,13 +362,15 @@ module _ {R W F : Type 0} (parts : ConnectionParts R W F)
       (sym is) came
 
   -- ---- one step after another
-  module _ {S M : Type 0} (station : station_of.Ghosts S)
-      (is_told : M → S → Happening → Result Bool LiveError → M → Type 0) where
-    abbrev session : SessionParts S R W F M
-    session = record { station = station; connection = parts; is_told = is_told }
+  module _ {S M T : Type 0} (station : station_of.Ghosts S)
+      (is_told : M → S → Happening → Result Bool LiveError → M → Type 0)
+      (waiter : waiter_of.Ghosts T R W) where
+    abbrev session : SessionParts S R W F M T
+    session =
+        record { station = station; connection = parts; is_told = is_told; waiter = waiter }
 
     abbrev Now : Type 0
-    Now = Session S C M
+    Now = Session S C M T
 
     abbrev starts : F → Type 0
     starts framing = parts.framing.starts framing
@@ -430,39 +432,36 @@ module _ {R W F : Type 0} (parts : ConnectionParts R W F)
         (λ m there m_up. came_heard_by_read at place old.connections between h.connection m taken
         h.at there m_up)
         h.answers is is_up
-    went_by_read Nothing at place old happened result new b (taken, same, none) is is_up =
-        went_if_nothing_happened place old.connections happened b none.0
-        (came_nothing_by_part Nothing (λ c. refl) at place old.connections new.connections b taken
-        is is_up)
-    went_by_read Interrupted at place old happened result new b (taken, same, none) is is_up =
-        went_if_nothing_happened place old.connections happened b none.0
+    went_by_read Nothing at place old happened result new b r is is_up =
+        went_if_nothing_happened place old.connections happened b r.tells.0
+        (came_nothing_by_part Nothing (λ c. refl) at place old.connections new.connections b
+        r.is_taken is is_up)
+    went_by_read Interrupted at place old happened result new b r is is_up =
+        went_if_nothing_happened place old.connections happened b r.tells.0
         (came_nothing_by_part Interrupted (λ c. refl) at place old.connections new.connections b
-        taken is is_up)
-    went_by_read Part at place old happened result new b (taken, same, none) is is_up =
-        went_if_nothing_happened place old.connections happened b none.0
-        (came_nothing_by_part Part (λ c. refl) at place old.connections new.connections b taken is
-        is_up)
-    went_by_read (Closed why) at place old happened result new b (taken, same, one) is is_up =
+        r.is_taken is is_up)
+    went_by_read Part at place old happened result new b r is is_up =
+        went_if_nothing_happened place old.connections happened b r.tells.0
+        (came_nothing_by_part Part (λ c. refl) at place old.connections new.connections b
+        r.is_taken is is_up)
+    went_by_read (Closed why) at place old happened result new b r is is_up =
         inl (
-          subst (NobodyJoins place) (sym one.0) (tt, tt),
-          came_for_equal_history place old.connections b happened (HasClosed at why ∷ []) one.0
+          subst (NobodyJoins place) (sym r.tells.0) (tt, tt),
+          came_for_equal_history place old.connections b happened (HasClosed at why ∷ []) r.tells.0
               (came_nothing_by_part (Closed why) (λ c. refl) at place old.connections
-              new.connections b taken is is_up),
+              new.connections b r.is_taken is is_up),
         )
 
-    went_by_joining : (free : Option ℕ) (place : ℕ) (old : Now)
-        (happened : List Happening) (result : Result Bool LiveError) (new : Now) (b : C)
-        → Joins session free old happened result new
+    went_by_peer : (joined : Option (R × W)) (at place : ℕ) (speaker : S) (old : Around C M)
+        (happened : List Happening) (result : Result Bool LiveError) (new : Around C M) (b : C)
+        → JoinsAs session at joined speaker old happened result new
         → slice_get new.connections place ≡ Some b → b.ends ≢ None
         → Went place old.connections happened b
-    went_by_joining None place old happened result new b (same, none) is is_up =
+    went_by_peer None at place speaker old happened result new b (same, none) is is_up =
         went_if_nothing_happened place old.connections happened b none.0
         (came_nothing_if_unchanged place old.connections new.connections b same is is_up)
-    went_by_joining (Some at) place old happened result new b (inl (same, none)) is is_up =
-        went_if_nothing_happened place old.connections happened b none.0
-        (came_nothing_if_unchanged place old.connections new.connections b same is is_up)
-    went_by_joining (Some at) place old happened result new b (inr (changes, joined)) is is_up =
-        elim (place_after_change at place (λ b a. (a.ends ≢ None) × starts a.framing)
+    went_by_peer (Some ends) at place speaker old happened result new b (changes, joined) is is_up =
+        elim (place_after_change at place (λ b a. (a.ends ≡ Some ends) × starts a.framing)
         old.connections new.connections b changes is) [
           | inl (same, (a, was, (up, fresh))) ↦ inr
               (joined.0 ∙ ap (λ (n : ℕ). HasJoined n ∷ []) same, fresh)
@@ -474,15 +473,25 @@ module _ {R W F : Type 0} (parts : ConnectionParts R W F)
               )
         ]
 
-    went_by_time_out : (awaiting : Option ℕ) (place : ℕ) (old : Now) (happened : List Happening)
-        (result : Result Bool LiveError) (new : Now) (b : C)
-        → TimesOut session awaiting old happened result new
+    went_by_joining : (free : Option ℕ) (place : ℕ) (old : Now)
+        (happened : List Happening) (result : Result Bool LiveError) (new : Now) (b : C)
+        → Joins session free old happened result new
         → slice_get new.connections place ≡ Some b → b.ends ≢ None
         → Went place old.connections happened b
-    went_by_time_out None place old happened result new b silent is is_up =
-        went_by_answer place WasSilent silent.answer old old happened result new b tt
-        (λ m there m_up. (m, there, carries_nothing m m_up)) silent.answers is is_up
-    went_by_time_out (Some at) place old happened result new b h is is_up =
+    went_by_joining None place old happened result new b (same, none, turned) is is_up =
+        went_if_nothing_happened place old.connections happened b none.0
+        (came_nothing_if_unchanged place old.connections new.connections b same is is_up)
+    went_by_joining (Some at) place old happened result new b (joined, joins, joining) is is_up =
+        went_by_peer joined at place new.station
+        (record { connections = old.connections; monitor = old.monitor }) happened result
+        (record { connections = new.connections; monitor = new.monitor }) b joining is is_up
+
+    went_by_gap : (awaits : Bool) (at place : ℕ) (old : Now) (happened : List Happening)
+        (result : Result Bool LiveError) (new : Now) (b : C)
+        → GapPasses session at awaits old happened result new
+        → slice_get new.connections place ≡ Some b → b.ends ≢ None
+        → Went place old.connections happened b
+    went_by_gap true at place old happened result new b h is is_up =
         went_by_answer place (WasHeard at (last h.heard.connection.framing)) h.heard.answer old
         (record old { connections = h.between }) happened result new b tt
         (λ m there m_up. came_heard_by_change at place
@@ -490,6 +499,10 @@ module _ {R W F : Type 0} (parts : ConnectionParts R W F)
         (λ x y y_up ended. carries_gap x y y_up ended.0 ended.1) old.connections h.between
         h.heard.connection m h.ended h.heard.at there m_up)
         h.heard.answers is is_up
+    went_by_gap false at place old happened result new b (none, ok, same) is is_up =
+        went_if_nothing_happened place old.connections happened b none
+        (came_nothing_if_unchanged place old.connections new.connections b
+        (ap (λ (now : Now). now.connections) same) is is_up)
 
     went_by_event : (awaited : Awaited) (place : ℕ) (old : Now) (happened : List Happening)
         (result : Result Bool LiveError) (new : Now) (b : C)
@@ -501,9 +514,12 @@ module _ {R W F : Type 0} (parts : ConnectionParts R W F)
     went_by_event Newcomer place old happened result new b (same, joins) is is_up =
         went_by_joining (first_closed old.connections) place old happened result new b joins is
         is_up
-    went_by_event TimeOut place old happened result new b times is is_up =
-        went_by_time_out (first_awaiting parts.framing.awaits old.connections) place old happened
-        result new b times is is_up
+    went_by_event (Gap at) place old happened result new b passes is is_up =
+        went_by_gap (awaits_gap parts.framing.awaits (slice_get old.connections at)) at place old
+        happened result new b passes is is_up
+    went_by_event TimeOut place old happened result new b silent is is_up =
+        went_by_answer place WasSilent silent.answer old old happened result new b tt
+        (λ m there m_up. (m, there, carries_nothing m m_up)) silent.answers is is_up
 
     -- A step, followed by what was carried after it.
     carries_with_step_first : (place : ℕ) (before between : List C) (happened history : List
@@ -585,30 +601,35 @@ carries_one_step parts gives place before happened now nothing (inr (joined, non
       carries = nothing;
     })
 
-pub carries_history : {S R W F M T : Type 0} (parts : SessionParts S R W F M)
+pub carries_history : {S R W F M T : Type 0} (parts : SessionParts S R W F M T)
     (gives : F → List ℕ → List (List ℕ) → F → Type 0)
     (fits : Fits parts.connection.framing.feeds parts.connection.framing.ends
-    parts.connection.framing.last gives)
-    (waits : T → Wait → Result Awaited LiveError → T → Type 0) → CarriesHistory parts gives waits
-carries_history parts gives fits waits old new [] place now (ended station connections monitor) is
+    parts.connection.framing.last gives) → CarriesHistory parts gives
+carries_history {S} {R} {W} {F} {M} {T} parts gives fits old new [] place now (ended same) is is_up =
+    inl (
+      tt,
+      came_nothing_if_unchanged parts.connection gives fits place old.connections new.connections
+          now (ap (λ (s : Session S (ConnectionValue R W F) M T). s.connections) same) is is_up,
+    )
+carries_history {S} {R} {W} {F} {M} {T} parts gives fits old new [] place now (fails_to_wait f) is
     is_up =
     inl (
       tt,
       came_nothing_if_unchanged parts.connection gives fits place old.connections new.connections
-          now connections is is_up,
+          now (ap (λ (s : Session S (ConnectionValue R W F) M T). s.connections) f.others) is is_up,
     )
-carries_history parts gives fits waits old new whole place now
+carries_history parts gives fits old new whole place now
     (goes_on {mid = mid} {happened = happened} {history = history} {is_more = is_more} step rest) is
     is_up =
-    carries_with_step_first parts.connection gives fits parts.station parts.is_told place
-    old.connections mid.connections happened history now
+    carries_with_step_first parts.connection gives fits parts.station parts.is_told parts.waiter
+    place old.connections mid.connections happened history now
     (λ m there m_up. went_by_event parts.connection gives fits parts.station parts.is_told
-    step.awaited place (session_of old) happened (Ok is_more) (session_of mid) m step.does there
-    m_up)
-    (carries_history parts gives fits waits mid new history place now rest is is_up)
-carries_history parts gives fits waits old new happened place now (fails {error = error} step) is
-    is_up =
+    parts.waiter step.awaited place (record old { waiter = step.waiter }) happened (Ok is_more) mid
+    m step.does there m_up)
+    (carries_history parts gives fits mid new history place now rest is is_up)
+carries_history parts gives fits old new happened place now (fails {error = error} step) is is_up =
     carries_one_step parts.connection gives place old.connections happened now
     (carries_nothing parts.connection gives fits now is_up)
-    (went_by_event parts.connection gives fits parts.station parts.is_told step.awaited place
-    (session_of old) happened (Err error) (session_of new) now step.does is is_up)
+    (went_by_event parts.connection gives fits parts.station parts.is_told parts.waiter
+    step.awaited place (record old { waiter = step.waiter }) happened (Err error) new now step.does
+    is is_up)

@@ -4,6 +4,7 @@ use Rattle.std.specs.declared.io.Read as read
 use Rattle.std.specs.declared.io.Write as write
 use Rattle.bsc_bid.specs.declared.station.Station as station_of
 use Rattle.bsc_connections.specs.declared.awaited.LiveError.{LiveError}
+use Rattle.bsc_connections.specs.declared.awaited.Waiter as waiter_of
 use Rattle.bsc_connections.specs.declared.framing.Framing as framing_of
 use Rattle.bsc_connections.specs.Histories.{Happening}
 
@@ -18,19 +19,22 @@ abbrev pub connection_parts : {R W F : Type 0} → read.Ghosts R → write.Ghost
 connection_parts reader writer framing =
     record { reader = reader; writer = writer; framing = framing }
 
--- What is known of a station, of its connections, and of what its monitor does when it is told of
--- something.
-pub record SessionParts (S R W F M : Type 0) : Type 1 where
+-- What is known of a station, of its connections, of what its monitor does when it is told of
+-- something, and of its waiter.
+pub record SessionParts (S R W F M T : Type 0) : Type 1 where
   pub station : station_of.Ghosts S
   pub connection : ConnectionParts R W F
   pub is_told : M → S → Happening → Result Bool LiveError → M → Type 0
+  pub waiter : waiter_of.Ghosts T R W
 
-abbrev pub session_parts : {S R W F M : Type 0} → station_of.Ghosts S → read.Ghosts R
+abbrev pub session_parts : {S R W F M T : Type 0} → station_of.Ghosts S → read.Ghosts R
     → write.Ghosts W → framing_of.Ghosts F
-    → (M → S → Happening → Result Bool LiveError → M → Type 0) → SessionParts S R W F M
-session_parts station reader writer framing is_told =
+    → (M → S → Happening → Result Bool LiveError → M → Type 0) → waiter_of.Ghosts T R W
+    → SessionParts S R W F M T
+session_parts station reader writer framing is_told waiter =
     record {
       station = station;
       connection = connection_parts reader writer framing;
       is_told = is_told;
+      waiter = waiter;
     }

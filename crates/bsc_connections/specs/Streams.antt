@@ -1,21 +1,18 @@
 -- What the streams of one connection carry in a session.
 use Rattle.std.specs.Prelude.{◌≡◌, ◌≢◌, ◌⊎◌, ℕ, List, [], ◌∷◌, ◌++◌, map, take, None}
-use Rattle.std.specs.Prelude.{Some, Result, slice_get}
+use Rattle.std.specs.Prelude.{Some, slice_get}
 use Rattle.std.specs.List.{AllByRecursion, concat, flat_map}
 use Rattle.std.specs.Io.KnownBytes.{Appends, Consumes}
 use Rattle.bsc_carrier.specs.Front.{BeginsRecord}
 use Rattle.bsc_carrier.specs.Record.{IsCarried, socket_record}
 use Rattle.bsc_carrier.specs.Stream.{Splits}
-use Rattle.bsc_connections.specs.declared.awaited.Awaited.{Awaited}
-use Rattle.bsc_connections.specs.declared.awaited.Wait.{Wait}
-use Rattle.bsc_connections.specs.declared.awaited.LiveError.{LiveError}
 use Rattle.bsc_connections.specs.declared.socket_records.SocketRecords.{SocketRecords}
 use Rattle.bsc_connections.specs.Parts.{ConnectionParts, SessionParts}
 use Rattle.bsc_connections.specs.Connections.{ConnectionValue}
 use Rattle.bsc_connections.specs.declared.limits.TheConstants.{KEPT}
 use Rattle.bsc_connections.specs.Framings.{GapsValue}
 use Rattle.bsc_connections.specs.Histories.{Happening, HasJoined, heard_at, all_sent, NobodyJoins}
-use Rattle.bsc_connections.specs.Attending.{Attended, Attends}
+use Rattle.bsc_connections.specs.Attending.{Session, Attends}
 
 -- The octets that have arrived since the last complete record.
 abbrev pub begun_of : SocketRecords → List ℕ
@@ -102,13 +99,12 @@ module _ {R W F : Type 0} (parts : ConnectionParts R W F)
 
 -- In every session, the streams of a connection that is open at its end carried everything the
 -- history has of it and nothing else: what was heard at its place, and all that was sent.
-abbrev pub CarriesHistory : {S R W F M T : Type 0} → SessionParts S R W F M
-    → (F → List ℕ → List (List ℕ) → F → Type 0)
-    → (T → Wait → Result Awaited LiveError → T → Type 0) → Type 0
-CarriesHistory {S} {R} {W} {F} {M} {T} parts gives waits =
-    (old new : Attended S (ConnectionValue R W F) M T) (history : List Happening)
+abbrev pub CarriesHistory : {S R W F M T : Type 0} → SessionParts S R W F M T
+    → (F → List ℕ → List (List ℕ) → F → Type 0) → Type 0
+CarriesHistory {S} {R} {W} {F} {M} {T} parts gives =
+    (old new : Session S (ConnectionValue R W F) M T) (history : List Happening)
     (place : ℕ) (now : ConnectionValue R W F)
-    → Attends parts waits old history new
+    → Attends parts old history new
     → slice_get new.connections place ≡ Some now → now.ends ≢ None
     → CarriesFromStart parts.connection gives place history old.connections now
     ⊎ CarriesSinceJoining parts.connection gives place history now

@@ -1,7 +1,7 @@
 //! Runs a station: what happens on its connections is handled one event at a time.
 
-ghost use Rattle.std.specs.Prelude.{◌≡◌, ◌<◌, length, List, true, false, is_none, IfSome, IfOk};
-ghost use Rattle.std.specs.Prelude.{OnOk, Option};
+ghost use Rattle.std.specs.Prelude.{◌≡◌, ◌<◌, length, List, true, false, is_none, slice_get};
+ghost use Rattle.std.specs.Prelude.{IfOk, IfSome, OnOk, Option};
 ghost use Rattle.std.specs.List.{AllZip};
 ghost use Rattle.bsc_bid.specs.Station.{IsSent};
 ghost use Rattle.bsc_frame.specs.declared.message.Message.{Message};
@@ -9,10 +9,10 @@ ghost use Rattle.bsc_connections.specs.Parts.{connection_parts, session_parts};
 ghost use Rattle.bsc_connections.specs.Connections.{Sends};
 ghost use Rattle.bsc_connections.specs.Histories.{Happening};
 ghost use Rattle.bsc_connections.specs.Attending.{Attends, StepsOrFails, Does, HearsLast, IsSilent};
-ghost use Rattle.bsc_connections.specs.Attending.{IsTakenAt, first_awaiting, first_closed};
-ghost use Rattle.bsc_connections.specs.Attending.{Replies, wait_for};
+ghost use Rattle.bsc_connections.specs.Attending.{IsTakenAt, Replies, awaits_gap};
+ghost use Rattle.bsc_connections.specs.Attending.{first_closed};
 
-use crate::{Awaited, Connection, Framing, LiveError, Monitor, Note, Taken, Wait, Waiter};
+use crate::{Awaited, Connection, Framing, LiveError, Monitor, Note, Taken, Waiter};
 use bsc_bid::Station;
 use bsc_frame::Wire;
 use std::io::{Read, Write};
@@ -37,7 +37,7 @@ pub fn attend<
     monitor: &mut M,
 ) -> Result<(), LiveError>
     ensures attends { (history : List Happening)
-        × Attends (session_parts S.Station R.Read W.Write F.Framing M.is_told) T.waits
+        × Attends (session_parts S.Station R.Read W.Write F.Framing M.is_told T.Waiter)
         (record {
           station = station.old;
           connections = connections.old;
@@ -75,8 +75,8 @@ fn step<
     waiter: &mut T,
     monitor: &mut M,
 ) -> Result<bool, LiveError>
-    ensures steps { StepsOrFails (session_parts S.Station R.Read W.Write F.Framing M.is_told)
-        T.waits
+    ensures steps { StepsOrFails
+        (session_parts S.Station R.Read W.Write F.Framing M.is_told T.Waiter)
         (record {
           station = station.old;
           connections = connections.old;
@@ -92,43 +92,30 @@ fn step<
         }) }
     ensures ended { IfOk result (λ goes_on. goes_on ≡ false → M.has_ended monitor.new ≡ true) }
 {
-    match waiter.wait(wait_for(connections))? {
-        Awaited::Octets { connection } => read_at(
-            station,
-            connections,
-            connection,
-            waiter,
-            monitor,
-        ),
-        Awaited::Newcomer => join(station, connections, waiter, monitor),
-        Awaited::TimeOut => time_out(station, connections, monitor),
+    match waiter.wait() {
+        Ok(Awaited::Octets { connection }) => {
+            read_at(station, connections, connection, waiter, monitor)
+        }
+        Ok(Awaited::Newcomer) => join(station, connections, waiter, monitor),
+        Ok(Awaited::Gap { connection }) => {
+            gap_at(station, connections, connection, waiter, monitor)
+        }
+        Ok(Awaited::TimeOut) => silence(station, connections, waiter, monitor),
+        Err(error) => Err(error),
     }
 }
 
-/// Returns the place of the first connection on which a transmission has begun that a gap would
-/// end.
-fn first_awaiting<R: Read + Drop, W: Write + Drop, F: Framing + Drop>(
+/// Returns whether a transmission has begun at this place that a gap would end.
+fn awaits_gap_at<R: Read + Drop, W: Write + Drop, F: Framing + Drop>(
     connections: &[Connection<R, W, F>],
-) -> Option<usize>
-    ensures first { result ≡ first_awaiting F.awaits connections.now }
-    ensures within { IfSome result (λ place. place < length connections.now) }
+    place: usize,
+) -> bool
+    ensures value { result ≡ awaits_gap F.awaits (slice_get connections.now place) }
+    ensures within { result ≡ true → place < length connections.now }
 {
-    connections.iter().position(
-        |connection| -> bool
-            ensures { result ≡ F.awaits connection.now.framing }
-        { connection.awaits_gap() },
-    )
-}
-
-/// Returns how long to wait: for a gap if a gap would end a transmission, else for a time-out.
-fn wait_for<R: Read + Drop, W: Write + Drop, F: Framing + Drop>(
-    connections: &[Connection<R, W, F>],
-) -> Wait
-    ensures { result ≡ wait_for (first_awaiting F.awaits connections.now) }
-{
-    match first_awaiting(connections) {
-        Some(_) => Wait::Gap,
-        None => Wait::TimeOut,
+    match connections.get(place) {
+        Some(connection) => connection.awaits_gap(),
+        None => false,
     }
 }
 
@@ -159,10 +146,9 @@ fn reply<S: Station, R: Read + Drop, W: Write + Drop, F: Framing + Drop, M: Moni
     requires { IfOk told (λ goes_on. goes_on ≡ false → M.has_ended monitor.old ≡ true) }
     ensures replies { (answer : Option Message) → IsSent answer is_sent octets.now
         → (happened : List Happening)
-        × Replies (session_parts S.Station R.Read W.Write F.Framing M.is_told) told answer
-        (record { station = station.now; connections = connections.old; monitor = monitor.old })
-        happened result
-        (record { station = station.now; connections = connections.new; monitor = monitor.new }) }
+        × Replies (connection_parts R.Read W.Write F.Framing) M.is_told told answer station.now
+        (record { connections = connections.old; monitor = monitor.old }) happened result
+        (record { connections = connections.new; monitor = monitor.new }) }
     ensures ended { IfOk result (λ goes_on. goes_on ≡ false → M.has_ended monitor.new ≡ true) }
 {
     let goes_on = match told {
@@ -195,11 +181,21 @@ fn read_at<
     monitor: &mut M,
 ) -> Result<bool, LiveError>
     ensures does { (happened : List Happening)
-        × Does (session_parts S.Station R.Read W.Write F.Framing M.is_told)
+        × Does (session_parts S.Station R.Read W.Write F.Framing M.is_told T.Waiter)
         (Awaited.Octets connection)
-        (record { station = station.old; connections = connections.old; monitor = monitor.old })
+        (record {
+          station = station.old;
+          connections = connections.old;
+          monitor = monitor.old;
+          waiter = waiter.old;
+        })
         happened result
-        (record { station = station.new; connections = connections.new; monitor = monitor.new }) }
+        (record {
+          station = station.new;
+          connections = connections.new;
+          monitor = monitor.new;
+          waiter = waiter.new;
+        }) }
     ensures ended { IfOk result (λ goes_on. goes_on ≡ false → M.has_ended monitor.new ≡ true) }
 {
     match take_at(connections, connection) {
@@ -208,8 +204,13 @@ fn read_at<
             Ok(true)
         }
         Taken::Interrupted => Ok(true),
-        Taken::Part => Ok(true),
-        Taken::Whole => answer_at(station, connections, connection, monitor),
+        Taken::Part => {
+            if awaits_gap_at(connections, connection) {
+                waiter.begin_gap(connection);
+            }
+            Ok(true)
+        }
+        Taken::Whole => answer_at(station, connections, connection, waiter, monitor),
         Taken::Closed { why } => {
             waiter.nothing_left(connection);
             monitor.note(station, Note::Closed { connection, why })
@@ -232,72 +233,129 @@ fn take_at<R: Read + Drop, W: Write + Drop, F: Framing + Drop>(
 }
 
 /// Lets the station hear the last transmission of the connection at this place, tells the monitor
-/// what was heard, and sends the station's answer if the monitor accepts.
-fn answer_at<S: Station, R: Read + Drop, W: Write + Drop, F: Framing + Drop, M: Monitor<S>>(
+/// what was heard, and sends the station's answer if the monitor accepts. The time of the time-out
+/// then begins anew.
+fn answer_at<
+    S: Station,
+    R: Read + Drop,
+    W: Write + Drop,
+    F: Framing + Drop,
+    T: Waiter<R, W>,
+    M: Monitor<S>,
+>(
     station: &mut S,
     connections: &mut [Connection<R, W, F>],
     connection: usize,
+    waiter: &mut T,
     monitor: &mut M,
 ) -> Result<bool, LiveError>
     requires { connection < length connections.old }
     ensures hears { (happened : List Happening)
-        × HearsLast (session_parts S.Station R.Read W.Write F.Framing M.is_told)
+        × HearsLast (session_parts S.Station R.Read W.Write F.Framing M.is_told T.Waiter)
         connection
-        (record { station = station.old; connections = connections.old; monitor = monitor.old })
+        (record {
+          station = station.old;
+          connections = connections.old;
+          monitor = monitor.old;
+          waiter = waiter.old;
+        })
         happened result
-        (record { station = station.new; connections = connections.new; monitor = monitor.new }) }
+        (record {
+          station = station.new;
+          connections = connections.new;
+          monitor = monitor.new;
+          waiter = waiter.new;
+        }) }
     ensures ended { IfOk result (λ goes_on. goes_on ≡ false → M.has_ended monitor.new ≡ true) }
 {
     let mut wire = Wire::new();
     let octets = connections[connection].octets();
     let is_sent = station.hear(octets, &mut wire);
     let told = monitor.note(station, Note::Heard { connection, octets });
-    reply(station, connections, told, is_sent, &wire, monitor)
+    let result = reply(station, connections, told, is_sent, &wire, monitor);
+    waiter.begin_time_out();
+    result
 }
 
-/// Handles the end of a wait in which nothing arrived. This is the gap that ends a transmission if
-/// one has begun that a gap would end, else it is a silence.
-fn time_out<S: Station, R: Read + Drop, W: Write + Drop, F: Framing + Drop, M: Monitor<S>>(
+/// Handles a gap at this place: it ends the transmission that has begun there, if there is one that
+/// a gap would end.
+fn gap_at<
+    S: Station,
+    R: Read + Drop,
+    W: Write + Drop,
+    F: Framing + Drop,
+    T: Waiter<R, W>,
+    M: Monitor<S>,
+>(
     station: &mut S,
     connections: &mut [Connection<R, W, F>],
+    connection: usize,
+    waiter: &mut T,
     monitor: &mut M,
 ) -> Result<bool, LiveError>
     ensures does { (happened : List Happening)
-        × Does (session_parts S.Station R.Read W.Write F.Framing M.is_told)
-        Awaited.TimeOut
-        (record { station = station.old; connections = connections.old; monitor = monitor.old })
+        × Does (session_parts S.Station R.Read W.Write F.Framing M.is_told T.Waiter)
+        (Awaited.Gap connection)
+        (record {
+          station = station.old;
+          connections = connections.old;
+          monitor = monitor.old;
+          waiter = waiter.old;
+        })
         happened result
-        (record { station = station.new; connections = connections.new; monitor = monitor.new }) }
+        (record {
+          station = station.new;
+          connections = connections.new;
+          monitor = monitor.new;
+          waiter = waiter.new;
+        }) }
     ensures ended { IfOk result (λ goes_on. goes_on ≡ false → M.has_ended monitor.new ≡ true) }
 {
-    match first_awaiting(connections) {
-        Some(connection) => {
-            // This connection awaits a gap, so the gap ends its transmission.
-            let _ = connections[connection].gap();
-            answer_at(station, connections, connection, monitor)
-        }
-        None => silence(station, connections, monitor),
+    if !awaits_gap_at(connections, connection) {
+        return Ok(true);
     }
+    let _ = connections[connection].gap();
+    answer_at(station, connections, connection, waiter, monitor)
 }
 
 /// Tells the station of a silence, tells the monitor of it, and sends the station's answer if the
-/// monitor accepts.
-fn silence<S: Station, R: Read + Drop, W: Write + Drop, F: Framing + Drop, M: Monitor<S>>(
+/// monitor accepts. The time of the time-out then begins anew.
+fn silence<
+    S: Station,
+    R: Read + Drop,
+    W: Write + Drop,
+    F: Framing + Drop,
+    T: Waiter<R, W>,
+    M: Monitor<S>,
+>(
     station: &mut S,
     connections: &mut [Connection<R, W, F>],
+    waiter: &mut T,
     monitor: &mut M,
 ) -> Result<bool, LiveError>
     ensures silent { (happened : List Happening)
-        × IsSilent (session_parts S.Station R.Read W.Write F.Framing M.is_told)
-        (record { station = station.old; connections = connections.old; monitor = monitor.old })
+        × IsSilent (session_parts S.Station R.Read W.Write F.Framing M.is_told T.Waiter)
+        (record {
+          station = station.old;
+          connections = connections.old;
+          monitor = monitor.old;
+          waiter = waiter.old;
+        })
         happened result
-        (record { station = station.new; connections = connections.new; monitor = monitor.new }) }
+        (record {
+          station = station.new;
+          connections = connections.new;
+          monitor = monitor.new;
+          waiter = waiter.new;
+        }) }
     ensures ended { IfOk result (λ goes_on. goes_on ≡ false → M.has_ended monitor.new ≡ true) }
 {
     let mut wire = Wire::new();
     let is_sent = station.silence(&mut wire);
     let told = monitor.note(station, Note::Silence);
-    reply(station, connections, told, is_sent, &wire, monitor)
+    let result = reply(station, connections, told, is_sent, &wire, monitor);
+    waiter.begin_time_out();
+    result
 }
 
 /// Returns the place of the first connection that is closed.
@@ -330,11 +388,21 @@ fn join<
     monitor: &mut M,
 ) -> Result<bool, LiveError>
     ensures does { (happened : List Happening)
-        × Does (session_parts S.Station R.Read W.Write F.Framing M.is_told)
+        × Does (session_parts S.Station R.Read W.Write F.Framing M.is_told T.Waiter)
         Awaited.Newcomer
-        (record { station = station.old; connections = connections.old; monitor = monitor.old })
+        (record {
+          station = station.old;
+          connections = connections.old;
+          monitor = monitor.old;
+          waiter = waiter.old;
+        })
         happened result
-        (record { station = station.new; connections = connections.new; monitor = monitor.new }) }
+        (record {
+          station = station.new;
+          connections = connections.new;
+          monitor = monitor.new;
+          waiter = waiter.new;
+        }) }
     ensures ended { IfOk result (λ goes_on. goes_on ≡ false → M.has_ended monitor.new ≡ true) }
 {
     let Some(connection) = first_closed(connections) else {

@@ -1,22 +1,10 @@
 //! What a station waits for, and the waiter that tells it what happened.
 
-ghost use Rattle.std.specs.Prelude.{Result};
-ghost use Rattle.bsc_connections.specs.declared.awaited.Wait.{Wait as WaitValue};
+ghost use Rattle.std.specs.Prelude.{ℕ, Option, Result};
 ghost use Rattle.bsc_connections.specs.declared.awaited.Awaited.{Awaited as AwaitedValue};
 ghost use Rattle.bsc_connections.specs.declared.awaited.LiveError.{LiveError as LiveErrorValue};
 
 use thiserror::Error;
-
-/// How long to wait.
-#[derive(Clone, Copy, Debug, PartialEq, Eq)]
-pub enum Wait {
-    /// For a time-out (GA27-3004, time-outs): no transmission has begun that a gap would end.
-    TimeOut,
-
-    /// For a gap: octets of a transmission have arrived, and the transmission ends when no more
-    /// follow.
-    Gap,
-}
 
 /// What happened first during a wait.
 #[derive(Clone, Copy, Debug, PartialEq, Eq)]
@@ -27,7 +15,10 @@ pub enum Awaited {
     /// Another peer has connected.
     Newcomer,
 
-    /// The time passed and nothing arrived.
+    /// The gap has passed since the last octets of the connection at this place.
+    Gap { connection: usize },
+
+    /// The time-out has passed since its time was begun (GA27-3004, time-outs).
     TimeOut,
 }
 
@@ -55,27 +46,52 @@ pub enum LiveError {
     Memory,
 }
 
-/// Waits for the next event on a set of connections. `R` and `W` are the two directions of a
-/// connection.
+/// Waits for the next event on a set of connections, and keeps the time of the time-out and of each
+/// gap. `R` and `W` are the two directions of a connection.
 pub trait Waiter<R, W> {
-    /// What a wait may return: the waiter before, the result, the waiter after. A waiter over
-    /// sockets states only that it names an existing place in `Octets`, and reports a newcomer only
-    /// while it holds one.
-    ghost waits: { Self → WaitValue → Result AwaitedValue LiveErrorValue → Self → Type 0 };
+    /// What a wait may return: the waiter before, the result, the waiter after.
+    ghost waits: { Self → Result AwaitedValue LiveErrorValue → Self → Type 0 };
 
-    /// Waits until octets arrive, a peer connects, or the time passes. It may return `Octets` for a
-    /// connection that has nothing to read. Once it has returned `Octets` for a connection it keeps
-    /// doing so until `nothing_left` is called.
-    fn wait(&mut self, wait: Wait) -> Result<Awaited, LiveError>
-        ensures { waits self.old wait result self.new };
+    /// The time of the time-out begins anew: the waiter before, and after.
+    ghost begins_time_out: { Self → Self → Type 0 };
+
+    /// The gap of the connection at this place begins anew.
+    ghost begins_gap: { Self → ℕ → Self → Type 0 };
+
+    /// Nothing is left to read at this place.
+    ghost has_nothing_left: { Self → ℕ → Self → Type 0 };
+
+    /// The peer that has connected joins at this place, with these directions if it is still there.
+    ghost joins: { Self → ℕ → Option (R × W) → Self → Type 0 };
+
+    /// The peer that has connected is turned away.
+    ghost turns_away: { Self → Self → Type 0 };
+
+    /// Waits until octets arrive, a peer connects, a gap has passed, or the time-out has. It may
+    /// return `Octets` for a connection that has nothing to read. Once it has returned `Octets` for
+    /// a connection it keeps doing so until `nothing_left` is called. It returns `Gap` once for
+    /// each gap that was begun, unless the gap is begun anew before it has passed.
+    fn wait(&mut self) -> Result<Awaited, LiveError>
+        ensures { waits self.old result self.new };
+
+    /// Begins the time of the time-out anew, with the next wait. Nothing else moves it.
+    fn begin_time_out(&mut self)
+        ensures { begins_time_out self.old self.new };
+
+    /// Begins the gap of the connection at this place anew, with the next wait.
+    fn begin_gap(&mut self, connection: usize)
+        ensures { begins_gap self.old connection self.new };
 
     /// Records that the connection at this place has nothing to read at present, or is closed.
-    fn nothing_left(&mut self, connection: usize);
+    fn nothing_left(&mut self, connection: usize)
+        ensures { has_nothing_left self.old connection self.new };
 
     /// Returns the two directions of the connection of the peer that has connected, which will be
     /// the connection at this place; None if the peer has gone.
-    fn join(&mut self, connection: usize) -> Option<(R, W)>;
+    fn join(&mut self, connection: usize) -> Option<(R, W)>
+        ensures { joins self.old connection result self.new };
 
     /// Turns away the peer that has connected, because no place is free.
-    fn turn_away(&mut self);
+    fn turn_away(&mut self)
+        ensures { turns_away self.old self.new };
 }

@@ -41,8 +41,8 @@ pub fn gaps()
 /// transmission that was sent was written to its output, in order.
 pub fn streams<S: Station, R: Read + Drop, W: Write + Drop, T: Waiter<R, W>, M: Monitor<S>>()
     ensures history { CarriesHistory
-        (session_parts S.Station R.Read W.Write ⟦<SocketRecords as Framing>⟧ M.is_told)
-        GivesRecords T.waits }
+        (session_parts S.Station R.Read W.Write ⟦<SocketRecords as Framing>⟧ M.is_told
+        T.Waiter) GivesRecords }
     ensures records { (old new : RecordsValue) (given : List ℕ) (heard : List (List ℕ))
         → SplitsAll old given heard new }
 {}
@@ -59,12 +59,11 @@ pub fn streams_by_gaps<
     T: Waiter<R, W>,
     M: Monitor<S>,
 >()
-    ensures { CarriesHistory (session_parts S.Station R.Read W.Write ⟦<Gaps as Framing>⟧ M.is_told)
-        GivesByGaps T.waits }
+    ensures { CarriesHistory (session_parts S.Station R.Read W.Write ⟦<Gaps as Framing>⟧ M.is_told
+        T.Waiter) GivesByGaps }
 {}
 
-/// A step of a session has one silence if the time passed while no transmission had begun that a
-/// gap would end, and none otherwise. In that state a wait is for a time-out.
+/// A step of a session has one silence if its wait ended with the time-out, and none otherwise.
 pub fn silences<
     S: Station,
     R: Read + Drop,
@@ -73,5 +72,6 @@ pub fn silences<
     T: Waiter<R, W>,
     M: Monitor<S>,
 >()
-    ensures { TellsEachSilence (session_parts S.Station R.Read W.Write F.Framing M.is_told) T.waits }
+    ensures { TellsEachSilence (session_parts S.Station R.Read W.Write F.Framing M.is_told
+        T.Waiter) }
 {}

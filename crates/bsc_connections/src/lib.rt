@@ -3,7 +3,7 @@
 //! A station hears what arrives on its connections, sends its answers on all of them, and is told
 //! of a silence when a time-out passes. This library has no socket and no clock: a `Waiter` reports
 //! the next event, connections are any reader and writer, and a `Monitor` sees everything and
-//! decides when to end.
+//! decides whether what happened is answered and when to end.
 //!
 //! GA27-3004 defines the time-outs and what a station answers. The connections, both framings, the
 //! order in which events are handled and the limits are this project's own.
@@ -20,7 +20,7 @@ mod monitor;
 mod socket_records;
 
 pub use attending::attend;
-pub use awaited::{Awaited, LiveError, Wait, Waiter};
+pub use awaited::{Awaited, LiveError, Waiter};
 pub use connection::{Connection, Taken};
 pub use framing::Framing;
 pub use gaps::Gaps;

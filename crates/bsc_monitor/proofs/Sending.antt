@@ -1,11 +1,11 @@
 -- What is sent in a session is sent after the records that arrived are printed.
-use Rattle.std.proofs.Common.{◌≡◌, ◌≢◌, ℕ, ◌<◌, ◌≤◌, Bool, List, [], ◌∷◌, length, Option, None, Some}
+use Rattle.std.proofs.Common.{◌≡◌, ◌≢◌, ℕ, ◌<◌, ◌≤◌, Bool, true, false, List, [], ◌∷◌, length, Option, None, Some}
 use Rattle.std.proofs.Common.{Result, Ok, Err, inl, inr, refl, sym, ◌∙◌, ap, subst, arith, max}
-use Rattle.std.proofs.Common.{slice_index, OnOk}
+use Rattle.std.proofs.Common.{slice_get, slice_index, OnOk}
 use Rattle.bsc_frame.specs.declared.message.Message.{Message}
 use Rattle.bsc_connections.specs.declared.awaited.Awaited.{Awaited}
-use Rattle.bsc_connections.specs.declared.awaited.Awaited.TheVariants.{Octets, Newcomer, TimeOut}
-use Rattle.bsc_connections.specs.declared.awaited.Wait.{Wait}
+use Rattle.bsc_connections.specs.declared.awaited.Awaited.TheVariants.{Octets, Newcomer, Gap}
+use Rattle.bsc_connections.specs.declared.awaited.Awaited.TheVariants.{TimeOut}
 use Rattle.bsc_connections.specs.declared.awaited.LiveError.{LiveError}
 use Rattle.bsc_connections.specs.declared.connection.Taken.{Taken}
 use Rattle.bsc_connections.specs.declared.connection.Taken.TheVariants.{Nothing, Interrupted, Part}
@@ -14,9 +14,9 @@ use Rattle.bsc_connections.specs.Parts.{SessionParts}
 use Rattle.bsc_connections.specs.Connections.{ConnectionValue}
 use Rattle.bsc_connections.specs.Histories.{Happening, WasHeard, WasSilent, sent_where_some}
 use Rattle.bsc_connections.specs.Histories.{all_sent}
-use Rattle.bsc_connections.specs.Attending.{Session, session_of, Answers, Replies, TellsSent}
-use Rattle.bsc_connections.specs.Attending.{sent_if_accepted, ReadsAt, TimesOut, Joins, Does}
-use Rattle.bsc_connections.specs.Attending.{first_awaiting, first_closed, Steps, Attended}
+use Rattle.bsc_connections.specs.Attending.{Session, Around, Answers, Replies, TellsSent}
+use Rattle.bsc_connections.specs.Attending.{sent_if_accepted, ReadsAt, GapPasses, Joins, JoinsAs}
+use Rattle.bsc_connections.specs.Attending.{Does, awaits_gap, first_closed, Steps}
 use Rattle.bsc_monitor.specs.Arrivals.{arrived_on}
 use Rattle.bsc_monitor.specs.Watching.{Output, PrintsArrivals, Sees, ArePrinted}
 use Rattle.bsc_monitor.specs.Watching.{PrintsBeforeSending}
@@ -26,13 +26,13 @@ use Rattle.bsc_monitor.specs.declared.party.Party as party_of
 at_most_counted : (old arrived new : ℕ) → new ≡ max old arrived → arrived ≤ new
 at_most_counted old arrived new is = omega (arith, is)
 
-module _ {S R W F M Z : Type 0} (parts : SessionParts S R W F M) (party : party_of.Ghosts S Z)
+module _ {S R W F M T Z : Type 0} (parts : SessionParts S R W F M T) (party : party_of.Ghosts S Z)
     (output : M → Output)
     (sees : (before : M) (station : S) (happening : Happening) (result : Result Bool LiveError)
     (after : M) → parts.is_told before station happening result after
     → Sees party station happening result (output before) (output after)) where
   abbrev Now : Type 0
-  Now = Session S (ConnectionValue R W F) M
+  Now = Session S (ConnectionValue R W F) M T
 
   -- The records are printed between these two states of the monitor.
   abbrev Prints : S → M → M → Type 0
@@ -43,7 +43,7 @@ module _ {S R W F M Z : Type 0} (parts : SessionParts S R W F M) (party : party_
       (station : S) (first before after : M) (later : Result Bool LiveError)
       → sent ≡ sent_if_accepted told answer → all_sent (sent_where_some sent) ≢ []
       → ((goes_on : Bool) → told ≡ Ok goes_on → Prints station first before)
-      → TellsSent parts sent station before later after → Prints station first after
+      → TellsSent parts.connection parts.is_told sent station before later after → Prints station first after
   printed_if_sent None told answer station first before after later accepted some prints tells =
       absurd (some refl)
   printed_if_sent (Some m) (Err error) answer station first before after later accepted some prints
@@ -106,38 +106,44 @@ module _ {S R W F M Z : Type 0} (parts : SessionParts S R W F M) (party : party_
   printed_by_read Whole place old happened result new (between, taken, h) some =
       printed_by_hearing place (parts.connection.framing.last h.connection.framing) h.answer
       (record old { connections = between }) happened result new h.answers some
-  printed_by_read Nothing place old happened result new (taken, same, none) some =
-      absurd (nothing_sent happened [] none.0 refl some)
-  printed_by_read Interrupted place old happened result new (taken, same, none) some =
-      absurd (nothing_sent happened [] none.0 refl some)
-  printed_by_read Part place old happened result new (taken, same, none) some =
-      absurd (nothing_sent happened [] none.0 refl some)
-  printed_by_read (Closed why) place old happened result new (taken, same, one) some =
-      absurd (nothing_sent happened _ one.0 refl some)
+  printed_by_read Nothing place old happened result new r some =
+      absurd (nothing_sent happened [] r.tells.0 refl some)
+  printed_by_read Interrupted place old happened result new r some =
+      absurd (nothing_sent happened [] r.tells.0 refl some)
+  printed_by_read Part place old happened result new r some =
+      absurd (nothing_sent happened [] r.tells.0 refl some)
+  printed_by_read (Closed why) place old happened result new r some =
+      absurd (nothing_sent happened _ r.tells.0 refl some)
+
+  nothing_sent_by_peer : (joined : Option (R × W)) (place : ℕ) (station : S)
+      (old : Around (ConnectionValue R W F) M) (happened : List Happening)
+      (result : Result Bool LiveError) (new : Around (ConnectionValue R W F) M)
+      → JoinsAs parts place joined station old happened result new → all_sent happened ≢ [] → ⊥
+  nothing_sent_by_peer None place station old happened result new (same, none) some =
+      nothing_sent happened [] none.0 refl some
+  nothing_sent_by_peer (Some ends) place station old happened result new (changes, joined) some =
+      nothing_sent happened _ joined.0 refl some
 
   printed_by_joining : (free : Option ℕ) (old : Now) (happened : List Happening)
       (result : Result Bool LiveError) (new : Now) → Joins parts free old happened result new
       → all_sent happened ≢ [] → Prints new.station old.monitor new.monitor
-  printed_by_joining None old happened result new (same, none) some =
+  printed_by_joining None old happened result new (same, none, turned) some =
       absurd (nothing_sent happened [] none.0 refl some)
-  printed_by_joining (Some place) old happened result new (inl (same, none)) some =
-      absurd (nothing_sent happened [] none.0 refl some)
-  printed_by_joining (Some place) old happened result new (inr (changes, joined)) some =
-      absurd (nothing_sent happened _ joined.0 refl some)
+  printed_by_joining (Some place) old happened result new (joined, joins, joining) some =
+      absurd (nothing_sent_by_peer joined place new.station
+      (record { connections = old.connections; monitor = old.monitor }) happened result
+      (record { connections = new.connections; monitor = new.monitor }) joining some)
 
-  printed_by_time_out : (awaiting : Option ℕ) (old : Now) (happened : List Happening)
+  printed_by_gap : (awaits : Bool) (place : ℕ) (old : Now) (happened : List Happening)
       (result : Result Bool LiveError) (new : Now)
-      → TimesOut parts awaiting old happened result new → all_sent happened ≢ []
+      → GapPasses parts place awaits old happened result new → all_sent happened ≢ []
       → Prints new.station old.monitor new.monitor
-  printed_by_time_out None old happened result new silent some =
-      printed_by_answer WasSilent silent.answer old happened result new
-      (λ told goes_on monitor is tells.
-      prints_silent new.station old.monitor told goes_on monitor is tells)
-      (λ more. refl) silent.answers some
-  printed_by_time_out (Some place) old happened result new h some =
+  printed_by_gap true place old happened result new h some =
       printed_by_hearing place (parts.connection.framing.last h.heard.connection.framing)
       h.heard.answer (record old { connections = h.between }) happened result new h.heard.answers
       some
+  printed_by_gap false place old happened result new (none, ok, same) some =
+      absurd (nothing_sent happened [] none refl some)
 
   printed_by_event : (awaited : Awaited) (old : Now) (happened : List Happening)
       (result : Result Bool LiveError) (new : Now)
@@ -147,9 +153,15 @@ module _ {S R W F M Z : Type 0} (parts : SessionParts S R W F M) (party : party_
       printed_by_read taken place old happened result new reads some
   printed_by_event Newcomer old happened result new (same, joins) some =
       printed_by_joining (first_closed old.connections) old happened result new joins some
-  printed_by_event TimeOut old happened result new times some =
-      printed_by_time_out (first_awaiting parts.connection.framing.awaits old.connections) old
-      happened result new times some
+  printed_by_event (Gap place) old happened result new passes some =
+      printed_by_gap
+      (awaits_gap parts.connection.framing.awaits (slice_get old.connections place)) place old
+      happened result new passes some
+  printed_by_event TimeOut old happened result new silent some =
+      printed_by_answer WasSilent silent.answer old happened result new
+      (λ told goes_on monitor is tells.
+      prints_silent new.station old.monitor told goes_on monitor is tells)
+      (λ more. refl) silent.answers some
 
   -- What is printed is all that arrived.
   all_are_printed : (station : S) (old new : Output) → PrintsArrivals party station old new
@@ -159,10 +171,9 @@ module _ {S R W F M Z : Type 0} (parts : SessionParts S R W F M) (party : party_
       (length (arrived_on party station channel)) (slice_index new.counts channel)
       (prints.counted channel below)
 
-  pub prints_before_sending : {T : Type 0}
-      (waits : T → Wait → Result Awaited LiveError → T → Type 0)
-      → PrintsBeforeSending parts waits party output
-  prints_before_sending waits old new happened result step some =
+  pub prints_before_sending : PrintsBeforeSending parts party output
+  prints_before_sending old new happened result step some =
       let prints =
-      printed_by_event step.awaited (session_of old) happened result (session_of new) step.does some
-      in (prints, all_are_printed new.station (output old.monitor) (output new.monitor) prints)
+      printed_by_event step.awaited (record old { waiter = step.waiter }) happened result new
+      step.does some in
+      (prints, all_are_printed new.station (output old.monitor) (output new.monitor) prints)

@@ -3,12 +3,10 @@ use Rattle.std.specs.Prelude.{◌≡◌, ◌≢◌, ℕ, ◌<◌, ◌≤◌, Boo
 use Rattle.std.specs.Prelude.{slice_index}
 use Rattle.std.specs.Io.KnownBytes.{Appends}
 use Rattle.bsc_connections.specs.declared.awaited.LiveError.{LiveError}
-use Rattle.bsc_connections.specs.declared.awaited.Awaited.{Awaited}
-use Rattle.bsc_connections.specs.declared.awaited.Wait.{Wait}
 use Rattle.bsc_connections.specs.Parts.{SessionParts}
 use Rattle.bsc_connections.specs.Connections.{ConnectionValue}
 use Rattle.bsc_connections.specs.Histories.{Happening, WasHeard, WasSilent, all_sent}
-use Rattle.bsc_connections.specs.Attending.{Attended, Steps}
+use Rattle.bsc_connections.specs.Attending.{Session, Steps}
 use Rattle.bsc_report.specs.Channels.{each_below}
 use Rattle.bsc_monitor.specs.Arrivals.{AreCounted, arrivals_of, arrived_on}
 use Rattle.bsc_print.specs.declared.form.Form.{Form}
@@ -52,12 +50,11 @@ module _ {P M : Type 0} (party : party_of.Ghosts P M) (station : P) where
 
 -- In every step of a session in which the station sends something, the records that have arrived at
 -- it are printed: the lines of those that had not been printed before, and of no others.
-abbrev pub PrintsBeforeSending : {S R W F M T Z : Type 0} → SessionParts S R W F M
-    → (T → Wait → Result Awaited LiveError → T → Type 0) → party_of.Ghosts S Z → (M → Output)
-    → Type 0
-PrintsBeforeSending {S} {R} {W} {F} {M} {T} {Z} parts waits party output =
-    (old new : Attended S (ConnectionValue R W F) M T) (happened : List Happening)
+abbrev pub PrintsBeforeSending : {S R W F M T Z : Type 0} → SessionParts S R W F M T
+    → party_of.Ghosts S Z → (M → Output) → Type 0
+PrintsBeforeSending {S} {R} {W} {F} {M} {T} {Z} parts party output =
+    (old new : Session S (ConnectionValue R W F) M T) (happened : List Happening)
     (result : Result Bool LiveError)
-    → Steps parts waits old happened result new → all_sent happened ≢ []
+    → Steps parts old happened result new → all_sent happened ≢ []
     → PrintsArrivals party new.station (output old.monitor) (output new.monitor)
     × ArePrinted party new.station (output new.monitor)

@@ -4,7 +4,7 @@
 //!
 //! - `Listening` is an address that is bound; `listen` waits there for `Peers`.
 //! - `connect` makes one connection to a peer that listens.
-//! - `Sockets` waits for octets, for a further peer, or until a time has passed.
+//! - `Sockets` waits for octets, for a further peer, or until a gap or the time-out has passed.
 //! - `Reading` and `Writing` are the two directions of a connection. A read does not wait, and a
 //!   write waits no longer than the time-out.
 //!
@@ -19,6 +19,7 @@ mod listening;
 mod ready;
 mod sockets;
 mod time_limit;
+mod times;
 mod writable;
 
 pub use begin::{Begun, Peers, connect, listen};

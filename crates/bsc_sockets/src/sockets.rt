@@ -2,13 +2,14 @@
 
 ghost use Rattle.std.specs.Prelude.{◌≡◌, ◌<◌, ◌^◌, ◌↔◌, IfOk, IfSome, IsNone, IsSome, IsTrue};
 ghost use Rattle.bsc_sockets.specs.Answers.{IsAnswer};
-ghost use Rattle.bsc_sockets.specs.Ready.{without_place};
+ghost use Rattle.bsc_sockets.specs.Times.{IsKept};
 
 use crate::directions::{Reading, Writing, directions};
 use crate::ready::Ready;
 use crate::time_limit::TimeLimit;
+use crate::times::Times;
 use crate::{Listening, SocketsError};
-use bsc_connections::{Awaited, LiveError, Wait, Waiter};
+use bsc_connections::{Awaited, LiveError, Waiter};
 use mio::net::{TcpListener, TcpStream};
 use mio::{Events, Interest, Poll, Token};
 use std::alloc::{AllocError, Allocator};
@@ -20,11 +21,16 @@ use std::time::{Clock, Duration};
 /// that never stops sending does not hide another one.
 const MAX_ANSWERS_UNASKED: usize = 16;
 
+/// The most events that are served for each place after a time has passed and before its end is
+/// told: what arrived in time is heard first, and a peer that never stops sending does not hold up
+/// the end.
+const MAX_SERVED_OVERDUE: usize = 4;
+
 /// How long a station waits.
 #[derive(Clone, Copy, Debug, PartialEq, Eq)]
 pub struct ConnectionSettings {
-    /// The time-out (GA27-3004, time-outs): a station is told of a silence when nothing arrives for
-    /// this time. A write also waits no longer.
+    /// The time-out (GA27-3004, time-outs): a station is told of a silence when it heard no
+    /// transmission and sent none for this time. A write also waits no longer.
     pub time_out: Duration,
 
     /// The gap: a transmission that does not state its length ends when nothing follows for this
@@ -51,8 +57,12 @@ pub struct Sockets<'a, N: Net + Clock, A: Allocator> {
     /// A peer that has connected and has no place yet.
     newcomer: Option<TcpStream>,
     settings: ConnectionSettings,
+    /// The times of the time-out and of the gaps.
+    times: Times<A>,
     /// The number of places served since the system was last asked.
     unasked: usize,
+    /// The number of events served since a time has passed whose end is not told yet.
+    overdue: usize,
 }
 
 /// What is sought among what is ready.
@@ -85,7 +95,9 @@ impl<'a, N: Net + Clock, A: Allocator + Copy> Sockets<'a, N, A> {
             listener: None,
             newcomer: None,
             settings,
+            times: Times::new(alloc, places)?,
             unasked: 0,
+            overdue: 0,
         })
     }
 
@@ -116,10 +128,12 @@ impl<'a, N: Net + Clock, A: Allocator + Copy> Sockets<'a, N, A> {
         stream: TcpStream,
     ) -> Result<(Reading, Writing<'a, N, A>), SocketsError>
         ensures newcomer { self.new.newcomer ≡ self.old.newcomer }
+        ensures time_out { self.new.times.time_out ≡ self.old.times.time_out }
     {
         let (runtime, alloc) = (self.runtime, self.alloc);
         let (mut reading, writing) = directions(runtime, alloc, stream, self.settings.time_out)?;
         self.ready.clear(place);
+        self.times.stop_gap(place);
         self.poll
             .registry()
             .register(&mut reading.stream, Token(place), Interest::READABLE)?;
@@ -128,7 +142,8 @@ impl<'a, N: Net + Clock, A: Allocator + Copy> Sockets<'a, N, A> {
 
     /// Returns the first event that is sought, or `TimeOut` if none happens within this time.
     pub(crate) fn within(&mut self, time: Duration, sought: Sought) -> Result<Awaited, LiveError>
-        ensures { IfOk result (IsAnswer self.new.places self.new.newcomer) }
+        ensures answer { IfOk result (IsAnswer self.new.places self.new.newcomer) }
+        ensures times { self.new.times ≡ self.old.times }
     {
         if self.unasked >= MAX_ANSWERS_UNASKED {
             self.ask(Duration::ZERO)?;
@@ -139,15 +154,45 @@ impl<'a, N: Net + Clock, A: Allocator + Copy> Sockets<'a, N, A> {
         }
     }
 
+    /// As `within`, of anything, but returns `TimeOut` at once if no time is left and enough was
+    /// served since.
+    fn in_time(&mut self, left: Duration) -> Result<Awaited, LiveError>
+        ensures answer { IfOk result (IsAnswer self.new.places self.new.newcomer) }
+        ensures times { self.new.times ≡ self.old.times }
+    {
+        if self.is_overdue(left) {
+            return Ok(Awaited::TimeOut);
+        }
+        self.within(left, Sought::Anything)
+    }
+
+    /// Returns whether no time is left and enough was served since.
+    fn is_overdue(&mut self, left: Duration) -> bool
+        ensures { self.new.times ≡ self.old.times }
+    {
+        self.overdue = if left.is_zero() {
+            self.overdue.saturating_add(1)
+        } else {
+            0
+        };
+        let places = self.places.saturating_add(1);
+        let is_overdue = self.overdue > places.saturating_mul(MAX_SERVED_OVERDUE);
+        if is_overdue {
+            self.overdue = 0;
+        }
+        is_overdue
+    }
+
     /// As `within`, but asks the system first.
     fn asked_within(&mut self, time: Duration, sought: Sought) -> Result<Awaited, LiveError>
-        ensures { IfOk result (IsAnswer self.new.places self.new.newcomer) }
+        ensures answer { IfOk result (IsAnswer self.new.places self.new.newcomer) }
+        ensures times { self.new.times ≡ self.old.times }
     {
         let Ok(limit) = TimeLimit::begin(self.runtime, time) else {
             return Err(LiveError::Wait);
         };
         let mut left = time;
-        for _ in 0..u64::MAX {
+        'asks: for _ in 0..u64::MAX {
             self.ask(left)?;
             if let Some(awaited) = self.found(sought) {
                 return Ok(awaited);
@@ -170,7 +215,8 @@ impl<'a, N: Net + Clock, A: Allocator + Copy> Sockets<'a, N, A> {
 
     /// Returns what is sought if it is ready.
     fn found(&mut self, sought: Sought) -> Option<Awaited>
-        ensures { IfSome result (IsAnswer self.new.places self.new.newcomer) }
+        ensures answer { IfSome result (IsAnswer self.new.places self.new.newcomer) }
+        ensures times { self.new.times ≡ self.old.times }
     {
         match sought {
             Sought::Newcomer if self.has_newcomer() => Some(Awaited::Newcomer),
@@ -182,9 +228,10 @@ impl<'a, N: Net + Clock, A: Allocator + Copy> Sockets<'a, N, A> {
     /// Returns what is to be served now. It takes the ready places in turn, including that of the
     /// listener, and no more of them than there are places.
     fn next_ready(&mut self) -> Option<Awaited>
-        ensures { IfSome result (IsAnswer self.new.places self.new.newcomer) }
+        ensures answer { IfSome result (IsAnswer self.new.places self.new.newcomer) }
+        ensures times { self.new.times ≡ self.old.times }
     {
-        for _ in 0..=self.places {
+        'turns: for _ in 0..=self.places {
             let place = self.ready.next_place()?;
             if place < self.places {
                 self.unasked = self.unasked.saturating_add(1);
@@ -200,7 +247,8 @@ impl<'a, N: Net + Clock, A: Allocator + Copy> Sockets<'a, N, A> {
     /// Returns whether there is a peer that has connected and has no place yet, and keeps that
     /// peer.
     fn has_newcomer(&mut self) -> bool
-        ensures { IsTrue result ↔ IsSome self.new.newcomer }
+        ensures answer { IsTrue result ↔ IsSome self.new.newcomer }
+        ensures times { self.new.times ≡ self.old.times }
     {
         if self.newcomer.is_some() {
             return true;
@@ -224,7 +272,9 @@ impl<'a, N: Net + Clock, A: Allocator + Copy> Sockets<'a, N, A> {
     }
 
     /// Asks the system what has arrived, and waits until something has or the time has passed.
-    fn ask(&mut self, time: Duration) -> Result<(), LiveError> {
+    fn ask(&mut self, time: Duration) -> Result<(), LiveError>
+        ensures { self.new.times ≡ self.old.times }
+    {
         self.unasked = 0;
         if self.poll.poll(&mut self.events, Some(time)).is_err() {
             return Err(LiveError::Wait);
@@ -255,6 +305,7 @@ impl<'a, N: Net + Clock, A: Allocator + Copy> Sockets<'a, N, A> {
     ) -> Result<Option<(Reading, Writing<'a, N, A>)>, SocketsError>
         ensures taken { IsNone self.new.newcomer }
         ensures nobody { IsNone self.old.newcomer → IfOk result IsNone }
+        ensures time_out { self.new.times.time_out ≡ self.old.times.time_out }
     {
         match self.newcomer.take() {
             Some(stream) if place < self.places => Ok(Some(self.open(place, stream)?)),
@@ -276,37 +327,62 @@ fn set_all<A: Allocator, B: Allocator>(
 
 impl<'a, N: Net + Clock, A: Allocator + Copy> Waiter<Reading, Writing<'a, N, A>>
     for Sockets<'a, N, A> {
-    ghost use Rattle.std.specs.Prelude.{IfOk};
+    ghost use Rattle.std.specs.Prelude.{◌≡◌, IfOk, IsNone};
     ghost use Rattle.bsc_sockets.specs.Answers.{IsAnswer};
+    ghost use Rattle.bsc_sockets.specs.Ready.{without_place};
+    ghost use Rattle.bsc_sockets.specs.Times.{IsKept};
+    ghost use Rattle.bsc_sockets.specs.declared.times.Time.TheVariants.{Anew};
 
-    ghost waits = { λ _ _ result after. IfOk result (IsAnswer after.places after.newcomer) };
+    ghost waits = { λ before result after.
+        (IfOk result (IsAnswer after.places after.newcomer))
+        × IsKept before.times.time_out after.times.time_out };
 
-    fn wait(&mut self, wait: Wait) -> Result<Awaited, LiveError> {
-        let time = match wait {
-            Wait::TimeOut if self.settings.begins => Duration::ZERO,
-            Wait::TimeOut => self.settings.time_out,
-            Wait::Gap => self.settings.gap,
+    ghost begins_time_out = { λ _ after. after.times.time_out ≡ Anew };
+
+    ghost begins_gap = { λ before _ after. after.times.time_out ≡ before.times.time_out };
+
+    ghost has_nothing_left = { λ before place after.
+        (after.ready ≡ without_place before.ready place) × (after.times ≡ before.times) };
+
+    ghost joins = { λ before _ joined after. (IsNone after.newcomer)
+        × (IsNone before.newcomer → IsNone joined)
+        × (after.times.time_out ≡ before.times.time_out) };
+
+    ghost turns_away = { λ before after.
+        (IsNone after.newcomer) × (after.times ≡ before.times) };
+
+    fn wait(&mut self) -> Result<Awaited, LiveError> {
+        let ConnectionSettings { time_out, gap, .. } = self.settings;
+        let next = self.times.next_end(self.runtime, time_out, gap)?;
+        let left = if self.settings.begins {
+            Duration::ZERO
+        } else {
+            next.left
         };
         self.settings.begins = false;
-        self.within(time, Sought::Anything)
+        match self.in_time(left)? {
+            Awaited::TimeOut => Ok(self.times.end(next)),
+            awaited => Ok(awaited),
+        }
     }
 
-    fn nothing_left(&mut self, connection: usize)
-        ensures { self.new.ready ≡ without_place self.old.ready connection }
-    {
+    fn begin_time_out(&mut self) {
+        self.times.begin_time_out();
+    }
+
+    fn begin_gap(&mut self, connection: usize) {
+        self.times.begin_gap(connection);
+    }
+
+    fn nothing_left(&mut self, connection: usize) {
         self.ready.clear(connection);
     }
 
-    fn join(&mut self, connection: usize) -> Option<(Reading, Writing<'a, N, A>)>
-        ensures taken { IsNone self.new.newcomer }
-        ensures nobody { IsNone self.old.newcomer → IsNone result }
-    {
+    fn join(&mut self, connection: usize) -> Option<(Reading, Writing<'a, N, A>)> {
         self.open_newcomer(connection).unwrap_or(None)
     }
 
-    fn turn_away(&mut self)
-        ensures { IsNone self.new.newcomer }
-    {
+    fn turn_away(&mut self) {
         self.newcomer = None;
     }
 }

@@ -10,7 +10,7 @@ use Rattle.bsc_connections.proofs.attending.answer_at.Goals as goal
 pub returns-clause-hears : goal.returns-clause-hears
 returns-clause-hears g c =
     let (heard, (is, (answer, heeds, sends))) = c.hear-is_sent.ensures in
-    let (later, replies) = c.reply.ensures.replies answer
+    let (later, replies) = c.reply-result.ensures.replies answer
     (subst (λ (o : List ℕ). IsSent answer c.hear-is_sent.result o) (sym c.deref.ensures.0) sends) in
     let octets : List ℕ = g.F.Framing.last
     (get_or c.args.connections.now c.args.connection
@@ -34,6 +34,7 @@ returns-clause-hears g c =
           later = later;
           replies = replies;
           happens = refl;
+          begins = c.begin_time_out.ensures;
         };
       },
     )

@@ -3,17 +3,16 @@ use Rattle.std.specs.Prelude.{List}
 use Rattle.bsc_connections.specs.Parts.{session_parts}
 use Rattle.bsc_connections.specs.Histories.{Happening}
 use Rattle.bsc_connections.specs.Connections.{ConnectionValue}
-use Rattle.bsc_connections.specs.Attending.{Attended, Attends}
+use Rattle.bsc_connections.specs.Attending.{Session, Attends}
 use Rattle.bsc_connections.proofs.attending.attend.Given as goal
 
 -- Any sequence of steps from the current state extends to one from the state at the call.
 abbrev pub invariant-steps : goal.invariant-steps
 invariant-steps g l =
-    (history : List Happening) (last : Attended g.row.S.Denot
-    (ConnectionValue g.row.R.Denot g.row.W.Denot g.row.F.Denot) g.row.M.Denot
-    g.row.T.Denot)
-    → Attends (session_parts g.S.Station g.R.Read g.W.Write g.F.Framing g.M.Monitor.is_told)
-    g.T.Waiter.waits
+    (history : List Happening) (last : Session g.row.S.Denot
+    (ConnectionValue g.row.R.Denot g.row.W.Denot g.row.F.Denot) g.row.M.Denot g.row.T.Denot)
+    → Attends
+    (session_parts g.S.Station g.R.Read g.W.Write g.F.Framing g.M.Monitor.is_told g.T.Waiter)
     (record {
       station = l.station;
       connections = l.connections;
@@ -21,8 +20,8 @@ invariant-steps g l =
       waiter = l.waiter;
     }) history last
     → (whole : List Happening)
-    × Attends (session_parts g.S.Station g.R.Read g.W.Write g.F.Framing g.M.Monitor.is_told)
-    g.T.Waiter.waits
+    × Attends
+    (session_parts g.S.Station g.R.Read g.W.Write g.F.Framing g.M.Monitor.is_told g.T.Waiter)
     (record {
       station = l.fn.station;
       connections = l.fn.connections;

@@ -1,14 +1,11 @@
 -- `join` puts a new connection in the first place that is free.
-use Rattle.std.proofs.Common.{◌≡◌, ◌≢◌, ℕ, Option, None, Some, [], ◌∷◌, slice_set, inr, refl, sym}
+use Rattle.std.proofs.Common.{◌≡◌, ℕ, Option, Some, [], ◌∷◌, slice_set, refl, sym}
 use Rattle.std.proofs.Common.{◌∙◌, subst}
 use Rattle.std.proofs.lemmas.Option.{slice_get-get_or}
 use Rattle.bsc_connections.specs.Parts.{session_parts}
 use Rattle.bsc_connections.specs.Histories.{HasJoined}
 use Rattle.bsc_connections.specs.Attending.{Joins, first_closed}
 use Rattle.bsc_connections.proofs.attending.join.Goals as goal
-
-some_is_not_none : {A : Type 0} (o : Option A) (x : A) → o ≡ Some x → o ≢ None
-some_is_not_none o x is none = let clash : Some x ≡ None = sym is ∙ none in absurd cc
 
 pub returns-clause-does : goal.returns-clause-does
 returns-clause-does g c =
@@ -19,26 +16,34 @@ returns-clause-does g c =
       (
         refl,
         subst (λ (o : Option ℕ). Joins
-            (session_parts g.S.Station g.R.Read g.W.Write g.F.Framing g.M.Monitor.is_told) o
+            (session_parts g.S.Station g.R.Read g.W.Write g.F.Framing g.M.Monitor.is_told
+            g.T.Waiter) o
             (record {
               station = c.args.station.now;
               connections = c.args.connections.now;
               monitor = c.args.monitor.now;
+              waiter = c.args.waiter.now;
             }) (HasJoined place ∷ []) c.note.result (record {
               station = c.args.station.now;
               connections = slice_set c.args.connections.now place c.new.result;
               monitor = c.note.new.self;
-            })) is
-            (inr (
+              waiter = c.join.new.self;
+            })) is (
+              Some (c.in-Some-join.reader, c.in-Some-join.writer),
+              subst (λ (o : Option (g.row.R.Denot × g.row.W.Denot)).
+                  g.T.Waiter.joins c.args.waiter.now place o c.join.new.self) c.in-Some-join.is
+                  c.join.ensures,
               (
-                _,
-                c.new.result,
-                slice_get-get_or c.args.connections.now place
-                    c.index-connections-connection.result c.in-Some.ensures.within,
-                refl,
-                (some_is_not_none c.new.result.ends _ c.new.ensures.is_open, c.new.ensures.starts),
+                (
+                  _,
+                  c.new.result,
+                  slice_get-get_or c.args.connections.now place
+                      c.index-connections-connection.result c.in-Some.ensures.within,
+                  refl,
+                  (c.new.ensures.is_open, c.new.ensures.starts),
+                ),
+                (refl, c.note.ensures.told),
               ),
-              (refl, c.note.ensures.told),
-            )),
+            ),
       ),
     )

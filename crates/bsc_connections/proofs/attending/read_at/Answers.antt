@@ -1,12 +1,12 @@
 -- `read_at` tells the monitor of a connection that is closed, and otherwise of nothing that it read
 -- unless the station hears it.
-use Rattle.std.proofs.Common.{◌∷◌, [], refl, subst}
+use Rattle.std.proofs.Common.{◌∷◌, [], Bool, refl, sym, ◌∙◌, subst}
 use Rattle.bsc_connections.specs.declared.connection.Taken.{Taken}
 use Rattle.bsc_connections.specs.declared.connection.Taken.TheVariants.{Nothing, Interrupted, Part}
 use Rattle.bsc_connections.specs.declared.connection.Taken.TheVariants.{Closed}
-use Rattle.bsc_connections.specs.Parts.{connection_parts}
+use Rattle.bsc_connections.specs.Parts.{connection_parts, session_parts}
 use Rattle.bsc_connections.specs.Histories.{HasClosed}
-use Rattle.bsc_connections.specs.Attending.{IsTakenAt}
+use Rattle.bsc_connections.specs.Attending.{IsTakenAt, WaitsOn}
 use Rattle.bsc_connections.proofs.attending.read_at.Goals as goal
 
 pub returns-in-Nothing-clause-does : goal.returns-in-Nothing-clause-does
@@ -14,13 +14,14 @@ returns-in-Nothing-clause-does g c = (
   [],
   (
     Nothing,
-    (
-      subst (λ (t : Taken). IsTakenAt (connection_parts g.R.Read g.W.Write g.F.Framing)
+    record {
+      is_taken = subst (λ (t : Taken). IsTakenAt (connection_parts g.R.Read g.W.Write g.F.Framing)
           c.args.connection c.args.connections.now t c.take_at.new.connections) c.in-Nothing.is
-          c.take_at.ensures,
-      refl,
-      (refl, refl, refl),
-    ),
+          c.take_at.ensures;
+      station = refl;
+      tells = (refl, refl, refl);
+      waits_on = c.nothing_left.ensures;
+    },
   ),
 )
 
@@ -29,28 +30,52 @@ returns-in-Interrupted-clause-does g c = (
   [],
   (
     Interrupted,
-    (
-      subst (λ (t : Taken). IsTakenAt (connection_parts g.R.Read g.W.Write g.F.Framing)
+    record {
+      is_taken = subst (λ (t : Taken). IsTakenAt (connection_parts g.R.Read g.W.Write g.F.Framing)
           c.args.connection c.args.connections.now t c.take_at.new.connections) c.in-Interrupted.is
-          c.take_at.ensures,
-      refl,
-      (refl, refl, refl),
-    ),
+          c.take_at.ensures;
+      station = refl;
+      tells = (refl, refl, refl);
+      waits_on = refl;
+    },
   ),
 )
 
-pub returns-in-Part-clause-does : goal.returns-in-Part-clause-does
-returns-in-Part-clause-does g c = (
+pub returns-then-awaits_gap_at-clause-does : goal.returns-then-awaits_gap_at-clause-does
+returns-then-awaits_gap_at-clause-does g c = (
   [],
   (
     Part,
-    (
-      subst (λ (t : Taken). IsTakenAt (connection_parts g.R.Read g.W.Write g.F.Framing)
+    record {
+      is_taken = subst (λ (t : Taken). IsTakenAt (connection_parts g.R.Read g.W.Write g.F.Framing)
           c.args.connection c.args.connections.now t c.take_at.new.connections) c.in-Part.is
-          c.take_at.ensures,
-      refl,
-      (refl, refl, refl),
-    ),
+          c.take_at.ensures;
+      station = refl;
+      tells = (refl, refl, refl);
+      waits_on = subst (λ (b : Bool). WaitsOn
+          (session_parts g.S.Station g.R.Read g.W.Write g.F.Framing g.M.Monitor.is_told g.T.Waiter)
+          Part c.args.connection b c.args.waiter.now c.begin_gap.new.self)
+          (sym c.if-awaits_gap_at.true ∙ c.awaits_gap_at.ensures.value) c.begin_gap.ensures;
+    },
+  ),
+)
+
+pub returns-else-awaits_gap_at-clause-does : goal.returns-else-awaits_gap_at-clause-does
+returns-else-awaits_gap_at-clause-does g c = (
+  [],
+  (
+    Part,
+    record {
+      is_taken = subst (λ (t : Taken). IsTakenAt (connection_parts g.R.Read g.W.Write g.F.Framing)
+          c.args.connection c.args.connections.now t c.take_at.new.connections) c.in-Part.is
+          c.take_at.ensures;
+      station = refl;
+      tells = (refl, refl, refl);
+      waits_on = subst (λ (b : Bool). WaitsOn
+          (session_parts g.S.Station g.R.Read g.W.Write g.F.Framing g.M.Monitor.is_told g.T.Waiter)
+          Part c.args.connection b c.args.waiter.now c.args.waiter.now)
+          (sym c.if-awaits_gap_at.false ∙ c.awaits_gap_at.ensures.value) refl;
+    },
   ),
 )
 
@@ -59,12 +84,13 @@ returns-in-Closed-clause-does g c = (
   HasClosed c.args.connection c.in-Closed.why ∷ [],
   (
     Closed c.in-Closed.why,
-    (
-      subst (λ (t : Taken). IsTakenAt (connection_parts g.R.Read g.W.Write g.F.Framing)
+    record {
+      is_taken = subst (λ (t : Taken). IsTakenAt (connection_parts g.R.Read g.W.Write g.F.Framing)
           c.args.connection c.args.connections.now t c.take_at.new.connections) c.in-Closed.is
-          c.take_at.ensures,
-      refl,
-      (refl, c.note.ensures.told),
-    ),
+          c.take_at.ensures;
+      station = refl;
+      tells = (refl, c.note.ensures.told);
+      waits_on = c.nothing_left-in-Closed.ensures;
+    },
   ),
 )

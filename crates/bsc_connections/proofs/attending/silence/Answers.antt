@@ -7,7 +7,7 @@ use Rattle.bsc_connections.proofs.attending.silence.Goals as goal
 pub returns-clause-silent : goal.returns-clause-silent
 returns-clause-silent g c =
     let (answer, acted, sends) = c.silence-is_sent.ensures in
-    let (later, replies) = c.reply.ensures.replies answer
+    let (later, replies) = c.reply-result.ensures.replies answer
     (subst (λ (o : List ℕ). IsSent answer c.silence-is_sent.result o) (sym c.deref.ensures.0) sends) in (
       WasSilent ∷ later,
       record {
@@ -20,6 +20,7 @@ returns-clause-silent g c =
           later = later;
           replies = replies;
           happens = refl;
+          begins = c.begin_time_out.ensures;
         };
       },
     )

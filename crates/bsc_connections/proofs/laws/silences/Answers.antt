@@ -3,4 +3,4 @@ use Rattle.bsc_connections.proofs.Silences.{tells_each_silence}
 use Rattle.bsc_connections.proofs.laws.silences.Goals as goal
 
 pub returns : goal.returns
-returns g c = tells_each_silence _ g.T.Waiter.waits
+returns g c = tells_each_silence _

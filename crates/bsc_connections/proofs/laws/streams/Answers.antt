@@ -5,7 +5,7 @@ use Rattle.bsc_connections.proofs.Streams.{records_fit}
 use Rattle.bsc_connections.proofs.laws.streams.Goals as goal
 
 pub returns-clause-history : goal.returns-clause-history
-returns-clause-history g c = carries_history _ GivesRecords records_fit g.T.Waiter.waits
+returns-clause-history g c = carries_history _ GivesRecords records_fit
 
 pub returns-clause-records : goal.returns-clause-records
 returns-clause-records g c = λ old new given heard gives none.

@@ -5,4 +5,4 @@ use Rattle.bsc_connections.proofs.Streams.{gaps_fit}
 use Rattle.bsc_connections.proofs.laws.streams_by_gaps.Goals as goal
 
 pub returns : goal.returns
-returns g c = carries_history _ GivesByGaps gaps_fit g.T.Waiter.waits
+returns g c = carries_history _ GivesByGaps gaps_fit

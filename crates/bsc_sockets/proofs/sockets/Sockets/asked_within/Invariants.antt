@@ -1,0 +1,7 @@
+-- The loop invariant of `asked_within`.
+use Rattle.std.proofs.Common.{◌≡◌}
+use Rattle.bsc_sockets.proofs.sockets.Sockets.asked_within.Given as goal
+
+-- The times stay as they were.
+abbrev pub invariant-asks : goal.invariant-asks
+invariant-asks g l = l.self.times ≡ l.fn.self.times

@@ -1,0 +1,7 @@
+-- The loop invariant of `next_ready`.
+use Rattle.std.proofs.Common.{◌≡◌}
+use Rattle.bsc_sockets.proofs.sockets.Sockets.next_ready.Given as goal
+
+-- The times stay as they were.
+abbrev pub invariant-turns : goal.invariant-turns
+invariant-turns g l = l.self.times ≡ l.fn.self.times

@@ -1,0 +1,18 @@
+-- The time of the time-out.
+use Rattle.std.specs.Prelude.{◌≡◌, ⊤}
+use Rattle.bsc_connections.specs.declared.awaited.Awaited.{Awaited}
+use Rattle.bsc_connections.specs.declared.awaited.Awaited.TheVariants.{Gap, TimeOut}
+use Rattle.bsc_sockets.specs.declared.times.Time.{Time}
+use Rattle.bsc_sockets.specs.declared.times.Time.TheVariants.{Anew, Since}
+
+-- A time that has begun runs on since the same moment; one that begins with the next wait may
+-- begin.
+abbrev pub IsKept : Time → Time → Type 0
+IsKept (Since limit) new = new ≡ Since limit
+IsKept Anew new = ⊤
+
+-- The end of a time: of a gap, or of the time-out.
+abbrev pub IsEnd : Awaited → Type 0
+IsEnd (Gap connection) = ⊤
+IsEnd TimeOut = ⊤
+IsEnd _ = ⊥

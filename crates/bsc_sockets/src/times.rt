@@ -1,0 +1,139 @@
+//! The times of the time-out and of the gaps.
+
+ghost use Rattle.std.specs.Prelude.{◌≡◌, IfOk};
+ghost use Rattle.bsc_sockets.specs.Times.{IsEnd, IsKept};
+
+use crate::time_limit::TimeLimit;
+use bsc_connections::{Awaited, LiveError};
+use std::alloc::{AllocError, Allocator};
+use std::time::{Clock, Duration};
+
+/// A time that passes.
+#[derive(Clone, Copy)]
+pub(crate) enum Time {
+    /// It begins with the next wait.
+    Anew,
+
+    /// It has begun.
+    Since(TimeLimit),
+}
+
+/// What ends next, and how much of its time is left.
+#[derive(Clone, Copy)]
+pub(crate) struct End {
+    pub(crate) left: Duration,
+
+    /// The place whose gap ends, or None if it is the time-out.
+    pub(crate) gap: Option<usize>,
+}
+
+/// The time of the time-out, and of the gap of each connection on which one is awaited. Each is
+/// begun anew by its own call, and by nothing else.
+#[derive(Drop)]
+pub(crate) struct Times<A: Allocator> {
+    time_out: Time,
+    /// The time of the gap at each place, if one is awaited there.
+    gaps: Vec<Option<Time>, A>,
+}
+
+impl<A: Allocator> Times<A> {
+    /// Returns the times for this many places: that of the time-out begins with the next wait, and
+    /// no gap is awaited.
+    pub(crate) fn new(alloc: A, places: usize) -> Result<Times<A>, AllocError> {
+        let mut gaps = Vec::new(alloc);
+        for _ in 0..places {
+            gaps.push(None)?;
+        }
+        Ok(Times {
+            time_out: Time::Anew,
+            gaps,
+        })
+    }
+
+    /// Begins the time of the time-out anew, with the next wait.
+    pub(crate) fn begin_time_out(&mut self)
+        ensures { self.new.time_out ≡ Time.Anew }
+    {
+        self.time_out = Time::Anew;
+    }
+
+    /// Begins the gap at this place anew, with the next wait.
+    pub(crate) fn begin_gap(&mut self, place: usize)
+        ensures { self.new.time_out ≡ self.old.time_out }
+    {
+        if let Some(gap) = self.gaps.get_mut(place) {
+            *gap = Some(Time::Anew);
+        }
+    }
+
+    /// Awaits no gap at this place.
+    pub(crate) fn stop_gap(&mut self, place: usize)
+        ensures { self.new.time_out ≡ self.old.time_out }
+    {
+        if let Some(gap) = self.gaps.get_mut(place) {
+            *gap = None;
+        }
+    }
+
+    /// Begins the times that are to begin with this wait, of which the time-out takes `time_out`
+    /// and a gap `gap`. Returns which of them ends first; a gap that ends with the time-out comes
+    /// first. Fails with `Wait` if the clock does.
+    pub(crate) fn next_end<C: Clock>(
+        &mut self,
+        clock: &C,
+        time_out: Duration,
+        gap: Duration,
+    ) -> Result<End, LiveError>
+        ensures { IsKept self.old.time_out self.new.time_out }
+    {
+        let (limit, left) = running(clock, self.time_out, time_out)?;
+        self.time_out = Time::Since(limit);
+        let mut next = End { left, gap: None };
+        'gaps: for place in 0..self.gaps.len() {
+            if let Some(time) = self.gaps[place] {
+                let (limit, left) = running(clock, time, gap)?;
+                self.gaps[place] = Some(Time::Since(limit));
+                if left <= next.left {
+                    next = End {
+                        left,
+                        gap: Some(place),
+                    };
+                }
+            }
+        }
+        Ok(next)
+    }
+
+    /// Returns the event of this end. A gap that has ended is no longer awaited.
+    pub(crate) fn end(&mut self, end: End) -> Awaited
+        ensures event { IsEnd result }
+        ensures time_out { self.new.time_out ≡ self.old.time_out }
+    {
+        let Some(connection) = end.gap else {
+            return Awaited::TimeOut;
+        };
+        self.stop_gap(connection);
+        Awaited::Gap { connection }
+    }
+}
+
+/// Returns the limit of a time that begins now or has begun, and what is left of it.
+fn running<C: Clock>(
+    clock: &C,
+    time: Time,
+    whole: Duration,
+) -> Result<(TimeLimit, Duration), LiveError>
+    ensures { IfOk result (λ r. IsKept time (Time.Since r.0)) }
+{
+    let limit = match time {
+        Time::Since(limit) => limit,
+        Time::Anew => match TimeLimit::begin(clock, whole) {
+            Ok(limit) => limit,
+            Err(_) => return Err(LiveError::Wait),
+        },
+    };
+    match limit.left(clock) {
+        Ok(left) => Ok((limit, left)),
+        Err(_) => Err(LiveError::Wait),
+    }
+}
