@@ -4,7 +4,7 @@
 use bsc_attending::{Network, Opened, Wanted};
 use bsc_carrier::Cable;
 use bsc_command::{Fault, command};
-use bsc_connections::{Awaited, LiveError, Wait, Waiter};
+use bsc_connections::{Awaited, LiveError, Waiter};
 use bsc_input::{Files, InputError};
 use bsc_loopback::LoopbackError;
 use bsc_monitor::Timer;
@@ -83,9 +83,19 @@ pub(crate) struct Scripted {
 }
 
 impl Waiter<Pieces, Vec<u8>> for Scripted {
-    ghost waits = { λ _ _ _ _. Unit {0} };
+    ghost waits = { λ _ _ _. Unit {0} };
 
-    fn wait(&mut self, _wait: Wait) -> Result<Awaited, LiveError> {
+    ghost begins_time_out = { λ _ _. Unit {0} };
+
+    ghost begins_gap = { λ _ _ _. Unit {0} };
+
+    ghost has_nothing_left = { λ _ _ _. Unit {0} };
+
+    ghost joins = { λ _ _ _ _. Unit {0} };
+
+    ghost turns_away = { λ _ _. Unit {0} };
+
+    fn wait(&mut self) -> Result<Awaited, LiveError> {
         let Some(&step) = self.steps.first() else {
             return Ok(Awaited::Octets { connection: 0 });
         };
@@ -95,6 +105,10 @@ impl Waiter<Pieces, Vec<u8>> for Scripted {
         }
         Ok(Awaited::Octets { connection: 0 })
     }
+
+    fn begin_time_out(&mut self) {}
+
+    fn begin_gap(&mut self, _connection: usize) {}
 
     fn nothing_left(&mut self, _connection: usize) {}
 

@@ -1,6 +1,6 @@
 //! A scripted connection, and a clock that counts.
 
-use bsc_connections::{Awaited, Connection, LiveError, SocketRecords, Wait, Waiter};
+use bsc_connections::{Awaited, Connection, LiveError, SocketRecords, Waiter};
 use bsc_monitor::Timer;
 use std::alloc::{AllocError, Global};
 use std::io;
@@ -70,9 +70,19 @@ pub(crate) struct Scripted {
 }
 
 impl Waiter<Told, Taking> for Scripted {
-    ghost waits = { λ _ _ _ _. Unit {0} };
+    ghost waits = { λ _ _ _. Unit {0} };
 
-    fn wait(&mut self, _wait: Wait) -> Result<Awaited, LiveError> {
+    ghost begins_time_out = { λ _ _. Unit {0} };
+
+    ghost begins_gap = { λ _ _ _. Unit {0} };
+
+    ghost has_nothing_left = { λ _ _ _. Unit {0} };
+
+    ghost joins = { λ _ _ _ _. Unit {0} };
+
+    ghost turns_away = { λ _ _. Unit {0} };
+
+    fn wait(&mut self) -> Result<Awaited, LiveError> {
         let Some(&step) = self.steps.first() else {
             return Ok(Awaited::Octets { connection: 0 });
         };
@@ -82,6 +92,10 @@ impl Waiter<Told, Taking> for Scripted {
         }
         Ok(Awaited::Octets { connection: 0 })
     }
+
+    fn begin_time_out(&mut self) {}
+
+    fn begin_gap(&mut self, _connection: usize) {}
 
     fn nothing_left(&mut self, _connection: usize) {}
 

@@ -1,12 +1,22 @@
 //! The acts of a station and its peers in a test, and the acts at the station.
 
-use bsc_connections::{Awaited, Wait, Waiter};
+use bsc_connections::{Awaited, Waiter};
 use std::io;
 use std::io::{ErrorKind, Read, Write};
 use std::time::Instant;
 
 /// The result of a read.
 pub(crate) type Read4 = Result<&'static [u8], ErrorKind>;
+
+/// What peers do every 5 milliseconds to keep a station busy.
+#[derive(Clone, Copy)]
+pub(crate) enum Busy {
+    /// The last peer sends an octet, which the station reads.
+    Octets,
+
+    /// Another peer connects, which the station turns away.
+    Peers,
+}
 
 /// An act at the peer or the connection with this number.
 #[derive(Clone, Copy)]
@@ -36,12 +46,15 @@ pub(crate) enum Act {
     /// The station closes a connection.
     LetsGo(usize),
 
-    /// A wait has this result.
-    Waits(Wait, Awaited),
+    /// A wait has this result if the time of the time-out begins with it.
+    Waits(Awaited),
 
-    /// A wait ends with a time-out, after at least the first number of milliseconds, and less than
-    /// the second.
-    Passes(Wait, u128, u128),
+    /// If the time of the time-out, or of the gap in this result, begins with a wait, the wait has
+    /// this result after at least the first number of milliseconds, and less than the second.
+    Passes(Awaited, u128, u128),
+
+    /// The same while peers keep the station busy.
+    PassesThough(Busy, Awaited, u128, u128),
 
     /// Of 90 waits, at least this many report each of two connections and a newcomer.
     Shares(usize),
@@ -72,8 +85,13 @@ pub(crate) fn station_goes<R: Read + Drop, W: Write + Drop, S: Waiter<R, W>>(
         }
         Act::LetsGo(place) => lets_go(connections, place),
         Act::Joins(place, joins) => joins_at(sockets, connections, place) == joins,
-        Act::Waits(wait, awaited) => sockets.wait(wait) == Ok(awaited),
-        Act::Passes(wait, least, most) => { is_between(passed(rt, sockets, wait), least, most) }
+        Act::Waits(awaited) => {
+            sockets.begin_time_out();
+            sockets.wait() == Ok(awaited)
+        }
+        Act::Passes(awaited, least, most) => {
+            is_between(passed(rt, sockets, awaited), least, most)
+        }
         Act::Shares(least) => shares(sockets, least),
         Act::NothingLeft(place) => {
             sockets.nothing_left(place);
@@ -97,7 +115,7 @@ pub(crate) fn reads<R: Read>(reader: &mut R, expected: Read4) -> bool {
 }
 
 /// Whether the time is at least `least` milliseconds and less than `most`.
-fn is_between(passed: Option<u128>, least: u128, most: u128) -> bool {
+pub(crate) fn is_between(passed: Option<u128>, least: u128, most: u128) -> bool {
     passed.is_some_and(|passed| least <= passed && passed < most)
 }
 
@@ -181,19 +199,32 @@ fn joins_at<R: Drop, W: Drop, S: Waiter<R, W>>(
     }
 }
 
-/// The number of milliseconds after which a wait ends with a time-out.
-fn passed<R, W, S: Waiter<R, W>>(rt: &HostRuntime, sockets: &mut S, wait: Wait) -> Option<u128> {
+/// Begins the time of the time-out, and that of the gap of this result.
+pub(crate) fn begin<R, W, S: Waiter<R, W>>(sockets: &mut S, awaited: Awaited) {
+    sockets.begin_time_out();
+    if let Awaited::Gap { connection } = awaited {
+        sockets.begin_gap(connection);
+    }
+}
+
+/// The number of milliseconds after which a wait has this result.
+fn passed<R, W, S: Waiter<R, W>>(
+    rt: &HostRuntime,
+    sockets: &mut S,
+    expected: Awaited,
+) -> Option<u128> {
+    begin(sockets, expected);
     let start = Instant::now(rt).ok()?;
-    let awaited = sockets.wait(wait);
+    let awaited = sockets.wait();
     let passed = start.elapsed(rt).ok()?.as_millis();
-    (awaited == Ok(Awaited::TimeOut)).then_some(passed)
+    (awaited == Ok(expected)).then_some(passed)
 }
 
 /// Whether of 90 waits at least this many report each of two connections and a newcomer.
 fn shares<R, W, S: Waiter<R, W>>(sockets: &mut S, least: usize) -> bool {
     let mut told = [0usize; 3];
     for _ in 0..90 {
-        let place = match sockets.wait(Wait::TimeOut) {
+        let place = match sockets.wait() {
             Ok(Awaited::Octets { connection }) => connection,
             Ok(Awaited::Newcomer) => 2,
             _ => return false,

@@ -1,13 +1,11 @@
 //! A station is attended over two connections in memory.
 
 use crate::memory::Piece::{Fails, Octets};
-use crate::memory::{Ends, Expecting, Pieces, Told};
+use crate::memory::{Counts, Ends, Expecting, NOT_TOLD, Pieces, Told};
 use crate::watching::{Answers, Expects};
 use bsc_carrier::CarrierError;
-use bsc_connections::Awaited::{Newcomer, TimeOut};
-use bsc_connections::{
-    Awaited, Connection, Framing, Gaps, LiveError, Note, SocketRecords, Wait, attend,
-};
+use bsc_connections::Awaited::{Gap, Newcomer, TimeOut};
+use bsc_connections::{Awaited, Connection, Framing, Gaps, LiveError, Note, SocketRecords, attend};
 use std::alloc::Global;
 use std::io::ErrorKind;
 use std::test::Fail;
@@ -21,27 +19,24 @@ struct Attended {
     second: Ends,
     newcomer: Ends,
 
-    /// The waits, each with its result.
-    waits: &'static [(Wait, Awaited)],
+    /// The results of the waits.
+    waits: &'static [Awaited],
 
     /// The notes that the monitor has to receive. It ends the station at the last note, or the next
     /// wait fails.
     notes: &'static [Note<'static>],
     result: Result<(), LiveError>,
 
-    /// How often nothing was left to read on a connection, and how many newcomers were turned away.
-    counts: (u32, u32),
+    /// What the waiter was told. The time of the time-out begins anew after each transmission that
+    /// is heard and each silence, and with nothing else.
+    counts: Counts,
 }
 
 /// The first connection has octets to read.
-const FIRST: (Wait, Awaited) = (Wait::TimeOut, Awaited::Octets { connection: 0 });
+const FIRST: Awaited = Awaited::Octets { connection: 0 };
 
 /// The second connection has octets to read.
-const SECOND: (Wait, Awaited) = (Wait::TimeOut, Awaited::Octets { connection: 1 });
-
-const TIME_PASSES: (Wait, Awaited) = (Wait::TimeOut, TimeOut);
-
-const PEER_COMES: (Wait, Awaited) = (Wait::TimeOut, Newcomer);
+const SECOND: Awaited = Awaited::Octets { connection: 1 };
 
 /// The octets of EOT and of ACK0.
 const EOT: &[u8] = &[0x16, 0x16, 0x04, 0xff];
@@ -55,6 +50,9 @@ const EOT_AND_ACK0: &[u8] = &[
 
 /// The octets of ACK0 and of EOT.
 const ACK0_AND_EOT: &[u8] = &[0x16, 0x16, 0x10, 0xb0, 0xff, 0x16, 0x16, 0x04, 0xff];
+
+/// The octets of EOT and of ACK0.
+const EOT_THEN_ACK0: &[u8] = &[0x16, 0x16, 0x04, 0xff, 0x16, 0x16, 0x10, 0xb0, 0xff];
 
 const NONE: Ends = (&[], &[]);
 
@@ -76,17 +74,7 @@ const OVER_RECORDS: &[Attended] = &[
         second: (&[], EOT_AND_ACK0),
         newcomer: NONE,
         waits: &[
-            FIRST,
-            FIRST,
-            FIRST,
-            FIRST,
-            FIRST,
-            FIRST,
-            TIME_PASSES,
-            FIRST,
-            FIRST,
-            FIRST,
-            SECOND,
+            FIRST, FIRST, FIRST, FIRST, FIRST, FIRST, TimeOut, FIRST, FIRST, FIRST, SECOND,
         ],
         notes: &[
             Note::Silence,
@@ -106,7 +94,12 @@ const OVER_RECORDS: &[Attended] = &[
             },
         ],
         result: Ok(()),
-        counts: (5, 0),
+        counts: Counts {
+            nothing_left: 5,
+            turned_away: 0,
+            time_outs: 2,
+            gaps: 0,
+        },
     },
     Attended {
         shows: "what ends a connection is named, and a wait that fails ends all",
@@ -125,14 +118,19 @@ const OVER_RECORDS: &[Attended] = &[
             },
         ],
         result: Err(LiveError::Wait),
-        counts: (3, 0),
+        counts: Counts {
+            nothing_left: 3,
+            turned_away: 0,
+            time_outs: 0,
+            gaps: 0,
+        },
     },
     Attended {
         shows: "a write that fails is told by the next read, and then no more",
         first: (&[], &[0x00, 0x04, 0x16, 0x16, 0x04, 0xff]),
         second: (&[Octets(&[0x00])], &[]),
         newcomer: NONE,
-        waits: &[TIME_PASSES, SECOND, SECOND, FIRST],
+        waits: &[TimeOut, SECOND, SECOND, FIRST],
         notes: &[
             Note::Silence,
             Note::Sent { octets: EOT },
@@ -146,14 +144,19 @@ const OVER_RECORDS: &[Attended] = &[
             },
         ],
         result: Ok(()),
-        counts: (3, 0),
+        counts: Counts {
+            nothing_left: 3,
+            turned_away: 0,
+            time_outs: 1,
+            gaps: 0,
+        },
     },
     Attended {
         shows: "a peer that comes later takes a place that is free, and else is turned away",
         first: (&[Octets(&[0x00, 0x00])], &[]),
         second: NONE,
         newcomer: (&[Octets(&[0x00, 0x01]), Octets(&[0x55])], &[]),
-        waits: &[PEER_COMES, FIRST, FIRST, PEER_COMES, FIRST, FIRST],
+        waits: &[Newcomer, FIRST, FIRST, Newcomer, FIRST, FIRST],
         notes: &[
             Note::Closed {
                 connection: 0,
@@ -166,7 +169,12 @@ const OVER_RECORDS: &[Attended] = &[
             },
         ],
         result: Ok(()),
-        counts: (2, 1),
+        counts: Counts {
+            nothing_left: 2,
+            turned_away: 1,
+            time_outs: 1,
+            gaps: 0,
+        },
     },
 ];
 
@@ -178,9 +186,9 @@ const OVER_GAPS: &[Attended] = &[
         newcomer: NONE,
         waits: &[
             SECOND,
-            (Wait::Gap, Awaited::Octets { connection: 1 }),
-            (Wait::Gap, TimeOut),
-            TIME_PASSES,
+            SECOND,
+            Gap { connection: 1 },
+            TimeOut,
             SECOND,
             FIRST,
         ],
@@ -202,7 +210,47 @@ const OVER_GAPS: &[Attended] = &[
             },
         ],
         result: Ok(()),
-        counts: (2, 0),
+        counts: Counts {
+            nothing_left: 2,
+            turned_away: 0,
+            time_outs: 2,
+            gaps: 2,
+        },
+    },
+    Attended {
+        shows: "a time-out may pass before the gap, and a gap where nothing has begun ends nothing",
+        first: (&[], EOT_THEN_ACK0),
+        second: (&[Octets(&[0x16, 0x16]), Octets(&[0x04])], EOT_THEN_ACK0),
+        newcomer: NONE,
+        waits: &[
+            Gap { connection: 0 },
+            Gap { connection: 2 },
+            SECOND,
+            TimeOut,
+            SECOND,
+            Gap { connection: 1 },
+            SECOND,
+        ],
+        notes: &[
+            Note::Silence,
+            Note::Sent { octets: EOT },
+            Note::Heard {
+                connection: 1,
+                octets: &[0x16, 0x16, 0x04],
+            },
+            Note::Sent { octets: ACK0 },
+            Note::Closed {
+                connection: 1,
+                why: None,
+            },
+        ],
+        result: Ok(()),
+        counts: Counts {
+            nothing_left: 1,
+            turned_away: 0,
+            time_outs: 2,
+            gaps: 2,
+        },
     },
     Attended {
         shows: "a read that fails ends a connection",
@@ -215,7 +263,12 @@ const OVER_GAPS: &[Attended] = &[
             why: Some(CarrierError::Device),
         }],
         result: Ok(()),
-        counts: (1, 0),
+        counts: Counts {
+            nothing_left: 1,
+            turned_away: 0,
+            time_outs: 0,
+            gaps: 0,
+        },
     },
 ];
 
@@ -233,12 +286,11 @@ fn goes_over<F: Framing + Drop>(
     let mut waiter = Told {
         waits: attended.waits,
         newcomer: attended.newcomer,
-        nothing_left: 0,
-        turned_away: 0,
+        counts: NOT_TOLD,
     };
     let mut monitor = Expects::new(attended.notes, attended.result.is_ok());
     let result = attend(&mut Answers, connections, &mut waiter, &mut monitor);
-    let counts = (waiter.nothing_left, waiter.turned_away);
+    let counts = waiter.counts;
     let is_done = waiter.waits.is_empty() && monitor.is_done();
     is_done && result == attended.result && counts == attended.counts
 }

@@ -2,7 +2,7 @@
 
 use crate::acts::{reads_at, writes_at};
 use crate::meeting::{bound, patience, peer, settings};
-use bsc_connections::{Awaited, Wait, Waiter};
+use bsc_connections::{Awaited, Waiter};
 use bsc_sockets::{Begun, Listening, Peers, SocketsError, connect, listen};
 use std::alloc::{AllocError, Allocator, Global};
 use std::io::{Read, Write};
@@ -125,7 +125,7 @@ fn peers_that_are_missing_are_told_in_time(rt: HostRuntime) -> Result<(), Fail> 
 /// Whether a station is told of an octet that arrives on its first connection.
 fn hears<R: Read, W, S: Waiter<R, W>>(sockets: &mut S, connections: &mut [(R, W)]) -> bool {
     let first = Awaited::Octets { connection: 0 };
-    sockets.wait(Wait::TimeOut) == Ok(first) && reads_at(connections, 0, Ok(&[0x16]))
+    sockets.wait() == Ok(first) && reads_at(connections, 0, Ok(&[0x16]))
 }
 
 /// Whether a station that listens hears an octet of a station that connected to it with these

@@ -1,13 +1,14 @@
 //! A station that listens, and the peers that connected to it.
 
-use crate::acts::{Act, Read4, reads, station_goes};
+use crate::acts::{Act, Busy, Read4, begin, is_between, reads, station_goes};
+use bsc_connections::{Awaited, Waiter};
 use bsc_sockets::{Begun, ConnectionSettings, Listening, Peers, SocketsError, listen};
 use std::alloc::Global;
 use std::io;
 use std::io::{Read, Write};
 use std::net::{Shutdown, SocketAddr, TcpStream};
 use std::test::Fail;
-use std::time::Duration;
+use std::time::{Duration, Instant};
 
 /// A time so long that a test which waits for it has failed.
 pub(crate) fn patience() -> Duration {
@@ -125,6 +126,9 @@ impl<'a> Meeting<'a> {
     fn goes(&mut self, act: &Act) -> bool {
         match *act {
             Act::Comes => self.comes(),
+            Act::PassesThough(busy, awaited, least, most) => {
+                is_between(self.passed(busy, awaited), least, most)
+            }
             Act::Sends(..) | Act::Hears(..) | Act::Ends(_) | Act::Empties(_) => {
                 peer_goes(&mut self.peers, act)
             }
@@ -148,12 +152,70 @@ impl<'a> Meeting<'a> {
         None
     }
 
+    /// The number of milliseconds after which a wait has this result, though peers keep the station
+    /// busy, at most 200 times. The times begin with the first wait.
+    fn passed(&mut self, busy: Busy, expected: Awaited) -> Option<u128> {
+        begin(&mut self.begun.sockets, expected);
+        let start = Instant::now(self.rt).ok()?;
+        for _ in 0..200u32 {
+            let begun = Instant::now(self.rt).ok()?;
+            if !self.disturbs(busy) {
+                return None;
+            }
+            if self.serves()? == expected {
+                return Some(start.elapsed(self.rt).ok()?.as_millis());
+            }
+            pause(self.rt, begun)?;
+        }
+        None
+    }
+
+    /// Whether a peer keeps the station busy once.
+    fn disturbs(&mut self, busy: Busy) -> bool {
+        match busy {
+            Busy::Octets => match self.peers.last_mut() {
+                Some(peer) => peer.write_all(b"x").is_ok(),
+                None => false,
+            },
+            Busy::Peers => self.comes(),
+        }
+    }
+
+    /// Waits once and serves what happened.
+    fn serves(&mut self) -> Option<Awaited> {
+        let Begun {
+            sockets,
+            connections,
+        } = &mut self.begun;
+        let awaited = sockets.wait().ok()?;
+        match awaited {
+            Awaited::Octets { connection } => {
+                let (reading, _) = connections.get_mut(connection)?;
+                let _ = reading.read(&mut [0u8; 64]);
+                sockets.nothing_left(connection);
+            }
+            Awaited::Newcomer => sockets.turn_away(),
+            Awaited::Gap { .. } | Awaited::TimeOut => {}
+        }
+        Some(awaited)
+    }
+
     fn comes(&mut self) -> bool {
         match peer(self.rt, self.address) {
             Ok(peer) => self.peers.push(peer).is_ok(),
             Err(_) => false,
         }
     }
+}
+
+/// Lets time pass until 5 milliseconds after this moment. Returns None if the clock fails.
+fn pause(rt: &HostRuntime, begun: Instant) -> Option<()> {
+    for _ in 0..u64::MAX {
+        if 5 <= begun.elapsed(rt).ok()?.as_millis() {
+            return Some(());
+        }
+    }
+    None
 }
 
 /// Whether an act of a peer has the expected result.

@@ -1,7 +1,7 @@
 //! A reader with given octets, a writer that accepts only given octets, and a waiter with given
 //! results.
 
-use bsc_connections::{Awaited, LiveError, Wait, Waiter};
+use bsc_connections::{Awaited, LiveError, Waiter};
 use std::io;
 use std::io::{Error, ErrorKind, Read, Write};
 
@@ -61,35 +61,70 @@ impl Write for Expecting {
     }
 }
 
-/// Returns the given results of waits in order, as long as each wait is of the kind given with its
-/// result, and then fails. Each newcomer has these ends.
+/// Returns the given results of waits in order, and then fails. Each newcomer has these ends.
 #[derive(Drop)]
 pub(crate) struct Told {
-    pub(crate) waits: &'static [(Wait, Awaited)],
+    pub(crate) waits: &'static [Awaited],
     pub(crate) newcomer: Ends,
-    /// How often nothing was left to read on a connection.
-    pub(crate) nothing_left: u32,
-    /// The number of newcomers that were turned away.
-    pub(crate) turned_away: u32,
+    pub(crate) counts: Counts,
 }
+
+/// How often a waiter was told each of these things.
+#[derive(Clone, Copy, PartialEq, Eq)]
+pub(crate) struct Counts {
+    /// That nothing was left to read on a connection.
+    pub(crate) nothing_left: u32,
+    /// To turn a newcomer away.
+    pub(crate) turned_away: u32,
+    /// To begin the time of the time-out anew.
+    pub(crate) time_outs: u32,
+    /// To begin the gap of a connection anew.
+    pub(crate) gaps: u32,
+}
+
+/// Of a waiter that was told nothing.
+pub(crate) const NOT_TOLD: Counts = Counts {
+    nothing_left: 0,
+    turned_away: 0,
+    time_outs: 0,
+    gaps: 0,
+};
 
 impl Waiter<Pieces, Expecting> for Told {
     ghost use Rattle.std.specs.Prelude.{⊤};
 
-    ghost waits = { λ _ _ _ _. ⊤ };
+    ghost waits = { λ _ _ _. ⊤ };
 
-    fn wait(&mut self, wait: Wait) -> Result<Awaited, LiveError> {
+    ghost begins_time_out = { λ _ _. ⊤ };
+
+    ghost begins_gap = { λ _ _ _. ⊤ };
+
+    ghost has_nothing_left = { λ _ _ _. ⊤ };
+
+    ghost joins = { λ _ _ _ _. ⊤ };
+
+    ghost turns_away = { λ _ _. ⊤ };
+
+    fn wait(&mut self) -> Result<Awaited, LiveError> {
         match self.waits.split_first() {
-            Some((first, rest)) if first.0 == wait => {
+            Some((first, rest)) => {
                 self.waits = rest;
-                Ok(first.1)
+                Ok(*first)
             }
-            _ => Err(LiveError::Wait),
+            None => Err(LiveError::Wait),
         }
     }
 
+    fn begin_time_out(&mut self) {
+        self.counts.time_outs = self.counts.time_outs.wrapping_add(1);
+    }
+
+    fn begin_gap(&mut self, _connection: usize) {
+        self.counts.gaps = self.counts.gaps.wrapping_add(1);
+    }
+
     fn nothing_left(&mut self, _connection: usize) {
-        self.nothing_left = self.nothing_left.wrapping_add(1);
+        self.counts.nothing_left = self.counts.nothing_left.wrapping_add(1);
     }
 
     fn join(&mut self, _connection: usize) -> Option<(Pieces, Expecting)> {
@@ -98,6 +133,6 @@ impl Waiter<Pieces, Expecting> for Told {
     }
 
     fn turn_away(&mut self) {
-        self.turned_away = self.turned_away.wrapping_add(1);
+        self.counts.turned_away = self.counts.turned_away.wrapping_add(1);
     }
 }

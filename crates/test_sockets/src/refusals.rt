@@ -2,7 +2,7 @@
 
 use crate::beginning::{connections_at, connections_to, text};
 use crate::meeting::{bound, patience, peer, settings};
-use bsc_connections::{Awaited, Wait, Waiter};
+use bsc_connections::{Awaited, Waiter};
 use bsc_sockets::{Peers, Sockets, SocketsError, listen};
 use std::alloc::{Allocator, Global};
 use std::io::Read;
@@ -76,7 +76,7 @@ fn joins<R: Drop, W: Drop, S: Waiter<R, W>>(
     sockets: &mut S,
     is_refused: bool,
 ) -> Result<bool, Fail> {
-    if sockets.wait(Wait::TimeOut)? != Awaited::Newcomer {
+    if sockets.wait()? != Awaited::Newcomer {
         return Err("no newcomer".into());
     }
     alloc.refuse_none();

@@ -1,17 +1,20 @@
 //! The octets that a station receives and sends.
 
-use crate::acts::Act;
 use crate::acts::Act::{
-    Comes, Empties, Ends, Fills, Hears, Joins, LetsGo, NothingLeft, Passes, Reads, Sends, Shares,
-    TurnsAway, Waits, Writes,
+    Comes, Empties, Ends, Fills, Hears, Joins, LetsGo, NothingLeft, Passes, PassesThough, Reads,
+    Sends, Shares, TurnsAway, Waits, Writes,
 };
+use crate::acts::{Act, Busy};
 use crate::meeting::{Encounter, play};
-use bsc_connections::{Awaited, Wait};
+use bsc_connections::Awaited;
 use std::io::ErrorKind;
 use std::test::Fail;
 
 /// The first connection may have octets to read.
 const FIRST: Awaited = Awaited::Octets { connection: 0 };
+
+/// The gap of the first connection has passed.
+const GAP: Awaited = Awaited::Gap { connection: 0 };
 
 const NOTHING_THERE: Act = Reads(0, Err(ErrorKind::WouldBlock));
 
@@ -23,14 +26,14 @@ const MEETINGS: &[Encounter] = &[
         acts: &[
             NOTHING_THERE,
             Sends(0, b"abcdef"),
-            Waits(Wait::TimeOut, FIRST),
-            Waits(Wait::TimeOut, FIRST),
+            Waits(FIRST),
+            Waits(FIRST),
             Reads(0, Ok(b"abcd")),
-            Waits(Wait::Gap, FIRST),
+            Waits(FIRST),
             Reads(0, Ok(b"ef")),
             NOTHING_THERE,
             NothingLeft(0),
-            Waits(Wait::Gap, Awaited::TimeOut),
+            Waits(Awaited::TimeOut),
             Writes(0, b"def"),
             Hears(0, Ok(b"def")),
         ],
@@ -39,12 +42,7 @@ const MEETINGS: &[Encounter] = &[
         shows: "a peer that ends its connection is told of, and reads as an end, again and again",
         peers: 1,
         begins: false,
-        acts: &[
-            Ends(0),
-            Waits(Wait::TimeOut, FIRST),
-            Reads(0, Ok(b"")),
-            Reads(0, Ok(b"")),
-        ],
+        acts: &[Ends(0), Waits(FIRST), Reads(0, Ok(b"")), Reads(0, Ok(b""))],
     },
     Encounter {
         shows: "a peer that has gone is replaced by the next one, told of until it has a place",
@@ -52,17 +50,17 @@ const MEETINGS: &[Encounter] = &[
         begins: false,
         acts: &[
             Ends(0),
-            Waits(Wait::TimeOut, FIRST),
+            Waits(FIRST),
             LetsGo(0),
             NothingLeft(0),
             Joins(0, false),
             Comes,
-            Waits(Wait::TimeOut, Awaited::Newcomer),
-            Waits(Wait::TimeOut, Awaited::Newcomer),
+            Waits(Awaited::Newcomer),
+            Waits(Awaited::Newcomer),
             Joins(0, true),
-            Waits(Wait::TimeOut, Awaited::TimeOut),
+            Waits(Awaited::TimeOut),
             Sends(2, b"here"),
-            Waits(Wait::TimeOut, FIRST),
+            Waits(FIRST),
             Reads(0, Ok(b"here")),
             Writes(0, b"too"),
             Hears(2, Ok(b"too")),
@@ -74,10 +72,10 @@ const MEETINGS: &[Encounter] = &[
         begins: false,
         acts: &[
             Comes,
-            Waits(Wait::TimeOut, Awaited::Newcomer),
+            Waits(Awaited::Newcomer),
             TurnsAway,
             Hears(1, Ok(b"")),
-            Waits(Wait::TimeOut, Awaited::TimeOut),
+            Waits(Awaited::TimeOut),
         ],
     },
 ];
@@ -93,7 +91,7 @@ const BUSY: &[Encounter] = &[Encounter {
     begins: false,
     acts: &[
         Sends(0, b"without end"),
-        Waits(Wait::TimeOut, FIRST),
+        Waits(FIRST),
         Sends(1, b"once"),
         Comes,
         Shares(20),
@@ -110,11 +108,28 @@ const QUIET: &[Encounter] = &[Encounter {
     peers: 1,
     begins: true,
     acts: &[
-        Passes(Wait::TimeOut, 0, 30),
-        Passes(Wait::TimeOut, 40, 400),
-        Passes(Wait::Gap, 10, 400),
+        Passes(Awaited::TimeOut, 0, 30),
+        Passes(Awaited::TimeOut, 40, 400),
+        Passes(GAP, 10, 400),
+        Passes(Awaited::TimeOut, 40, 400),
     ],
 }];
+
+const DISTURBED: &[Encounter] = &[Encounter {
+    shows: "what peers send, and that they connect, moves neither a time-out nor another gap",
+    peers: 2,
+    begins: false,
+    acts: &[
+        PassesThough(Busy::Octets, Awaited::TimeOut, 40, 400),
+        PassesThough(Busy::Octets, GAP, 10, 400),
+        PassesThough(Busy::Peers, Awaited::TimeOut, 40, 400),
+    ],
+}];
+
+#[test]
+fn nobody_moves_the_time(rt: HostRuntime) -> Result<(), Fail> {
+    play(&rt, rt.alloc(), DISTURBED)
+}
 
 #[test]
 fn time_passes(rt: HostRuntime) -> Result<(), Fail> {
