@@ -1,10 +1,12 @@
 -- The arguments of `station`: those that `clap` reads, and their values.
-use Rattle.std.specs.Prelude.{List, [], ◌∷◌, Bool, codes}
+use Rattle.std.specs.Prelude.{List, [], ◌∷◌, Bool, Option, codes, option_map, string_bytes}
 use Rattle.std.specs.Prelude.{unwrap_or}
 use Rattle.clap.specs.Words.{App, Row, Text, all_of, first_of, new_app}
 use Rattle.bsc_words.specs.Options.{flag, is_true_text, option, required, value_at, value_list}
 use Rattle.bsc_words.specs.Options.{with_rules}
 use Rattle.bsc_asked.specs.StationWords.{AskedWords}
+use Rattle.bsc_words.specs.declared.station_words.Flags.{Flags}
+use Rattle.bsc_words.specs.declared.station_words.Numbers.{Numbers}
 
 -- The command `station CONFIG`. Its options select the station, its connections, its times and
 -- limits, the records that it offers, and its output.
@@ -54,4 +56,43 @@ words_in rows = record {
   bytes = given (codes "bytes") rows;
   report_records = given (codes "report-records") rows;
   trace = given (codes "trace") rows;
+}
+
+-- The flags in the matches.
+abbrev pub flags_in : List Row → Flags
+flags_in rows = record {
+  control = given (codes "control") rows;
+  shared = given (codes "shared") rows;
+  raw = given (codes "raw") rows;
+  text = given (codes "text") rows;
+  bytes = given (codes "bytes") rows;
+  report_records = given (codes "report-records") rows;
+  trace = given (codes "trace") rows;
+}
+
+-- The times and limits, as texts.
+pub record NumberTexts : Type 0 where
+  pub gap : Option Text
+  pub time_out : Option Text
+  pub patience : Option Text
+  pub rounds : Option Text
+  pub idle_rounds : Option Text
+
+abbrev pub number_texts : Numbers → NumberTexts
+number_texts n = record {
+  gap = option_map string_bytes n.gap;
+  time_out = option_map string_bytes n.time_out;
+  patience = option_map string_bytes n.patience;
+  rounds = option_map string_bytes n.rounds;
+  idle_rounds = option_map string_bytes n.idle_rounds;
+}
+
+-- The times and limits in the matches.
+abbrev pub numbers_in : List Row → NumberTexts
+numbers_in rows = record {
+  gap = first_of (codes "gap") rows;
+  time_out = first_of (codes "time-out") rows;
+  patience = first_of (codes "patience") rows;
+  rounds = first_of (codes "rounds") rows;
+  idle_rounds = first_of (codes "idle-rounds") rows;
 }

@@ -1,6 +1,6 @@
 //! Commands built from the rows of a table.
-ghost use Rattle.std.specs.Prelude.{◌≡◌, IfOk, map, false};
-ghost use Rattle.clap.specs.Words.{app_of, rule_of, shape_of};
+ghost use Rattle.std.specs.Prelude.{◌≡◌, IfOk, Some, map, false};
+ghost use Rattle.clap.specs.Words.{app_of, rule_of, shape_of, with_subcommand as with_shape};
 ghost use Rattle.clap.specs.declared.builder.command.Command.TheViews.{out-Command};
 ghost use Rattle.bsc_words.specs.Options.{entry_rule, subcommand_shape, with_rules, with_shapes};
 
@@ -64,15 +64,18 @@ fn argument<'a>(alloc: Global, entry: &'a Entry) -> Arg<'a>
     match entry.given {
         Given::Required => argument.required(true).action(ArgAction::Set),
         Given::Flag => argument.long(entry.id).action(ArgAction::SetTrue),
-        Given::Value => argument
-            .long(entry.id)
-            .value_name(entry.value)
-            .action(ArgAction::Set),
-        Given::Values => argument
-            .long(entry.id)
-            .value_name(entry.value)
-            .action(ArgAction::Append),
+        Given::Value => with_value(argument, entry).action(ArgAction::Set),
+        Given::Values => with_value(argument, entry).action(ArgAction::Append),
     }
+}
+
+/// Adds the name of an entry and that of its value to its argument.
+fn with_value<'a>(argument: Arg<'a>, entry: &'a Entry) -> Arg<'a>
+    ensures rule { rule_of result
+        ≡ record (rule_of argument.entry) { long = Some entry.now.id.now; value_names = 1 } }
+    ensures local { result.global ≡ argument.entry.global }
+{
+    argument.long(entry.id).value_name(entry.value)
 }
 
 /// Adds these arguments and options to a command.
@@ -115,7 +118,20 @@ pub(crate) fn with_subcommands<'a>(
 {
     let mut program = program;
     'rows: for row in rows {
-        program = program.subcommand(command_of(alloc, row)?)?;
+        program = with_subcommand(alloc, program, row)?;
     }
     Ok(program)
+}
+
+/// Adds the command for a row to a program.
+fn with_subcommand<'a>(
+    alloc: Global,
+    program: Command<'a>,
+    row: &'a Subcommand,
+) -> Result<Command<'a>, AllocError>
+    ensures { IfOk result (λ c. app_of c
+        ≡ with_shape (app_of program.entry) (subcommand_shape row.now)) }
+{
+    let command = command_of(alloc, row)?;
+    program.subcommand(command)
 }

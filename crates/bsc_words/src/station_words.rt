@@ -2,12 +2,62 @@
 ghost use Rattle.std.specs.Prelude.{◌≡◌, IfOk};
 ghost use Rattle.clap.specs.Words.{found_of, rows_of};
 ghost use Rattle.bsc_asked.specs.StationWords.{asked_words};
-ghost use Rattle.bsc_words.specs.StationWords.{words_in};
+ghost use Rattle.bsc_words.specs.StationWords.{flags_in, number_texts, numbers_in, words_in};
 
 use crate::values::{is_given, option_text, option_texts, required_text};
 use bsc_asked::StationWords;
 use clap::ArgMatches;
 use std::alloc::{AllocError, Global};
+
+/// The flags of `station`: whether each was given.
+#[derive(Clone, Copy)]
+struct Flags {
+    control: bool,
+    shared: bool,
+    raw: bool,
+    text: bool,
+    bytes: bool,
+    report_records: bool,
+    trace: bool,
+}
+
+/// The times and limits of `station`, as they were given.
+#[derive(Drop)]
+struct Numbers {
+    gap: Option<String>,
+    time_out: Option<String>,
+    patience: Option<String>,
+    rounds: Option<String>,
+    idle_rounds: Option<String>,
+}
+
+/// Returns the flags in these matches.
+fn flags_of(matches: &ArgMatches<'_>) -> Flags
+    ensures { result ≡ flags_in (rows_of (found_of matches.now)) }
+{
+    Flags {
+        control: is_given(matches, "control"),
+        shared: is_given(matches, "shared"),
+        raw: is_given(matches, "raw"),
+        text: is_given(matches, "text"),
+        bytes: is_given(matches, "bytes"),
+        report_records: is_given(matches, "report-records"),
+        trace: is_given(matches, "trace"),
+    }
+}
+
+/// Returns the times and limits in these matches.
+fn numbers_of(alloc: Global, matches: &ArgMatches<'_>) -> Result<Numbers, AllocError>
+    ensures { IfOk result (λ n. number_texts n ≡ numbers_in (rows_of (found_of matches.now))) }
+{
+    Ok(Numbers {
+        gap: option_text(alloc, matches, "gap")?,
+        time_out: option_text(alloc, matches, "time-out")?,
+        patience: option_text(alloc, matches, "patience")?,
+        rounds: option_text(alloc, matches, "rounds")?,
+        idle_rounds: option_text(alloc, matches, "idle-rounds")?,
+    })
+}
 
 /// Returns the arguments of `station` in these matches.
 pub(crate) fn station_words(
@@ -16,23 +66,37 @@ pub(crate) fn station_words(
 ) -> Result<StationWords, AllocError>
     ensures { IfOk result (λ w. asked_words w ≡ words_in (rows_of (found_of matches.now))) }
 {
+    let flags = flags_of(matches);
+    let config = required_text(alloc, matches, "CONFIG")?;
+    let terminal = option_text(alloc, matches, "terminal")?;
+    let listen = option_text(alloc, matches, "listen")?;
+    let connect = option_text(alloc, matches, "connect")?;
+    let offers = option_texts(alloc, matches, "offer")?;
+    let numbers = numbers_of(alloc, matches)?;
+    let Numbers {
+        gap,
+        time_out,
+        patience,
+        rounds,
+        idle_rounds,
+    } = numbers;
     Ok(StationWords {
-        config: required_text(alloc, matches, "CONFIG")?,
-        control: is_given(matches, "control"),
-        terminal: option_text(alloc, matches, "terminal")?,
-        listen: option_text(alloc, matches, "listen")?,
-        connect: option_text(alloc, matches, "connect")?,
-        shared: is_given(matches, "shared"),
-        raw: is_given(matches, "raw"),
-        gap: option_text(alloc, matches, "gap")?,
-        time_out: option_text(alloc, matches, "time-out")?,
-        patience: option_text(alloc, matches, "patience")?,
-        rounds: option_text(alloc, matches, "rounds")?,
-        idle_rounds: option_text(alloc, matches, "idle-rounds")?,
-        offers: option_texts(alloc, matches, "offer")?,
-        text: is_given(matches, "text"),
-        bytes: is_given(matches, "bytes"),
-        report_records: is_given(matches, "report-records"),
-        trace: is_given(matches, "trace"),
+        config,
+        control: flags.control,
+        terminal,
+        listen,
+        connect,
+        shared: flags.shared,
+        raw: flags.raw,
+        gap,
+        time_out,
+        patience,
+        rounds,
+        idle_rounds,
+        offers,
+        text: flags.text,
+        bytes: flags.bytes,
+        report_records: flags.report_records,
+        trace: flags.trace,
     })
 }

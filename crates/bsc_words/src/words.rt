@@ -3,9 +3,9 @@ ghost use Rattle.std.specs.Prelude.{◌≡◌, ◌⊎◌, [], map, IfOk, IfErr, 
 ghost use Rattle.clap.specs.Words.{HasKind, app_of, found_of, kind_of, rows_of, subcommand_rows_of};
 ghost use Rattle.bsc_asked.specs.Asked.{asked};
 ghost use Rattle.bsc_words.specs.CommandLine.{asked_of, asked_run, asked_station, asked_sub};
-ghost use Rattle.bsc_words.specs.CommandLine.{bscline_app, faults_at};
+ghost use Rattle.bsc_words.specs.CommandLine.{bscline_app, faults_at, program_app};
 
-use crate::entries::{command_of, with_subcommands};
+use crate::entries::{Subcommand, command_of, with_subcommands};
 use crate::station_words::station_words;
 use crate::tables::{COMMANDS, RUN, STATION};
 use crate::values::{is_given, required_text};
@@ -14,15 +14,21 @@ use clap::error::ErrorKind;
 use clap::{ArgMatches, Command, Error};
 use std::alloc::{AllocError, Global};
 
+/// Returns the program without its commands.
+fn program<'a>(alloc: Global) -> Command<'a>
+    ensures { app_of result ≡ program_app }
+{
+    Command::new(alloc, "bscline")
+        .about("Print the names of the transmissions on standard input, one a line")
+        .after_help("Example: echo 16 16 10 B0 FF | bscline")
+        .version("0.2.0")
+}
+
 /// Returns the command line of `bscline`.
 fn command_line<'a>(alloc: Global) -> Result<Command<'a>, AllocError>
     ensures { IfOk result (λ c. app_of c ≡ bscline_app) }
 {
-    let program = Command::new(alloc, "bscline")
-        .about("Print the names of the transmissions on standard input, one a line")
-        .after_help("Example: echo 16 16 10 B0 FF | bscline")
-        .version("0.2.0");
-    with_subcommands(alloc, program, COMMANDS)
+    with_subcommands(alloc, program(alloc), COMMANDS)
 }
 
 /// Returns the run that the matches of `run` ask for.
@@ -88,9 +94,18 @@ pub enum Shown {
 fn shown_command<'a>(alloc: Global, shown: Shown) -> Result<Command<'a>, AllocError> {
     match shown {
         Shown::Program => command_line(alloc),
-        Shown::Run => command_of(alloc, &RUN)?.bin_name("bscline run"),
-        Shown::Station => command_of(alloc, &STATION)?.bin_name("bscline station"),
+        Shown::Run => named_command(alloc, &RUN, "bscline run"),
+        Shown::Station => named_command(alloc, &STATION, "bscline station"),
     }
+}
+
+/// Returns the command for a row, with this name in its usage.
+fn named_command<'a>(
+    alloc: Global,
+    row: &'a Subcommand,
+    name: &'a str,
+) -> Result<Command<'a>, AllocError> {
+    command_of(alloc, row)?.bin_name(name)
 }
 
 /// Returns the error of `clap` for a wrong value, or for values that conflict, with this reason and

@@ -1,5 +1,5 @@
 -- Shows that the program has the rows of the table as its commands.
-use Rattle.std.proofs.Common.{rules, ◌≡◌, ◌∙◌, ap, List, [], ◌∷◌, Result, Ok, Err, IfOk}
+use Rattle.std.proofs.Common.{◌≡◌, ◌∙◌, ap, List, [], ◌∷◌, Result, Ok, Err, IfOk}
 use Rattle.clap.specs.Words.{App, Shape, app_of}
 use Rattle.bsc_words.specs.CommandLine.{name_app, program_app, run_app, show_app}
 use Rattle.bsc_words.specs.StationWords.{station_app}
@@ -15,7 +15,6 @@ of_program f (Err error) a b shapes e h = tt
 
 pub returns : goal.returns
 returns c =
-    let program : app_of c.version-program.result ≡ program_app = search rules in
-    of_program app_of c.with_subcommands.result (app_of c.version-program.result) program_app
-    (name_app.top ∷ show_app.top ∷ run_app.top ∷ station_app.top ∷ []) program
+    of_program app_of c.with_subcommands.result (app_of c.program.result) program_app
+    (name_app.top ∷ show_app.top ∷ run_app.top ∷ station_app.top ∷ []) c.program.ensures
     c.with_subcommands.ensures

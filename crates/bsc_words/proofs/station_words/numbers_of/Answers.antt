@@ -1,0 +1,22 @@
+-- Shows that each time and limit has the value of its name in the matches.
+use Rattle.std.proofs.Common.{◌∙◌, codes}
+use Rattle.clap.specs.Words.{found_of}
+use Rattle.clap.proofs.WalkLemmas.{first_value-rows}
+use Rattle.bsc_words.proofs.station_words.numbers_of.Goals as goal
+
+pub returns : goal.returns
+returns c =
+    let found = found_of c.args.matches.now in
+    let gap = c.in_ok-option_text.ensures ∙ first_value-rows found (codes "gap") in
+    let time_out = c.in_ok-option_text-2.ensures ∙ first_value-rows found (codes "time-out") in
+    let patience = c.in_ok-option_text-3.ensures ∙ first_value-rows found (codes "patience") in
+    let rounds = c.in_ok-option_text-4.ensures ∙ first_value-rows found (codes "rounds") in
+    let idle_rounds = c.in_ok-option_text-5.ensures
+    ∙ first_value-rows found (codes "idle-rounds") in
+    λ i. record {
+      gap = gap i;
+      time_out = time_out i;
+      patience = patience i;
+      rounds = rounds i;
+      idle_rounds = idle_rounds i;
+    }
