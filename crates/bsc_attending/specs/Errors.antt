@@ -1,5 +1,5 @@
 -- The errors of a station for those of its parts, and the errors of each part of its work.
-use Rattle.std.specs.Prelude.{◌≡◌, true, false, Result, Ok, Err, if◌then◌else◌}
+use Rattle.std.specs.Prelude.{Result, Ok, Err, if◌then◌else◌}
 use Rattle.bsc_config.specs.declared.error.ConfigError.{ConfigError}
 use Rattle.bsc_config.specs.declared.error.ConfigError.TheVariants as config
 use Rattle.bsc_input.specs.declared.texts.TextError.{TextError}
@@ -8,8 +8,6 @@ use Rattle.bsc_connections.specs.declared.awaited.LiveError.{LiveError}
 use Rattle.bsc_connections.specs.declared.awaited.LiveError.TheVariants as live
 use Rattle.bsc_print.specs.declared.error.PrintError.{PrintError}
 use Rattle.bsc_print.specs.declared.error.PrintError.TheVariants as print
-use Rattle.bsc_options.specs.Errors.{is_conflict, reason}
-use Rattle.bsc_options.specs.declared.error.OptionError.{OptionError}
 use Rattle.bsc_sockets.specs.declared.error.SocketsError.{SocketsError}
 use Rattle.bsc_sockets.specs.declared.error.SocketsError.TheVariants as sockets
 use Rattle.bsc_monitor.specs.declared.standing.Standing.{Standing}
@@ -44,28 +42,14 @@ live_error live.Output = attending.Output
 live_error live.Unprinted = attending.Unprinted
 live_error live.Memory = attending.Memory
 
--- The error for options that are refused: they conflict or one is missing, or a value is wrong,
--- with the reason in words.
-abbrev pub IsOptionError : OptionError → AttendingError → Type 0
-IsOptionError error (attending.WrongTogether why) =
-    (is_conflict error ≡ true) × (why.now ≡ reason error)
-IsOptionError error (attending.WrongValue why) =
-    (is_conflict error ≡ false) × (why.now ≡ reason error)
-IsOptionError error _ = ⊥
-
--- The errors of options.
-abbrev pub IsWordsError : AttendingError → Type 0
-IsWordsError (attending.WrongValue why) = Unit {0}
-IsWordsError (attending.WrongTogether why) = Unit {0}
-IsWordsError _ = ⊥
-
 -- The errors of the records that a station has to send: a wrong option, a text that could not be
 -- read, or a line that is not a record.
 abbrev pub IsOfferError : AttendingError → Type 0
+IsOfferError (attending.Options error) = Unit {0}
 IsOfferError (attending.Offer path error) = Unit {0}
 IsOfferError (attending.Text error) = Unit {0}
 IsOfferError attending.Memory = Unit {0}
-IsOfferError error = IsWordsError error
+IsOfferError _ = ⊥
 
 -- The errors of preparing a station: those of its configuration and of its records.
 abbrev pub IsPreparingError : AttendingError → Type 0
@@ -74,8 +58,7 @@ IsPreparingError error = IsOfferError error
 
 -- The errors that come before connections are made, when nothing has been printed.
 abbrev pub IsEarly : AttendingError → Type 0
-IsEarly (attending.WrongValue why) = Unit {0}
-IsEarly (attending.WrongTogether why) = Unit {0}
+IsEarly (attending.Options error) = Unit {0}
 IsEarly (attending.Text error) = Unit {0}
 IsEarly (attending.Config error) = Unit {0}
 IsEarly (attending.Offer path error) = Unit {0}

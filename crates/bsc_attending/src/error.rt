@@ -15,20 +15,16 @@ use thiserror::Error;
 /// The reason why a station failed or did not complete its work. Out of memory is always `Memory`.
 #[derive(Debug, Drop, Error)]
 pub enum AttendingError {
-    /// The value of an option is wrong, for this reason.
-    #[error("{why}")]
-    WrongValue { why: &'static str },
-
-    /// The options conflict, or one is missing, for this reason.
-    #[error("{why}")]
-    WrongTogether { why: &'static str },
+    /// The options are refused.
+    #[error(transparent)]
+    Options { error: OptionError },
 
     /// The text of the configuration or of records could not be read.
-    #[error("{error}")]
+    #[error(transparent)]
     Text { error: TextError },
 
     /// The configuration is refused.
-    #[error("{error}")]
+    #[error(transparent)]
     Config { error: ConfigError },
 
     /// A line of the text at this path is not a record.
@@ -36,7 +32,7 @@ pub enum AttendingError {
     Offer { path: String, error: OfferError },
 
     /// The connections of the station could not be made, or waiting for them failed.
-    #[error("{error}")]
+    #[error(transparent)]
     Connections { error: SocketsError },
 
     /// The connection of a terminal was closed by this fault.
@@ -86,17 +82,12 @@ impl<T: Drop> From<AllocFailed<T>> for AttendingError {
 }
 
 impl From<OptionError> for AttendingError {
-    ghost use Rattle.bsc_attending.specs.Errors.{IsOptionError};
+    ghost use Rattle.bsc_attending.specs.declared.error.AttendingError.TheVariants.{Options};
 
-    ghost from_gives = { IsOptionError };
+    ghost from_gives = { λ error attending. attending ≡ Options error };
 
     fn from(error: OptionError) -> AttendingError {
-        let why = error.reason();
-        if error.is_conflict() {
-            AttendingError::WrongTogether { why }
-        } else {
-            AttendingError::WrongValue { why }
-        }
+        AttendingError::Options { error }
     }
 }
 

@@ -5,13 +5,12 @@ ghost use Rattle.bsc_attending.specs.Errors.{IsOfferError};
 ghost use Rattle.bsc_block.specs.Blocks.{AreShort};
 
 use crate::AttendingError;
-use crate::AttendingError::WrongValue;
 use bsc_bid::Setup;
 use bsc_block::Record;
 use bsc_control::Control;
 use bsc_input::{Files, read_text};
 use bsc_monitor::{LineTerminal, OfferError, offer_at_terminal, offer_for_terminal, read_records};
-use bsc_options::{Offer, offer_of};
+use bsc_options::{Offer, OptionError, offer_of};
 use std::alloc::Global;
 use std::io::Read;
 
@@ -94,9 +93,8 @@ fn offer_for<R: Read, F: Files>(
     ensures { IfErr result IsOfferError }
 {
     let Some(offer) = offer_of(text) else {
-        return Err(WrongValue {
-            why: "--offer takes T.S=PATH at the control station",
-        });
+        let error = OptionError::OfferForm;
+        return Err(AttendingError::Options { error });
     };
     let Offer {
         terminal,
@@ -104,9 +102,8 @@ fn offer_for<R: Read, F: Files>(
         path,
     } = offer;
     if terminal >= control.terminals() || select >= control.addresses(terminal) {
-        return Err(WrongValue {
-            why: "--offer names a channel that is not in CONFIG",
-        });
+        let error = OptionError::NoChannel;
+        return Err(AttendingError::Options { error });
     }
     let records = records_at(alloc, path, control.setup(), input, files)?;
     match offer_for_terminal(control, terminal, select, records) {

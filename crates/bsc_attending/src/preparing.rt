@@ -5,14 +5,13 @@ ghost use Rattle.std.specs.Prelude.{IfErr};
 ghost use Rattle.bsc_attending.specs.Errors.{IsPreparingError};
 
 use crate::AttendingError;
-use crate::AttendingError::WrongValue;
 use crate::offering::{offer_all_at_terminal, offer_all_for_terminals};
 use bsc_asked::StationWords;
 use bsc_config::{Config, read_config};
 use bsc_control::Control;
 use bsc_input::{Files, read_text};
 use bsc_monitor::{LineTerminal, new_control, new_terminal};
-use bsc_options::Role;
+use bsc_options::{OptionError, Role};
 use std::alloc::Global;
 use std::io::Read;
 
@@ -71,8 +70,8 @@ fn terminal<R: Read, F: Files>(
     ensures { IfErr result IsPreparingError }
 {
     if number >= config.terminals() {
-        let why = "--terminal names a terminal that is not in CONFIG";
-        return Err(WrongValue { why });
+        let error = OptionError::NoTerminal;
+        return Err(AttendingError::Options { error });
     }
     let mut terminal = new_terminal(alloc, config, number);
     let setup = config.setup();

@@ -13,16 +13,29 @@ use bsc_connections::LiveError;
 use bsc_control::Control;
 use bsc_input::Files;
 use bsc_monitor::{
-    ControlWatch, Ended, LineTerminal, Standing, TerminalWatch, Timer, Watch, station_standing,
-    write_report,
+    ControlWatch, Ended, Limits, LineTerminal, Printing, Standing, TerminalWatch, Timer, Watch,
+    station_standing, write_report,
 };
 use bsc_options::{StationSettings, read_settings};
+use bsc_print::Form;
 use std::alloc::Global;
 use std::io::{Read, Write};
 
-/// What a station is watched with: the time, and what takes its records and its trace.
+/// When the control station ends.
+#[derive(Clone, Copy)]
+struct Ending {
+    /// Its limits.
+    limits: Limits,
+
+    /// Whether other peers may connect later.
+    listens: bool,
+}
+
+/// What a station is watched with: the options for its output, the time, and what takes its records
+/// and its trace.
 #[derive(Drop)]
 struct Watching<'a, T: Drop, O, D> {
+    printing: Printing,
     timer: T,
     out: &'a mut O,
     trace: &'a mut D,
@@ -43,6 +56,20 @@ pub fn station<R: Read, H: Files + Network, W: Write>(
     ensures early { IfErr result (λ error. IsEarly error → out.new ≡ out.old) }
 {
     let settings = read_settings(words)?;
+    prepare_and_run(alloc, words, settings, input, machine, out)
+}
+
+/// Runs the station of these settings.
+fn prepare_and_run<R: Read, H: Files + Network, W: Write>(
+    alloc: Global,
+    words: &StationWords,
+    settings: StationSettings<'_>,
+    input: &mut R,
+    machine: &mut H,
+    out: &mut W,
+) -> Result<(), AttendingError>
+    ensures early { IfErr result (λ error. IsEarly error → out.new ≡ out.old) }
+{
     let mut prepared = prepare(alloc, words, settings.role, input, machine)?;
     run(alloc, &settings, &mut prepared, machine, out)
 }
@@ -58,11 +85,11 @@ fn run<H: Network, W: Write>(
     ensures { IfErr result IsLate }
 {
     match open(alloc, settings, prepared, machine, out) {
-        Ok(closed) => conclude(alloc, settings, prepared, closed, out),
+        Ok(closed) => conclude(alloc, settings.reported, prepared, closed, out),
         Err(AttendingError::Unprinted) => {
             // The output has failed before; if it does not accept the report either, nothing is
             // lost by it.
-            let _ = report(alloc, settings, prepared, out);
+            let _ = report(alloc, settings.reported, prepared, out);
             Err(AttendingError::Unprinted)
         }
         Err(error) => Err(error),
@@ -83,12 +110,17 @@ fn open<H: Network, W: Write>(
     let wanted = wanted_by(settings, prepared);
     let mut connections = connect(alloc, &wanted, machine)?;
     let (timer, mut trace) = (machine.timer(), machine.trace());
+    let ending = Ending {
+        limits: settings.limits,
+        listens: listens(settings.place),
+    };
     let watching = Watching {
+        printing: settings.printing,
         timer,
         out,
         trace: &mut trace,
     };
-    attend(alloc, settings, prepared, &mut connections, watching)
+    attend(alloc, ending, prepared, &mut connections, watching)
 }
 
 /// Returns the connections that a station asks for.
@@ -103,7 +135,7 @@ fn wanted_by<'a>(settings: &StationSettings<'a>, prepared: &Prepared) -> Wanted<
 /// connection of a terminal, if any.
 fn attend<C: Attend, T: Timer + Drop, O: Write, D: Write>(
     alloc: Global,
-    settings: &StationSettings<'_>,
+    ending: Ending,
     prepared: &mut Prepared,
     connections: &mut C,
     watching: Watching<'_, T, O, D>,
@@ -112,27 +144,30 @@ fn attend<C: Attend, T: Timer + Drop, O: Write, D: Write>(
 {
     match prepared {
         Prepared::Control { control } => {
-            attend_control(alloc, settings, control, connections, watching)
+            attend_control(alloc, ending, control, connections, watching)
         }
-        Prepared::Terminal { terminal } => {
-            attend_terminal(alloc, settings, terminal, connections, watching)
-        }
+        Prepared::Terminal { terminal } => attend_terminal(alloc, terminal, connections, watching),
     }
 }
 
 /// Attends the control station until it ends. No fault of a connection ends it.
 fn attend_control<C: Attend, T: Timer + Drop, O: Write, D: Write>(
     alloc: Global,
-    settings: &StationSettings<'_>,
+    ending: Ending,
     control: &mut Control<Global>,
     connections: &mut C,
     watching: Watching<'_, T, O, D>,
 ) -> Result<Option<CarrierError>, AttendingError>
     ensures { IfErr result IsLate }
 {
-    let Watching { timer, out, trace } = watching;
-    let watch = Watch::new(alloc, control, settings.printing, timer, out, trace)?;
-    let watch = ControlWatch::new(control, watch, settings.limits, listens(settings.place));
+    let Watching {
+        printing,
+        timer,
+        out,
+        trace,
+    } = watching;
+    let watch = Watch::new(alloc, control, printing, timer, out, trace)?;
+    let watch = ControlWatch::new(control, watch, ending.limits, ending.listens);
     attend_until_answered(control, connections, watch)?;
     Ok(None)
 }
@@ -154,15 +189,19 @@ fn attend_until_answered<C: Attend, T: Timer + Drop, O: Write, D: Write>(
 /// Attends a terminal until its connection is closed, and returns the fault that closed it, if any.
 fn attend_terminal<C: Attend, T: Timer + Drop, O: Write, D: Write>(
     alloc: Global,
-    settings: &StationSettings<'_>,
     terminal: &mut LineTerminal<Global>,
     connections: &mut C,
     watching: Watching<'_, T, O, D>,
 ) -> Result<Option<CarrierError>, AttendingError>
     ensures { IfErr result IsLate }
 {
-    let Watching { timer, out, trace } = watching;
-    let watch = Watch::new(alloc, terminal, settings.printing, timer, out, trace)?;
+    let Watching {
+        printing,
+        timer,
+        out,
+        trace,
+    } = watching;
+    let watch = Watch::new(alloc, terminal, printing, timer, out, trace)?;
     let mut watch = TerminalWatch::new(watch);
     connections.attend(terminal, &mut watch)?;
     Ok(watch.closed())
@@ -172,14 +211,14 @@ fn attend_terminal<C: Attend, T: Timer + Drop, O: Write, D: Write>(
 /// connection comes first.
 fn conclude<W: Write>(
     alloc: Global,
-    settings: &StationSettings<'_>,
+    reported: Option<Form>,
     prepared: &Prepared,
     closed: Option<CarrierError>,
     out: &mut W,
 ) -> Result<(), AttendingError>
     ensures { IfErr result IsLate }
 {
-    let standing = report(alloc, settings, prepared, out)?;
+    let standing = report(alloc, reported, prepared, out)?;
     match closed {
         Some(error) => Err(AttendingError::Closed { error }),
         None => outcome(standing),
@@ -189,7 +228,7 @@ fn conclude<W: Write>(
 /// Prints the report of a station, and returns the state of the channels on which it sends.
 fn report<W: Write>(
     alloc: Global,
-    settings: &StationSettings<'_>,
+    reported: Option<Form>,
     prepared: &Prepared,
     out: &mut W,
 ) -> Result<Standing, AttendingError>
@@ -197,11 +236,11 @@ fn report<W: Write>(
 {
     match prepared {
         Prepared::Control { control } => {
-            write_report(alloc, settings.reported, control, out)?;
+            write_report(alloc, reported, control, out)?;
             Ok(station_standing(control))
         }
         Prepared::Terminal { terminal } => {
-            write_report(alloc, settings.reported, terminal, out)?;
+            write_report(alloc, reported, terminal, out)?;
             Ok(station_standing(terminal))
         }
     }

@@ -1,8 +1,10 @@
 -- The fault of a run or of a station, and its error.
-use Rattle.std.proofs.Common.{◌⊎◌, inl, inr, subst, sym}
+use Rattle.std.proofs.Common.{◌⊎◌, Bool, true, false, inl, inr, subst, sym}
+use Rattle.std.specs.Prelude.{if◌then◌else◌}
 use Rattle.bsc_attending.specs.declared.error.AttendingError.{AttendingError}
 use Rattle.bsc_attending.specs.declared.error.AttendingError.TheVariants as attending
 use Rattle.bsc_attending.specs.Errors.{IsEarly as IsEarlyAttending}
+use Rattle.bsc_options.specs.Errors.{is_conflict}
 use Rattle.bsc_running.specs.declared.error.RunningError.{RunningError}
 use Rattle.bsc_running.specs.declared.error.RunningError.TheVariants as running
 use Rattle.bsc_running.specs.Errors.{IsEarly as IsEarlyRunning}
@@ -51,10 +53,14 @@ early_run running.Sockets f h early = subst IsEarly h early
 early_run (running.Run error) f h early = subst IsEarly h early
 early_run running.Memory f h early = subst IsEarly h early
 
+usage_of_options : (conflict : Bool) (f : Fault)
+    → IsUsageOf (if conflict then kind.ArgumentConflict else kind.InvalidValue) f → IsStationFault f
+usage_of_options true f h = usage_of_station f (inr h)
+usage_of_options false f h = usage_of_station f (inl h)
+
 -- the fault is one of a station
 pub station_fault : (e : AttendingError) (f : Fault) → IsAttendingFault e f → IsStationFault f
-station_fault (attending.WrongValue why) f h = usage_of_station f (inl h)
-station_fault (attending.WrongTogether why) f h = usage_of_station f (inr h)
+station_fault (attending.Options error) f h = usage_of_options (is_conflict error) f h
 station_fault (attending.Text error) f h = subst IsStationFault (sym h) tt
 station_fault (attending.Config error) f h = subst IsStationFault (sym h) tt
 station_fault (attending.Offer path error) f h = subst IsStationFault (sym h) tt
@@ -69,8 +75,7 @@ station_fault attending.Memory f h = subst IsStationFault (sym h) tt
 -- a fault that comes before anything is printed is an error that comes before it
 pub early_station : (e : AttendingError) (f : Fault) → IsAttendingFault e f → IsEarly f
     → IsEarlyAttending e
-early_station (attending.WrongValue why) f h early = tt
-early_station (attending.WrongTogether why) f h early = tt
+early_station (attending.Options error) f h early = tt
 early_station (attending.Text error) f h early = subst IsEarly h early
 early_station (attending.Config error) f h early = subst IsEarly h early
 early_station (attending.Offer path error) f h early = subst IsEarly h early

@@ -1,5 +1,5 @@
 -- The faults of the command.
-use Rattle.std.specs.Prelude.{◌≡◌, ◌≢◌, ◌⊎◌, ℕ}
+use Rattle.std.specs.Prelude.{◌≡◌, ◌≢◌, ◌⊎◌, ℕ, if◌then◌else◌}
 use Rattle.clap.specs.Words.{kind_of}
 use Rattle.clap.specs.declared.error.Error.{Error}
 use Rattle.clap.specs.declared.error.kind.ErrorKind.{ErrorKind}
@@ -11,6 +11,8 @@ use Rattle.bsc_input.specs.declared.input.InputError.{InputError}
 use Rattle.bsc_input.specs.declared.texts.TextError.TheVariants as text
 use Rattle.bsc_input.specs.Texts.{input_error}
 use Rattle.bsc_naming.specs.Errors.{IsLineError, IsNameError}
+use Rattle.bsc_options.specs.Errors.{is_conflict}
+use Rattle.bsc_options.specs.declared.error.OptionError.{OptionError}
 use Rattle.bsc_run.specs.declared.error.RunError.{RunError}
 use Rattle.bsc_run.specs.declared.error.RunError.TheVariants as run
 use Rattle.bsc_running.specs.declared.error.RunningError.{RunningError}
@@ -34,8 +36,7 @@ running_status_of _ = 1
 -- The exit status of a failed station: 2 for wrong usage, 3 for records in doubt, 4 for undelivered
 -- records, 6 for records that arrived and could not be printed.
 abbrev pub attending_status_of : AttendingError → ℕ
-attending_status_of (attending.WrongValue why) = 2
-attending_status_of (attending.WrongTogether why) = 2
+attending_status_of (attending.Options error) = 2
 attending_status_of attending.InDoubt = 3
 attending_status_of attending.Undelivered = 4
 attending_status_of attending.Unprinted = 6
@@ -81,10 +82,14 @@ abbrev pub IsRunningFault : RunningError → Fault → Type 0
 IsRunningFault running.BothStandardInput fault = IsUsageOf kind.ArgumentConflict fault
 IsRunningFault error fault = fault ≡ Running error
 
+-- The kind of wrong usage for refused options: they conflict or one is missing, or a value is
+-- wrong.
+abbrev pub options_kind : OptionError → ErrorKind
+options_kind error = if is_conflict error then kind.ArgumentConflict else kind.InvalidValue
+
 -- The fault for an error of a station. Wrong arguments are wrong usage.
 abbrev pub IsAttendingFault : AttendingError → Fault → Type 0
-IsAttendingFault (attending.WrongValue why) fault = IsUsageOf kind.InvalidValue fault
-IsAttendingFault (attending.WrongTogether why) fault = IsUsageOf kind.ArgumentConflict fault
+IsAttendingFault (attending.Options error) fault = IsUsageOf (options_kind error) fault
 IsAttendingFault error fault = fault ≡ Attending error
 
 -- The faults of naming one transmission.

@@ -1,11 +1,12 @@
 //! The faults that end the command, with the text and the exit status of each.
 ghost use Rattle.std.specs.Prelude.{◌≡◌, ◌≢◌};
 ghost use Rattle.bsc_command.specs.Faults.{IsAttendingFault, IsRunningFault, IsUsageOf, status_of};
-ghost use Rattle.bsc_command.specs.Faults.{attending_status_of, running_status_of};
+ghost use Rattle.bsc_command.specs.Faults.{attending_status_of, options_kind, running_status_of};
 
 use bsc_attending::AttendingError;
 use bsc_input::{InputError, TextError};
 use bsc_naming::NamingError;
+use bsc_options::OptionError;
 use bsc_run::RunError;
 use bsc_running::RunningError;
 use bsc_words::{Shown, wrong_words};
@@ -18,19 +19,19 @@ use thiserror::Error;
 #[derive(Debug, Drop, Error)]
 pub enum Fault {
     /// Standard input could not be read.
-    #[error("{error}")]
+    #[error(transparent)]
     Text { error: TextError },
 
     /// Not all names were printed.
-    #[error("{error}")]
+    #[error(transparent)]
     Naming { error: NamingError },
 
     /// A run failed.
-    #[error("{error}")]
+    #[error(transparent)]
     Running { error: RunningError },
 
     /// A station failed, or ended with records not delivered or in doubt.
-    #[error("{error}")]
+    #[error(transparent)]
     Attending { error: AttendingError },
 
     /// Standard output did not accept the text.
@@ -43,7 +44,7 @@ pub enum Fault {
 
     /// The arguments are not a valid command line. The text is that of `clap`, and is printed
     /// unchanged.
-    #[error("{0}")]
+    #[error(transparent)]
     Usage(clap::Error),
 }
 
@@ -114,17 +115,24 @@ pub(crate) fn running_fault(alloc: Global, error: RunningError) -> Fault
     }
 }
 
+/// Returns the fault for refused options: they conflict, or one is missing, or a value is wrong.
+fn options_fault(alloc: Global, error: OptionError) -> Fault
+    ensures { IsUsageOf (options_kind error) result }
+{
+    let why = error.reason();
+    if error.is_conflict() {
+        words_fault(alloc, Shown::Station, ErrorKind::ArgumentConflict, why)
+    } else {
+        words_fault(alloc, Shown::Station, ErrorKind::InvalidValue, why)
+    }
+}
+
 /// Returns the fault for a failed station. Wrong arguments are wrong usage.
 pub(crate) fn attending_fault(alloc: Global, error: AttendingError) -> Fault
     ensures { IsAttendingFault error result }
 {
     match error {
-        AttendingError::WrongValue { why } => {
-            words_fault(alloc, Shown::Station, ErrorKind::InvalidValue, why)
-        }
-        AttendingError::WrongTogether { why } => {
-            words_fault(alloc, Shown::Station, ErrorKind::ArgumentConflict, why)
-        }
+        AttendingError::Options { error } => options_fault(alloc, error),
         error => Fault::Attending { error },
     }
 }
@@ -170,7 +178,7 @@ fn attending_status(error: &AttendingError) -> u8
     ensures { result ≡ attending_status_of error.now }
 {
     match error {
-        AttendingError::WrongValue { .. } | AttendingError::WrongTogether { .. } => 2,
+        AttendingError::Options { .. } => 2,
         AttendingError::InDoubt => 3,
         AttendingError::Undelivered => 4,
         AttendingError::Unprinted => 6,

@@ -8,7 +8,8 @@ use Rattle.bsc_options.specs.declared.error.OptionError.TheVariants.{PatienceNee
 use Rattle.bsc_options.specs.declared.error.OptionError.TheVariants.{GapNeedsRaw, TextAndBytes}
 use Rattle.bsc_options.specs.declared.error.OptionError.TheVariants.{RepeatedInput, Gap, TimeOut}
 use Rattle.bsc_options.specs.declared.error.OptionError.TheVariants.{GapNotBelowTimeOut, Patience}
-use Rattle.bsc_options.specs.declared.error.OptionError.TheVariants.{Rounds, IdleRounds}
+use Rattle.bsc_options.specs.declared.error.OptionError.TheVariants.{Rounds, IdleRounds, NoTerminal}
+use Rattle.bsc_options.specs.declared.error.OptionError.TheVariants.{OfferForm, NoChannel}
 
 -- Each reason names the options at fault.
 abbrev pub reason : OptionError → List ℕ
@@ -27,6 +28,9 @@ reason GapNotBelowTimeOut = codes "with --raw the gap must be less than the time
 reason Patience = codes "--patience takes milliseconds, 1 to 3600000"
 reason Rounds = codes "--rounds takes a number from 1 up"
 reason IdleRounds = codes "--idle-rounds takes a number from 1 up"
+reason NoTerminal = codes "--terminal names a terminal that is not in CONFIG"
+reason OfferForm = codes "--offer takes T.S=PATH at the control station"
+reason NoChannel = codes "--offer names a channel that is not in CONFIG"
 
 -- Whether options contradict one another or one is missing; otherwise the value of one is wrong.
 abbrev pub is_conflict : OptionError → Bool
@@ -45,3 +49,6 @@ is_conflict GapNotBelowTimeOut = true
 is_conflict Patience = false
 is_conflict Rounds = false
 is_conflict IdleRounds = false
+is_conflict NoTerminal = false
+is_conflict OfferForm = false
+is_conflict NoChannel = false

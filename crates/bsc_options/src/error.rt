@@ -3,8 +3,11 @@
 ghost use Rattle.std.specs.Prelude.{◌≡◌};
 ghost use Rattle.bsc_options.specs.Errors.{is_conflict, reason};
 
+use std::fmt;
+
 /// The reason for refusing the options of a station: the first of these, in this order, that
-/// applies.
+/// applies. The last three are found after the configuration is read, those of offers offer by
+/// offer.
 #[derive(Clone, Copy, Debug, PartialEq, Eq)]
 pub enum OptionError {
     /// Not exactly one of `--control` and `--terminal` is given.
@@ -51,6 +54,15 @@ pub enum OptionError {
 
     /// The value of `--idle-rounds` is not a number from 1 up.
     IdleRounds,
+
+    /// `--terminal` names a terminal that is not in the configuration.
+    NoTerminal,
+
+    /// The value of an `--offer` of the control station is not `T.S=PATH`.
+    OfferForm,
+
+    /// An `--offer` names a channel that is not in the configuration.
+    NoChannel,
 }
 
 impl OptionError {
@@ -76,6 +88,9 @@ impl OptionError {
             OptionError::Patience => "--patience takes milliseconds, 1 to 3600000",
             OptionError::Rounds => "--rounds takes a number from 1 up",
             OptionError::IdleRounds => "--idle-rounds takes a number from 1 up",
+            OptionError::NoTerminal => "--terminal names a terminal that is not in CONFIG",
+            OptionError::OfferForm => "--offer takes T.S=PATH at the control station",
+            OptionError::NoChannel => "--offer names a channel that is not in CONFIG",
         }
     }
 
@@ -95,11 +110,26 @@ impl OptionError {
             | OptionError::RepeatedInput
             | OptionError::GapNotBelowTimeOut => true,
             OptionError::TerminalNumber
+            | OptionError::NoTerminal
+            | OptionError::OfferForm
+            | OptionError::NoChannel
             | OptionError::Gap
             | OptionError::TimeOut
             | OptionError::Patience
             | OptionError::Rounds
             | OptionError::IdleRounds => false,
         }
+    }
+}
+
+impl fmt::Display for OptionError {
+    ghost use Rattle.std.specs.Prelude.{Some};
+    ghost use Rattle.bsc_options.specs.Errors.{reason};
+
+    ghost output = { λ error. Some (reason error) };
+
+    /// Writes the reason in words.
+    fn fmt<W: fmt::Write>(&self, f: &mut fmt::Formatter<W>) -> fmt::Result {
+        f.write_str(self.reason())
     }
 }
