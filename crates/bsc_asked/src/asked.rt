@@ -3,7 +3,7 @@
 use crate::StationWords;
 
 /// The work that the command line asks for.
-#[derive(Drop)]
+#[derive(Debug, Drop)]
 pub enum Asked {
     /// Print the names of the transmissions on the lines of standard input.
     Names,

@@ -2,7 +2,7 @@
 
 /// The arguments of `station`: the path of the configuration, and the values of the options as they
 /// were given.
-#[derive(Drop)]
+#[derive(Debug, Drop)]
 pub struct StationWords {
     /// The path of the configuration; `-` is standard input.
     pub config: String,
