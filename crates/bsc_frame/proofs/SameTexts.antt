@@ -11,13 +11,14 @@ use Rattle.std.specs.Cmp.{unsigned_Decides, booleans_Decides}
 use lib.Pointwise.{pointwise, pointwise_decides, bytes_decides}
 use denote.Enum.Bare.{sameb}
 use Rattle.bsc_frame.specs.contracts.text.End.{the_type}
-use Rattle.bsc_frame.specs.Texts.{TextUnit, TextValue, units_from, AreMarked, HoldsText}
-use Rattle.bsc_frame.specs.Texts.{marked_text}
+use Rattle.bsc_frame.specs.Texts.{TextUnit, TextValue, units_from, AreMarked}
+use Rattle.bsc_frame.specs.TextBuffers.{HoldsText, buffer_text}
 use Rattle.bsc_frame.specs.Same.{is_same_text}
 use Rattle.bsc_frame.specs.TextEquality.{text_decides, both_true}
 use Rattle.bsc_frame.specs.declared.text.End.{End}
 use Rattle.bsc_frame.specs.declared.text.End.TheVariants.{Etb, Etx}
 use Rattle.bsc_frame.specs.declared.text.Mark.{Mark}
+use Rattle.bsc_frame.specs.declared.text_buffer.TextBuffer.{TextBuffer}
 
 -- the marks, and the characters from where the first unit begins
 record SameFrom (start : ℕ) (ms ns : List Mark) (xs ys : List ℕ) : Type 0 where
@@ -89,34 +90,34 @@ same_from start (m ∷ ms) (n ∷ ns) xs ys h k e =
           ∙ sym (unit_first start n.end ys k.0);
     }
 
--- what is kept of a text
-pub record IsKeptAlike (ms ns : List Mark) (xs ys : List ℕ) (e f : End) : Type 0 where
-  pub marks : ms ≡ ns
-  pub end : e ≡ f
-  pub chars : xs ≡ ys
+-- the buffers hold the same
+pub record IsKeptAlike (b c : TextBuffer) : Type 0 where
+  pub marks : b.marks.items ≡ c.marks.items
+  pub end : b.end ≡ c.end
+  pub chars : b.chars.items ≡ c.chars.items
 
 -- two buffers that hold the same text are kept alike
-kept_alike : (ms ns : List Mark) (xs ys : List ℕ) (e f : End) → HoldsText ms xs e
-    → HoldsText ns ys f →
-    marked_text ms xs e ≡ marked_text ns ys f → IsKeptAlike ms ns xs ys e f
-kept_alike ms ns xs ys e f h k same =
-    let from : SameFrom 0 ms ns xs ys =
-    same_from 0 ms ns xs ys h.marked k.marked (ap (λ (t : TextValue). t.units) same) in
+kept_alike : (b c : TextBuffer) → HoldsText b → HoldsText c → buffer_text b ≡ buffer_text c
+    → IsKeptAlike b c
+kept_alike b c h k same =
+    let from : SameFrom 0 b.marks.items c.marks.items b.chars.items c.chars.items =
+    same_from 0 b.marks.items c.marks.items b.chars.items c.chars.items h.marked k.marked
+    (ap (λ (t : TextValue). t.units) same) in
     record { end = ap (λ (t : TextValue). t.end) same; marks = from.marks; chars = from.chars }
 
 -- two buffers that are kept alike hold the same text
-text_alike : (ms ns : List Mark) (xs ys : List ℕ) (e f : End) → IsKeptAlike ms ns xs ys e f
-    → marked_text ms xs e ≡ marked_text ns ys f
-text_alike ms ns xs ys e f a = λ i. marked_text (a.marks i) (a.chars i) (a.end i)
+text_alike : (b c : TextBuffer) → IsKeptAlike b c → buffer_text b ≡ buffer_text c
+text_alike b c a = λ i. record { units = units_from 0 (a.marks i) (a.chars i); end = a.end i }
 
 -- the test that the code makes of what is kept
 abbrev pub is_same_mark : Mark → Mark → Bool
 is_same_mark a b = (a.end == b.end) && beq a.em b.em
 
--- the test of all that two texts keep: marks, ends and characters
-abbrev pub is_kept_alike : List Mark → List Mark → List ℕ → List ℕ → End → End → Bool
-is_kept_alike ms ns xs ys e f =
-    pointwise is_same_mark ms ns && (sameb the_type e f && pointwise ◌==◌ xs ys)
+-- the test of all that two buffers hold: marks, ends and characters
+abbrev pub is_kept_alike : TextBuffer → TextBuffer → Bool
+is_kept_alike b c =
+    pointwise is_same_mark b.marks.items c.marks.items
+    && (sameb the_type b.end c.end && pointwise ◌==◌ b.chars.items c.chars.items)
 
 -- the comparison of marks tells exactly whether they are the same
 mark_decides : (a b : Mark) → Decides (is_same_mark a b) (a ≡ b)
@@ -133,28 +134,29 @@ ends_decides Etb Etx = (λ t. absurd (cc), λ t. absurd (cc))
 ends_decides Etx Etb = (λ t. absurd (cc), λ t. absurd (cc))
 ends_decides Etx Etx = (λ t. refl, λ t. refl)
 
--- the comparison of all that two texts keep decides whether it is the same
-kept_decides : (ms ns : List Mark) (xs ys : List ℕ) (e f : End)
-    → Decides (is_kept_alike ms ns xs ys e f) (IsKeptAlike ms ns xs ys e f)
-kept_decides ms ns xs ys e f =
-    both_true {P = ms ≡ ns} {Q = (e ≡ f) × (xs ≡ ys)} (pointwise is_same_mark ms ns)
-    (sameb the_type e f && pointwise ◌==◌ xs ys) (pointwise_decides mark_decides ms ns)
-    (both_true (sameb the_type e f) (pointwise ◌==◌ xs ys) (ends_decides e f) (bytes_decides xs ys)
+-- the comparison of all that two buffers hold decides whether it is the same
+kept_decides : (b c : TextBuffer) → Decides (is_kept_alike b c) (IsKeptAlike b c)
+kept_decides b c =
+    both_true {P = b.marks.items ≡ c.marks.items}
+    {Q = (b.end ≡ c.end) × (b.chars.items ≡ c.chars.items)}
+    (pointwise is_same_mark b.marks.items c.marks.items)
+    (sameb the_type b.end c.end && pointwise ◌==◌ b.chars.items c.chars.items)
+    (pointwise_decides mark_decides b.marks.items c.marks.items)
+    (both_true (sameb the_type b.end c.end) (pointwise ◌==◌ b.chars.items c.chars.items)
+    (ends_decides b.end c.end) (bytes_decides b.chars.items c.chars.items)
     (λ a b. (a, b)) (λ a. a.0) (λ a. a.1))
     (λ a b. record { marks = a; end = b.0; chars = b.1 }) (λ a. a.marks) (λ a. (a.end, a.chars))
 
--- the comparison of what is kept decides whether the texts are the same
-pub tells_text : (ms ns : List Mark) (xs ys : List ℕ) (e f : End) (a b : TextValue) (r : Bool)
-    → HoldsText ms xs e → HoldsText ns ys f →
-    marked_text ms xs e ≡ a → marked_text ns ys f ≡ b → r ≡ is_kept_alike ms ns xs ys e f → r
-    ≡ is_same_text a b
-tells_text ms ns xs ys e f a b r h k is_a is_b tests =
-    let d = kept_decides ms ns xs ys e f in
-    tests ∙ one_answer (is_kept_alike ms ns xs ys e f) (is_same_text a b) (
-      λ t. sym is_a ∙ text_alike ms ns xs ys e f (d.0 t) ∙ is_b,
-      λ same. d.1 (kept_alike ms ns xs ys e f h k (is_a ∙ same ∙ sym is_b)),
+-- the comparison of what two buffers hold decides whether their texts are the same
+pub tells_text : (b c : TextBuffer) (x y : TextValue) (r : Bool) → HoldsText b → HoldsText c
+    → buffer_text b ≡ x → buffer_text c ≡ y → r ≡ is_kept_alike b c → r ≡ is_same_text x y
+tells_text b c x y r h k is_x is_y tests =
+    let d = kept_decides b c in
+    tests ∙ one_answer (is_kept_alike b c) (is_same_text x y) (
+      λ t. sym is_x ∙ text_alike b c (d.0 t) ∙ is_y,
+      λ same. d.1 (kept_alike b c h k (is_x ∙ same ∙ sym is_y)),
     )
-    (text_decides a b)
+    (text_decides x y)
 
 -- three tests in turn
 pub third_tells : (p q r s : Bool) → p ≡ true → q ≡ true → s ≡ r → s ≡ (p && (q && r))

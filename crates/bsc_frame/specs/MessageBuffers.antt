@@ -1,6 +1,6 @@
 -- The message that a buffer holds, if it holds one.
 use Rattle.std.specs.Prelude.{◌<◌, length, Option, Some, None}
-use Rattle.bsc_frame.specs.TextBuffers.{buffer_units, IsTextBuffer}
+use Rattle.bsc_frame.specs.TextBuffers.{buffer_units, buffer_text, IsTextBuffer}
 use Rattle.bsc_frame.specs.declared.text_buffer.TextBuffer.{TextBuffer}
 use Rattle.bsc_frame.specs.declared.message.Message.{Message}
 use Rattle.bsc_frame.specs.declared.message.Message.TheVariants as m
@@ -8,14 +8,14 @@ use Rattle.bsc_frame.specs.declared.message_buffer.Kind.{Kind}
 use Rattle.bsc_frame.specs.declared.message_buffer.Kind.TheVariants.{Nothing, Eot, Call, Enq, Reply}
 use Rattle.bsc_frame.specs.declared.message_buffer.Kind.TheVariants.{Text}
 
--- The message of this kind, with the units of the buffer if it is a text.
+-- The message of this kind, with the text of the buffer if it is one.
 abbrev pub message_in : Kind → TextBuffer → Option Message
 message_in Nothing b = None
 message_in Eot b = Some m.Eot
 message_in (Call a) b = Some (m.Call a)
 message_in Enq b = Some m.Enq
 message_in (Reply r) b = Some (m.Reply r)
-message_in (Text e) b = Some (m.Text (record { units = buffer_units b; end = e }))
+message_in Text b = Some (m.Text (buffer_text b))
 
 -- The units of a text, at least one, are within their limits.
 pub record HasUnits (b : TextBuffer) : Type 0 where
@@ -24,5 +24,5 @@ pub record HasUnits (b : TextBuffer) : Type 0 where
 
 -- The buffer holds what its kind says: for a text it has units.
 abbrev pub HoldsMessage : Kind → TextBuffer → Type 0
-HoldsMessage (Text e) b = HasUnits b
+HoldsMessage Text b = HasUnits b
 HoldsMessage _ b = Unit {0}

@@ -44,11 +44,3 @@ start_before start (m ∷ ms) (suc place) = start_before m.end ms place
 abbrev pub AreMarked : ℕ → List Mark → List ℕ → Type 0
 AreMarked start [] chars = start ≡ length chars
 AreMarked start (m ∷ ms) chars = (start ≤ m.end) × (m.end ≤ length chars) × AreMarked m.end ms chars
-
-abbrev pub marked_text : List Mark → List ℕ → End → TextValue
-marked_text marks chars end = record { units = units_from 0 marks chars; end = end }
-
--- A buffer that holds a whole text.
-pub record HoldsText (marks : List Mark) (chars : List ℕ) (end : End) : Type 0 where
-  pub marked : AreMarked 0 marks chars
-  pub text : IsText (marked_text marks chars end)

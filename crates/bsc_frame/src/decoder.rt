@@ -26,7 +26,8 @@ fn text_heard<'a>(units: &[u8], buffer: &'a mut TextBuffer) -> Heard<'a>
     let Some(end) = read_units(units, buffer) else {
         return Heard::Failed;
     };
-    Heard::Whole(Message::Text(buffer.text(end)))
+    buffer.set_end(end);
+    Heard::Whole(Message::Text(buffer.text()))
 }
 
 /// Decodes the octets of one transmission, whatever they are. The result is `Whole` if they spell a

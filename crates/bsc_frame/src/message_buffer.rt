@@ -1,6 +1,6 @@
 //! Room for one message, or for none: what a station leaves to be sent, and what is pending on a
 //! line.
-ghost use Rattle.std.specs.Prelude.{◌≡◌, ◌<◌, ◌≤◌, length, map, None, Some};
+ghost use Rattle.std.specs.Prelude.{◌≡◌, ◌<◌, ◌≤◌, length, map, is_some, None, Some};
 ghost use Rattle.std.specs.List.{AllByRecursion};
 ghost use Rattle.bsc_frame.specs.Units.{text_unit};
 ghost use Rattle.bsc_frame.specs.Texts.{IsUnit};
@@ -19,8 +19,8 @@ enum Kind {
     Enq,
     Reply(Reply),
 
-    /// The text of the units in the buffer, with this end.
-    Text(End),
+    /// The text in the buffer.
+    Text,
 }
 
 /// A message, or none, with room for the units of a text. To replace the message costs little: only
@@ -28,7 +28,7 @@ enum Kind {
 #[derive(Drop)]
 pub struct MessageBuffer {
     kind: Kind,
-    units: TextBuffer,
+    text: TextBuffer,
 }
 
 impl Model for MessageBuffer {
@@ -38,9 +38,9 @@ impl Model for MessageBuffer {
 
     ghost Value = { Option Message };
 
-    ghost view = { λ b. message_in b.kind b.units };
+    ghost view = { λ b. message_in b.kind b.text };
 
-    ghost invariant = { λ b. HoldsMessage b.kind b.units };
+    ghost invariant = { λ b. HoldsMessage b.kind b.text };
 }
 
 impl MessageBuffer {
@@ -50,7 +50,7 @@ impl MessageBuffer {
     {
         MessageBuffer {
             kind: Kind::Nothing,
-            units: TextBuffer::new(),
+            text: TextBuffer::new(),
         }
     }
 
@@ -97,8 +97,18 @@ impl MessageBuffer {
         requires each { AllByRecursion IsUnit (map text_unit units.now) }
         ensures { self.new ≡ Some (m.Text (record { units = map text_unit units.now; end = end })) }
     {
-        self.units.fill(units);
-        self.kind = Kind::Text(end);
+        self.text.set(units, end);
+        self.kind = Kind::Text;
+    }
+
+    /// Returns whether there is a message.
+    pub fn is_some(&self) -> bool
+        ensures { result ≡ is_some self.now }
+    {
+        match &self.kind {
+            Kind::Nothing => false,
+            _ => true,
+        }
     }
 
     /// Lends the message, or returns `None` if there is none.
@@ -111,7 +121,7 @@ impl MessageBuffer {
             Kind::Call(address) => Some(Message::Call(*address)),
             Kind::Enq => Some(Message::Enq),
             Kind::Reply(reply) => Some(Message::Reply(*reply)),
-            Kind::Text(end) => Some(Message::Text(self.units.text(*end))),
+            Kind::Text => Some(Message::Text(self.text.text())),
         }
     }
 }

@@ -17,10 +17,14 @@ use arrayvec::ArrayVec;
 pub struct TextBuffer {
     chars: ArrayVec<u8, MAX_TEXT_CHARS>,
     marks: ArrayVec<Mark, MAX_UNITS>,
+
+    /// The character that ends the text. It stands here and not in a [`Text`], which so is one
+    /// reference and costs little to move.
+    end: End,
 }
 
 impl TextBuffer {
-    ghost use Rattle.bsc_frame.specs.TextBuffers.{buffer_units, IsTextBuffer};
+    ghost use Rattle.bsc_frame.specs.TextBuffers.{buffer_units, buffer_text, IsTextBuffer};
 
     /// Returns a buffer without units.
     pub fn new() -> Self
@@ -30,6 +34,7 @@ impl TextBuffer {
         TextBuffer {
             chars: ArrayVec::new(),
             marks: ArrayVec::new(),
+            end: End::Etx,
         }
     }
 
@@ -58,7 +63,7 @@ impl TextBuffer {
     }
 
     /// Replaces the units by these, at most 7.
-    pub(crate) fn fill(&mut self, units: &[Unit])
+    fn fill(&mut self, units: &[Unit])
         requires most { length units.now ≤ MAX_UNITS }
         requires each { AllByRecursion IsUnit (map text_unit units.now) }
         ensures units { buffer_units self.new ≡ map text_unit units.now }
@@ -70,17 +75,56 @@ impl TextBuffer {
         }
     }
 
-    /// Lends the text of the units, 1 to 7, with this end.
-    pub(crate) fn text(&self, end: End) -> Text<'_>
+    /// Ends the text with this character.
+    pub(crate) fn set_end(&mut self, end: End)
+        requires buffer { IsTextBuffer self.old }
+        ensures units { buffer_units self.new ≡ buffer_units self.old }
+        ensures end { self.new.end ≡ end }
+        ensures buffer { IsTextBuffer self.new }
+    {
+        self.end = end;
+    }
+
+    /// Replaces the text by these units, at most 7, with this end.
+    pub(crate) fn set(&mut self, units: &[Unit], end: End)
+        requires most { length units.now ≤ MAX_UNITS }
+        requires each { AllByRecursion IsUnit (map text_unit units.now) }
+        ensures units { buffer_units self.new ≡ map text_unit units.now }
+        ensures end { self.new.end ≡ end }
+        ensures buffer { IsTextBuffer self.new }
+    {
+        self.fill(units);
+        self.set_end(end);
+    }
+
+    /// Lends the text, of 1 to 7 units.
+    pub(crate) fn text(&self) -> Text<'_>
         requires buffer { IsTextBuffer self.now }
         requires some { 0 < length (buffer_units self.now) }
-        ensures { result ≡ record { units = buffer_units self.entry.now; end = end } }
+        ensures { result ≡ buffer_text self.entry.now }
     {
-        Text {
-            chars: self.chars.as_slice(),
-            marks: self.marks.as_slice(),
-            end,
-        }
+        Text { buffer: self }
+    }
+
+    /// Returns the characters of all units.
+    pub(crate) fn chars(&self) -> &[u8]
+        ensures { result.now ≡ self.now.chars.items }
+    {
+        self.chars.as_slice()
+    }
+
+    /// Returns the marks of the units.
+    pub(crate) fn marks(&self) -> &[Mark]
+        ensures { result.now ≡ self.now.marks.items }
+    {
+        self.marks.as_slice()
+    }
+
+    /// Returns the character that ends the text.
+    pub(crate) fn end(&self) -> End
+        ensures { result ≡ self.now.end }
+    {
+        self.end
     }
 
     /// Replaces the units by these, 1 to 7 of at most 144 record characters each, and lends the
@@ -91,7 +135,7 @@ impl TextBuffer {
         requires each { AllByRecursion IsUnit (map text_unit units.now) }
         ensures { result ≡ record { units = map text_unit units.now; end = end } }
     {
-        self.fill(units);
-        self.text(end)
+        self.set(units, end);
+        self.text()
     }
 }

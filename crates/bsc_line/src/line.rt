@@ -118,7 +118,9 @@ impl<A: Allocator> Line<A> {
         ensures limits { IfSome self.now.pending (λ (s : TransmissionValue). IsMessage s.message) }
         ensures line { IsLine self.now }
     {
-        within_limits(self.sent.transmission())
+        let sent = self.sent.transmission();
+        within_limits(&sent);
+        sent
     }
 
     /// Returns the number of selection addresses of a terminal: 1 to 4. Condition: the terminal

@@ -66,7 +66,11 @@ impl Pending {
     pub(crate) fn is_some(&self) -> bool
         ensures { result ≡ is_some self.now }
     {
-        self.transmission().is_some()
+        if self.in_second {
+            self.second.is_some()
+        } else {
+            self.first.is_some()
+        }
     }
 
     /// Returns the sender of the pending transmission.

@@ -1,6 +1,6 @@
 //! Room for one transmission, or for none.
 
-ghost use Rattle.std.specs.Prelude.{◌≡◌, None, Option};
+ghost use Rattle.std.specs.Prelude.{◌≡◌, is_some, None, Option};
 ghost use Rattle.bsc_frame.specs.declared.message.Message.{Message as MessageValue};
 ghost use Rattle.bsc_line_model.specs.Transmission.{sent_by, speaker_of};
 
@@ -54,13 +54,21 @@ impl TransmissionBuffer {
         Transmission::by(self.speaker, self.message.message())
     }
 
+    /// Returns whether there is a transmission.
+    pub(crate) fn is_some(&self) -> bool
+        ensures { result ≡ is_some self.now }
+    {
+        self.message.is_some()
+    }
+
     /// Returns the sender of the transmission.
     pub(crate) fn speaker(&self) -> Option<Speaker>
         ensures { result ≡ speaker_of self.now }
     {
-        match self.transmission() {
-            Some(sent) => Some(sent.speaker),
-            None => None,
+        if self.message.is_some() {
+            Some(self.speaker)
+        } else {
+            None
         }
     }
 

@@ -1,23 +1,19 @@
 //! The limits of the pending message.
 
-ghost use Rattle.std.specs.Prelude.{◌≡◌, IfSome};
+ghost use Rattle.std.specs.Prelude.{IfSome};
 ghost use Rattle.bsc_frame.specs.Message.{IsMessage};
 ghost use Rattle.bsc_line_model.specs.declared.transmission.Transmission.{Transmission as TransmissionValue};
 
 use bsc_frame::Message;
 use bsc_line_model::Transmission;
 
-/// Returns the transmission, whose message is within its limits.
-pub(crate) fn within_limits<'a>(sent: Option<Transmission<'a>>) -> Option<Transmission<'a>>
-    ensures value { result ≡ sent.entry }
-    ensures limits { IfSome sent.entry (λ (s : TransmissionValue). IsMessage s.message) }
+/// States that the message of a transmission keeps its limits, for contracts to rest on.
+pub(crate) fn within_limits(sent: &Option<Transmission<'_>>)
+    ensures { IfSome sent.now (λ (s : TransmissionValue). IsMessage s.message) }
 {
     match sent {
-        Some(sent) => {
-            is_message(&sent.message);
-            Some(sent)
-        }
-        None => None,
+        Some(sent) => is_message(&sent.message),
+        None => {}
     }
 }
 
