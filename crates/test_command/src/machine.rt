@@ -75,8 +75,8 @@ impl Read for Pieces {
     }
 }
 
-/// Reports octets to read for each `r` of the steps, and a time-out for each `t`; after the last
-/// step there are always octets to read.
+/// Reports octets to read for each `r` of the steps, a gap for each `g`, and a time-out for each
+/// `t`; after the last step there are always octets to read.
 #[derive(Drop)]
 pub(crate) struct Scripted {
     steps: &'static [u8],
@@ -102,6 +102,9 @@ impl Waiter<Pieces, Vec<u8>> for Scripted {
         self.steps = &self.steps[1..];
         if step == b't' {
             return Ok(Awaited::TimeOut);
+        }
+        if step == b'g' {
+            return Ok(Awaited::Gap { connection: 0 });
         }
         Ok(Awaited::Octets { connection: 0 })
     }

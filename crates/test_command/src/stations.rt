@@ -113,7 +113,7 @@ const CASES: &[Case] = &[
         takes: true,
         scene: Scene {
             pieces: HEARD,
-            steps: b"rtrtrtrtrt",
+            steps: b"rgrgrgrgrg",
         },
         due: Due {
             asking: Some(Asking {
