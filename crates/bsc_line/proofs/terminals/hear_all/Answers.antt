@@ -1,5 +1,5 @@
 -- `hear_all` lets each terminal hear, and leaves the first answer.
-use Rattle.std.proofs.Common.{◌≡◌, length, refl, sym, ◌∙◌, ap, subst, arith, ℕ, Option}
+use Rattle.std.proofs.Common.{◌≡◌, length, sym, ◌∙◌, ap, subst, arith, ℕ, Option}
 use Rattle.bsc_frame.specs.declared.message.Heard.{Heard}
 use Rattle.bsc_tributary.specs.Tributary.{TributaryValue}
 use Rattle.bsc_line_model.specs.declared.transmission.Transmission.{Transmission}
