@@ -147,8 +147,8 @@ pub fn not_text(alloc: Global) -> Fault
 }
 
 /// Returns the exit status of the program: 2 for wrong usage; 3 if the line refused an event of a
-/// script, or a station ended in doubt; 4 if a station ended with undelivered records; 6 if a station
-/// could not print records that arrived; 1 for every other fault.
+/// script, or a station ended in doubt; 4 if a station ended with undelivered records; 6 if a
+/// station could not print records that arrived; 1 for every other fault.
 pub fn status(fault: &Fault) -> u8
     ensures { result ≡ status_of fault.now }
 {
