@@ -41,7 +41,7 @@ pub enum AddressError {
 #[derive(Clone, Copy, Debug)]
 pub struct Address {
     buffer: [u8; MAX_ADDRESS],
-    len: usize,
+    len: u8,
 }
 
 impl Model for Address {
@@ -143,7 +143,7 @@ impl Address {
         buffer[..codes.len()].copy_from_slice(codes);
         Ok(Address {
             buffer,
-            len: codes.len(),
+            len: codes.len() as u8,
         })
     }
 
@@ -157,7 +157,10 @@ impl Address {
         for (i, octet) in octets.iter().enumerate() {
             if *octet == ENQ {
                 return if i > 0 && i + 1 == octets.len() {
-                    Some(Address { buffer, len: i })
+                    Some(Address {
+                        buffer,
+                        len: i as u8,
+                    })
                 } else {
                     None
                 };
@@ -181,6 +184,6 @@ impl Address {
         ensures value { result.now ≡ self.now }
         ensures address { IsAddress self.now }
     {
-        &self.buffer[..self.len]
+        &self.buffer[..usize::from(self.len)]
     }
 }
