@@ -15,11 +15,14 @@ use std::marker::Model;
 const MAX_TEXT_CHARS: usize = MAX_UNITS * MAX_CHARS;
 
 /// A list is small while it has fewer elements than this many times those for which it makes room.
-/// It grows by one part in as many once it is not small.
+/// It then doubles, so that it is copied seldom.
+const SMALL: usize = 1_024;
+
+/// A list that is not small grows by one part in as many.
 const PARTS: usize = 16;
 
 /// A list of records, in two allocations at most. A record takes its characters and 8 octets more;
-/// once there are some two hundred, at most one part in 16 is not in use, beside the room for a
+/// once there are some seven thousand, at most one part in 16 is not in use, beside the room for a
 /// text.
 #[derive(Drop)]
 pub struct Records<A: Allocator> {
@@ -51,7 +54,7 @@ impl<A: Allocator> Model for Records<A> {
 fn growth(len: usize, more: usize) -> usize
     ensures { more ≤ result }
 {
-    let slack = if len / PARTS < more { len } else { len / PARTS };
+    let slack = if len / SMALL < more { len } else { len / PARTS };
     more.saturating_add(slack.max(more))
 }
 

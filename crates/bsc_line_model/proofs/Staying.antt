@@ -14,11 +14,11 @@ use Rattle.bsc_control.specs.Table.{make_call_step, poll_call_step, selection_ca
 use Rattle.bsc_line_model.specs.Line.{LineValue, terminal_in}
 use Rattle.bsc_line_model.proofs.Stations.{same_or_not}
 
--- this way of terminal t is another channel than that way of terminal e
+-- The channel of terminal t in one direction is not that of terminal e in another.
 abbrev pub IsElsewhere : ℕ → Way → ℕ → Way → Type 0
 IsElsewhere t other e way = t ≡ e → other ≡ way → ⊥
 
--- what the control station keeps for terminal t, if at most the channel (e, way) moves
+-- What the control station keeps for terminal t, if at most the channel (e, way) moves.
 pub record PeerStays (e : ℕ) (way : Way) (t : ℕ) (old new : PeerValue) : Type 0 where
   pub terminal : new.terminal ≡ old.terminal
   pub urgent : old.urgent ≡ false → new.urgent ≡ false
@@ -26,12 +26,13 @@ pub record PeerStays (e : ℕ) (way : Way) (t : ℕ) (old new : PeerValue) : Typ
   pub down : (s : ℕ) → IsElsewhere t (ToTerminal s) e way → outbound_at new s ≡ outbound_at old s
   pub up : IsElsewhere t FromTerminal e way → new.spool ≡ old.spool
 
+-- The control station keeps this for each terminal.
 pub record ControlStays (e : ℕ) (way : Way) (old new : ControlValue) : Type 0 where
   pub poll_list : new.poll_list ≡ old.poll_list
   pub count : length new.peers ≡ length old.peers
   pub peers : (t : ℕ) → PeerStays e way t (peer_at old t) (peer_at new t)
 
--- and a terminal in the same case
+-- What terminal t keeps, if at most the channel (e, way) moves.
 pub record TerminalStays (e : ℕ) (way : Way) (t : ℕ) (old new : TributaryValue) : Type 0 where
   pub ready : new.ready ≡ old.ready
   pub urgent : old.urgent ≡ false → new.urgent ≡ false
@@ -40,16 +41,18 @@ pub record TerminalStays (e : ℕ) (way : Way) (t : ℕ) (old new : TributaryVal
   pub queue : IsElsewhere t FromTerminal e way → new.queue ≡ old.queue
   pub phase : IsElsewhere t FromTerminal e way → new.sender.phase ≡ old.sender.phase
 
+-- Each terminal keeps this.
 pub record TerminalsStay (e : ℕ) (way : Way) (old new : List TributaryValue) : Type 0 where
   pub count : length new ≡ length old
   pub terminals : (t : ℕ) → t < length old
       → TerminalStays e way t (terminal_in old t) (terminal_in new t)
 
+-- The line keeps this: at most the channel (e, way) moves.
 pub record Stays (e : ℕ) (way : Way) (old new : LineValue) : Type 0 where
   pub control : ControlStays e way old.control new.control
   pub terminals : TerminalsStay e way old.terminals new.terminals
 
--- nothing moves
+-- A step that moves nothing keeps all of it.
 pub peer_same : (e : ℕ) (way : Way) (t : ℕ) (p : PeerValue) → PeerStays e way t p p
 peer_same e way t p =
     record { terminal = refl; urgent = λ k. k; count = refl; down = λ s k. refl; up = λ k. refl }
