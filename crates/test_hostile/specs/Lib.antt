@@ -2,3 +2,4 @@ pub mod Tallies
 pub mod NewWatches
 pub mod Watches
 pub mod Histories
+pub mod Answers

@@ -1,5 +1,8 @@
 //! Which events a line has to refuse.
 
+ghost use Rattle.std.specs.Prelude.{◌↔◌, IsTrue};
+ghost use Rattle.test_hostile.specs.Answers.{HasCause, MayAnswer};
+
 use crate::channel::{View, is_channel, look};
 use bsc_bid::Setup;
 use bsc_block::Record;
@@ -123,24 +126,45 @@ fn no_doubt(view: Option<View>) -> Option<LineError> {
     }
 }
 
-/// Whether the line may give this answer if it has to refuse the event with `refusal`, or to accept
-/// it. An offer may also fail with `Memory`, and a release with `CountMismatch` if the line is not
-/// trusted.
+/// What decides, beside the event itself, which answers a line may give to it.
+#[derive(Clone, Copy)]
+pub(crate) struct Circumstances {
+    /// The error with which the line has to refuse the event; None if it has to accept it.
+    pub(crate) refusal: Option<LineError>,
+
+    /// Everything before the event was heard fairly.
+    pub(crate) trusted: bool,
+
+    /// The allocator of the line refused a request during the event.
+    pub(crate) starved: bool,
+}
+
+/// Whether the line may give this answer to the event. An event that has to be accepted may fail
+/// only with a cause: an offer with `Memory` if memory was refused during it, and a release with
+/// `CountMismatch` if the line was not trusted.
 pub(crate) fn may_answer(
     event: &Event<'_>,
     answer: Result<(), LineError>,
-    refusal: Option<LineError>,
-    trusted: bool,
-) -> bool {
-    if answer.err() == refusal {
-        return true;
+    circumstances: Circumstances,
+) -> bool
+    ensures { IsTrue result ↔ MayAnswer event.now circumstances answer }
+{
+    match (answer, circumstances.refusal) {
+        (Ok(()), due) => due.is_none(),
+        (Err(why), Some(due)) => why == due,
+        (Err(why), None) => has_cause(event, circumstances, why),
     }
-    if refusal.is_some() {
-        return false;
-    }
-    match event {
-        Event::OfferAt { .. } | Event::OfferFor { .. } => answer == Err(LineError::Memory),
-        Event::Release { .. } => !trusted && answer == Err(LineError::CountMismatch),
+}
+
+/// Whether an event that has to be accepted may fail with this error.
+fn has_cause(event: &Event<'_>, circumstances: Circumstances, why: LineError) -> bool
+    ensures { IsTrue result ↔ HasCause event.now circumstances why }
+{
+    match (event, why) {
+        (Event::OfferAt { .. } | Event::OfferFor { .. }, LineError::Memory) => {
+            circumstances.starved
+        }
+        (Event::Release { .. }, LineError::CountMismatch) => !circumstances.trusted,
         _ => false,
     }
 }

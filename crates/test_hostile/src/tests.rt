@@ -3,6 +3,7 @@
 mod exchanges;
 mod fixtures;
 mod hearings;
+mod memory;
 mod named;
 mod texts;
 mod unseen;

@@ -17,7 +17,7 @@ use crate::fairness::is_fair;
 use crate::heard::{Hearing, hear};
 use crate::pending::Sent;
 use crate::records::EMPTY;
-use crate::refusals::{may_answer, refusal};
+use crate::refusals::{Circumstances, may_answer, refusal};
 use crate::step::{Effect, effect_of, is_sound};
 use crate::taking::take;
 use crate::tally::Tally;
@@ -28,6 +28,7 @@ use bsc_directory::limits::MAX_TERMINALS;
 use bsc_frame::Address;
 use bsc_line::{Event, Line, LineError, Speaker};
 use std::alloc::{AllocError, Allocator, Global};
+use test_alloc::Refusing;
 
 /// What each station that hears the transmission heard.
 type Hearings = ArrayVec<Hearing, MAX_TERMINALS>;
@@ -168,9 +169,11 @@ impl LineWatch {
     }
 
     /// Plays an event on the line, and compares what the line shows with what the event may do.
-    /// Returns the answer of the line, or the first rule that it broke.
+    /// `memory` is the allocator of the line: only if it refuses a request during an offer may the
+    /// offer fail with `Memory`. Returns the answer of the line, or the first rule that it broke.
     pub fn play<A: Allocator>(
         &mut self,
+        memory: &Refusing,
         line: &mut Line<A>,
         event: &Event<'_>,
     ) -> Result<Result<(), LineError>, Broken>
@@ -181,8 +184,14 @@ impl LineWatch {
         let speaker = self.speaker();
         let refusal = refusal(line, self.setup, speaker, event);
         self.hear(event);
+        let refused_before = memory.refused();
         let answer = take(line, event);
-        if !may_answer(event, answer, refusal, self.trusted) {
+        let circumstances = Circumstances {
+            refusal,
+            trusted: self.trusted,
+            starved: memory.refused() != refused_before,
+        };
+        if !may_answer(event, answer, circumstances) {
             return Err(Broken::Answer);
         }
         self.tally.count_answer(answer);

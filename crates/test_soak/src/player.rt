@@ -37,11 +37,12 @@ fn watched<'a>(
 
 /// Plays an event with any answer of the line.
 fn play<A: Allocator>(
+    memory: &Refusing,
     watch: &mut LineWatch,
     line: &mut Line<A>,
     event: &Event<'_>,
 ) -> Result<(), Broken> {
-    match watch.play(line, event) {
+    match watch.play(memory, line, event) {
         Ok(_) => Ok(()),
         Err(broken) => Err(broken),
     }
@@ -50,6 +51,7 @@ fn play<A: Allocator>(
 /// Each terminal hears its own item in place of what is pending.
 fn play_each<A: Allocator>(
     alloc: Global,
+    memory: &Refusing,
     watch: &mut LineWatch,
     line: &mut Line<A>,
     hearings: &[Option<Vec<u8>>],
@@ -62,7 +64,7 @@ fn play_each<A: Allocator>(
         })?;
     }
     let heard = items.as_slice();
-    Ok(play(watch, line, &Event::CarryEach { heard }))
+    Ok(play(memory, watch, line, &Event::CarryEach { heard }))
 }
 
 impl<'a> Player<'a> {
@@ -107,8 +109,11 @@ impl<'a> Player<'a> {
             None
         };
         match self.events.next(choice, doubtful, self.line.pending())? {
-            Next::Event(event) => Ok(play(&mut self.watch, &mut self.line, &event)),
-            Next::Each(hearings) => play_each(alloc, &mut self.watch, &mut self.line, hearings),
+            Next::Event(event) => Ok(play(self.memory, &mut self.watch, &mut self.line, &event)),
+            Next::Each(hearings) => {
+                let (watch, line) = (&mut self.watch, &mut self.line);
+                play_each(alloc, self.memory, watch, line, hearings)
+            }
         }
     }
 }

@@ -5,13 +5,16 @@ use crate::{Broken, LineWatch};
 use bsc_line::{Event, Line, LineError};
 use std::alloc::Global;
 use std::test::Fail;
+use test_alloc::Refusing;
 use test_fixtures::lines::{setup, two_terminals};
 
 /// A line with a watch on it. Short functions own it and lend it to the functions that play on it.
+/// No memory is refused to the line, so that no offer may fail with `Memory`.
 #[derive(Drop)]
 pub(crate) struct Watched {
     pub(crate) line: Line<Global>,
     watch: LineWatch,
+    memory: Refusing,
 }
 
 impl Watched {
@@ -21,12 +24,16 @@ impl Watched {
         let (setup, terminals) = (setup(3)?, two_terminals());
         let watch = LineWatch::new(alloc, setup, &terminals)?;
         let line = Line::new(alloc, setup, &terminals, &[0, 1])?;
-        Ok(Watched { line, watch })
+        Ok(Watched {
+            line,
+            watch,
+            memory: Refusing::new(alloc),
+        })
     }
 
     /// Plays one event.
     pub(crate) fn play(&mut self, event: &Event<'_>) -> Result<Result<(), LineError>, Broken> {
-        self.watch.play(&mut self.line, event)
+        self.watch.play(&self.memory, &mut self.line, event)
     }
 
     /// Plays an event this many times.
