@@ -1,6 +1,7 @@
--- Work that succeeded stays so while the writer keeps its contents.
-use Rattle.std.proofs.Common.{ℕ, List, ◌++◌, Bool, true, false, Option, None, Some, inl, inr}
-use Rattle.std.proofs.Common.{IsSomeAnd}
+-- Work that succeeded, or that failed, stays so while the writer keeps its contents.
+use Rattle.std.proofs.Common.{ℕ, List, ◌++◌, Bool, true, false, Option, None, Some, Result, Ok, Err}
+use Rattle.std.proofs.Common.{IsSomeAnd, inl, inr}
+use Rattle.std.specs.Prelude.{IfSome}
 use Rattle.std.specs.Io.KnownBytes.{Keeps}
 use Rattle.std.proofs.KnownBytes.{Appends-kept, Keeps-trans}
 use Rattle.clap.specs.Words.{Text}
@@ -8,12 +9,21 @@ use Rattle.bsc_asked.specs.Asked.{AskedValue, names, name, show, run, station}
 use Rattle.bsc_frame.specs.declared.message.Heard.{Heard}
 use Rattle.bsc_input.specs.Hexadecimal.{octets_of}
 use Rattle.bsc_print.specs.Names.{Prints, name_line, unit_lines}
+use Rattle.bsc_input.specs.declared.texts.TextError.TheVariants as text
 use Rattle.bsc_run.specs.Printed.{report_of}
-use Rattle.bsc_naming.specs.Lines.{PrintsInput}
+use Rattle.bsc_naming.specs.Lines.{PrintsInput, StopsAt}
+use Rattle.bsc_naming.specs.declared.error.NamingError.TheVariants as naming
 use Rattle.bsc_run.specs.Crossing.{streams_of}
-use Rattle.bsc_running.specs.Running.{TextPaths, HasRun, IsRunDone}
+use Rattle.bsc_run.specs.declared.error.RunError.{RunError}
+use Rattle.bsc_run.specs.declared.error.RunError.TheVariants as run_error
+use Rattle.bsc_running.specs.Running.{TextPaths, HasFailed, HasRun, IsRunDone}
+use Rattle.bsc_running.specs.declared.error.RunningError.{RunningError}
+use Rattle.bsc_running.specs.declared.error.RunningError.TheVariants as running
 use Rattle.bsc_words.specs.CommandLine.{asked_of}
-use Rattle.bsc_command.specs.Program.{IsDone, IsObeyed}
+use Rattle.bsc_command.specs.declared.fault.Fault.{Fault}
+use Rattle.bsc_command.specs.declared.fault.Fault.TheVariants as fault
+use Rattle.bsc_command.specs.Program.{HasFailedAs, HasFailedLines, HasFailedRun, IsDone, IsFaultAt}
+use Rattle.bsc_command.specs.Program.{IsObeyed}
 
 prints_kept : (named : Heard → List ℕ) (octets : List ℕ) (a b c : Option (List ℕ))
     → Prints named octets a b → Keeps b c → Prints named octets a c
@@ -40,11 +50,44 @@ name_kept : (read : Option (List ℕ)) (a b c : Option (List ℕ))
 name_kept None a b c p k = absurd p
 name_kept (Some octets) a b c p k = prints_kept name_line octets a b c p k
 
+stop_kept : (text_of : Heard → List ℕ) (n : ℕ) (given a b c : Option (List ℕ))
+    → IfSome given (λ octets. StopsAt text_of n octets a b) → Keeps b c
+    → IfSome given (λ octets. StopsAt text_of n octets a c)
+stop_kept text_of n None a b c p k = p
+stop_kept text_of n (Some octets) a b c p k = record {
+  place = p.place;
+  counted = p.counted;
+  first = p.first;
+  before = record {
+    text = p.before.text;
+    shown = p.before.shown;
+    appended = Appends-kept a b c p.before.text p.before.appended k;
+  };
+}
+
+lines_kept : (f : Fault) (text_of : Heard → List ℕ) (given a b c : Option (List ℕ))
+    → HasFailedLines f text_of given a b → Keeps b c → HasFailedLines f text_of given a c
+lines_kept (fault.Text text.InputTooLong) text_of given a b c p k = p
+lines_kept (fault.Text text.Input) text_of given a b c p k = tt
+lines_kept (fault.Text (text.CannotRead path)) text_of given a b c p k = tt
+lines_kept (fault.Text (text.FileTooLong path)) text_of given a b c p k = tt
+lines_kept (fault.Text text.Memory) text_of given a b c p k = tt
+lines_kept (fault.Naming naming.NotHexadecimal) text_of given a b c p k = tt
+lines_kept (fault.Naming (naming.NotHexadecimalAt n)) text_of given a b c p k =
+    stop_kept text_of n given a b c p k
+lines_kept (fault.Naming naming.Output) text_of given a b c p k = tt
+lines_kept (fault.Naming naming.Memory) text_of given a b c p k = tt
+lines_kept (fault.Running error) text_of given a b c p k = tt
+lines_kept (fault.Attending error) text_of given a b c p k = tt
+lines_kept fault.Output text_of given a b c p k = tt
+lines_kept fault.OutOfMemory text_of given a b c p k = tt
+lines_kept (fault.Usage error) text_of given a b c p k = tt
+
 module _ {S : Type 0} (contents remaining : S → Option (List ℕ)) where
-  has_run_kept : (paths : TextPaths) (a b c : Option (List ℕ))
-      → HasRun (streams_of contents remaining) paths a b → Keeps b c
-      → HasRun (streams_of contents remaining) paths a c
-  has_run_kept paths a b c p k =
+  has_run_kept : (paths : TextPaths) (result : Result (Unit {0}) RunError)
+      (a b c : Option (List ℕ)) → HasRun (streams_of contents remaining) paths result a b
+      → Keeps b c → HasRun (streams_of contents remaining) paths result a c
+  has_run_kept paths result a b c p k =
       let runs = p.ran.runs in
       record {
         config = p.config;
@@ -80,7 +123,7 @@ module _ {S : Type 0} (contents remaining : S → Option (List ℕ)) where
     read = p.read;
     nothing = Keeps-trans a b c p.nothing k;
   }
-  run_kept false paths a b c p k = has_run_kept paths a b c p k
+  run_kept false paths a b c p k = has_run_kept paths (Ok tt) a b c p k
 
   done_kept : (asked : AskedValue) (input a b c : Option (List ℕ))
       → IsDone contents remaining asked input a b → Keeps b c
@@ -100,3 +143,51 @@ module _ {S : Type 0} (contents remaining : S → Option (List ℕ)) where
   obeyed_kept words input a b c (inl help) k = inl help
   obeyed_kept words input a b c (inr p) k =
       inr (p.0, done_kept (asked_of words) input a b c p.1 k)
+
+  failed_kept : (e : RunningError) (check : Bool) (paths : TextPaths) (a b c : Option (List ℕ))
+      → HasFailed (streams_of contents remaining) e check paths a b → Keeps b c
+      → HasFailed (streams_of contents remaining) e check paths a c
+  failed_kept running.BothStandardInput check paths a b c p k = p
+  failed_kept (running.Text error) check paths a b c p k = p
+  failed_kept (running.Config error) check paths a b c p k = p
+  failed_kept (running.Script error) check paths a b c p k = p
+  failed_kept running.Sockets check paths a b c p k = p
+  failed_kept (running.Run run_error.Output) check paths a b c p k = p
+  failed_kept (running.Run (run_error.Socket line)) check paths a b c p k = p
+  failed_kept (running.Run run_error.Memory) check paths a b c p k = p
+  failed_kept (running.Run (run_error.Refused line why)) check paths a b c p k =
+      (p.0, has_run_kept paths (Err (run_error.Refused line why)) a b c p.1 k)
+  failed_kept running.Memory check paths a b c p k = p
+
+  failed_run_kept : (f : Fault) (check : Bool) (paths : TextPaths) (a b c : Option (List ℕ))
+      → HasFailedRun contents remaining f check paths a b → Keeps b c
+      → HasFailedRun contents remaining f check paths a c
+  failed_run_kept (fault.Text error) check paths a b c p k = tt
+  failed_run_kept (fault.Naming error) check paths a b c p k = tt
+  failed_run_kept (fault.Running error) check paths a b c p k =
+      failed_kept error check paths a b c p k
+  failed_run_kept (fault.Attending error) check paths a b c p k = tt
+  failed_run_kept fault.Output check paths a b c p k = tt
+  failed_run_kept fault.OutOfMemory check paths a b c p k = tt
+  failed_run_kept (fault.Usage error) check paths a b c p k = p
+
+  work_failed_kept : (asked : AskedValue) (f : Fault) (given a b c : Option (List ℕ))
+      → HasFailedAs contents remaining asked f given a b → Keeps b c
+      → HasFailedAs contents remaining asked f given a c
+  work_failed_kept names f given a b c p k = lines_kept f name_line given a b c p k
+  work_failed_kept (name text) f given a b c p k = p
+  work_failed_kept show f given a b c p k = lines_kept f unit_lines given a b c p k
+  work_failed_kept (run config script check) f given a b c p k =
+      failed_run_kept f check (record { config = config; script = script; input = given }) a b c p k
+  work_failed_kept (station words) f given a b c p k = tt
+
+  pub fault_kept : (words : List Text) (f : Fault) (given a b c : Option (List ℕ))
+      → IsFaultAt contents remaining words f given a b → Keeps b c
+      → IsFaultAt contents remaining words f given a c
+  fault_kept words f given a b c (inl usage) k = inl usage
+  fault_kept words f given a b c (inr (inl printing)) k = inr (inl printing)
+  fault_kept words f given a b c (inr (inr p)) k =
+      inr (inr (record {
+        kind = p.kind;
+        says = work_failed_kept (asked_of words) f given a b c p.says k;
+      }))

@@ -1,3 +1,2 @@
-pub mod Faults
 pub mod Keeping
 pub mod Outcomes

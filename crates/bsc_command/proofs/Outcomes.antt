@@ -15,14 +15,15 @@ promise_of_success (Err fault) e p = absurd (cc)
 
 -- the reported fault is that of printing or that of the work: for available arguments the fault of
 -- their work, otherwise the fault in place of them
-pub fault_told : {V F : Type 0} (words : Result V F) (At : V → F → Type 0) (Prints : F → Type 0)
-    (outcome : Result (Unit {0}) F) (fault : F) → ((v : V) → Prints fault → At v fault)
+pub fault_told : {V F : Type 0} (words : Result V F) (At Told : V → F → Type 0)
+    (Prints : F → Type 0) (outcome : Result (Unit {0}) F) (fault : F)
+    → ((v : V) → Prints fault → Told v fault) → ((v : V) → At v fault → Told v fault)
     → IfErr outcome (λ f. IfOk words (λ v. At v f) × IfErr words (λ given. f ≡ given))
     → Prints fault ⊎ (outcome ≡ Err fault)
-    → IfOk words (λ v. At v fault) × IfErr words (λ given. (fault ≡ given) ⊎ Prints fault)
-fault_told (Ok v) At Prints outcome fault at p (inl printing) = (at v printing, tt)
-fault_told (Err given) At Prints outcome fault at p (inl printing) = (tt, inr printing)
-fault_told (Ok v) At Prints outcome fault at p (inr e) =
-    let told = subst (λ o. IfErr o (λ f. At v f × Unit {0})) e p in (told.0, tt)
-fault_told (Err given) At Prints outcome fault at p (inr e) =
+    → IfOk words (λ v. Told v fault) × IfErr words (λ given. (fault ≡ given) ⊎ Prints fault)
+fault_told (Ok v) At Told Prints outcome fault print kept p (inl printing) = (print v printing, tt)
+fault_told (Err given) At Told Prints outcome fault print kept p (inl printing) = (tt, inr printing)
+fault_told (Ok v) At Told Prints outcome fault print kept p (inr e) =
+    let told = subst (λ o. IfErr o (λ f. At v f × Unit {0})) e p in (kept v told.0, tt)
+fault_told (Err given) At Told Prints outcome fault print kept p (inr e) =
     let told = subst (λ o. IfErr o (λ f. Unit {0} × (f ≡ given))) e p in (tt, inl told.1)

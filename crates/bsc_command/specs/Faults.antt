@@ -11,6 +11,7 @@ use Rattle.bsc_input.specs.declared.input.InputError.{InputError}
 use Rattle.bsc_input.specs.declared.texts.TextError.TheVariants as text
 use Rattle.bsc_input.specs.Texts.{input_error}
 use Rattle.bsc_naming.specs.Errors.{IsLineError, IsNameError}
+use Rattle.bsc_naming.specs.declared.error.NamingError.TheVariants as naming
 use Rattle.bsc_options.specs.Errors.{is_conflict}
 use Rattle.bsc_options.specs.declared.error.OptionError.{OptionError}
 use Rattle.bsc_run.specs.declared.error.RunError.{RunError}
@@ -118,6 +119,7 @@ IsStationFault fault = IsUsageOf kind.InvalidValue fault ⊎ IsUsageOf kind.Argu
 -- The faults that come before anything is printed.
 abbrev pub IsEarly : Fault → Type 0
 IsEarly (Text error) = Unit {0}
+IsEarly (Naming naming.NotHexadecimal) = Unit {0}
 IsEarly (Running error) = IsEarlyRunning error
 IsEarly (Attending error) = IsEarlyAttending error
 IsEarly (Usage text) = Unit {0}

@@ -1,17 +1,40 @@
 -- The output of the program for its work.
-use Rattle.std.specs.Prelude.{◌≡◌, ◌⊎◌, ℕ, List, [], Option, IfSome, IsSomeAnd}
-use Rattle.clap.specs.Words.{HasKind, Text, kind_of}
+use Rattle.std.specs.Prelude.{◌≡◌, ◌⊎◌, ◌<◌, ℕ, Bool, List, [], length, Option, None, IfSome}
+use Rattle.std.specs.Prelude.{IsSomeAnd}
+use Rattle.clap.specs.Words.{HasKind, Text as WordText, kind_of}
 use Rattle.clap.specs.declared.error.Error.{Error}
 use Rattle.bsc_asked.specs.Asked.{AskedValue, names, name, show, run, station}
+use Rattle.bsc_frame.specs.declared.message.Heard.{Heard}
 use Rattle.bsc_input.specs.Hexadecimal.{octets_of}
+use Rattle.bsc_input.specs.declared.input.TheConstants.{MAX_INPUT}
+use Rattle.bsc_input.specs.declared.texts.TextError.TheVariants.{InputTooLong}
 use Rattle.bsc_print.specs.Names.{Prints, name_line, unit_lines}
 use Rattle.bsc_naming.specs.Lines.{PrintsInput, StopsAt}
+use Rattle.bsc_naming.specs.declared.error.NamingError.TheVariants.{NotHexadecimal}
+use Rattle.bsc_naming.specs.declared.error.NamingError.TheVariants.{NotHexadecimalAt}
 use Rattle.bsc_run.specs.Crossing.{streams_of}
-use Rattle.bsc_running.specs.Running.{IsRunDone}
+use Rattle.bsc_running.specs.Running.{HasFailed, IsRunDone, TextPaths}
+use Rattle.bsc_running.specs.declared.error.RunningError.TheVariants.{BothStandardInput}
 use Rattle.bsc_words.specs.CommandLine.{IsHelp, asked_of, faults_at}
 use Rattle.bsc_command.specs.declared.fault.Fault.{Fault}
+use Rattle.bsc_command.specs.declared.fault.Fault.TheVariants.{Naming, Running, Text, Usage}
 use Rattle.bsc_command.specs.Faults.{IsNameFault, IsNamesFault, IsPrintFault, IsRunFault}
 use Rattle.bsc_command.specs.Faults.{IsStationFault, IsUsage}
+
+-- What a fault of naming one transmission says: its text is not hexadecimal.
+abbrev pub HasFailedName : Fault → List ℕ → Type 0
+HasFailedName (Naming NotHexadecimal) text = octets_of text ≡ None
+HasFailedName fault text = Unit {0}
+
+-- What a fault of naming the lines of standard input says: it has too many octets, or the line with
+-- this number is the first wrong one, and the output for the lines before it was printed.
+abbrev pub HasFailedLines : Fault → (Heard → List ℕ) → Option (List ℕ) → Option (List ℕ)
+    → Option (List ℕ) → Type 0
+HasFailedLines (Text InputTooLong) text_of input old new =
+    IfSome input (λ octets. MAX_INPUT < length octets)
+HasFailedLines (Naming (NotHexadecimalAt number)) text_of input old new =
+    IfSome input (λ octets. StopsAt text_of number octets old new)
+HasFailedLines fault text_of input old new = Unit {0}
 
 -- For the streams of a run's cable, `contents` is what was written to a stream, and `remaining` is
 -- what is left to read from it.
@@ -27,16 +50,24 @@ module _ {S : Type 0} (contents remaining : S → Option (List ℕ)) where
       (record { config = config; script = script; input = input }) old new
   IsDone (station words) input old new = Unit {0}
 
--- The work stopped at the line with this number.
-abbrev pub StopsAtLine : AskedValue → ℕ → Option (List ℕ) → Option (List ℕ) → Option (List ℕ)
-    → Type 0
-StopsAtLine names number input old new =
-    IfSome input (λ octets. StopsAt name_line number octets old new)
-StopsAtLine (name text) number input old new = ⊥
-StopsAtLine show number input old new =
-    IfSome input (λ octets. StopsAt unit_lines number octets old new)
-StopsAtLine (run config script check) number input old new = ⊥
-StopsAtLine (station words) number input old new = ⊥
+  -- What a fault of a run says of its texts and of the output. Wrong usage is that both texts are to
+  -- be standard input.
+  abbrev pub HasFailedRun : Fault → Bool → TextPaths → Option (List ℕ) → Option (List ℕ) → Type 0
+  HasFailedRun (Running error) check paths old new =
+      HasFailed (streams_of contents remaining) error check paths old new
+  HasFailedRun (Usage error) check paths old new =
+      HasFailed (streams_of contents remaining) BothStandardInput check paths old new
+  HasFailedRun fault check paths old new = Unit {0}
+
+  -- What a fault of this work says of its input and of the output.
+  abbrev pub HasFailedAs : AskedValue → Fault → Option (List ℕ) → Option (List ℕ)
+      → Option (List ℕ) → Type 0
+  HasFailedAs names fault input old new = HasFailedLines fault name_line input old new
+  HasFailedAs (name text) fault input old new = HasFailedName fault text
+  HasFailedAs show fault input old new = HasFailedLines fault unit_lines input old new
+  HasFailedAs (run config script check) fault input old new =
+      HasFailedRun fault check (record { config = config; script = script; input = input }) old new
+  HasFailedAs (station words) fault input old new = Unit {0}
 
 -- The faults of this work.
 abbrev pub IsFaultOf : AskedValue → Fault → Type 0
@@ -47,17 +78,27 @@ IsFaultOf (run config script check) fault = IsRunFault fault
 IsFaultOf (station words) fault = IsStationFault fault
 
 -- The arguments ask for the help or the version.
-abbrev pub AskForHelp : List Text → Type 0
+abbrev pub AskForHelp : List WordText → Type 0
 AskForHelp words = (error : Error) × HasKind (faults_at words) error × IsHelp (kind_of error)
 
 -- The arguments were obeyed with this input: the help or the version was printed, or they are a
 -- command and its work succeeded.
-abbrev pub IsObeyed : {S : Type 0} (contents remaining : S → Option (List ℕ)) → List Text
+abbrev pub IsObeyed : {S : Type 0} (contents remaining : S → Option (List ℕ)) → List WordText
     → Option (List ℕ) → Option (List ℕ) → Option (List ℕ) → Type 0
 IsObeyed contents remaining words input old new =
     AskForHelp words
     ⊎ ((faults_at words ≡ []) × IsDone contents remaining (asked_of words) input old new)
 
+-- The work failed with this fault, which is one of it, and what it says is true.
+pub record IsFailure {S : Type 0} (contents remaining : S → Option (List ℕ)) (asked : AskedValue)
+    (fault : Fault) (input old new : Option (List ℕ)) : Type 0 where
+  pub kind : IsFaultOf asked fault
+  pub says : HasFailedAs contents remaining asked fault input old new
+
 -- A fault of the arguments, of printing, or of the work that the arguments ask for.
-abbrev pub IsFaultAt : List Text → Fault → Type 0
-IsFaultAt words fault = IsUsage fault ⊎ (IsPrintFault fault ⊎ IsFaultOf (asked_of words) fault)
+abbrev pub IsFaultAt : {S : Type 0} (contents remaining : S → Option (List ℕ)) → List WordText
+    → Fault → Option (List ℕ) → Option (List ℕ) → Option (List ℕ) → Type 0
+IsFaultAt contents remaining words fault input old new =
+    IsUsage fault
+    ⊎ (IsPrintFault fault
+    ⊎ IsFailure contents remaining (asked_of words) fault input old new)

@@ -2,8 +2,7 @@
 ghost use Rattle.std.specs.Prelude.{◌≡◌, ℕ, OnOk, IfErr, List, true};
 ghost use Rattle.bsc_asked.specs.Asked.{asked as asked_now, name as name_asked, run as run_asked};
 ghost use Rattle.bsc_command.specs.Faults.{IsEarly};
-ghost use Rattle.bsc_command.specs.Program.{IsDone, IsFaultOf, StopsAtLine};
-ghost use Rattle.bsc_naming.specs.declared.error.NamingError.TheVariants.{NotHexadecimalAt};
+ghost use Rattle.bsc_command.specs.Program.{HasFailedAs, IsDone, IsFaultOf};
 
 use crate::Fault;
 use crate::fault::{attending_fault, running_fault};
@@ -18,7 +17,8 @@ use std::io::{Read, Write};
 /// Does the requested work. If the work needs the input, all of it is read before anything is
 /// printed. A run reads its files and makes its connections through the machine. When it succeeds
 /// it has printed the output of `bsc_run::run_line` for its texts, or nothing if it only checks
-/// them. A station is attended until it ends; `bsc_monitor` defines its output.
+/// them; if an event is refused, it has printed the output up to that event, and the report. A
+/// station is attended until it ends; `bsc_monitor` defines its output.
 pub fn perform<R: Read, H: Files + Cables + Network, W: Write>(
     alloc: Global,
     asked: &Asked,
@@ -30,9 +30,9 @@ pub fn perform<R: Read, H: Files + Cables + Network, W: Write>(
         (IsDone H.Stream.contents H.Stream.remaining (asked_now asked.now) (R.remaining input.old)
         (W.contents out.old) (W.contents out.new)) }
     ensures fault { IfErr result (IsFaultOf (asked_now asked.now)) }
-    ensures wrong { (n : ℕ) → result ≡ Err (Fault.Naming (NotHexadecimalAt n)) →
-        StopsAtLine (asked_now asked.now) n (R.remaining input.old)
-        (W.contents out.old) (W.contents out.new) }
+    ensures failed { IfErr result (λ fault.
+        HasFailedAs H.Stream.contents H.Stream.remaining (asked_now asked.now) fault
+        (R.remaining input.old) (W.contents out.old) (W.contents out.new)) }
     ensures early { IfErr result (λ fault. IsEarly fault → out.new ≡ out.old) }
     ensures unasked { (text : List ℕ) → asked_now asked.now ≡ name_asked text →
         input.new ≡ input.old }

@@ -39,7 +39,9 @@ fn obey<R: Read, H: Files + Cables + Network, W: Write>(
     ensures ok { OnOk result
         (IsObeyed H.Stream.contents H.Stream.remaining (map string_bytes words.now)
         (R.remaining input.old) (W.contents out.old) (W.contents out.new)) }
-    ensures fault { IfErr result (IsFaultAt (map string_bytes words.now)) }
+    ensures fault { IfErr result (λ fault.
+        IsFaultAt H.Stream.contents H.Stream.remaining (map string_bytes words.now) fault
+        (R.remaining input.old) (W.contents out.old) (W.contents out.new)) }
 {
     let words = lent(alloc, words)?;
     match read_words(alloc, &words) {
@@ -61,7 +63,9 @@ fn obey_given<R: Read, H: Files + Cables + Network, W: Write>(
         IsObeyed H.Stream.contents H.Stream.remaining (map string_bytes given.items)
         (R.remaining input.old) (W.contents out.old) (W.contents out.new))) }
     ensures fault { IfErr result (λ fault.
-        IfOk words (λ given. IsFaultAt (map string_bytes given.items) fault)
+        IfOk words (λ given.
+        IsFaultAt H.Stream.contents H.Stream.remaining (map string_bytes given.items) fault
+        (R.remaining input.old) (W.contents out.old) (W.contents out.new))
         × IfErr words (λ given. fault ≡ given)) }
 {
     match words {
@@ -133,7 +137,10 @@ pub fn command<R: Read, H: Files + Cables + Network, W: Write + Drop, E: Write>(
     ensures flushed { result ≡ 0 → writer_buffer out.new ≡ [] }
     ensures untold { result ≡ 0 → errors.new ≡ errors.old }
     ensures fault { result ≢ 0 → (fault : FaultValue)
-        × IfOk words (λ given. IsFaultAt (map string_bytes given.items) fault)
+        × IfOk words (λ given.
+        IsFaultAt H.Stream.contents H.Stream.remaining (map string_bytes given.items) fault
+        (R.remaining input.old)
+        (writer_contents W.contents out.old) (writer_contents W.contents out.new))
         × IfErr words (λ given. (fault ≡ given) ⊎ IsPrintFault fault)
         × (result ≡ status_of fault) }
 {

@@ -1,5 +1,6 @@
 -- Whole texts, from files or standard input.
-use Rattle.std.specs.Prelude.{◌≡◌, ℕ, List, Option, IfSome, codes, string_bytes}
+use Rattle.std.specs.Prelude.{◌≡◌, ◌≢◌, ◌<◌, ℕ, List, length, Option, IfSome, codes, string_bytes}
+use Rattle.bsc_input.specs.declared.input.TheConstants.{MAX_INPUT}
 use Rattle.bsc_input.specs.declared.input.InputError.{InputError}
 use Rattle.bsc_input.specs.declared.input.InputError.TheVariants as input
 use Rattle.bsc_input.specs.declared.texts.TextError.{TextError}
@@ -22,3 +23,13 @@ IsErrorAt path input.TooLong (FileTooLong named) = string_bytes named ≡ path
 IsErrorAt path input.Device (CannotRead named) = string_bytes named ≡ path
 IsErrorAt path error Memory = Unit {0}
 IsErrorAt path error _ = ⊥
+
+-- What an error says of the text at a path: that it is standard input, which has too many octets if
+-- the error says so, or a file, whose path the error names. Memory may run out in any case.
+abbrev pub IsReadError : List ℕ → Option (List ℕ) → TextError → Type 0
+IsReadError path input InputTooLong =
+    (path ≡ codes "-") × IfSome input (λ octets. MAX_INPUT < length octets)
+IsReadError path input Input = path ≡ codes "-"
+IsReadError path input (CannotRead named) = (path ≢ codes "-") × (string_bytes named ≡ path)
+IsReadError path input (FileTooLong named) = (path ≢ codes "-") × (string_bytes named ≡ path)
+IsReadError path input Memory = Unit {0}

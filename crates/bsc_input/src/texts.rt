@@ -1,7 +1,7 @@
 //! Whole texts, from files or standard input.
 
-ghost use Rattle.std.specs.Prelude.{◌≡◌, ◌≢◌, IfOk, codes};
-ghost use Rattle.bsc_input.specs.Texts.{IsErrorAt, IsTextAt};
+ghost use Rattle.std.specs.Prelude.{◌≡◌, ◌≢◌, IfErr, IfOk, codes};
+ghost use Rattle.bsc_input.specs.Texts.{IsErrorAt, IsReadError, IsTextAt};
 
 use crate::{InputError, read_input};
 use std::alloc::Global;
@@ -66,6 +66,7 @@ pub fn read_text<R: Read, F: Files>(
 ) -> Result<Vec<u8>, TextError>
     ensures text { IfOk result (λ text. IsTextAt path.now (R.remaining input.old) text.items) }
     ensures unasked { path.now ≢ codes "-" → input.new ≡ input.old }
+    ensures refused { IfErr result (IsReadError path.now (R.remaining input.old)) }
 {
     if path == STANDARD_INPUT {
         return Ok(read_input(alloc, input)?);

@@ -1,9 +1,11 @@
 //! Runs a line: reads the texts, checks them, and then runs the events.
 
-ghost use Rattle.std.specs.Prelude.{◌≡◌, ◌≢◌, Err, IfErr, IsTrue, OnOk, codes, false};
+ghost use Rattle.std.specs.Prelude.{◌≡◌, ◌≢◌, Err, IfErr, IfOk, IsTrue, Ok, OnOk, codes, false};
 ghost use Rattle.bsc_running.specs.Errors.{IsEarly};
 ghost use Rattle.bsc_run.specs.Crossing.{streams_of};
-ghost use Rattle.bsc_running.specs.Running.{IsRunDone, RunsOnCable};
+ghost use Rattle.bsc_running.specs.declared.error.RunningError.TheVariants.{BothStandardInput};
+ghost use Rattle.bsc_running.specs.Running.{AreTexts, HasFailed, HasNoTexts, HasStopped, IsRunDone};
+ghost use Rattle.bsc_running.specs.Running.{RunsOnCable, paths_of};
 
 use crate::{Cables, RunningError};
 use bsc_config::{Config, read_config};
@@ -28,9 +30,9 @@ pub struct RunWords<'a> {
 }
 
 /// Runs the events of the script on a line of the configuration, over a cable of the machine, and
-/// prints what is on the line after each event that is heard, and a report at the end. Both are
-/// read before what they say is checked, the configuration first. With `check` nothing is run or
-/// printed. (Own.)
+/// prints what is on the line after each event that is heard, and a report at the end, also if an
+/// event is refused. Both are read before what they say is checked, the configuration first. With
+/// `check` nothing is run or printed. (Own.)
 pub fn run<R: Read, H: Files + Cables, W: Write>(
     alloc: Global,
     words: RunWords<'_>,
@@ -40,36 +42,58 @@ pub fn run<R: Read, H: Files + Cables, W: Write>(
 ) -> Result<(), RunningError>
     ensures early { IfErr result (λ error. IsEarly error → out.new ≡ out.old) }
     ensures checked { IsTrue words.entry.check → out.new ≡ out.old }
+    ensures both { words.entry.config.now ≡ codes "-" → words.entry.script.now ≡ codes "-" →
+        result ≡ Err BothStandardInput }
     ensures done { OnOk result
         (IsRunDone (streams_of H.Stream.contents H.Stream.remaining) words.entry.check
-        (record {
-          config = words.entry.config.now;
-          script = words.entry.script.now;
-          input = R.remaining input.old;
-        })
-        (W.contents out.old) (W.contents out.new)) }
+        (paths_of words.entry (R.remaining input.old)) (W.contents out.old) (W.contents out.new)) }
+    ensures failed { IfErr result (λ error.
+        HasFailed (streams_of H.Stream.contents H.Stream.remaining) error words.entry.check
+        (paths_of words.entry (R.remaining input.old)) (W.contents out.old) (W.contents out.new)) }
 {
-    let RunWords {
-        config,
-        script,
-        check,
-    } = words;
-    if are_both_standard_input(config, script) {
-        return Err(RunningError::BothStandardInput);
-    }
-    let config_text = read_text(alloc, config, input, machine)?;
-    let script_text = read_text(alloc, script, input, machine)?;
-    let config = read_config(alloc, &config_text)?;
-    let script = read_script(alloc, &script_text)?;
-    if check {
+    let texts = read_texts(alloc, words, input, machine)?;
+    let config = read_config(alloc, &texts.config)?;
+    let script = read_script(alloc, &texts.script)?;
+    if words.check {
         return Ok(());
     }
     run_on_cable(alloc, &config, &script, machine, out)
 }
 
+/// The texts of a run.
+#[derive(Drop)]
+struct RunTexts {
+    config: Vec<u8>,
+    script: Vec<u8>,
+}
+
+/// Reads both texts, the configuration first.
+fn read_texts<R: Read, F: Files>(
+    alloc: Global,
+    words: RunWords<'_>,
+    input: &mut R,
+    files: &mut F,
+) -> Result<RunTexts, RunningError>
+    ensures texts { IfOk result (λ texts.
+        AreTexts (paths_of words.entry (R.remaining input.old)) texts.config.items
+        texts.script.items) }
+    ensures both { words.entry.config.now ≡ codes "-" → words.entry.script.now ≡ codes "-" →
+        result ≡ Err BothStandardInput }
+    ensures unread { IfErr result (λ error.
+        HasNoTexts error (paths_of words.entry (R.remaining input.old))) }
+{
+    if are_both_standard_input(words.config, words.script) {
+        return Err(RunningError::BothStandardInput);
+    }
+    let config = read_text(alloc, words.config, input, files)?;
+    let script = read_text(alloc, words.script, input, files)?;
+    Ok(RunTexts { config, script })
+}
+
 /// Whether both paths are standard input.
 fn are_both_standard_input(config: &str, script: &str) -> bool
-    ensures { result ≡ false → script.now ≡ codes "-" → config.now ≢ codes "-" }
+    ensures both { IsTrue result → (config.now ≡ codes "-") × (script.now ≡ codes "-") }
+    ensures one { result ≡ false → script.now ≡ codes "-" → config.now ≢ codes "-" }
 {
     config == STANDARD_INPUT && script == STANDARD_INPUT
 }
@@ -85,6 +109,9 @@ fn run_on_cable<H: Cables, W: Write>(
     ensures early { IfErr result (λ error. IsEarly error → out.new ≡ out.old) }
     ensures ran { OnOk result
         (RunsOnCable (streams_of H.Stream.contents H.Stream.remaining) config.now script.now
+        (Ok tt) (W.contents out.old) (W.contents out.new)) }
+    ensures stopped { IfErr result (λ error.
+        HasStopped (streams_of H.Stream.contents H.Stream.remaining) error config.now script.now
         (W.contents out.old) (W.contents out.new)) }
 {
     let mut cable = machine.connect(config.terminals())?;
