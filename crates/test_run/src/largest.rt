@@ -1,12 +1,33 @@
-//! A run on a line with the greatest number of terminals: each of them hears an item of its own,
-//! and the report has them all.
+//! Runs of the greatest sizes: the most terminals and addresses, each with an item of its own to
+//! hear and its lines in the report; the longest records, and the longest transmissions that are
+//! sent and heard.
 
 use bsc_config::{Config, read_config};
 use bsc_loopback::connect;
 use bsc_run::{RunError, run_line};
 use bsc_script::{Script, read_script};
-use std::alloc::Global;
+use std::alloc::{AllocError, Global};
 use std::test::Fail;
+
+/// Runs a script on a new line over loopback connections.
+fn run_largest(
+    rt: &HostRuntime,
+    config: &Config,
+    script: &Script<'_, Global>,
+    out: &mut Vec<u8>,
+) -> Result<Result<(), RunError>, Fail> {
+    let mut cable = connect(rt, rt.alloc(), config.terminals())?;
+    Ok(run_line(rt.alloc(), config, script, &mut cable, out))
+}
+
+/// The output of a script that is not refused, on the line of a configuration.
+fn output_of(rt: &HostRuntime, config: &str, script: &str) -> Result<Vec<u8>, Fail> {
+    let config = read_config(rt.alloc(), config.as_bytes())?;
+    let script = read_script(rt.alloc(), script.as_bytes())?;
+    let mut out = Vec::new(rt.alloc());
+    run_largest(rt, &config, &script, &mut out)??;
+    Ok(out)
+}
 
 /// The number of terminals.
 const COUNT: usize = 64;
@@ -14,13 +35,15 @@ const COUNT: usize = 64;
 /// The call that polls A0, the address of the first terminal.
 const CALL: &str = "161604FF1616C1B085FF";
 
-/// A configuration with this many terminals, of which the first is polled.
+/// A configuration with this many terminals, of which the first is polled. Each has four selection
+/// addresses.
 fn config_of(alloc: Global, count: usize) -> Result<String, Fail> {
-    let mut text = format!(in alloc; "version = 1\npoll_list = [0]\n")?;
+    let mut text = format!(in alloc; "version = 2\npoll_list = [0]\n")?;
     for number in 0..count {
         write!(
             text,
-            "[[terminals]]\npoll = \"A{number}\"\nselect = \"a{number}\"\n"
+            "[[terminals]]\npoll = \"A{number}\"\n\
+            select = [\"a{number}\", \"b{number}\", \"c{number}\", \"d{number}\"]\n"
         )?;
     }
     Ok(text)
@@ -37,51 +60,135 @@ fn script_of(alloc: Global, count: usize) -> Result<String, Fail> {
     Ok(text)
 }
 
-/// The output: what was pending after each event, and the report of this many terminals.
-fn printed_of(alloc: Global, count: usize) -> Result<String, Fail> {
-    let mut text = format!(in alloc;
-        "control CALL A0
+/// What was pending after each event of this script.
+const TRACE: &str = "control CALL A0
 terminal 0 TEXT ETX 1
 control ACK1
 terminal 0 EOT
 control CALL A0
-from 0: offered 1, known 1, spooled 1
-  4849
-to 0: offered 0, known 0, spooled 0
-"
-    )?;
-    for number in 1..count {
-        write!(
-            text,
-            "from {number}: offered 0, known 0, spooled 0\nto {number}: offered 0, known 0, spooled 0\n"
-        )?;
+";
+
+/// The output of this script with the report of this many terminals.
+fn printed_of(alloc: Global, count: usize) -> Result<String, Fail> {
+    let mut text = String::from_str(alloc, TRACE)?;
+    text.push_str("from 0: offered 1, known 1, spooled 1\n  4849\n")?;
+    for number in 0..count {
+        if number > 0 {
+            write!(text, "from {number}: offered 0, known 0, spooled 0\n")?;
+        }
+        for select in 0..4usize {
+            write!(
+                text,
+                "to {number}.{select}: offered 0, known 0, spooled 0\n"
+            )?;
+        }
     }
     text.push_str("trusted\n")?;
     Ok(text)
 }
 
-/// Runs a script on a line of 64 terminals over loopback connections.
-fn run_largest(
-    rt: &HostRuntime,
-    config: &Config,
-    script: &Script<'_, Global>,
-    out: &mut Vec<u8>,
-) -> Result<Result<(), RunError>, Fail> {
-    if config.terminals() != COUNT {
-        return Err(Fail::new("another number of terminals"));
+#[test]
+fn each_of_64_terminals_hears_its_item(rt: HostRuntime) -> Result<(), Fail> {
+    let (config, script) = (config_of(rt.alloc(), COUNT)?, script_of(rt.alloc(), COUNT)?);
+    let out = output_of(&rt, &config, &script)?;
+    assert!(rt; out.as_slice() == printed_of(rt.alloc(), COUNT)?.as_bytes());
+    Ok(())
+}
+
+/// Two terminals, with records of up to 144 characters.
+const LONGEST_RECORDS: &str = "version = 1
+full = 144
+poll_list = [0, 1]
+
+[[terminals]]
+poll = \"A\"
+select = \"a\"
+
+[[terminals]]
+poll = \"B\"
+select = \"b\"
+";
+
+/// Hexadecimal text, followed by FF up to 2,048 octets, the most that are heard.
+fn padded(alloc: Global, octets: &str) -> Result<String, AllocError> {
+    let mut text = String::from_str(alloc, octets)?;
+    for _ in octets.len() / 2..2048 {
+        text.push_str("FF")?;
     }
-    let mut cable = connect(rt, rt.alloc(), COUNT)?;
-    Ok(run_line(rt.alloc(), config, script, &mut cable, out))
+    Ok(text)
+}
+
+/// The text of one record of 144 times A. The even number of A adds nothing to the check.
+fn text_of_one(alloc: Global) -> Result<String, AllocError> {
+    let mut text = String::from_str(alloc, "161602")?;
+    text.push_str(&"C1".repeat(alloc, 144)?)?;
+    text.push_str("8383FF")?;
+    Ok(text)
+}
+
+/// The text of seven such records, each of them marked: 1,033 octets, the longest that is sent.
+fn text_of_seven(alloc: Global) -> Result<String, AllocError> {
+    let chars = "C1".repeat(alloc, 144)?;
+    let mut text = String::from_str(alloc, "161602")?;
+    for _ in 0..6 {
+        text.push_str(&chars)?;
+        text.push_str("191F86")?;
+    }
+    text.push_str(&chars)?;
+    text.push_str("19831AFF")?;
+    Ok(text)
+}
+
+/// A script in which the longest record is sent, and the call and the text of it are heard with pads
+/// up to the greatest length; the next text is heard as the longest that is sent.
+fn script_of_longest(alloc: Global) -> Result<String, AllocError> {
+    let record = "A".repeat(alloc, 144)?;
+    let call = padded(alloc, "161604FF1616C185FF")?;
+    let one = padded(alloc, &text_of_one(alloc)?)?;
+    let seven = text_of_seven(alloc)?;
+    format!(in alloc;
+        "offer-at 0 {record}\nsilence\nheard-each {call} {call}\nheard {one}\ncarry\ncarry\ncarry\n\
+        offer-at 0 HI\ncarry\ncarry\nheard {seven}\ncarry\n"
+    )
+}
+
+/// What was pending after each event of this script.
+const TRACE_OF_LONGEST: &str = "control CALL A
+terminal 0 TEXT ETX 1
+control ACK1
+terminal 0 EOT
+control CALL B
+terminal 1 EOT
+control CALL A
+terminal 0 TEXT ETX 1
+control ACK1
+terminal 0 EOT
+from 0: offered 2, known 2, spooled 8
+";
+
+/// The output of this script.
+fn printed_of_longest(alloc: Global) -> Result<String, AllocError> {
+    let record = "41".repeat(alloc, 144)?;
+    let mut text = String::from_str(alloc, TRACE_OF_LONGEST)?;
+    for _ in 0..8 {
+        text.push_str("  ")?;
+        text.push_str(&record)?;
+        text.push_str("\n")?;
+    }
+    text.push_str(
+        "to 0: offered 0, known 0, spooled 0
+from 1: offered 0, known 0, spooled 0
+to 1: offered 0, known 0, spooled 0
+not trusted
+",
+    )?;
+    Ok(text)
 }
 
 #[test]
-fn each_of_64_terminals_hears_its_item(rt: HostRuntime) -> Result<(), Fail> {
-    let alloc = rt.alloc();
-    let (config, script) = (config_of(alloc, COUNT)?, script_of(alloc, COUNT)?);
-    let config = read_config(alloc, config.as_bytes())?;
-    let script = read_script(alloc, script.as_bytes())?;
-    let mut out = Vec::new(alloc);
-    assert!(rt; run_largest(&rt, &config, &script, &mut out)?.is_ok());
-    assert!(rt; out.as_slice() == printed_of(alloc, COUNT)?.as_bytes());
+fn the_longest_records_and_transmissions_cross_the_cable(rt: HostRuntime) -> Result<(), Fail> {
+    let script = script_of_longest(rt.alloc())?;
+    let out = output_of(&rt, LONGEST_RECORDS, &script)?;
+    assert!(rt; out.as_slice() == printed_of_longest(rt.alloc())?.as_bytes());
     Ok(())
 }
