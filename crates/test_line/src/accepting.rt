@@ -1,10 +1,11 @@
-//! Offers, in every state of a line, while memory is granted: each is accepted.
+//! Offers, in every state of a line, while memory is granted: each is accepted, and no text is put
+//! off.
 
 use crate::events::{LOSE, URGENT_AT, URGENT_FOR};
 use crate::fixtures::most_terminals;
 use bsc_bid::Setup;
 use bsc_control::Way::{FromTerminal, ToTerminal};
-use bsc_frame::Message;
+use bsc_frame::{Message, Reply};
 use bsc_line::Event::{Carry, CarrySent, Silence};
 use bsc_line::{Event, Line, LineError};
 use std::alloc::Allocator;
@@ -56,15 +57,17 @@ struct States {
     terminal_in_doubt: bool,
     control_in_doubt: bool,
     untrusted: bool,
+    put_off: bool,
 }
 
-/// All of them.
+/// All of them, but that a station is put off by WACK, which would mean that there is no room.
 const ALL: States = States {
     terminal_sent_text: true,
     control_sent_text: true,
     terminal_in_doubt: true,
     control_in_doubt: true,
     untrusted: true,
+    put_off: false,
 };
 
 /// None of them.
@@ -74,6 +77,7 @@ const NONE: States = States {
     terminal_in_doubt: false,
     control_in_doubt: false,
     untrusted: false,
+    put_off: false,
 };
 
 impl States {
@@ -84,6 +88,7 @@ impl States {
             let is_control = sent.speaker == bsc_line::Speaker::Control;
             self.control_sent_text |= is_text && is_control;
             self.terminal_sent_text |= is_text && !is_control;
+            self.put_off |= matches!(sent.message, Message::Reply(Reply::Wack));
         }
         self.untrusted |= !line.trusted();
         if line.terminals() > 0 && line.addresses(0) > 0 {

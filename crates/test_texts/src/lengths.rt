@@ -2,6 +2,7 @@
 //! each.
 
 use crate::documents::{TERMINALS, is_answer};
+use bsc_input::MAX_INPUT;
 use std::alloc::Global;
 use std::test::Fail;
 
@@ -73,13 +74,48 @@ fn commented(alloc: Global, octets: usize) -> Result<String, Fail> {
     Ok(text)
 }
 
-/// A configuration has no limit of its own; an input has 1,048,576 octets at most.
+/// A configuration has no limit of its own; an input has 1,048,576 octets at most. A fault after so
+/// many octets has its own message.
 #[test]
 fn a_configuration_may_be_as_long_as_an_input(rt: HostRuntime) -> Result<(), Fail> {
     let alloc = rt.alloc();
     for octets in [16_384, 65_536, 1_048_000usize] {
-        let document = commented(alloc, octets)?;
+        let mut document = commented(alloc, octets)?;
         assert!(rt; is_answer(alloc, document.as_str(), "read")?);
+        document.push_str("zz = 1\n")?;
+        let answer = "config: unknown key terminals[1].zz";
+        assert!(rt; is_answer(alloc, document.as_str(), answer)?);
     }
+    Ok(())
+}
+
+/// A document with the greatest settings, the most terminals, the most selection addresses of each,
+/// the longest addresses and the longest poll list, in as many octets as an input may have.
+fn longest(alloc: Global) -> Result<String, Fail> {
+    let mut text = format!(in alloc;
+        "version = 2\nfull = 144\nblock_chars = 400\ntries = 15\nwaits = 255\npoll_list = [0"
+    )?;
+    for entry in 1..255usize {
+        write!(text, ", {}", entry % 64)?;
+    }
+    text.push_str("]\n")?;
+    for number in 10..74usize {
+        write!(
+            text,
+            "[[terminals]]\npoll = \"POLL-{number}\"\n\
+            select = [\"ONE--{number}\", \"TWO--{number}\", \"THREE{number}\", \"FOUR-{number}\"]\n"
+        )?;
+    }
+    for _ in text.len()..MAX_INPUT {
+        text.push_str("\n")?;
+    }
+    Ok(text)
+}
+
+#[test]
+fn the_longest_configuration_is_read(rt: HostRuntime) -> Result<(), Fail> {
+    let document = longest(rt.alloc())?;
+    assert_eq!(rt; document.len(), 1_048_576);
+    assert!(rt; is_answer(rt.alloc(), document.as_str(), "read")?);
     Ok(())
 }
