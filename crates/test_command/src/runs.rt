@@ -236,7 +236,7 @@ struct Case {
     paths: (&'static str, &'static str),
     check: bool,
     input: &'static str,
-    printed: Option<&'static str>,
+    printed: &'static str,
     error: &'static str,
 }
 
@@ -257,11 +257,7 @@ fn is_due<R: Net>(runtime: &R, alloc: Global, case: &Case) -> bool {
         check: case.check,
     };
     let answer = run(alloc, words, &mut input, &mut machine, &mut out);
-    let is_printed = match case.printed {
-        Some(text) => out.as_slice() == text.as_bytes(),
-        None => true,
-    };
-    is_printed
+    out.as_slice() == case.printed.as_bytes()
         && match &answer {
             Ok(()) => case.error.is_empty(),
             Err(error) => has_text(alloc, error, case.error),
@@ -288,7 +284,7 @@ const EXAMPLES: &[Case] = &[
         paths: PATHS,
         check: false,
         input: "",
-        printed: Some(TWO_TERMINALS_PRINTED),
+        printed: TWO_TERMINALS_PRINTED,
         error: "",
     },
     Case {
@@ -297,7 +293,7 @@ const EXAMPLES: &[Case] = &[
         paths: PATHS,
         check: false,
         input: "",
-        printed: Some(LOSSY_LINE_PRINTED),
+        printed: LOSSY_LINE_PRINTED,
         error: "",
     },
     Case {
@@ -306,7 +302,7 @@ const EXAMPLES: &[Case] = &[
         paths: PATHS,
         check: false,
         input: "",
-        printed: Some(TWO_SPOOLS_PRINTED),
+        printed: TWO_SPOOLS_PRINTED,
         error: "",
     },
     Case {
@@ -315,7 +311,7 @@ const EXAMPLES: &[Case] = &[
         paths: PATHS,
         check: true,
         input: "",
-        printed: Some(""),
+        printed: "",
         error: "",
     },
 ];
@@ -326,8 +322,36 @@ fn examples_print_what_their_files_say(rt: HostRuntime) -> Result<(), Fail> {
     Ok(())
 }
 
+/// The report of a line on which nothing was offered.
+const NOTHING_REPORTED: &str = "from 0: offered 0, known 0, spooled 0
+to 0: offered 0, known 0, spooled 0
+from 1: offered 0, known 0, spooled 0
+to 1: offered 0, known 0, spooled 0
+trusted
+";
+
+/// The same after a silence.
+const CALLED_REPORTED: &str = "control CALL A
+from 0: offered 0, known 0, spooled 0
+to 0: offered 0, known 0, spooled 0
+from 1: offered 0, known 0, spooled 0
+to 1: offered 0, known 0, spooled 0
+trusted
+";
+
+/// The same after a silence and a loss.
+const LOST_REPORTED: &str = "control CALL A
+quiet
+from 0: offered 0, known 0, spooled 0
+to 0: offered 0, known 0, spooled 0
+from 1: offered 0, known 0, spooled 0
+to 1: offered 0, known 0, spooled 0
+trusted
+";
+
 /// The configuration is read first, then the script; then they are checked in this order, and only
-/// then is the line made.
+/// then is the line made. If an event is refused, what was printed before it stays, and the report
+/// follows.
 const FAULTS: &[Case] = &[
     Case {
         line: "?",
@@ -335,7 +359,7 @@ const FAULTS: &[Case] = &[
         paths: ("none.toml", "none.txt"),
         check: false,
         input: "",
-        printed: Some(""),
+        printed: "",
         error: "cannot read none.toml",
     },
     Case {
@@ -344,7 +368,7 @@ const FAULTS: &[Case] = &[
         paths: ("long.txt", "none.txt"),
         check: false,
         input: "",
-        printed: Some(""),
+        printed: "",
         error: "long.txt is too long",
     },
     Case {
@@ -353,7 +377,7 @@ const FAULTS: &[Case] = &[
         paths: ("line.toml", "none.txt"),
         check: false,
         input: "",
-        printed: Some(""),
+        printed: "",
         error: "cannot read none.txt",
     },
     Case {
@@ -362,7 +386,7 @@ const FAULTS: &[Case] = &[
         paths: ("line.toml", "long.txt"),
         check: false,
         input: "",
-        printed: Some(""),
+        printed: "",
         error: "long.txt is too long",
     },
     Case {
@@ -371,7 +395,7 @@ const FAULTS: &[Case] = &[
         paths: PATHS,
         check: false,
         input: "",
-        printed: Some(""),
+        printed: "",
         error: "config: not toml",
     },
     Case {
@@ -380,7 +404,7 @@ const FAULTS: &[Case] = &[
         paths: PATHS,
         check: false,
         input: "",
-        printed: Some(""),
+        printed: "",
         error: "config: missing key poll_list",
     },
     Case {
@@ -389,7 +413,7 @@ const FAULTS: &[Case] = &[
         paths: PATHS,
         check: false,
         input: "",
-        printed: Some(""),
+        printed: "",
         error: "script line 1: not an event",
     },
     Case {
@@ -398,7 +422,7 @@ const FAULTS: &[Case] = &[
         paths: PATHS,
         check: false,
         input: "",
-        printed: None,
+        printed: NOTHING_REPORTED,
         error: "script line 3: refused: nothing sent",
     },
     Case {
@@ -407,7 +431,7 @@ const FAULTS: &[Case] = &[
         paths: ("line.toml", "-"),
         check: false,
         input: "silence\nsilence\n",
-        printed: None,
+        printed: CALLED_REPORTED,
         error: "script line 2: refused: a transmission is pending",
     },
     Case {
@@ -416,7 +440,7 @@ const FAULTS: &[Case] = &[
         paths: ("-", "script.txt"),
         check: false,
         input: TWO_TERMINALS_LINE,
-        printed: None,
+        printed: LOST_REPORTED,
         error: "script line 3: refused: no such terminal",
     },
     Case {
@@ -425,7 +449,7 @@ const FAULTS: &[Case] = &[
         paths: ("-", "-"),
         check: false,
         input: "version = 1",
-        printed: Some(""),
+        printed: "",
         error: "CONFIG and SCRIPT cannot both be standard input",
     },
 ];
