@@ -50,8 +50,8 @@ module _ {S : Type 0} (contents remaining : S → Option (List ℕ)) where
       (record { config = config; script = script; input = input }) old new
   IsDone (station words) input old new = Unit {0}
 
-  -- What a fault of a run says of its texts and of the output. Wrong usage is that both texts are to
-  -- be standard input.
+  -- What a fault of a run says of its texts and of the output. Wrong usage is that both texts are
+  -- to be standard input.
   abbrev pub HasFailedRun : Fault → Bool → TextPaths → Option (List ℕ) → Option (List ℕ) → Type 0
   HasFailedRun (Running error) check paths old new =
       HasFailed (streams_of contents remaining) error check paths old new

@@ -114,8 +114,8 @@ module _ {S : Type 0} (streams : Streams S) where
   IsRunDone true paths held holds = IsChecked paths held holds
   IsRunDone false paths held holds = HasRun paths (Ok tt) held holds
 
-  -- What an error says that ended the run of a script. If an event was refused, the events before it
-  -- were run and the report was printed.
+  -- What an error says that ended the run of a script. If an event was refused, the events before
+  -- it were run and the report was printed.
   abbrev pub HasStopped : RunningError → ConfigValue → List NumberedEvent → Option (List ℕ)
       → Option (List ℕ) → Type 0
   HasStopped (Run (Refused line why)) config steps held holds =
@@ -125,8 +125,8 @@ module _ {S : Type 0} (streams : Streams S) where
   HasStopped Memory config steps held holds = Unit {0}
   HasStopped error config steps held holds = ⊥
 
-  -- What an error of a run says. The texts are read in order, then the configuration is checked, and
-  -- then the script; only then, and only if more is wanted than a check, events are run.
+  -- What an error of a run says. The texts are read in order, then the configuration is checked,
+  -- and then the script; only then, and only if more is wanted than a check, events are run.
   abbrev pub HasFailed : RunningError → Bool → TextPaths → Option (List ℕ) → Option (List ℕ)
       → Type 0
   HasFailed BothStandardInput check paths held holds = HasNoTexts BothStandardInput paths

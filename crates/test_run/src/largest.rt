@@ -139,8 +139,8 @@ fn text_of_seven(alloc: Global) -> Result<String, AllocError> {
     Ok(text)
 }
 
-/// A script in which the longest record is sent, and the call and the text of it are heard with pads
-/// up to the greatest length; the next text is heard as the longest that is sent.
+/// A script in which the longest record is sent, and the call and the text of it are heard with
+/// pads up to the greatest length; the next text is heard as the longest that is sent.
 fn script_of_longest(alloc: Global) -> Result<String, AllocError> {
     let record = "A".repeat(alloc, 144)?;
     let call = padded(alloc, "161604FF1616C185FF")?;
