@@ -225,7 +225,7 @@ module _ {R W F : Type 0} (parts : ConnectionParts R W F)
       carries_given_of_read Interrupted a b t [] []
       (Consumes-kept_nil (remaining t.before) (remaining t.after) t.reads.0)
       (gives_same a.framing b.framing t.reads.1)
-  carries_read (Closed why) a b is_up closed = absurd (is_up closed)
+  carries_read (Closed why) a b is_up closed = absurd (is_up closed.0)
   carries_read Part a b is_up t =
       let (piece, read, fed) = t.reads in
       carries_given_of_read Part a b t piece [] read (fits.part a.framing b.framing piece fed)

@@ -1,8 +1,12 @@
 -- What a read and a transmission do to one connection.
 use Rattle.std.specs.Prelude.{⊤, ◌≡◌, ◌⊎◌, ℕ, Bool, true, false, List, length, Option, None, Some}
-use Rattle.std.specs.Prelude.{Ok}
+use Rattle.std.specs.Prelude.{Ok, Err, if◌then◌else◌}
 use Rattle.std.specs.Io.KnownBytes.{Appends, Consumes, Keeps}
+use Rattle.std.specs.declared.io.ErrorKind.{ErrorKind}
+use Rattle.std.specs.declared.io.ErrorKind.TheVariants as kind
 use Rattle.std.specs.declared.io.Read as read
+use Rattle.bsc_carrier.specs.declared.error.CarrierError.{CarrierError}
+use Rattle.bsc_carrier.specs.declared.error.CarrierError.TheVariants.{Device, Short}
 use Rattle.bsc_connections.specs.declared.connection.Taken.{Taken}
 use Rattle.bsc_connections.specs.declared.connection.Taken.TheVariants.{Nothing, Interrupted, Part}
 use Rattle.bsc_connections.specs.declared.connection.Taken.TheVariants.{Whole}
@@ -15,22 +19,30 @@ pub record ConnectionValue (R W F : Type 0) : Type 0 where
   pub ends : Option (R × W)
   pub framing : F
 
--- The read reports that the connection is closed.
-abbrev pub IsClosed : Taken → Type 0
-IsClosed (Closed why) = ⊤
-IsClosed _ = ⊥
+-- What a failed read means. If nothing arrived in time there is nothing to read, and if the read was
+-- interrupted there may be; the connection stays open. Any other failure closes it.
+abbrev pub failure_means : ErrorKind → Taken
+failure_means kind.WouldBlock = Nothing
+failure_means kind.TimedOut = Nothing
+failure_means kind.Interrupted = Interrupted
+failure_means _ = Closed (Some Device)
 
--- The read reports that the connection is closed, or that there is nothing to read.
-abbrev pub IsClosedOrNothing : Taken → Type 0
-IsClosedOrNothing Nothing = ⊤
-IsClosedOrNothing (Closed why) = ⊤
-IsClosedOrNothing _ = ⊥
+-- Why the end of the input closes a connection. The flag says whether it cuts a transmission short.
+abbrev pub ending_error : Bool → Option CarrierError
+ending_error short = if short then Some Short else None
 
--- The read gave no octets.
+-- The read gave no octets. If it closes the connection, that is by a fault of the device.
 abbrev pub GivesNoOctets : Taken → Type 0
 GivesNoOctets Part = ⊥
 GivesNoOctets Whole = ⊥
+GivesNoOctets (Closed why) = why ≡ Some Device
 GivesNoOctets _ = ⊤
+
+-- What a read of a closed connection reports: a write that failed, or that there is nothing to read.
+abbrev pub IsClosedOrNothing : Taken → Type 0
+IsClosedOrNothing Nothing = ⊤
+IsClosedOrNothing (Closed why) = why ≡ Some Device
+IsClosedOrNothing _ = ⊥
 
 -- A reader, and the framing that is fed what it gives.
 pub record Input (R F : Type 0) : Type 0 where
@@ -52,13 +64,28 @@ module _ {R F : Type 0} (reading : read.Ghosts R) (framing : framing_of.Ghosts F
       × Consumes (reading.remaining old.reader) (reading.remaining new.reader) piece
       × framing.feeds old.framing piece (Ok (length piece, whole)) new.framing
 
-  -- What one read does to the reader and the framing; nothing is said of a read that closes.
+  -- A piece was read, and the framing refuses it with this error.
+  pub record RefusesPiece (why : Option CarrierError) (old new : Input R F) : Type 0 where
+    pub piece : List ℕ
+    pub error : CarrierError
+    pub consumed : Consumes (reading.remaining old.reader) (reading.remaining new.reader) piece
+    pub refused : framing.feeds old.framing piece (Err error) new.framing
+    pub why_is : why ≡ Some error
+
+  -- Why a read closes the connection: the input has ended, which may cut a transmission short; the
+  -- framing refuses what was read; or the device failed.
+  abbrev pub ReadsNoMore : Option CarrierError → Input R F → Input R F → Type 0
+  ReadsNoMore why old new =
+      (why ≡ ending_error (framing.short old.framing))
+      ⊎ (RefusesPiece why old new ⊎ (why ≡ Some Device))
+
+  -- What one read does to the reader and the framing.
   abbrev pub Reads : Taken → Input R F → Input R F → Type 0
   Reads Nothing old new = ReadsNothing old new
   Reads Interrupted old new = ReadsNothing old new
   Reads Part old new = ReadsPiece false old new
   Reads Whole old new = ReadsPiece true old new
-  Reads (Closed why) old new = ⊤
+  Reads (Closed why) old new = ReadsNoMore why old new
 
 module _ {R W F : Type 0} (parts : ConnectionParts R W F) where
   -- A read of a connection that was open before it and is open after it.
@@ -72,10 +99,26 @@ module _ {R W F : Type 0} (parts : ConnectionParts R W F) where
         (record { reader = before; framing = old.framing })
         (record { reader = after; framing = new.framing })
 
+  -- A read that closes an open connection.
+  pub record ClosesOpen (why : Option CarrierError) (old new : ConnectionValue R W F) : Type 0 where
+    pub before : R
+    pub after : R
+    pub writer : W
+    pub was_open : old.ends ≡ Some (before, writer)
+    pub reads : Reads parts.reader parts.framing (Closed why)
+        (record { reader = before; framing = old.framing })
+        (record { reader = after; framing = new.framing })
+
+  -- A read that reports that the connection is closed: it has closed it, or a write that failed had.
+  abbrev pub Closes : Option CarrierError → ConnectionValue R W F → ConnectionValue R W F → Type 0
+  Closes why old new =
+      (new.ends ≡ None)
+      × (((old.ends ≡ None) × (why ≡ Some Device)) ⊎ ClosesOpen why old new)
+
   -- A read of a connection. A connection that is closed gives nothing, but a read may report that
   -- it is closed.
   abbrev pub Takes : ConnectionValue R W F → Taken → ConnectionValue R W F → Type 0
-  Takes old (Closed why) new = new.ends ≡ None
+  Takes old (Closed why) new = Closes why old new
   Takes old Nothing new = ((old.ends ≡ None) × (new ≡ old)) ⊎ TakesOpen Nothing old new
   Takes old taken new = TakesOpen taken old new
 

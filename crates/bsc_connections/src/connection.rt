@@ -2,9 +2,8 @@
 
 ghost use Rattle.std.specs.Prelude.{◌≡◌, None, Some, not, is_none};
 ghost use Rattle.bsc_connections.specs.Parts.{connection_parts};
-ghost use Rattle.bsc_connections.specs.Connections.{Takes, Sends, Reads, IsClosed};
-ghost use Rattle.bsc_connections.specs.Connections.{IsClosedOrNothing};
-ghost use Rattle.bsc_connections.specs.Connections.{GivesNoOctets};
+ghost use Rattle.bsc_connections.specs.Connections.{Takes, Sends, Reads, IsClosedOrNothing};
+ghost use Rattle.bsc_connections.specs.Connections.{GivesNoOctets, ending_error, failure_means};
 
 use crate::Framing;
 use crate::limits::MAX_READ;
@@ -111,9 +110,16 @@ impl<R: Read + Drop, W: Write + Drop, F: Framing + Drop> Connection<R, W, F> {
         };
         let taken = read_into(reader, &mut self.framing, self.read.as_mut_slice());
         if let Taken::Closed { .. } = taken {
-            self.ends = None;
+            self.close();
         }
         taken
+    }
+
+    /// Closes the connection.
+    fn close(&mut self)
+        ensures { self.new ≡ record self.old { ends = None } }
+    {
+        self.ends = None;
     }
 
     /// Returns what a read of a closed connection reports: a failed write if no read has reported
@@ -142,7 +148,7 @@ impl<R: Read + Drop, W: Write + Drop, F: Framing + Drop> Connection<R, W, F> {
             return;
         };
         if F::write(writer, octets).is_err() {
-            self.ends = None;
+            self.close();
             self.is_untold = true;
         }
     }
@@ -170,7 +176,7 @@ fn read_into<R: Read, F: Framing>(reader: &mut R, framing: &mut F, room: &mut [u
 /// Returns what the end of the input means: the error `Short` if it cuts a transmission short, else
 /// a close without an error.
 fn ended<F: Framing>(framing: &F) -> Taken
-    ensures { IsClosed result }
+    ensures { result ≡ Taken.Closed (ending_error (F.short framing.now)) }
 {
     let why = if framing.is_short() {
         Some(CarrierError::Short)
@@ -183,7 +189,8 @@ fn ended<F: Framing>(framing: &F) -> Taken
 /// Returns what a failed read means. It is not an error if nothing arrived in time or the read was
 /// interrupted.
 fn failed(kind: ErrorKind) -> Taken
-    ensures { GivesNoOctets result }
+    ensures means { result ≡ failure_means kind }
+    ensures octets { GivesNoOctets result }
 {
     match kind {
         ErrorKind::WouldBlock | ErrorKind::TimedOut => Taken::Nothing,

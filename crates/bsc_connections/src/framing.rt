@@ -21,6 +21,9 @@ pub trait Framing {
     /// Whether a transmission has begun that a gap would end.
     ghost awaits: { Self → Bool };
 
+    /// Whether the end of the input would cut a transmission short.
+    ghost short: { Self → Bool };
+
     /// The octets of the last complete transmission.
     ghost last: { Self → List ℕ };
 
@@ -55,7 +58,8 @@ pub trait Framing {
         ensures { result ≡ awaits self.now };
 
     /// Returns whether a transmission would be cut short if the input ended now.
-    fn is_short(&self) -> bool;
+    fn is_short(&self) -> bool
+        ensures { result ≡ short self.now };
 
     /// Returns the octets of the last complete transmission; none at first.
     fn octets(&self) -> &[u8]

@@ -36,7 +36,7 @@ impl Model for Gaps {
 }
 
 impl Framing for Gaps {
-    ghost use Rattle.std.specs.Prelude.{◌≡◌, [], not};
+    ghost use Rattle.std.specs.Prelude.{◌≡◌, [], false, not};
     ghost use Rattle.bsc_connections.specs.declared.limits.TheConstants.{MAX_READ};
     ghost use Rattle.bsc_connections.specs.Framings.{Gathers, EndsAtGap, is_empty};
 
@@ -47,6 +47,8 @@ impl Framing for Gaps {
     ghost ends = { EndsAtGap };
 
     ghost awaits = { λ gaps. not (is_empty gaps.begun) };
+
+    ghost short = { λ _. false };
 
     ghost last = { λ gaps. gaps.complete };
 

@@ -13,9 +13,10 @@ pub struct SocketRecords {
 }
 
 impl Framing for SocketRecords {
-    ghost use Rattle.std.specs.Prelude.{◌≡◌, [], false};
+    ghost use Rattle.std.specs.Prelude.{◌≡◌, [], false, not};
     ghost use Rattle.bsc_carrier.specs.Assembler.{Fed, wanted_after};
     ghost use Rattle.bsc_carrier.specs.Record.{socket_record};
+    ghost use Rattle.bsc_connections.specs.Framings.{is_empty};
 
     ghost starts = { λ records.
         (records.assembler.begun ≡ []) × (records.assembler.complete ≡ []) };
@@ -25,6 +26,8 @@ impl Framing for SocketRecords {
     ghost ends = { λ old ended new. (ended ≡ false) × (new ≡ old) };
 
     ghost awaits = { λ _. false };
+
+    ghost short = { λ records. not (is_empty records.assembler.begun) };
 
     ghost last = { λ records. records.assembler.complete };
 
