@@ -19,8 +19,8 @@ pub record ConnectionValue (R W F : Type 0) : Type 0 where
   pub ends : Option (R × W)
   pub framing : F
 
--- What a failed read means. If nothing arrived in time there is nothing to read, and if the read was
--- interrupted there may be; the connection stays open. Any other failure closes it.
+-- What a failed read means. If nothing arrived in time there is nothing to read, and if the read
+-- was interrupted there may be; the connection stays open. Any other failure closes it.
 abbrev pub failure_means : ErrorKind → Taken
 failure_means kind.WouldBlock = Nothing
 failure_means kind.TimedOut = Nothing
@@ -38,7 +38,8 @@ GivesNoOctets Whole = ⊥
 GivesNoOctets (Closed why) = why ≡ Some Device
 GivesNoOctets _ = ⊤
 
--- What a read of a closed connection reports: a write that failed, or that there is nothing to read.
+-- What a read of a closed connection reports: a write that failed, or that there is nothing to
+-- read.
 abbrev pub IsClosedOrNothing : Taken → Type 0
 IsClosedOrNothing Nothing = ⊤
 IsClosedOrNothing (Closed why) = why ≡ Some Device
@@ -109,7 +110,8 @@ module _ {R W F : Type 0} (parts : ConnectionParts R W F) where
         (record { reader = before; framing = old.framing })
         (record { reader = after; framing = new.framing })
 
-  -- A read that reports that the connection is closed: it has closed it, or a write that failed had.
+  -- A read that reports that the connection is closed: it has closed it, or a write that failed
+  -- had.
   abbrev pub Closes : Option CarrierError → ConnectionValue R W F → ConnectionValue R W F → Type 0
   Closes why old new =
       (new.ends ≡ None)

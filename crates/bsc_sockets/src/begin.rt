@@ -37,10 +37,8 @@ pub struct Begun<'a, N: Net + Clock, A: Allocator> {
 }
 
 /// Connects to a peer that listens at this address; of a host with several addresses, to the first
-/// that answers. Fails with `Address` if the text is not an address, with `NobodyThere` if no
-/// address gives a connection, for example because the peer refuses, cannot be reached, or does not
-/// answer within `patience`, with `Sockets` if the system refuses what else the connection needs,
-/// and with `Memory` if memory cannot be allocated.
+/// that answers. Fails with `Address` if the text is not an address, and otherwise as
+/// [`connect_to_any`].
 pub fn connect<'a, N: Net + Clock, A: Allocator + Copy>(
     runtime: &'a N,
     alloc: A,
@@ -50,22 +48,42 @@ pub fn connect<'a, N: Net + Clock, A: Allocator + Copy>(
 ) -> Result<Begun<'a, N, A>, SocketsError>
     ensures { IfOk result (λ begun. length begun.connections.items ≡ 1) }
 {
-    let stream = first_answer(runtime, alloc, address, patience)?;
+    let mut hosts = Vec::new(alloc);
+    for host in addresses(runtime, address)? {
+        hosts.push(host)?;
+    }
+    connect_to_any(runtime, alloc, &hosts, patience, settings)
+}
+
+/// Connects to the first of these addresses that answers. Fails with `NobodyThere` if no address
+/// gives a connection, for example because the peer refuses, cannot be reached, or does not answer
+/// within `patience`, with `Sockets` if the system refuses what else the connection needs, and with
+/// `Memory` if memory cannot be allocated.
+pub fn connect_to_any<'a, N: Net + Clock, A: Allocator + Copy>(
+    runtime: &'a N,
+    alloc: A,
+    addresses: &[SocketAddr],
+    patience: Duration,
+    settings: ConnectionSettings,
+) -> Result<Begun<'a, N, A>, SocketsError>
+    ensures { IfOk result (λ begun. length begun.connections.items ≡ 1) }
+{
+    let stream = first_answer(runtime, alloc, addresses, patience)?;
     let mut begun = Begun::new(runtime, alloc, 1, settings)?;
     begun.add(0, stream)?;
     Ok(begun)
 }
 
-/// Returns a stream to the first of the addresses that answers.
+/// Returns a stream to the first of these addresses that answers.
 fn first_answer<N: Net + Clock, A: Allocator + Copy>(
     runtime: &N,
     alloc: A,
-    address: &str,
+    addresses: &[SocketAddr],
     patience: Duration,
 ) -> Result<TcpStream, SocketsError> {
     let mut writable = Writable::new(runtime, alloc)?;
-    for address in addresses(runtime, address)? {
-        if let Ok(stream) = connect_to(runtime, &mut writable, address, patience) {
+    for address in addresses {
+        if let Ok(stream) = connect_to(runtime, &mut writable, *address, patience) {
             return Ok(stream);
         }
     }

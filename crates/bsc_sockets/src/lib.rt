@@ -3,7 +3,7 @@
 //! nothing of transmissions.
 //!
 //! - `Listening` is an address that is bound; `listen` waits there for `Peers`.
-//! - `connect` makes one connection to a peer that listens.
+//! - `connect` and `connect_to_any` make one connection to a peer that listens.
 //! - `Sockets` waits for octets, for a further peer, or until a gap or the time-out has passed.
 //! - `Reading` and `Writing` are the two directions of a connection. A read does not wait, and a
 //!   write waits no longer than the time-out.
@@ -22,7 +22,7 @@ mod time_limit;
 mod times;
 mod writable;
 
-pub use begin::{Begun, Peers, connect, listen};
+pub use begin::{Begun, Peers, connect, connect_to_any, listen};
 pub use directions::{Reading, Writing};
 pub use error::SocketsError;
 pub use listening::Listening;

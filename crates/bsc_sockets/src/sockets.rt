@@ -342,7 +342,7 @@ impl<'a, N: Net + Clock, A: Allocator + Copy> Waiter<Reading, Writing<'a, N, A>>
     ghost begins_gap = { λ before _ after. after.times.time_out ≡ before.times.time_out };
 
     ghost has_nothing_left = { λ before place after.
-        (after.ready ≡ without_place before.ready place) × (after.times ≡ before.times) };
+        after ≡ record before { ready = without_place before.ready place } };
 
     ghost joins = { λ before _ joined after. (IsNone after.newcomer)
         × (IsNone before.newcomer → IsNone joined)
