@@ -1,7 +1,6 @@
 -- How far a control station has come in its poll list, and when it ends.
 use Rattle.std.specs.Prelude.{ℕ, Bool, false, not, ◌||◌, length, Option, None, Some}
-use Rattle.bsc_connections.specs.declared.monitor.Note.{Note}
-use Rattle.bsc_connections.specs.declared.monitor.Note.TheVariants.{Sent, Closed}
+use Rattle.bsc_connections.specs.Histories.{Happening, WasSent, HasClosed}
 use Rattle.bsc_control.specs.Control.{ControlValue, peer_at}
 use Rattle.bsc_monitor.specs.Ends.{control_end, station_standing}
 use Rattle.bsc_monitor.specs.Rounds.{rounds_of, after_visit, are_enough}
@@ -53,17 +52,24 @@ ends_when_sent p c = enough_after p.rounds p.limits (visit_ended p.visits.polled
 
 -- The progress after an event. Only what the control station sends counts, and a connection that is
 -- closed, if no other peer can connect.
-abbrev pub after_note : Progress → ControlValue → Note → Progress
-after_note p c (Sent octets) = after_sent p c
-after_note p c (Closed connection why) = record p { closed = not p.listens }
-after_note p c _ = p
+abbrev pub after_event : Progress → ControlValue → Happening → Progress
+after_event p c (WasSent octets) = after_sent p c
+after_event p c (HasClosed place why) = record p { closed = not p.listens }
+after_event p c _ = p
 
 -- Whether the control station ends with an event.
-abbrev pub ends_with : Progress → ControlValue → Note → Bool
-ends_with p c (Sent octets) = ends_when_sent p c
-ends_with p c (Closed connection why) = not p.listens
+abbrev pub ends_with : Progress → ControlValue → Happening → Bool
+ends_with p c (WasSent octets) = ends_when_sent p c
+ends_with p c (HasClosed place why) = not p.listens
 ends_with p c _ = false
 
 -- A record arrived in the round, or none did.
 abbrev pub with_found : Progress → Bool → Progress
 with_found p found = record p { rounds = record p.rounds { found = p.rounds.found || found } }
+
+-- The progress after an event with which records arrived, as the flag says, and whether the control
+-- station has ended by then.
+abbrev pub progress_after : Progress → Bool → ControlValue → Happening → Progress
+progress_after p found c happening =
+    let q = with_found p found in
+    record (after_event q c happening) { ended = p.ended || ends_with q c happening }

@@ -1,14 +1,19 @@
 -- What a watch prints when it is told what happened.
-use Rattle.std.specs.Prelude.{◌≡◌, ◌≢◌, ℕ, ◌<◌, ◌≤◌, Bool, List, [], length, Option, Result, OnOk}
-use Rattle.std.specs.Prelude.{slice_index}
+use Rattle.std.specs.Prelude.{◌≡◌, ◌≢◌, ℕ, ◌<◌, ◌≤◌, Bool, true, false, ◌||◌, List, [], length}
+use Rattle.std.specs.Prelude.{Option, Result, Ok, Err, OnOk, slice_index}
 use Rattle.std.specs.Io.KnownBytes.{Appends}
 use Rattle.bsc_connections.specs.declared.awaited.LiveError.{LiveError}
 use Rattle.bsc_connections.specs.Parts.{SessionParts}
 use Rattle.bsc_connections.specs.Connections.{ConnectionValue}
-use Rattle.bsc_connections.specs.Histories.{Happening, WasHeard, WasSilent, all_sent}
+use Rattle.bsc_connections.specs.Histories.{Happening, WasHeard, WasSilent, HasClosed, all_sent}
 use Rattle.bsc_connections.specs.Attending.{Session, Steps}
+use Rattle.bsc_carrier.specs.declared.error.CarrierError.{CarrierError}
+use Rattle.bsc_control.specs.Control.{ControlValue}
 use Rattle.bsc_report.specs.Channels.{each_below}
-use Rattle.bsc_monitor.specs.Arrivals.{AreCounted, arrivals_of, arrived_on}
+use Rattle.bsc_monitor.specs.Arrivals.{AreCounted, AsManyArePrinted, MoreArePrinted}
+use Rattle.bsc_monitor.specs.Arrivals.{arrivals_of, arrived_on}
+use Rattle.bsc_monitor.specs.Progress.{progress_after}
+use Rattle.bsc_monitor.specs.declared.progress.Progress.{Progress}
 use Rattle.bsc_print.specs.declared.form.Form.{Form}
 use Rattle.bsc_monitor.specs.declared.party.Party as party_of
 use Rattle.bsc_monitor.specs.declared.watch.Watch.{Watch}
@@ -42,11 +47,58 @@ module _ {P M : Type 0} (party : party_of.Ghosts P M) (station : P) where
   Sees WasSilent result old new = OnOk result (PrintsArrivals old new)
   Sees _ result old new = new ≡ old
 
+  -- Whether a record was printed: of some channel more are printed than before, or of none.
+  abbrev pub IsFound : Bool → Output → Output → Type 0
+  IsFound true old new = MoreArePrinted old.counts new.counts (party.receives station)
+  IsFound false old new = AsManyArePrinted old.counts new.counts (party.receives station)
+
   -- Every record that arrived at the station has been printed.
   abbrev pub ArePrinted : Output → Type 0
   ArePrinted output =
       (channel : ℕ) → channel < party.receives station
       → length (arrived_on party station channel) ≤ slice_index output.counts channel
+
+-- What the watch of a control station has printed, and the progress that it has counted.
+pub record ControlWatched : Type 0 where
+  pub output : Output
+  pub progress : Progress
+
+-- The watch of a control station counts what it is told, and whether a record was printed with it.
+-- If it refuses, it counts nothing.
+abbrev pub Counts : {M : Type 0} → Result Bool LiveError → party_of.Ghosts ControlValue M
+    → ControlValue → Happening → ControlWatched → ControlWatched → Type 0
+Counts (Ok goes_on) party control happening old new =
+    (found : Bool) × IsFound party control found old.output new.output
+    × (new.progress ≡ progress_after old.progress found control happening)
+Counts (Err error) party control happening old new = new.progress ≡ old.progress
+
+-- Whether a terminal has ended, and the fault that closed its connection, if it was a fault.
+pub record Closing : Type 0 where
+  pub ended : Bool
+  pub closed : Option CarrierError
+
+-- The same after this: a terminal ends when its connection is closed.
+abbrev pub closing_after : Closing → Happening → Closing
+closing_after old (HasClosed place why) = record { ended = true; closed = why }
+closing_after old _ = old
+
+-- The same after the watch of the terminal was told this. If it refuses, nothing changes.
+abbrev pub closing_told : Result Bool LiveError → Closing → Happening → Closing
+closing_told (Ok goes_on) old happening = closing_after old happening
+closing_told (Err error) old happening = old
+
+-- Whether a control station that has ended is attended no further after this: its last call is
+-- answered, or nobody answers, or a connection is closed.
+abbrev pub is_last : Happening → Bool
+is_last (WasHeard place octets) = true
+is_last WasSilent = true
+is_last (HasClosed place why) = true
+is_last _ = false
+
+-- Whether it has ended after this. If the watch refuses, that does not change.
+abbrev pub ended_told : Result Bool LiveError → Bool → Happening → Bool
+ended_told (Ok goes_on) ended happening = ended || is_last happening
+ended_told (Err error) ended happening = ended
 
 -- In every step of a session in which the station sends something, the records that have arrived at
 -- it are printed: the lines of those that had not been printed before, and of no others.

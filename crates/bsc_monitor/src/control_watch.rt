@@ -1,5 +1,8 @@
 //! The monitor of a control station.
 
+ghost use Rattle.std.specs.Prelude.{◌≡◌, ◌-◌, false, length};
+ghost use Rattle.bsc_monitor.specs.Progress.{progress_of};
+
 use crate::ended::LastWatch;
 use crate::progress::Progress;
 use crate::trace::Who;
@@ -29,7 +32,11 @@ impl<'a, A: Allocator + Copy, T: Timer + Drop, W: Write, D: Write> ControlWatch<
         watch: Watch<'a, A, T, W, D>,
         limits: Limits,
         listens: bool,
-    ) -> ControlWatch<'a, A, T, W, D> {
+    ) -> ControlWatch<'a, A, T, W, D>
+        ensures watch { result.watch ≡ watch.entry }
+        ensures progress { result.progress
+            ≡ progress_of limits (length control.now.poll_list - 1) listens }
+    {
         ControlWatch {
             watch,
             progress: Progress::new(control, limits, listens),
@@ -37,12 +44,17 @@ impl<'a, A: Allocator + Copy, T: Timer + Drop, W: Write, D: Write> ControlWatch<
     }
 
     /// Whether the run ended because a connection was closed and no other peer can connect.
-    pub fn is_closed(&self) -> bool {
+    pub fn is_closed(&self) -> bool
+        ensures { result ≡ self.now.progress.closed }
+    {
         self.progress.is_closed()
     }
 
     /// Returns the monitor that remains until the last call is answered.
-    pub fn into_last(self) -> LastWatch<'a, A, T, W, D> {
+    pub fn into_last(self) -> LastWatch<'a, A, T, W, D>
+        ensures watch { result.watch ≡ self.entry.watch }
+        ensures ended { result.ended ≡ false }
+    {
         let ControlWatch { watch, .. } = self;
         LastWatch {
             watch,
@@ -53,13 +65,16 @@ impl<'a, A: Allocator + Copy, T: Timer + Drop, W: Write, D: Write> ControlWatch<
 
 impl<'a, A: Allocator + Copy, T: Timer + Drop, W: Write, D: Write, B: Allocator> Monitor<Control<B>>
     for ControlWatch<'a, A, T, W, D> {
-    ghost use Rattle.bsc_monitor.specs.Watching.{Sees, output_of};
+    ghost use Rattle.bsc_monitor.specs.Watching.{Counts, Sees, output_of};
 
     ghost has_ended = { λ w. w.progress.ended };
 
     ghost is_told = { λ old station happening result new.
         Sees ⟦<Control<B> as Party>⟧ station happening result
-        (output_of W.contents old.watch) (output_of W.contents new.watch) };
+        (output_of W.contents old.watch) (output_of W.contents new.watch)
+        × Counts result ⟦<Control<B> as Party>⟧ station happening
+        (record { output = output_of W.contents old.watch; progress = old.progress })
+        (record { output = output_of W.contents new.watch; progress = new.progress }) };
 
     fn note(&mut self, station: &Control<B>, note: Note<'_>) -> Result<bool, LiveError> {
         let found = self.watch.see(station, Who::Control, &note)?;

@@ -55,12 +55,13 @@ pub struct LastWatch<'a, A: Allocator, T: Drop, W, D> {
 impl<'a, A: Allocator + Copy, T: Timer + Drop, W: Write, D: Write> Monitor<Ended>
     for LastWatch<'a, A, T, W, D> {
     ghost use Rattle.std.specs.Prelude.{◌≡◌};
-    ghost use Rattle.bsc_monitor.specs.Watching.{output_of};
+    ghost use Rattle.bsc_monitor.specs.Watching.{ended_told, output_of};
 
     ghost has_ended = { λ w. w.ended };
 
-    ghost is_told = { λ old _ _ _ new.
-        output_of W.contents new.watch ≡ output_of W.contents old.watch };
+    ghost is_told = { λ old _ happening result new.
+        (output_of W.contents new.watch ≡ output_of W.contents old.watch)
+        × (new.ended ≡ ended_told result old.ended happening) };
 
     fn note(&mut self, _station: &Ended, note: Note<'_>) -> Result<bool, LiveError> {
         live(self.watch.tell(Who::Control, &note))?;

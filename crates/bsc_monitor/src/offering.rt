@@ -1,10 +1,10 @@
 //! Offers records at a station.
 
-ghost use Rattle.std.specs.Prelude.{◌≡◌, ◌≤◌, ◌<◌, ◌++◌, length, OnOk};
+ghost use Rattle.std.specs.Prelude.{◌≡◌, ◌≤◌, ◌<◌, ◌++◌, length, OnErr, OnOk};
 ghost use Rattle.bsc_block.specs.Blocks.{AreShort};
 ghost use Rattle.bsc_control.specs.Control.{peer_at};
 ghost use Rattle.bsc_control.specs.Kept.{outbound_of};
-ghost use Rattle.bsc_monitor.specs.Offers.{IsOffered};
+ghost use Rattle.bsc_monitor.specs.Offers.{IsOffered, KeepsOtherQueues};
 
 use crate::{LineTerminal, OfferError};
 use bsc_block::Record;
@@ -33,7 +33,7 @@ pub fn offer_at_terminal<A: Allocator, B: Allocator>(
 
 /// Offers records at the control station, for a selection address of a terminal, in order. The
 /// address must exist, and no record may be longer than the full length. Returns `Memory` if memory
-/// for a record runs out; the records before it are offered.
+/// for a record runs out; the records before it are offered. Nothing but this queue changes.
 pub fn offer_for_terminal<A: Allocator, B: Allocator>(
     control: &mut Control<A>,
     terminal: usize,
@@ -43,8 +43,9 @@ pub fn offer_for_terminal<A: Allocator, B: Allocator>(
     requires terminal { terminal < length control.old.peers }
     requires select { select < length (peer_at control.old terminal).outbounds }
     requires short { AreShort control.old.setup.format.full records.items }
-    ensures { OnOk result ((outbound_of control.new terminal select).queue.offered
+    ensures offered { OnOk result ((outbound_of control.new terminal select).queue.offered
         ≡ (outbound_of control.old terminal select).queue.offered ++ records.items) }
+    ensures others { KeepsOtherQueues control.old terminal select control.new }
 {
     for record in records {
         offer_one(control, terminal, select, record)?;
@@ -62,7 +63,8 @@ fn offer_one<A: Allocator>(
     requires terminal { terminal < length control.old.peers }
     requires select { select < length (peer_at control.old terminal).outbounds }
     requires short { length «record» ≤ control.old.setup.format.full }
-    ensures { OnOk result (IsOffered control.old terminal select «record» control.new) }
+    ensures ok { OnOk result (IsOffered control.old terminal select «record» control.new) }
+    ensures err { OnErr result (control.new ≡ control.old) }
 {
     match control.offer(terminal, select, record) {
         Ok(()) => Ok(()),

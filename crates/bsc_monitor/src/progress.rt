@@ -1,8 +1,9 @@
 //! The progress of a control station through its poll list.
 
-ghost use Rattle.std.specs.Prelude.{◌≡◌, ◌-◌, ◌||◌, length, not, true, false};
-ghost use Rattle.bsc_monitor.specs.Progress.{after_sent, after_note, ends_when_sent, ends_with};
-ghost use Rattle.bsc_monitor.specs.Progress.{progress_of, with_found};
+ghost use Rattle.std.specs.Prelude.{◌≡◌, ◌-◌, length, not, true};
+ghost use Rattle.bsc_connections.specs.Notes.{told_by};
+ghost use Rattle.bsc_monitor.specs.Progress.{after_event, after_sent, ends_when_sent, ends_with};
+ghost use Rattle.bsc_monitor.specs.Progress.{progress_after, progress_of};
 
 use crate::rounds::{Limits, Rounds};
 use crate::station_standing;
@@ -52,17 +53,16 @@ impl Progress {
     }
 
     /// Whether it ended because a connection was closed and no other peer can connect.
-    pub fn is_closed(&self) -> bool {
+    pub fn is_closed(&self) -> bool
+        ensures { result ≡ self.now.closed }
+    {
         self.closed
     }
 
     /// Counts an event; `found` tells whether records arrived with it. Returns `false` if the
     /// control station has ended.
     pub fn note<B: Allocator>(&mut self, control: &Control<B>, note: &Note<'_>, found: bool) -> bool
-        ensures counts { let p = with_found self.old found in
-            self.new ≡ record (after_note p control.now note.now) {
-              ended = self.old.ended || ends_with p control.now note.now;
-            } }
+        ensures counts { self.new ≡ progress_after self.old found control.now (told_by note.now) }
         ensures answer { result ≡ not self.new.ended }
         ensures kept { self.old.ended ≡ true → self.new.ended ≡ true }
     {
@@ -77,8 +77,8 @@ impl Progress {
 
     /// Counts an event. Returns `true` if the control station ends with it.
     fn count<B: Allocator>(&mut self, control: &Control<B>, note: &Note<'_>) -> bool
-        ensures state { self.new ≡ after_note self.old control.now note.now }
-        ensures ends { result ≡ ends_with self.old control.now note.now }
+        ensures state { self.new ≡ after_event self.old control.now (told_by note.now) }
+        ensures ends { result ≡ ends_with self.old control.now (told_by note.now) }
     {
         match note {
             Note::Sent { .. } => self.count_sent(control),

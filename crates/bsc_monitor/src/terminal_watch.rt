@@ -1,5 +1,7 @@
 //! The monitor of a terminal.
 
+ghost use Rattle.std.specs.Prelude.{◌≡◌, None, false};
+
 use crate::trace::Who;
 use crate::watch::Watch;
 use crate::{LineTerminal, Party, Timer};
@@ -23,7 +25,11 @@ pub struct TerminalWatch<'a, A: Allocator, T: Drop, W, D> {
 
 impl<'a, A: Allocator + Copy, T: Timer + Drop, W: Write, D: Write> TerminalWatch<'a, A, T, W, D> {
     /// Returns the monitor of a terminal at which nothing has arrived.
-    pub fn new(watch: Watch<'a, A, T, W, D>) -> TerminalWatch<'a, A, T, W, D> {
+    pub fn new(watch: Watch<'a, A, T, W, D>) -> TerminalWatch<'a, A, T, W, D>
+        ensures watch { result.watch ≡ watch.entry }
+        ensures closed { result.closed ≡ None }
+        ensures ended { result.ended ≡ false }
+    {
         TerminalWatch {
             watch,
             closed: None,
@@ -33,7 +39,9 @@ impl<'a, A: Allocator + Copy, T: Timer + Drop, W: Write, D: Write> TerminalWatch
 
     /// Returns the fault that closed the connection. Returns `None` if the connection is open, or
     /// if its peer closed it between transmissions.
-    pub fn closed(&self) -> Option<CarrierError> {
+    pub fn closed(&self) -> Option<CarrierError>
+        ensures { result ≡ self.now.closed }
+    {
         self.closed
     }
 }
@@ -41,13 +49,16 @@ impl<'a, A: Allocator + Copy, T: Timer + Drop, W: Write, D: Write> TerminalWatch
 impl<'a, A: Allocator + Copy, T: Timer + Drop, W: Write, D: Write, B: Allocator> Monitor<
     LineTerminal<B>,
 > for TerminalWatch<'a, A, T, W, D> {
-    ghost use Rattle.bsc_monitor.specs.Watching.{Sees, output_of};
+    ghost use Rattle.std.specs.Prelude.{◌≡◌};
+    ghost use Rattle.bsc_monitor.specs.Watching.{Sees, closing_told, output_of};
 
     ghost has_ended = { λ w. w.ended };
 
     ghost is_told = { λ old station happening result new.
         Sees ⟦<LineTerminal<B> as Party>⟧ station happening result
-        (output_of W.contents old.watch) (output_of W.contents new.watch) };
+        (output_of W.contents old.watch) (output_of W.contents new.watch)
+        × (closing_told result (record { ended = old.ended; closed = old.closed }) happening
+        ≡ record { ended = new.ended; closed = new.closed }) };
 
     fn note(&mut self, station: &LineTerminal<B>, note: Note<'_>) -> Result<bool, LiveError> {
         let me = Who::Terminal(station.line_number());

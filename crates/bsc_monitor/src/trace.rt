@@ -3,10 +3,12 @@
 ghost use Rattle.std.specs.Prelude.{◌≡◌, ◌++◌, codes, OnOk};
 ghost use Rattle.std.specs.Fmt.{decimal};
 ghost use Rattle.std.specs.Io.KnownBytes.{Appends};
+ghost use Rattle.bsc_connections.specs.Notes.{told_by};
 ghost use Rattle.bsc_frame.specs.Reading.{heard};
 ghost use Rattle.bsc_print.specs.Names.{name_of};
-ghost use Rattle.bsc_monitor.specs.Traces.{deed_shown, octets_shown, time_shown, transmission_line};
-ghost use Rattle.bsc_monitor.specs.Traces.{who_shown};
+ghost use Rattle.bsc_monitor.specs.Traces.{IsTraced, deed_shown, octets_shown, silence_line};
+ghost use Rattle.bsc_monitor.specs.Traces.{heard_from as sender_heard, time_shown};
+ghost use Rattle.bsc_monitor.specs.Traces.{transmission_line, who_shown};
 
 use bsc_carrier::CarrierError;
 use bsc_connections::Note;
@@ -132,7 +134,10 @@ pub(crate) fn write_note<A: Allocator, W: Write>(
     me: Who,
     note: &Note<'_>,
     out: &mut W,
-) -> Result<(), PrintError> {
+) -> Result<(), PrintError>
+    ensures { OnOk result
+        (IsTraced (told_by note.now) time me (W.contents out.old) (W.contents out.new)) }
+{
     match note {
         Note::Heard { connection, octets } => {
             let who = heard_from(me, *connection);
@@ -149,7 +154,9 @@ pub(crate) fn write_note<A: Allocator, W: Write>(
 }
 
 /// Returns the sender of a transmission that the station `me` heard on a connection.
-fn heard_from(me: Who, connection: usize) -> Who {
+fn heard_from(me: Who, connection: usize) -> Who
+    ensures { result ≡ sender_heard me connection }
+{
     match me {
         Who::Control => Who::Connection(connection),
         Who::Terminal(_) | Who::Connection(_) => Who::Control,
@@ -170,8 +177,7 @@ pub(crate) fn write_fault<W: Write>(note: &Note<'_>, out: &mut W) -> Result<(), 
 
 /// Writes the line for a time-out.
 fn write_silence<W: Write>(time: u64, out: &mut W) -> Result<(), PrintError>
-    ensures { OnOk result (Appends (W.contents out.old) (W.contents out.new)
-        (codes "+" ++ decimal time ++ codes " silence\n")) }
+    ensures { OnOk result (Appends (W.contents out.old) (W.contents out.new) (silence_line time)) }
 {
     match write!(out, "+{time} silence\n") {
         Ok(()) => Ok(()),

@@ -1,8 +1,8 @@
 //! The output while a station is attended.
 
-ghost use Rattle.std.specs.Prelude.{◌≡◌, OnOk};
+ghost use Rattle.std.specs.Prelude.{◌≡◌, IfOk, OnOk};
 ghost use Rattle.bsc_connections.specs.Notes.{told_by};
-ghost use Rattle.bsc_monitor.specs.Watching.{PrintsArrivals, Sees, output_of};
+ghost use Rattle.bsc_monitor.specs.Watching.{IsFound, PrintsArrivals, Sees, output_of};
 
 use crate::arrivals::print_arrivals;
 use crate::trace::{Who, write_fault, write_note};
@@ -78,8 +78,10 @@ impl<'a, A: Allocator + Copy, T: Timer + Drop, W: Write, D: Write> Watch<'a, A, 
         me: Who,
         note: &Note<'_>,
     ) -> Result<bool, LiveError>
-        ensures { Sees P.Party station.now (told_by note.now) result
+        ensures sees { Sees P.Party station.now (told_by note.now) result
             (output_of W.contents self.old) (output_of W.contents self.new) }
+        ensures found { IfOk result (λ found. IsFound P.Party station.now found
+            (output_of W.contents self.old) (output_of W.contents self.new)) }
     {
         live(self.tell(me, note))?;
         match note {
@@ -91,7 +93,9 @@ impl<'a, A: Allocator + Copy, T: Timer + Drop, W: Write, D: Write> Watch<'a, A, 
     /// Prints the records that have arrived and are not printed yet, and flushes the output.
     /// Returns whether there was one.
     fn print_records<P: Party>(&mut self, station: &P) -> Result<bool, LiveError>
-        ensures { OnOk result (PrintsArrivals P.Party station.now
+        ensures prints { OnOk result (PrintsArrivals P.Party station.now
+            (output_of W.contents self.old) (output_of W.contents self.new)) }
+        ensures found { IfOk result (λ found. IsFound P.Party station.now found
             (output_of W.contents self.old) (output_of W.contents self.new)) }
     {
         // There is a count for each channel on which the station of this watch receives.

@@ -4,6 +4,8 @@ use Rattle.std.specs.Vec.Iter.{into_iter_items}
 use Rattle.bsc_block.specs.Blocks.{AreShort}
 use Rattle.bsc_control.specs.Control.{peer_at}
 use Rattle.bsc_control.specs.Kept.{outbound_of}
+use Rattle.bsc_spool.specs.Queue.{QueueValue}
+use Rattle.bsc_monitor.specs.Offers.{with_queue}
 use Rattle.bsc_monitor.proofs.offering.offer_for_terminal.Given as goal
 
 abbrev pub invariant-loop-record : goal.invariant-loop-record
@@ -15,4 +17,6 @@ invariant-loop-record g l = record {
   selects : l.select < length (peer_at l.control l.terminal).outbounds;
   offered : (outbound_of l.control l.terminal l.select).queue.offered
       ≡ (outbound_of l.initial.control l.terminal l.select).queue.offered ++ l.yielded;
+  others : (queue : QueueValue) → with_queue l.control l.terminal l.select queue
+      ≡ with_queue l.initial.control l.terminal l.select queue;
 }
