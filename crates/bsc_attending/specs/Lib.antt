@@ -1,3 +1,4 @@
 pub mod Errors
 pub mod Framings
+pub mod Offering
 pub mod Wanted

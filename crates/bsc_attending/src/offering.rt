@@ -1,7 +1,8 @@
 //! The records that a station has to send.
 
-ghost use Rattle.std.specs.Prelude.{◌≡◌, IfErr, IfOk};
+ghost use Rattle.std.specs.Prelude.{◌≡◌, IfErr, IfOk, OnOk};
 ghost use Rattle.bsc_attending.specs.Errors.{IsOfferError};
+ghost use Rattle.bsc_attending.specs.Offering.{AreLinesAt, OffersLines};
 ghost use Rattle.bsc_block.specs.Blocks.{AreShort};
 
 use crate::AttendingError;
@@ -36,6 +37,8 @@ fn records_at<R: Read, F: Files>(
     files: &mut F,
 ) -> Result<Vec<Record>, AttendingError>
     ensures error { IfErr result IsOfferError }
+    ensures are_lines { IfOk result
+        (λ records. AreLinesAt path.now (R.remaining input.old) records.items) }
     ensures short { IfOk result (λ records. AreShort setup.format.full records.items) }
 {
     let text = read_text(alloc, path, input, files)?;
@@ -90,7 +93,9 @@ fn offer_for<R: Read, F: Files>(
     input: &mut R,
     files: &mut F,
 ) -> Result<(), AttendingError>
-    ensures { IfErr result IsOfferError }
+    ensures error { IfErr result IsOfferError }
+    ensures offers { OnOk result
+        (OffersLines text.now (R.remaining input.old) control.old control.new) }
 {
     let Some(offer) = offer_of(text) else {
         let error = OptionError::OfferForm;

@@ -1,7 +1,9 @@
 //! One station of a line: prepares it, makes its connections, and attends it until it ends.
 
 ghost use Rattle.std.specs.Prelude.{◌≡◌, IfErr};
+ghost use Rattle.bsc_options.specs.Settings.{place_value};
 ghost use Rattle.bsc_attending.specs.Errors.{IsEarly, IsLate, outcome_of};
+ghost use Rattle.bsc_attending.specs.Wanted.{is_listening};
 
 use crate::connections::{Attend, connect};
 use crate::preparing::{Prepared, prepare};
@@ -110,10 +112,7 @@ fn open<H: Network, W: Write>(
     let wanted = wanted_by(settings, prepared);
     let mut connections = connect(alloc, &wanted, machine)?;
     let (timer, mut trace) = (machine.timer(), machine.trace());
-    let ending = Ending {
-        limits: settings.limits,
-        listens: listens(settings.place),
-    };
+    let ending = ending_of(settings);
     let watching = Watching {
         printing: settings.printing,
         timer,
@@ -121,6 +120,17 @@ fn open<H: Network, W: Write>(
         trace: &mut trace,
     };
     attend(alloc, ending, prepared, &mut connections, watching)
+}
+
+/// Returns when the control station of these settings ends.
+fn ending_of(settings: &StationSettings<'_>) -> Ending
+    ensures limits { result.limits ≡ settings.now.limits }
+    ensures listens { result.listens ≡ is_listening (place_value settings.now.place) }
+{
+    Ending {
+        limits: settings.limits,
+        listens: listens(settings.place),
+    }
 }
 
 /// Returns the connections that a station asks for.

@@ -1,11 +1,19 @@
 //! The connections that a station asks for.
 
-ghost use Rattle.std.specs.Prelude.{◌≡◌};
+ghost use Rattle.std.specs.Prelude.{◌≡◌, ◌*◌, min};
+ghost use Rattle.std.specs.Duration.{as_nanos};
+ghost use Rattle.bsc_carrier.specs.declared.limits.TheConstants.{MAX_CONNECTIONS};
 ghost use Rattle.bsc_options.specs.Settings.{place_value, settings_value};
 ghost use Rattle.bsc_attending.specs.Wanted.{control_wants, is_listening, terminal_wants};
 ghost use Rattle.bsc_attending.specs.Wanted.{wanted_value};
 
+use bsc_carrier::limits::MAX_CONNECTIONS;
 use bsc_options::{Place, StationSettings};
+use bsc_sockets::{ConnectionSettings, Peers};
+use std::time::Duration;
+
+/// The time that a station that listens waits for each peer, in milliseconds.
+const LISTENING_PATIENCE: u64 = 60_000;
 
 /// The connections that a station asks for.
 #[derive(Clone, Copy)]
@@ -33,6 +41,35 @@ pub struct Wanted<'a> {
 
     /// How long to try to connect, in milliseconds.
     pub patience: u64,
+}
+
+impl Wanted<'_> {
+    /// Returns the settings of the connections.
+    pub fn settings(&self) -> ConnectionSettings
+        ensures time_out { as_nanos result.time_out ≡ self.now.time_out * 1000000 }
+        ensures gap { as_nanos result.gap ≡ self.now.gap * 1000000 }
+        ensures begins { result.begins ≡ self.now.begins }
+    {
+        ConnectionSettings {
+            time_out: Duration::from_millis(self.time_out),
+            gap: Duration::from_millis(self.gap),
+            begins: self.begins,
+        }
+    }
+
+    /// Returns the peers that a station waits for if it listens: one for each connection, at most
+    /// 64, for up to 60 seconds each.
+    pub fn peers(&self) -> Peers
+        ensures count { result.count ≡ min self.now.connections MAX_CONNECTIONS }
+        ensures patience { as_nanos result.patience ≡ 60000 * 1000000 }
+        ensures keeps_listening { result.keeps_listening ≡ self.now.stays }
+    {
+        Peers {
+            count: self.connections.min(MAX_CONNECTIONS),
+            patience: Duration::from_millis(LISTENING_PATIENCE),
+            keeps_listening: self.stays,
+        }
+    }
 }
 
 /// Returns the connections that the control station asks for: one for each terminal, or one for
