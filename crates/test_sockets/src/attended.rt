@@ -285,6 +285,7 @@ fn goes_over<F: Framing + Drop>(
 ) -> bool {
     let mut waiter = Told {
         waits: attended.waits,
+        nowhere: 0,
         newcomer: attended.newcomer,
         counts: NOT_TOLD,
     };
@@ -321,4 +322,21 @@ fn a_station_is_attended_over_records(rt: HostRuntime) -> Result<(), Fail> {
 #[test]
 fn a_station_is_attended_over_gaps(rt: HostRuntime) -> Result<(), Fail> {
     play::<Gaps>(rt.alloc(), OVER_GAPS)
+}
+
+/// A station is attended for as many steps as its waiter has, here two million.
+#[test]
+fn a_station_is_attended_for_millions_of_steps(rt: HostRuntime) -> Result<(), Fail> {
+    let mut connections: Vec<Connection<Pieces, Expecting, SocketRecords>> = Vec::new(rt.alloc());
+    let mut waiter = Told {
+        waits: &[],
+        nowhere: 2_000_000,
+        newcomer: NONE,
+        counts: NOT_TOLD,
+    };
+    let mut monitor = Expects::new(&[], false);
+    let result = attend(&mut Answers, &mut connections, &mut waiter, &mut monitor);
+    assert_eq!(rt; result, Err(LiveError::Wait));
+    assert_eq!(rt; waiter.nowhere, 0);
+    Ok(())
 }

@@ -3,7 +3,7 @@
 use crate::acts::{reads_at, writes_at};
 use crate::meeting::{bound, patience, peer, settings};
 use bsc_connections::{Awaited, Waiter};
-use bsc_sockets::{Begun, Listening, Peers, SocketsError, connect, listen};
+use bsc_sockets::{Begun, Listening, Peers, SocketsError, connect, connect_to_any, listen};
 use std::alloc::{AllocError, Allocator, Global};
 use std::io::{Read, Write};
 use std::net::SocketAddr;
@@ -104,6 +104,23 @@ fn nobody_there_is_told_at_once(rt: HostRuntime) -> Result<(), Fail> {
     let begun = connections_to(&rt, rt.alloc(), text.as_str());
     is_told(begun, SocketsError::NobodyThere)?;
     has_passed(&rt, start, 0)
+}
+
+/// The number of connections to the second of two addresses, at the first of which nobody listens.
+fn connections_to_second<A: Allocator + Copy>(
+    rt: &HostRuntime,
+    alloc: A,
+) -> Result<usize, SocketsError> {
+    let first = left(rt)?;
+    let (_listening, second) = bound(rt)?;
+    let begun = connect_to_any(rt, alloc, &[first, second], patience(), settings())?;
+    Ok(begun.connections.len())
+}
+
+#[test]
+fn every_address_of_a_host_is_tried(rt: HostRuntime) -> Result<(), Fail> {
+    assert_eq!(rt; connections_to_second(&rt, rt.alloc()).ok(), Some(1));
+    Ok(())
 }
 
 /// The number of connections if a station waits 40 milliseconds for two peers, only one of which

@@ -61,13 +61,18 @@ impl Write for Expecting {
     }
 }
 
-/// Returns the given results of waits in order, and then fails. Each newcomer has these ends.
+/// Returns the given results of waits in order, then this often that there are octets at a place
+/// without a connection, and then fails. Each newcomer has these ends.
 #[derive(Drop)]
 pub(crate) struct Told {
     pub(crate) waits: &'static [Awaited],
+    pub(crate) nowhere: u64,
     pub(crate) newcomer: Ends,
     pub(crate) counts: Counts,
 }
+
+/// Octets at a place without a connection.
+const NOWHERE: Awaited = Awaited::Octets { connection: 64 };
 
 /// How often a waiter was told each of these things.
 #[derive(Clone, Copy, PartialEq, Eq)]
@@ -110,6 +115,10 @@ impl Waiter<Pieces, Expecting> for Told {
             Some((first, rest)) => {
                 self.waits = rest;
                 Ok(*first)
+            }
+            None if self.nowhere > 0 => {
+                self.nowhere -= 1;
+                Ok(NOWHERE)
             }
             None => Err(LiveError::Wait),
         }
