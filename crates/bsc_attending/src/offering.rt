@@ -1,6 +1,6 @@
 //! The records that a station has to send.
 
-ghost use Rattle.std.specs.Prelude.{◌≡◌, IfErr, IfOk, OnOk};
+ghost use Rattle.std.specs.Prelude.{◌≡◌, ◌≢◌, IfErr, IfOk, OnOk, codes};
 ghost use Rattle.bsc_attending.specs.Errors.{IsOfferError};
 ghost use Rattle.bsc_attending.specs.Offering.{AreLinesAt, OffersLines};
 ghost use Rattle.bsc_block.specs.Blocks.{AreShort};
@@ -39,6 +39,7 @@ fn records_at<R: Read, F: Files>(
     ensures error { IfErr result IsOfferError }
     ensures are_lines { IfOk result
         (λ records. AreLinesAt path.now (R.remaining input.old) records.items) }
+    ensures unasked { path.now ≢ codes "-" → input.new ≡ input.old }
     ensures short { IfOk result (λ records. AreShort setup.format.full records.items) }
 {
     let text = read_text(alloc, path, input, files)?;
@@ -95,7 +96,7 @@ fn offer_for<R: Read, F: Files>(
 ) -> Result<(), AttendingError>
     ensures error { IfErr result IsOfferError }
     ensures offers { OnOk result
-        (OffersLines text.now (R.remaining input.old) control.old control.new) }
+        (OffersLines R.remaining text.now input.old input.new control.old control.new) }
 {
     let Some(offer) = offer_of(text) else {
         let error = OptionError::OfferForm;

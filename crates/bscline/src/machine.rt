@@ -3,14 +3,13 @@
 
 use bsc_attending::{Network, Opened, Wanted};
 use bsc_carrier::Cable;
-use bsc_carrier::limits::MAX_CONNECTIONS;
 use bsc_input::{Files, InputError, read_input};
 use bsc_loopback::{LoopbackError, connect};
 use bsc_monitor::Timer;
 use bsc_options::Place;
 use bsc_running::Cables;
 use bsc_sockets::{
-    Begun, ConnectionSettings, Listening, Peers, Reading, Sockets, SocketsError, Writing,
+    Begun, ConnectionSettings, Listening, Reading, Sockets, SocketsError, Writing,
     connect as connect_to, listen,
 };
 use std::alloc::Global;
@@ -21,9 +20,6 @@ use std::net::Net;
 use std::rt::Files as Filing;
 use std::thread::sleep;
 use std::time::{Clock, Duration, Instant};
-
-/// The time that a listening station waits for each peer before it gives up, in milliseconds.
-const PATIENCE: u64 = 60_000;
 
 /// The time between two attempts to connect, in milliseconds.
 const BETWEEN_ATTEMPTS: u64 = 100;
@@ -126,11 +122,7 @@ fn begin<'a, R: AllocGlobal + Clock + Net>(
     runtime: &'a R,
     wanted: &Wanted<'_>,
 ) -> Result<Begun<'a, R, Global>, SocketsError> {
-    let settings = ConnectionSettings {
-        time_out: Duration::from_millis(wanted.time_out),
-        gap: Duration::from_millis(wanted.gap),
-        begins: wanted.begins,
-    };
+    let settings = wanted.settings();
     match wanted.place {
         Place::Connect { address } => {
             let patience = Duration::from_millis(wanted.patience);
@@ -138,12 +130,7 @@ fn begin<'a, R: AllocGlobal + Clock + Net>(
         }
         Place::Listen { address } => {
             let listening = Listening::bind(runtime, address)?;
-            let peers = Peers {
-                count: wanted.connections.min(MAX_CONNECTIONS),
-                patience: Duration::from_millis(PATIENCE),
-                keeps_listening: wanted.stays,
-            };
-            listen(runtime, runtime.alloc(), listening, peers, settings)
+            listen(runtime, runtime.alloc(), listening, wanted.peers(), settings)
         }
     }
 }

@@ -75,11 +75,16 @@ impl Read for Pieces {
     }
 }
 
-/// Reports octets to read for each `r` of the steps, a gap for each `g`, and a time-out for each
-/// `t`; after the last step there are always octets to read.
+/// Reports octets to read for each `r` of the steps, a gap for each `g`, another peer for each `j`,
+/// and a time-out for each `t`; after the last step there are always octets to read.
 #[derive(Drop)]
 pub(crate) struct Scripted {
     steps: &'static [u8],
+
+    /// What another peer sends.
+    later: &'static [&'static [u8]],
+
+    alloc: Global,
 }
 
 impl Waiter<Pieces, Vec<u8>> for Scripted {
@@ -106,6 +111,9 @@ impl Waiter<Pieces, Vec<u8>> for Scripted {
         if step == b'g' {
             return Ok(Awaited::Gap { connection: 0 });
         }
+        if step == b'j' {
+            return Ok(Awaited::Newcomer);
+        }
         Ok(Awaited::Octets { connection: 0 })
     }
 
@@ -116,7 +124,12 @@ impl Waiter<Pieces, Vec<u8>> for Scripted {
     fn nothing_left(&mut self, _connection: usize) {}
 
     fn join(&mut self, _connection: usize) -> Option<(Pieces, Vec<u8>)> {
-        None
+        let reader = Pieces {
+            left: self.later,
+            piece: b"",
+            fails: false,
+        };
+        Some((reader, Vec::new(self.alloc)))
     }
 
     fn turn_away(&mut self) {}
@@ -135,16 +148,19 @@ pub(crate) struct Asking {
     pub(crate) patience: u64,
 }
 
-/// The octets of a connection, at most one piece in each read, and the waits before them.
+/// The octets of a connection and of that of another peer, at most one piece in each read, and the
+/// waits before them.
 #[derive(Clone, Copy)]
 pub(crate) struct Scene {
     pub(crate) pieces: &'static [&'static [u8]],
+    pub(crate) later: &'static [&'static [u8]],
     pub(crate) steps: &'static [u8],
 }
 
 /// A connection on which nothing arrives.
 pub(crate) const SILENT: Scene = Scene {
     pieces: &[],
+    later: &[],
     steps: b"",
 };
 
@@ -217,6 +233,8 @@ impl Network for Machine {
         Ok(Opened {
             waiter: Scripted {
                 steps: self.scene.steps,
+                later: self.scene.later,
+                alloc: self.alloc,
             },
             connections,
         })

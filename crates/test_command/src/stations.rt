@@ -83,6 +83,7 @@ const CASES: &[Case] = &[
         takes: true,
         scene: Scene {
             pieces: RECORDS,
+            later: &[],
             steps: b"",
         },
         due: Due {
@@ -113,6 +114,7 @@ const CASES: &[Case] = &[
         takes: true,
         scene: Scene {
             pieces: HEARD,
+            later: &[],
             steps: b"rgrgrgrgrg",
         },
         due: Due {
@@ -142,6 +144,7 @@ const CASES: &[Case] = &[
         takes: true,
         scene: Scene {
             pieces: CUT,
+            later: &[],
             steps: b"",
         },
         due: Due {
@@ -164,6 +167,7 @@ const CASES: &[Case] = &[
         takes: true,
         scene: Scene {
             pieces: WRONG,
+            later: &[],
             steps: b"",
         },
         due: Due {
@@ -189,7 +193,35 @@ const CASES: &[Case] = &[
         takes: true,
         scene: Scene {
             pieces: ANSWERS,
+            later: &[],
             steps: b"trrrrrr",
+        },
+        due: Due {
+            asking: Some(CONTROLLING),
+            out: "from 0: spooled 0\nto 0: offered 1, known 1\nfrom 1: spooled 0\n\
+            to 1: offered 0, known 0\n",
+            errors: "",
+            status: 0,
+        },
+    },
+    Case {
+        words: Some(&[
+            "station",
+            "line.toml",
+            "--control",
+            "--listen",
+            "h:1",
+            "--offer",
+            "0=-",
+            "--idle-rounds",
+            "1",
+        ]),
+        input: Some("HI\n"),
+        takes: true,
+        scene: Scene {
+            pieces: &[],
+            later: ANSWERS,
+            steps: b"trjtrrrrrr",
         },
         due: Due {
             asking: Some(CONTROLLING),
@@ -219,6 +251,7 @@ const CASES: &[Case] = &[
         takes: true,
         scene: Scene {
             pieces: &[],
+            later: &[],
             steps: b"t",
         },
         due: Due {
@@ -239,7 +272,8 @@ const CASES: &[Case] = &[
 ];
 
 /// Tests what each station requests of its machine, its output, its standard error and its exit
-/// status.
+/// status. The peer of the second control station closes its connection, and another one takes its
+/// place: a control station that listens goes on.
 #[test]
 fn stations_end_as_their_connections_do(rt: HostRuntime) -> Result<(), Fail> {
     assert_eq!(rt; first_wrong(rt.alloc(), CASES), None);
