@@ -14,6 +14,8 @@ pub record AskedWords : Type 0 where
   pub gap : Option (List ℕ)
   pub time_out : Option (List ℕ)
   pub patience : Option (List ℕ)
+  pub replace_after : Option (List ℕ)
+  pub pause : Option (List ℕ)
   pub rounds : Option (List ℕ)
   pub idle_rounds : Option (List ℕ)
   pub offers : List (List ℕ)
@@ -35,6 +37,8 @@ asked_words w = record {
   gap = option_map string_bytes w.gap;
   time_out = option_map string_bytes w.time_out;
   patience = option_map string_bytes w.patience;
+  replace_after = option_map string_bytes w.replace_after;
+  pause = option_map string_bytes w.pause;
   rounds = option_map string_bytes w.rounds;
   idle_rounds = option_map string_bytes w.idle_rounds;
   offers = map string_bytes w.offers.items;

@@ -34,6 +34,12 @@ pub struct StationWords {
     /// How long a station tries to connect, in milliseconds.
     pub patience: Option<String>,
 
+    /// After how much silence a newcomer replaces a connection, in milliseconds.
+    pub replace_after: Option<String>,
+
+    /// The pause after an idle round, in milliseconds.
+    pub pause: Option<String>,
+
     /// The number of rounds after which the control station ends.
     pub rounds: Option<String>,
 

@@ -5,7 +5,8 @@ use Rattle.bsc_options.specs.Settings.{place_value}
 use Rattle.bsc_attending.specs.declared.wanted.Wanted.{Wanted}
 
 -- The connections: their place and number, whether their octets are raw, whether other peers may
--- connect later, whether the station begins, and its times in milliseconds.
+-- connect later, whether the station begins, its times in milliseconds, and whether what happens is
+-- traced.
 pub record WantedValue : Type 0 where
   pub place : PlaceValue
   pub connections : ℕ
@@ -15,6 +16,9 @@ pub record WantedValue : Type 0 where
   pub time_out : ℕ
   pub gap : ℕ
   pub patience : ℕ
+  pub replace_after : ℕ
+  pub pause : ℕ
+  pub trace : Bool
 
 abbrev pub wanted_value : Wanted → WantedValue
 wanted_value w = record {
@@ -26,6 +30,9 @@ wanted_value w = record {
   time_out = w.time_out;
   gap = w.gap;
   patience = w.patience;
+  replace_after = w.replace_after;
+  pause = w.pause;
+  trace = w.trace;
 }
 
 -- Whether peers connect to the station.
@@ -49,6 +56,9 @@ control_wants s terminals = record {
   time_out = twice s.times.time_out;
   gap = s.times.gap;
   patience = s.times.patience;
+  replace_after = s.times.replace_after;
+  pause = s.times.pause;
+  trace = s.printing.trace;
 }
 
 -- A terminal asks for one connection.
@@ -62,4 +72,7 @@ terminal_wants s = record {
   time_out = s.times.time_out;
   gap = s.times.gap;
   patience = s.times.patience;
+  replace_after = s.times.replace_after;
+  pause = s.times.pause;
+  trace = s.printing.trace;
 }

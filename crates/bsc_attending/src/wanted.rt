@@ -41,6 +41,16 @@ pub struct Wanted<'a> {
 
     /// How long to try to connect, in milliseconds.
     pub patience: u64,
+
+    /// After how much silence a newcomer replaces a connection that has not answered, in
+    /// milliseconds.
+    pub replace_after: u64,
+
+    /// The pause with which a wait begins if the monitor asks for it, in milliseconds.
+    pub pause: u64,
+
+    /// Whether what happens is traced.
+    pub trace: bool,
 }
 
 impl Wanted<'_> {
@@ -48,11 +58,15 @@ impl Wanted<'_> {
     pub fn settings(&self) -> ConnectionSettings
         ensures time_out { as_nanos result.time_out ≡ self.now.time_out * 1000000 }
         ensures gap { as_nanos result.gap ≡ self.now.gap * 1000000 }
+        ensures replace_after { as_nanos result.replace_after ≡ self.now.replace_after * 1000000 }
+        ensures pause { as_nanos result.pause ≡ self.now.pause * 1000000 }
         ensures begins { result.begins ≡ self.now.begins }
     {
         ConnectionSettings {
             time_out: Duration::from_millis(self.time_out),
             gap: Duration::from_millis(self.gap),
+            replace_after: Duration::from_millis(self.replace_after),
+            pause: Duration::from_millis(self.pause),
             begins: self.begins,
         }
     }
@@ -86,6 +100,9 @@ pub(crate) fn wanted_by_control<'a>(settings: &StationSettings<'a>, terminals: u
         time_out: settings.times.time_out.saturating_mul(2),
         gap: settings.times.gap,
         patience: settings.times.patience,
+        replace_after: settings.times.replace_after,
+        pause: settings.times.pause,
+        trace: settings.printing.trace,
     }
 }
 
@@ -102,6 +119,9 @@ pub(crate) fn wanted_by_terminal<'a>(settings: &StationSettings<'a>) -> Wanted<'
         time_out: settings.times.time_out,
         gap: settings.times.gap,
         patience: settings.times.patience,
+        replace_after: settings.times.replace_after,
+        pause: settings.times.pause,
+        trace: settings.printing.trace,
     }
 }
 

@@ -12,9 +12,10 @@ use Rattle.bsc_frame.specs.Wire.{wire}
 use Rattle.bsc_carrier.specs.declared.error.CarrierError.{CarrierError}
 use Rattle.bsc_connections.specs.declared.awaited.Awaited.{Awaited}
 use Rattle.bsc_connections.specs.declared.awaited.Awaited.TheVariants.{Octets, Newcomer, Gap}
-use Rattle.bsc_connections.specs.declared.awaited.Awaited.TheVariants.{TimeOut}
+use Rattle.bsc_connections.specs.declared.awaited.Awaited.TheVariants.{NotAccepted, TimeOut}
 use Rattle.bsc_connections.specs.declared.awaited.Waiter as waiter_of
 use Rattle.bsc_connections.specs.declared.awaited.LiveError.{LiveError}
+use Rattle.bsc_connections.specs.declared.awaited.Pace.{Pace}
 use Rattle.bsc_connections.specs.declared.connection.Taken.{Taken}
 use Rattle.bsc_connections.specs.declared.connection.Taken.TheVariants.{Nothing, Interrupted, Part}
 use Rattle.bsc_connections.specs.declared.connection.Taken.TheVariants.{Whole}
@@ -23,13 +24,13 @@ use Rattle.bsc_bid.specs.declared.station.Station as station_of
 use Rattle.bsc_connections.specs.Parts.{ConnectionParts, SessionParts}
 use Rattle.bsc_connections.specs.Connections.{ConnectionValue, Takes, TakesOpen, Sends}
 use Rattle.bsc_connections.specs.Histories.{Happening, WasHeard, WasSilent, HasJoined}
-use Rattle.bsc_connections.specs.Histories.{HasClosed}
+use Rattle.bsc_connections.specs.Histories.{HasClosed, WasRefused}
 use Rattle.bsc_connections.specs.Histories.{sent_where_some}
 use Rattle.bsc_connections.specs.Histories.{heard_in, heard_at, sent_in, all_sent, IsNoJoining}
 use Rattle.bsc_connections.specs.Histories.{NobodyJoins}
 use Rattle.bsc_connections.specs.Attending.{SendsAll, IsTakenAt, ReadsAt, GapPasses, JoinsAs}
 use Rattle.bsc_connections.specs.Attending.{Joins, Does, ended, goes_on, fails, fails_to_wait}
-use Rattle.bsc_connections.specs.Attending.{first_closed, awaits_gap, Answers, Around, Session}
+use Rattle.bsc_connections.specs.Attending.{awaits_gap, Answers, Around, Session}
 use Rattle.bsc_connections.specs.Streams.{Carries, CarriedAt, CarriesFromStart, CarriesSinceJoining}
 use Rattle.bsc_connections.specs.Streams.{CarriesHistory, carried_at}
 use Rattle.bsc_connections.proofs.OnePlace.{other_place_unchanged, changed_place_has_new}
@@ -363,11 +364,17 @@ module _ {R W F : Type 0} (parts : ConnectionParts R W F)
 
   -- ---- one step after another
   module _ {S M T : Type 0} (station : station_of.Ghosts S)
-      (is_told : M → S → Happening → Result Bool LiveError → M → Type 0)
+      (is_told : M → S → Happening → Result Bool LiveError → M → Type 0) (paces : M → Pace)
       (waiter : waiter_of.Ghosts T R W) where
     abbrev session : SessionParts S R W F M T
     session =
-        record { station = station; connection = parts; is_told = is_told; waiter = waiter }
+        record {
+          station = station;
+          connection = parts;
+          is_told = is_told;
+          paces = paces;
+          waiter = waiter;
+        }
 
     abbrev Now : Type 0
     Now = Session S C M T
@@ -473,14 +480,23 @@ module _ {R W F : Type 0} (parts : ConnectionParts R W F)
               )
         ]
 
-    went_by_joining : (free : Option ℕ) (place : ℕ) (old : Now)
+    went_by_refusal : (place : ℕ) (old new : List C) (happened : List Happening) (b : C)
+        → new ≡ old → happened ≡ WasRefused ∷ [] → slice_get new place ≡ Some b → b.ends ≢ None
+        → Went place old happened b
+    went_by_refusal place old new happened b same refused is is_up =
+        inl (
+          subst (NobodyJoins place) (sym refused) (tt, tt),
+          came_for_equal_history place old b happened (WasRefused ∷ []) refused
+              (came_nothing_if_unchanged place old new b same is is_up),
+        )
+
+    went_by_joining : (given : Option ℕ) (place : ℕ) (old : Now)
         (happened : List Happening) (result : Result Bool LiveError) (new : Now) (b : C)
-        → Joins session free old happened result new
+        → Joins session given old happened result new
         → slice_get new.connections place ≡ Some b → b.ends ≢ None
         → Went place old.connections happened b
-    went_by_joining None place old happened result new b (same, none, turned) is is_up =
-        went_if_nothing_happened place old.connections happened b none.0
-        (came_nothing_if_unchanged place old.connections new.connections b same is is_up)
+    went_by_joining None place old happened result new b (same, refused, turned) is is_up =
+        went_by_refusal place old.connections new.connections happened b same refused.0 is is_up
     went_by_joining (Some at) place old happened result new b (joined, joins, joining) is is_up =
         went_by_peer joined at place new.station
         (record { connections = old.connections; monitor = old.monitor }) happened result
@@ -511,9 +527,11 @@ module _ {R W F : Type 0} (parts : ConnectionParts R W F)
         → Went place old.connections happened b
     went_by_event (Octets at) place old happened result new b (taken, reads) is is_up =
         went_by_read taken at place old happened result new b reads is is_up
-    went_by_event Newcomer place old happened result new b (same, joins) is is_up =
-        went_by_joining (first_closed old.connections) place old happened result new b joins is
-        is_up
+    went_by_event Newcomer place old happened result new b (same, given, for_it, joins) is is_up =
+        went_by_joining given place old happened result new b joins is is_up
+    went_by_event NotAccepted place old happened result new b (same, kept, refused, waits) is
+        is_up =
+        went_by_refusal place old.connections new.connections happened b kept refused.0 is is_up
     went_by_event (Gap at) place old happened result new b passes is is_up =
         went_by_gap (awaits_gap parts.framing.awaits (slice_get old.connections at)) at place old
         happened result new b passes is is_up
@@ -621,15 +639,15 @@ carries_history {S} {R} {W} {F} {M} {T} parts gives fits old new [] place now (f
 carries_history parts gives fits old new whole place now
     (goes_on {mid = mid} {happened = happened} {history = history} {is_more = is_more} step rest) is
     is_up =
-    carries_with_step_first parts.connection gives fits parts.station parts.is_told parts.waiter
+    carries_with_step_first parts.connection gives fits parts.station parts.is_told parts.paces parts.waiter
     place old.connections mid.connections happened history now
     (λ m there m_up. went_by_event parts.connection gives fits parts.station parts.is_told
-    parts.waiter step.awaited place (record old { waiter = step.waiter }) happened (Ok is_more) mid
+    parts.paces parts.waiter step.awaited place (record old { waiter = step.waiter }) happened (Ok is_more) mid
     m step.does there m_up)
     (carries_history parts gives fits mid new history place now rest is is_up)
 carries_history parts gives fits old new happened place now (fails {error = error} step) is is_up =
     carries_one_step parts.connection gives place old.connections happened now
     (carries_nothing parts.connection gives fits now is_up)
-    (went_by_event parts.connection gives fits parts.station parts.is_told parts.waiter
+    (went_by_event parts.connection gives fits parts.station parts.is_told parts.paces parts.waiter
     step.awaited place (record old { waiter = step.waiter }) happened (Err error) new now step.does
     is is_up)

@@ -4,7 +4,7 @@ use Rattle.std.proofs.Common.{◌∙◌, ap, slice_get}
 use Rattle.bsc_frame.specs.declared.message.Message.{Message}
 use Rattle.bsc_connections.specs.declared.awaited.Awaited.{Awaited}
 use Rattle.bsc_connections.specs.declared.awaited.Awaited.TheVariants.{Octets, Newcomer, Gap}
-use Rattle.bsc_connections.specs.declared.awaited.Awaited.TheVariants.{TimeOut}
+use Rattle.bsc_connections.specs.declared.awaited.Awaited.TheVariants.{NotAccepted, TimeOut}
 use Rattle.bsc_connections.specs.declared.awaited.LiveError.{LiveError}
 use Rattle.bsc_connections.specs.declared.connection.Taken.{Taken}
 use Rattle.bsc_connections.specs.declared.connection.Taken.TheVariants.{Nothing, Interrupted, Part}
@@ -14,7 +14,7 @@ use Rattle.bsc_connections.specs.Parts.{SessionParts}
 use Rattle.bsc_connections.specs.Connections.{ConnectionValue}
 use Rattle.bsc_connections.specs.Histories.{Happening, sent_where_some}
 use Rattle.bsc_connections.specs.Attending.{HearsLast, ReadsAt, GapPasses, Joins, JoinsAs, Does}
-use Rattle.bsc_connections.specs.Attending.{Around, Session, awaits_gap, first_closed}
+use Rattle.bsc_connections.specs.Attending.{Around, Session, awaits_gap}
 use Rattle.bsc_connections.specs.Silences.{silences, silences_due, TellsEachSilence}
 
 silences_of_sent : (sent : Option Message) → silences (sent_where_some sent) ≡ 0
@@ -50,10 +50,11 @@ module _ {S R W F M T : Type 0} (parts : SessionParts S R W F M T) where
   no_silence_by_peer (Some ends) place station old happened result new (changes, joined) =
       ap silences joined.0
 
-  no_silence_in_joining : (free : Option ℕ) (old : Now) (happened : List Happening)
-      (result : Result Bool LiveError) (new : Now) → Joins parts free old happened result new
+  no_silence_in_joining : (given : Option ℕ) (old : Now) (happened : List Happening)
+      (result : Result Bool LiveError) (new : Now) → Joins parts given old happened result new
       → silences happened ≡ 0
-  no_silence_in_joining None old happened result new (same, none, turned) = ap silences none.0
+  no_silence_in_joining None old happened result new (same, refused, turned) =
+      ap silences refused.0
   no_silence_in_joining (Some place) old happened result new (joined, joins, joining) =
       no_silence_by_peer joined place new.station
       (record { connections = old.connections; monitor = old.monitor }) happened result
@@ -72,8 +73,10 @@ module _ {S R W F M T : Type 0} (parts : SessionParts S R W F M T) where
       → Does parts awaited old happened result new → silences happened ≡ silences_due awaited
   silences_are_due (Octets place) old happened result new (taken, reads) =
       no_silence_in_read taken place old happened result new reads
-  silences_are_due Newcomer old happened result new (same, joins) =
-      no_silence_in_joining (first_closed old.connections) old happened result new joins
+  silences_are_due Newcomer old happened result new (same, given, for_it, joins) =
+      no_silence_in_joining given old happened result new joins
+  silences_are_due NotAccepted old happened result new (same, unchanged, refused, waits) =
+      ap silences refused.0
   silences_are_due (Gap place) old happened result new passes =
       no_silence_at_gap
       (awaits_gap parts.connection.framing.awaits (slice_get old.connections place)) place old

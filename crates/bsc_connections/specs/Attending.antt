@@ -1,6 +1,7 @@
 -- What a station that is attended does, step by step.
 use Rattle.std.specs.Prelude.{◌≡◌, ◌⊎◌, ◌&&◌, ℕ, Bool, true, false, List, [], ◌∷◌, ◌++◌}
 use Rattle.std.specs.Prelude.{Option, None, Some, is_none, Result, Ok, Err, slice_get, position}
+use Rattle.std.specs.Prelude.{nat_lt, if◌then◌else◌, length}
 use Rattle.std.specs.List.{AllZip}
 use Rattle.bsc_frame.specs.declared.message.Message.{Message}
 use Rattle.bsc_frame.specs.declared.message.Heard.{Heard}
@@ -8,7 +9,10 @@ use Rattle.bsc_frame.specs.Wire.{wire}
 use Rattle.bsc_frame.specs.Spells.{IsHeardAs}
 use Rattle.bsc_connections.specs.declared.awaited.Awaited.{Awaited}
 use Rattle.bsc_connections.specs.declared.awaited.Awaited.TheVariants.{Octets, Newcomer, Gap}
-use Rattle.bsc_connections.specs.declared.awaited.Awaited.TheVariants.{TimeOut}
+use Rattle.bsc_connections.specs.declared.awaited.Awaited.TheVariants.{NotAccepted, TimeOut}
+use Rattle.bsc_connections.specs.declared.awaited.Handled.{Handled}
+use Rattle.bsc_connections.specs.declared.awaited.Handled.TheVariants.{Answered, Unanswered}
+use Rattle.bsc_connections.specs.declared.awaited.Handled.TheVariants.{Silence}
 use Rattle.bsc_connections.specs.declared.awaited.LiveError.{LiveError}
 use Rattle.bsc_connections.specs.declared.connection.Taken.{Taken}
 use Rattle.bsc_connections.specs.declared.connection.Taken.TheVariants.{Nothing, Part, Whole}
@@ -16,7 +20,7 @@ use Rattle.bsc_connections.specs.declared.connection.Taken.TheVariants.{Closed}
 use Rattle.bsc_connections.specs.Parts.{ConnectionParts, SessionParts}
 use Rattle.bsc_connections.specs.Connections.{ConnectionValue, Takes, Sends}
 use Rattle.bsc_connections.specs.Histories.{Happening, WasHeard, WasSilent, WasSent, HasJoined}
-use Rattle.bsc_connections.specs.Histories.{HasClosed, sent_where_some}
+use Rattle.bsc_connections.specs.Histories.{HasClosed, WasRefused, sent_where_some}
 use Rattle.bsc_carrier.specs.Cable.{ChangesAt}
 
 -- A station, its connections, the monitor that is told what happens, and the waiter.
@@ -35,10 +39,39 @@ pub record Around (C M : Type 0) : Type 0 where
 abbrev pub first_closed : {R W F : Type 0} → List (ConnectionValue R W F) → Option ℕ
 first_closed connections = position (λ c. is_none c.ends) connections
 
+-- Whether there is this connection, and it is closed.
+abbrev pub is_closed_at : {R W F : Type 0} → Option (ConnectionValue R W F) → Bool
+is_closed_at None = false
+is_closed_at (Some connection) = is_none connection.ends
+
 -- Whether a transmission has begun on this connection, if it is one, that a gap would end.
 abbrev pub awaits_gap : {R W F : Type 0} → (F → Bool) → Option (ConnectionValue R W F) → Bool
 awaits_gap awaits None = false
 awaits_gap awaits (Some connection) = awaits connection.framing
+
+-- What a station has handled that heard a transmission at this place; the flag says whether it
+-- answered.
+abbrev pub handled_if : Bool → ℕ → Handled
+handled_if true place = Answered place
+handled_if false place = Unanswered place
+
+-- What a station has handled that has this answer to what happened.
+abbrev pub handled_by : Happening → Option Message → Handled
+handled_by (WasHeard place octets) (Some m) = Answered place
+handled_by (WasHeard place octets) None = Unanswered place
+handled_by happening answer = Silence
+
+-- This place, if there is one and it is less than this number.
+abbrev pub place_below : ℕ → Option ℕ → Option ℕ
+place_below places None = None
+place_below places (Some place) = if nat_lt place places then Some place else None
+
+-- The place that a newcomer gets: the first whose connection is closed, or if there is none the
+-- place of the connection that the waiter says may be replaced.
+abbrev pub PlaceFor : {T : Type 0} → (T → Option ℕ → Type 0) → Option ℕ → ℕ → T → Option ℕ → Type 0
+PlaceFor may_replace (Some closed) places waiter place = place ≡ Some closed
+PlaceFor may_replace None places waiter place =
+    (named : Option ℕ) × may_replace waiter named × (place ≡ place_below places named)
 
 -- What is sent of an answer, by what the monitor returned when it was told of the event: all if it
 -- accepted that, and nothing if it refused.
@@ -110,7 +143,8 @@ module _ {S R W F M T : Type 0} (parts : SessionParts S R W F M T) where
       (happened ≡ happening ∷ []) × parts.is_told before station happening result after
 
   -- The station has this answer to what happened. The monitor is told what happened, and then the
-  -- answer is sent if it accepted that. Then the time of the time-out begins anew.
+  -- answer is sent if it accepted that. Then the waiter is told what was handled, and with which
+  -- pace of the monitor it goes on.
   pub record Answers (happening : Happening) (answer : Option Message) (old : Now)
       (happened : List Happening) (result : Result Bool LiveError) (new : Now) : Type 0 where
     pub told : Result Bool LiveError
@@ -121,7 +155,9 @@ module _ {S R W F M T : Type 0} (parts : SessionParts S R W F M T) where
         (record { connections = old.connections; monitor = monitor }) later result
         (record { connections = new.connections; monitor = new.monitor })
     pub happens : happened ≡ happening ∷ later
-    pub begins : parts.waiter.begins_time_out old.waiter new.waiter
+    pub handles :
+        parts.waiter.handles old.waiter (handled_by happening answer) (parts.paces new.monitor)
+        new.waiter
 
   -- The station is told of a silence, and answers.
   pub record IsSilent (old : Now) (happened : List Happening) (result : Result Bool LiveError)
@@ -205,8 +241,8 @@ module _ {S R W F M T : Type 0} (parts : SessionParts S R W F M T) where
       old.connections new.connections
       × TellsOne (HasJoined place) station old.monitor happened result new.monitor
 
-  -- A peer that has connected joins at the first place whose connection is closed, or is turned
-  -- away if there is none.
+  -- A peer that has connected joins at this place, as a connection of its own in place of the one
+  -- that was there; or it is turned away, because there is no place, and the monitor is told.
   abbrev pub Joins : Option ℕ → Now → List Happening → Result Bool LiveError → Now → Type 0
   Joins (Some place) old happened result new =
       (joined : Option (R × W)) × parts.waiter.joins old.waiter place joined new.waiter
@@ -214,7 +250,8 @@ module _ {S R W F M T : Type 0} (parts : SessionParts S R W F M T) where
       (record { connections = old.connections; monitor = old.monitor }) happened result
       (record { connections = new.connections; monitor = new.monitor })
   Joins None old happened result new =
-      (new.connections ≡ old.connections) × TellsNothing old.monitor happened result new.monitor
+      (new.connections ≡ old.connections)
+      × TellsOne WasRefused new.station old.monitor happened result new.monitor
       × parts.waiter.turns_away old.waiter new.waiter
 
   -- What is done for the event of a wait, what happens in the course of it, and what the monitor
@@ -223,20 +260,37 @@ module _ {S R W F M T : Type 0} (parts : SessionParts S R W F M T) where
   Does (Octets place) old happened result new =
       (taken : Taken) × ReadsAt place taken old happened result new
   Does Newcomer old happened result new =
-      (new.station ≡ old.station) × Joins (first_closed old.connections) old happened result new
+      (new.station ≡ old.station)
+      × (place : Option ℕ)
+      × PlaceFor parts.waiter.may_replace (first_closed old.connections) (length old.connections)
+      old.waiter place
+      × Joins place old happened result new
+  Does NotAccepted old happened result new =
+      (new.station ≡ old.station)
+      × (new.connections ≡ old.connections)
+      × TellsOne WasRefused new.station old.monitor happened result new.monitor
+      × (new.waiter ≡ old.waiter)
   Does (Gap place) old happened result new =
       GapPasses place
       (awaits_gap parts.connection.framing.awaits (slice_get old.connections place)) old happened
       result new
   Does TimeOut old happened result new = IsSilent old happened result new
 
-  -- One step: a wait returned an event, and it was handled. The result is what the monitor
+  -- What a step begins with: a wait returned this event; or it was not waited for, because the
+  -- connection at its place is closed, which is to be told.
+  abbrev pub BeginsWith : Now → Awaited → T → Type 0
+  BeginsWith old awaited waiter =
+      parts.waiter.waits old.waiter (Ok awaited) waiter
+      ⊎ ((place : ℕ) × (awaited ≡ Octets place)
+      × (is_closed_at (slice_get old.connections place) ≡ true) × (waiter ≡ old.waiter))
+
+  -- One step: it began with an event, and that was handled. The result is what the monitor
   -- returned.
   pub record Steps (old : Now) (happened : List Happening) (result : Result Bool LiveError)
       (new : Now) : Type 0 where
     pub awaited : Awaited
     pub waiter : T
-    pub waited : parts.waiter.waits old.waiter (Ok awaited) waiter
+    pub begins : BeginsWith old awaited waiter
     pub does : Does awaited (record old { waiter = waiter }) happened result new
 
   -- A wait failed, and nothing was done.

@@ -13,8 +13,10 @@ pub data Happening : Type 0 where
   WasSilent : Happening
   -- A transmission of these octets was sent on every open connection.
   WasSent : (octets : List ℕ) → Happening
-  -- A peer took the connection at this place.
+  -- A peer took the connection at this place, which was closed or is replaced.
   HasJoined : (place : ℕ) → Happening
+  -- A peer was refused a connection.
+  WasRefused : Happening
   -- The connection at this place is closed: by this fault, or by its peer between transmissions.
   HasClosed : (place : ℕ) (why : Option CarrierError) → Happening
 

@@ -9,10 +9,12 @@ ghost use Rattle.bsc_connections.specs.Parts.{connection_parts, session_parts};
 ghost use Rattle.bsc_connections.specs.Connections.{Sends};
 ghost use Rattle.bsc_connections.specs.Histories.{Happening};
 ghost use Rattle.bsc_connections.specs.Attending.{Attends, StepsOrFails, Does, HearsLast, IsSilent};
-ghost use Rattle.bsc_connections.specs.Attending.{IsTakenAt, Replies, awaits_gap};
-ghost use Rattle.bsc_connections.specs.Attending.{first_closed};
+ghost use Rattle.bsc_connections.specs.Attending.{IsTakenAt, PlaceFor, Replies, awaits_gap};
+ghost use Rattle.bsc_connections.specs.Attending.{first_closed, handled_if, is_closed_at};
 
-use crate::{Awaited, Connection, Framing, LiveError, Monitor, Note, Taken, Waiter};
+use crate::{
+    Awaited, Connection, Framing, Handled, LiveError, Monitor, Note, Refusal, Taken, Waiter,
+};
 use bsc_bid::Station;
 use bsc_frame::Wire;
 use std::io::{Read, Write};
@@ -21,8 +23,9 @@ use std::io::{Read, Write};
 /// station heard, or that a time-out passed, before the station's answer is written. If it accepts
 /// that, the answer is written to every open connection before anything else is heard; if it
 /// refuses, nothing is written. A connection that fails or ends is closed for good, and a peer that
-/// connects later takes its place. Returns at once with any error of the waiter or of the monitor,
-/// and with `Count` after 2^64 - 1 steps.
+/// connects later takes its place; if none is closed, that of a connection that the waiter says may
+/// be replaced. Returns at once with any error of the waiter or of the monitor, and with `Count`
+/// after 2^64 - 1 steps.
 pub fn attend<
     S: Station,
     R: Read + Drop,
@@ -37,7 +40,7 @@ pub fn attend<
     monitor: &mut M,
 ) -> Result<(), LiveError>
     ensures attends { (history : List Happening)
-        × Attends (session_parts S.Station R.Read W.Write F.Framing M.is_told T.Waiter)
+        × Attends (session_parts S.Station R.Read W.Write F.Framing M.is_told M.paces T.Waiter)
         (record {
           station = station.old;
           connections = connections.old;
@@ -61,7 +64,8 @@ pub fn attend<
     Err(LiveError::Count)
 }
 
-/// Waits for the next event and handles it. Returns false if the monitor ends the session.
+/// Waits for the next event and handles it; a connection that a failed write has closed is told of
+/// first. Returns false if the monitor ends the session.
 fn step<
     S: Station,
     R: Read + Drop,
@@ -76,7 +80,7 @@ fn step<
     monitor: &mut M,
 ) -> Result<bool, LiveError>
     ensures steps { StepsOrFails
-        (session_parts S.Station R.Read W.Write F.Framing M.is_told T.Waiter)
+        (session_parts S.Station R.Read W.Write F.Framing M.is_told M.paces T.Waiter)
         (record {
           station = station.old;
           connections = connections.old;
@@ -92,17 +96,39 @@ fn step<
         }) }
     ensures ended { IfOk result (λ goes_on. goes_on ≡ false → M.has_ended monitor.new ≡ true) }
 {
+    if let Some(connection) = first_untold(connections) {
+        return read_at(station, connections, connection, waiter, monitor);
+    }
     match waiter.wait() {
         Ok(Awaited::Octets { connection }) => {
             read_at(station, connections, connection, waiter, monitor)
         }
         Ok(Awaited::Newcomer) => join(station, connections, waiter, monitor),
+        Ok(Awaited::NotAccepted) => {
+            let (peer, why) = (None, Refusal::NotAccepted);
+            monitor.note(station, Note::Refused { peer, why })
+        }
         Ok(Awaited::Gap { connection }) => {
             gap_at(station, connections, connection, waiter, monitor)
         }
         Ok(Awaited::TimeOut) => silence(station, connections, waiter, monitor),
         Err(error) => Err(error),
     }
+}
+
+/// Returns the place of the first connection that a failed write has closed, and of which that is
+/// not told yet.
+fn first_untold<R: Read + Drop, W: Write + Drop, F: Framing + Drop>(
+    connections: &[Connection<R, W, F>],
+) -> Option<usize>
+    ensures { IfSome result (λ place. is_closed_at (slice_get connections.now place) ≡ true) }
+{
+    'places: for place in 0..connections.len() {
+        if connections[place].is_untold() {
+            return Some(place);
+        }
+    }
+    None
 }
 
 /// Returns whether a transmission has begun at this place that a gap would end.
@@ -181,7 +207,7 @@ fn read_at<
     monitor: &mut M,
 ) -> Result<bool, LiveError>
     ensures does { (happened : List Happening)
-        × Does (session_parts S.Station R.Read W.Write F.Framing M.is_told T.Waiter)
+        × Does (session_parts S.Station R.Read W.Write F.Framing M.is_told M.paces T.Waiter)
         (Awaited.Octets connection)
         (record {
           station = station.old;
@@ -213,7 +239,15 @@ fn read_at<
         Taken::Whole => answer_at(station, connections, connection, waiter, monitor),
         Taken::Closed { why } => {
             waiter.nothing_left(connection);
-            monitor.note(station, Note::Closed { connection, why })
+            let peer = waiter.peer(connection);
+            monitor.note(
+                station,
+                Note::Closed {
+                    connection,
+                    peer,
+                    why,
+                },
+            )
         }
     }
 }
@@ -233,8 +267,8 @@ fn take_at<R: Read + Drop, W: Write + Drop, F: Framing + Drop>(
 }
 
 /// Lets the station hear the last transmission of the connection at this place, tells the monitor
-/// what was heard, and sends the station's answer if the monitor accepts. The time of the time-out
-/// then begins anew.
+/// what was heard, and sends the station's answer if the monitor accepts. The waiter is then told
+/// whether the station had an answer.
 fn answer_at<
     S: Station,
     R: Read + Drop,
@@ -251,7 +285,7 @@ fn answer_at<
 ) -> Result<bool, LiveError>
     requires { connection < length connections.old }
     ensures hears { (happened : List Happening)
-        × HearsLast (session_parts S.Station R.Read W.Write F.Framing M.is_told T.Waiter)
+        × HearsLast (session_parts S.Station R.Read W.Write F.Framing M.is_told M.paces T.Waiter)
         connection
         (record {
           station = station.old;
@@ -273,8 +307,19 @@ fn answer_at<
     let is_sent = station.hear(octets, &mut wire);
     let told = monitor.note(station, Note::Heard { connection, octets });
     let result = reply(station, connections, told, is_sent, &wire, monitor);
-    waiter.begin_time_out();
+    waiter.handled(handled_at(connection, is_sent), monitor.pace());
     result
+}
+
+/// Returns what a station has handled that heard a transmission at this place.
+fn handled_at(connection: usize, is_answered: bool) -> Handled
+    ensures { result ≡ handled_if is_answered connection }
+{
+    if is_answered {
+        Handled::Answered { connection }
+    } else {
+        Handled::Unanswered { connection }
+    }
 }
 
 /// Handles a gap at this place: it ends the transmission that has begun there, if there is one that
@@ -294,7 +339,7 @@ fn gap_at<
     monitor: &mut M,
 ) -> Result<bool, LiveError>
     ensures does { (happened : List Happening)
-        × Does (session_parts S.Station R.Read W.Write F.Framing M.is_told T.Waiter)
+        × Does (session_parts S.Station R.Read W.Write F.Framing M.is_told M.paces T.Waiter)
         (Awaited.Gap connection)
         (record {
           station = station.old;
@@ -319,7 +364,7 @@ fn gap_at<
 }
 
 /// Tells the station of a silence, tells the monitor of it, and sends the station's answer if the
-/// monitor accepts. The time of the time-out then begins anew.
+/// monitor accepts. The waiter is then told of the silence.
 fn silence<
     S: Station,
     R: Read + Drop,
@@ -334,7 +379,7 @@ fn silence<
     monitor: &mut M,
 ) -> Result<bool, LiveError>
     ensures silent { (happened : List Happening)
-        × IsSilent (session_parts S.Station R.Read W.Write F.Framing M.is_told T.Waiter)
+        × IsSilent (session_parts S.Station R.Read W.Write F.Framing M.is_told M.paces T.Waiter)
         (record {
           station = station.old;
           connections = connections.old;
@@ -354,7 +399,7 @@ fn silence<
     let is_sent = station.silence(&mut wire);
     let told = monitor.note(station, Note::Silence);
     let result = reply(station, connections, told, is_sent, &wire, monitor);
-    waiter.begin_time_out();
+    waiter.handled(Handled::Silence, monitor.pace());
     result
 }
 
@@ -372,8 +417,27 @@ fn first_closed<R: Read + Drop, W: Write + Drop, F: Framing + Drop>(
     )
 }
 
-/// Gives a peer that has connected the first place whose connection is closed, or turns it away if
-/// all are open.
+/// Returns the place that a newcomer gets: the first whose connection is closed, or if there is
+/// none that of a connection which the waiter says may be replaced.
+fn place_for<R: Read + Drop, W: Write + Drop, F: Framing + Drop, T: Waiter<R, W>>(
+    connections: &[Connection<R, W, F>],
+    waiter: &T,
+) -> Option<usize>
+    ensures place { PlaceFor T.may_replace (first_closed connections.now) (length connections.now)
+        waiter.now result }
+    ensures within { IfSome result (λ place. place < length connections.now) }
+{
+    if let Some(place) = first_closed(connections) {
+        return Some(place);
+    }
+    match waiter.replaceable() {
+        Some(place) if place < connections.len() => Some(place),
+        _ => None,
+    }
+}
+
+/// Gives a peer that has connected the first place whose connection is closed, or if all are open
+/// the place of one that may be replaced, or turns it away if there is none.
 fn join<
     S: Station,
     R: Read + Drop,
@@ -388,7 +452,7 @@ fn join<
     monitor: &mut M,
 ) -> Result<bool, LiveError>
     ensures does { (happened : List Happening)
-        × Does (session_parts S.Station R.Read W.Write F.Framing M.is_told T.Waiter)
+        × Does (session_parts S.Station R.Read W.Write F.Framing M.is_told M.paces T.Waiter)
         Awaited.Newcomer
         (record {
           station = station.old;
@@ -405,13 +469,23 @@ fn join<
         }) }
     ensures ended { IfOk result (λ goes_on. goes_on ≡ false → M.has_ended monitor.new ≡ true) }
 {
-    let Some(connection) = first_closed(connections) else {
+    let Some(connection) = place_for(connections, waiter) else {
+        let (peer, why) = (waiter.newcomer(), Refusal::NoPlace);
         waiter.turn_away();
-        return Ok(true);
+        return monitor.note(station, Note::Refused { peer, why });
     };
     let Some((reader, writer)) = waiter.join(connection) else {
         return Ok(true);
     };
+    let replaces = connections[connection].is_open();
     connections[connection] = Connection::new(reader, writer);
-    monitor.note(station, Note::Joined { connection })
+    let peer = waiter.peer(connection);
+    monitor.note(
+        station,
+        Note::Joined {
+            connection,
+            peer,
+            replaces,
+        },
+    )
 }

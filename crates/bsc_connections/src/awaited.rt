@@ -2,8 +2,11 @@
 
 ghost use Rattle.std.specs.Prelude.{ℕ, Option, Result};
 ghost use Rattle.bsc_connections.specs.declared.awaited.Awaited.{Awaited as AwaitedValue};
+ghost use Rattle.bsc_connections.specs.declared.awaited.Handled.{Handled as HandledValue};
 ghost use Rattle.bsc_connections.specs.declared.awaited.LiveError.{LiveError as LiveErrorValue};
+ghost use Rattle.bsc_connections.specs.declared.awaited.Pace.{Pace as PaceValue};
 
+use std::net::SocketAddr;
 use thiserror::Error;
 
 /// What happened first during a wait.
@@ -15,11 +18,40 @@ pub enum Awaited {
     /// Another peer has connected.
     Newcomer,
 
+    /// Another peer is connecting, and the system cannot accept it, for example because no
+    /// descriptor is left. Later waits try again.
+    NotAccepted,
+
     /// The gap has passed since the last octets of the connection at this place.
     Gap { connection: usize },
 
     /// The time-out has passed since its time was begun (GA27-3004, time-outs).
     TimeOut,
+}
+
+/// What a station has handled, after which the time of the time-out may begin anew.
+#[derive(Clone, Copy, Debug, PartialEq, Eq)]
+pub enum Handled {
+    /// A transmission that was heard on the connection at this place, and that the station
+    /// answered.
+    Answered { connection: usize },
+
+    /// A transmission that was heard on the connection at this place, and that the station did not
+    /// answer.
+    Unanswered { connection: usize },
+
+    /// A silence.
+    Silence,
+}
+
+/// How the next wait begins.
+#[derive(Clone, Copy, Debug, PartialEq, Eq)]
+pub enum Pace {
+    /// At once.
+    AtOnce,
+
+    /// After a pause.
+    AfterPause,
 }
 
 /// Why a station is no longer attended.
@@ -52,8 +84,9 @@ pub trait Waiter<R, W> {
     /// What a wait may return: the waiter before, the result, the waiter after.
     ghost waits: { Self → Result AwaitedValue LiveErrorValue → Self → Type 0 };
 
-    /// The time of the time-out begins anew: the waiter before, and after.
-    ghost begins_time_out: { Self → Self → Type 0 };
+    /// The station has handled this, and the next wait begins so: the waiter before, what was
+    /// handled, how the next wait begins, the waiter after.
+    ghost handles: { Self → HandledValue → PaceValue → Self → Type 0 };
 
     /// The gap of the connection at this place begins anew.
     ghost begins_gap: { Self → ℕ → Self → Type 0 };
@@ -67,6 +100,9 @@ pub trait Waiter<R, W> {
     /// The peer that has connected is turned away.
     ghost turns_away: { Self → Self → Type 0 };
 
+    /// The place whose connection a newcomer may replace, if there is one.
+    ghost may_replace: { Self → Option ℕ → Type 0 };
+
     /// Waits until octets arrive, a peer connects, a gap has passed, or the time-out has. It may
     /// return `Octets` for a connection that has nothing to read. Once it has returned `Octets` for
     /// a connection it keeps doing so until `nothing_left` is called. It returns `Gap` once for
@@ -74,9 +110,12 @@ pub trait Waiter<R, W> {
     fn wait(&mut self) -> Result<Awaited, LiveError>
         ensures { waits self.old result self.new };
 
-    /// Begins the time of the time-out anew, with the next wait. Nothing else moves it.
-    fn begin_time_out(&mut self)
-        ensures { begins_time_out self.old self.new };
+    /// Records what the station has handled, and how the next wait begins. The time of the time-out
+    /// then begins anew, with the next wait and after its pause, unless the transmission may be
+    /// that of a stranger: of a connection on which the station has never answered one. Nothing
+    /// else moves it.
+    fn handled(&mut self, what: Handled, pace: Pace)
+        ensures { handles self.old what pace self.new };
 
     /// Begins the gap of the connection at this place anew, with the next wait.
     fn begin_gap(&mut self, connection: usize)
@@ -94,4 +133,15 @@ pub trait Waiter<R, W> {
     /// Turns away the peer that has connected, because no place is free.
     fn turn_away(&mut self)
         ensures { turns_away self.old self.new };
+
+    /// Returns the place of the connection that a newcomer may replace, because nobody has answered
+    /// on it for long; None if there is none.
+    fn replaceable(&self) -> Option<usize>
+        ensures { may_replace self.now result };
+
+    /// Returns the address of the peer of the connection at this place, if it is known.
+    fn peer(&self, connection: usize) -> Option<SocketAddr>;
+
+    /// Returns the address of the peer that has connected and has no place yet, if it is known.
+    fn newcomer(&self) -> Option<SocketAddr>;
 }

@@ -1,6 +1,6 @@
 //! One connection of a station.
 
-ghost use Rattle.std.specs.Prelude.{◌≡◌, None, Some, not, is_none};
+ghost use Rattle.std.specs.Prelude.{◌≡◌, None, Some, not, is_none, true};
 ghost use Rattle.bsc_connections.specs.Parts.{connection_parts};
 ghost use Rattle.bsc_connections.specs.Connections.{Takes, Sends, Reads, IsClosedOrNothing};
 ghost use Rattle.bsc_connections.specs.Connections.{GivesNoOctets, ending_error, failure_means};
@@ -76,6 +76,13 @@ impl<R: Read + Drop, W: Write + Drop, F: Framing + Drop> Connection<R, W, F> {
         ensures { result ≡ not (is_none self.now.ends) }
     {
         self.ends.is_some()
+    }
+
+    /// Returns whether a failed write has closed the connection, and no read has reported that yet.
+    pub(crate) fn is_untold(&self) -> bool
+        ensures { result ≡ true → self.now.ends ≡ None }
+    {
+        self.ends.is_none() && self.is_untold
     }
 
     /// Returns the octets of the last complete transmission.

@@ -42,7 +42,7 @@ pub fn gaps()
 pub fn streams<S: Station, R: Read + Drop, W: Write + Drop, T: Waiter<R, W>, M: Monitor<S>>()
     ensures history { CarriesHistory
         (session_parts S.Station R.Read W.Write ⟦<SocketRecords as Framing>⟧ M.is_told
-        T.Waiter) GivesRecords }
+        M.paces T.Waiter) GivesRecords }
     ensures records { (old new : RecordsValue) (given : List ℕ) (heard : List (List ℕ))
         → SplitsAll old given heard new }
 {}
@@ -60,7 +60,7 @@ pub fn streams_by_gaps<
     M: Monitor<S>,
 >()
     ensures { CarriesHistory (session_parts S.Station R.Read W.Write ⟦<Gaps as Framing>⟧ M.is_told
-        T.Waiter) GivesByGaps }
+        M.paces T.Waiter) GivesByGaps }
 {}
 
 /// A step of a session has one silence if its wait ended with the time-out, and none otherwise.
@@ -73,5 +73,5 @@ pub fn silences<
     M: Monitor<S>,
 >()
     ensures { TellsEachSilence (session_parts S.Station R.Read W.Write F.Framing M.is_told
-        T.Waiter) }
+        M.paces T.Waiter) }
 {}

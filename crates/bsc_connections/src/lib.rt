@@ -20,9 +20,9 @@ mod monitor;
 mod socket_records;
 
 pub use attending::attend;
-pub use awaited::{Awaited, LiveError, Waiter};
+pub use awaited::{Awaited, Handled, LiveError, Pace, Waiter};
 pub use connection::{Connection, Taken};
 pub use framing::Framing;
 pub use gaps::Gaps;
-pub use monitor::{Monitor, Note};
+pub use monitor::{Monitor, Note, Refusal};
 pub use socket_records::SocketRecords;

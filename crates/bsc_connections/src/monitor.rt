@@ -2,11 +2,27 @@
 
 ghost use Rattle.std.specs.Prelude.{◌≡◌, Bool, true, not, IfOk, Result};
 ghost use Rattle.bsc_connections.specs.declared.awaited.LiveError.{LiveError as LiveErrorValue};
+ghost use Rattle.bsc_connections.specs.declared.awaited.Pace.{Pace as PaceValue};
 ghost use Rattle.bsc_connections.specs.Histories.{Happening};
 ghost use Rattle.bsc_connections.specs.Notes.{told_by};
 
-use crate::LiveError;
+use crate::{LiveError, Pace};
 use bsc_carrier::CarrierError;
+use std::net::SocketAddr;
+use thiserror::Error;
+
+/// Why a peer has no connection.
+#[derive(Clone, Copy, Debug, PartialEq, Eq, Error)]
+pub enum Refusal {
+    /// No connection was closed, and none was to be replaced. The peer was turned away.
+    #[error("every place is taken")]
+    NoPlace,
+
+    /// The system could not accept the peer, for example because no descriptor is left. That is
+    /// tried again later.
+    #[error("the system cannot accept it yet")]
+    NotAccepted,
+}
 
 /// What happened. A monitor is told of it after the station has acted, and before the station's
 /// answer is sent.
@@ -26,15 +42,25 @@ pub enum Note<'a> {
         octets: &'a [u8],
     },
 
-    /// A peer took the connection at this place.
+    /// This peer took the connection at this place. `replaces` tells whether the connection was
+    /// open, and so is closed now.
     Joined {
         connection: usize,
+        peer: Option<SocketAddr>,
+        replaces: bool,
     },
 
-    /// The connection at this place is closed. `why` is the error, or None if the peer ended the
-    /// connection and cut no transmission short.
+    /// This peer has no connection, for this reason.
+    Refused {
+        peer: Option<SocketAddr>,
+        why: Refusal,
+    },
+
+    /// The connection of this peer at this place is closed. `why` is the error, or None if the peer
+    /// ended the connection and cut no transmission short.
     Closed {
         connection: usize,
+        peer: Option<SocketAddr>,
         why: Option<CarrierError>,
     },
 }
@@ -43,6 +69,9 @@ pub enum Note<'a> {
 pub trait Monitor<S> {
     /// Whether the station is no longer to be attended.
     ghost has_ended: { Self → Bool };
+
+    /// How the next wait begins.
+    ghost paces: { Self → PaceValue };
 
     /// What it does when it is told of something: the monitor before, the station as it is then,
     /// what happened, the result, the monitor after.
@@ -55,4 +84,8 @@ pub trait Monitor<S> {
         ensures told { is_told self.old station.now (told_by note.entry) result self.new }
         ensures answer { IfOk result (λ goes_on. goes_on ≡ not (has_ended self.new)) }
         ensures kept { has_ended self.old ≡ true → has_ended self.new ≡ true };
+
+    /// Returns how the wait begins that follows what was noted last.
+    fn pace(&self) -> Pace
+        ensures { result ≡ paces self.now };
 }

@@ -5,7 +5,7 @@ use Rattle.std.proofs.Common.{slice_get, slice_index, OnOk}
 use Rattle.bsc_frame.specs.declared.message.Message.{Message}
 use Rattle.bsc_connections.specs.declared.awaited.Awaited.{Awaited}
 use Rattle.bsc_connections.specs.declared.awaited.Awaited.TheVariants.{Octets, Newcomer, Gap}
-use Rattle.bsc_connections.specs.declared.awaited.Awaited.TheVariants.{TimeOut}
+use Rattle.bsc_connections.specs.declared.awaited.Awaited.TheVariants.{NotAccepted, TimeOut}
 use Rattle.bsc_connections.specs.declared.awaited.LiveError.{LiveError}
 use Rattle.bsc_connections.specs.declared.connection.Taken.{Taken}
 use Rattle.bsc_connections.specs.declared.connection.Taken.TheVariants.{Nothing, Interrupted, Part}
@@ -16,7 +16,7 @@ use Rattle.bsc_connections.specs.Histories.{Happening, WasHeard, WasSilent, sent
 use Rattle.bsc_connections.specs.Histories.{all_sent}
 use Rattle.bsc_connections.specs.Attending.{Session, Around, Answers, Replies, TellsSent}
 use Rattle.bsc_connections.specs.Attending.{sent_if_accepted, ReadsAt, GapPasses, Joins, JoinsAs}
-use Rattle.bsc_connections.specs.Attending.{Does, awaits_gap, first_closed, Steps}
+use Rattle.bsc_connections.specs.Attending.{Does, awaits_gap, Steps}
 use Rattle.bsc_monitor.specs.Arrivals.{arrived_on}
 use Rattle.bsc_monitor.specs.Watching.{Output, PrintsArrivals, Sees, ArePrinted}
 use Rattle.bsc_monitor.specs.Watching.{PrintsBeforeSending}
@@ -124,11 +124,11 @@ module _ {S R W F M T Z : Type 0} (parts : SessionParts S R W F M T) (party : pa
   nothing_sent_by_peer (Some ends) place station old happened result new (changes, joined) some =
       nothing_sent happened _ joined.0 refl some
 
-  printed_by_joining : (free : Option ℕ) (old : Now) (happened : List Happening)
-      (result : Result Bool LiveError) (new : Now) → Joins parts free old happened result new
+  printed_by_joining : (given : Option ℕ) (old : Now) (happened : List Happening)
+      (result : Result Bool LiveError) (new : Now) → Joins parts given old happened result new
       → all_sent happened ≢ [] → Prints new.station old.monitor new.monitor
-  printed_by_joining None old happened result new (same, none, turned) some =
-      absurd (nothing_sent happened [] none.0 refl some)
+  printed_by_joining None old happened result new (same, refused, turned) some =
+      absurd (nothing_sent happened _ refused.0 refl some)
   printed_by_joining (Some place) old happened result new (joined, joins, joining) some =
       absurd (nothing_sent_by_peer joined place new.station
       (record { connections = old.connections; monitor = old.monitor }) happened result
@@ -151,8 +151,10 @@ module _ {S R W F M T Z : Type 0} (parts : SessionParts S R W F M T) (party : pa
       → Prints new.station old.monitor new.monitor
   printed_by_event (Octets place) old happened result new (taken, reads) some =
       printed_by_read taken place old happened result new reads some
-  printed_by_event Newcomer old happened result new (same, joins) some =
-      printed_by_joining (first_closed old.connections) old happened result new joins some
+  printed_by_event Newcomer old happened result new (same, given, for_it, joins) some =
+      printed_by_joining given old happened result new joins some
+  printed_by_event NotAccepted old happened result new (same, kept, refused, waits) some =
+      absurd (nothing_sent happened _ refused.0 refl some)
   printed_by_event (Gap place) old happened result new passes some =
       printed_by_gap
       (awaits_gap parts.connection.framing.awaits (slice_get old.connections place)) place old

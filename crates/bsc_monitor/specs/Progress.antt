@@ -1,9 +1,11 @@
 -- How far a control station has come in its poll list, and when it ends.
-use Rattle.std.specs.Prelude.{ℕ, Bool, false, not, ◌||◌, length, Option, None, Some}
+use Rattle.std.specs.Prelude.{ℕ, Bool, true, false, not, ◌||◌, length, Option, None, Some}
 use Rattle.bsc_connections.specs.Histories.{Happening, WasSent, HasClosed}
+use Rattle.bsc_connections.specs.declared.awaited.Pace.{Pace}
+use Rattle.bsc_connections.specs.declared.awaited.Pace.TheVariants.{AfterPause, AtOnce}
 use Rattle.bsc_control.specs.Control.{ControlValue, peer_at}
 use Rattle.bsc_monitor.specs.Ends.{control_end, station_standing}
-use Rattle.bsc_monitor.specs.Rounds.{rounds_of, after_visit, are_enough}
+use Rattle.bsc_monitor.specs.Rounds.{rounds_of, after_visit, are_enough, ends_idle}
 use Rattle.bsc_monitor.specs.Visits.{visits_of, polled_by, visit_ended}
 use Rattle.bsc_monitor.specs.declared.progress.Progress.{Progress}
 use Rattle.bsc_monitor.specs.declared.rounds.Limits.{Limits}
@@ -40,6 +42,15 @@ after_sent p c =
       rounds = rounds_after p.rounds (visit_ended p.visits.polled c) c;
     }
 
+-- Whether an idle round ends with the visit to this entry, if one ends.
+abbrev pub idle_with : Rounds → Option ℕ → ControlValue → Bool
+idle_with r None c = false
+idle_with r (Some entry) c = ends_idle r entry c.place (has_more c)
+
+-- Whether what the control station has sent begins a round after an idle one.
+abbrev pub begins_after_idle : Progress → ControlValue → Bool
+begins_after_idle p c = idle_with p.rounds (visit_ended p.visits.polled c) c
+
 -- Whether there are enough rounds after the visit to this entry, or none.
 abbrev pub enough_after : Rounds → Limits → Option ℕ → ControlValue → Bool
 enough_after r limits None c = false
@@ -73,3 +84,12 @@ abbrev pub progress_after : Progress → Bool → ControlValue → Happening →
 progress_after p found c happening =
     let q = with_found p found in
     record (after_event q c happening) { ended = p.ended || ends_with q c happening }
+
+-- The pace after an event: a pause after what begins a round after an idle one.
+abbrev pub pace_of : Bool → Pace
+pace_of true = AfterPause
+pace_of false = AtOnce
+
+abbrev pub pace_after : Progress → ControlValue → Happening → Pace
+pace_after p c (WasSent octets) = pace_of (begins_after_idle p c)
+pace_after p c _ = AtOnce

@@ -22,6 +22,11 @@ idle_after idle found more = if not found && not more then one_more idle else 0
 abbrev pub is_complete : Rounds → ℕ → ℕ → Bool
 is_complete r entry next = nat_eq entry r.last && nat_eq next 0
 
+-- Whether a visit ends a round that is idle.
+abbrev pub ends_idle : Rounds → ℕ → ℕ → Bool → Bool
+ends_idle r entry next more =
+    nat_eq entry r.last && (nat_eq next 0 && (not r.found && not more))
+
 -- The rounds after the end of a visit.
 abbrev pub after_visit : Rounds → ℕ → ℕ → Bool → Rounds
 after_visit r entry next more =

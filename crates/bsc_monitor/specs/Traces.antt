@@ -1,8 +1,13 @@
 -- The lines of a trace.
-use Rattle.std.specs.Prelude.{⊤, ℕ, List, ◌++◌, Option, codes}
+use Rattle.std.specs.Prelude.{⊤, ℕ, Bool, true, false, List, [], ◌++◌, codes, if◌then◌else◌}
+use Rattle.std.specs.Prelude.{Option, None, Some}
 use Rattle.std.specs.Fmt.{decimal}
 use Rattle.std.specs.Io.KnownBytes.{Appends}
+use Rattle.std.specs.Net.Text.{socket_text}
+use Rattle.std.specs.declared.net.socket_addr.SocketAddr.{SocketAddr}
 use Rattle.bsc_connections.specs.Histories.{Happening, WasHeard, WasSilent, WasSent}
+use Rattle.bsc_connections.specs.declared.monitor.Note.{Note}
+use Rattle.bsc_connections.specs.declared.monitor.Note.TheVariants.{Joined}
 use Rattle.bsc_frame.specs.declared.message.Heard.{Heard}
 use Rattle.bsc_frame.specs.Reading.{heard}
 use Rattle.bsc_print.specs.Names.{chars_shown, name_of}
@@ -52,3 +57,51 @@ IsTraced (WasSent octets) time me old new =
     Appends old new (transmission_line time me deed.Sent (heard octets) octets)
 IsTraced WasSilent time me old new = Appends old new (silence_line time)
 IsTraced _ time me old new = ⊤
+
+-- The address of a peer, if it is known.
+abbrev pub origin_shown : Option SocketAddr → List ℕ
+origin_shown None = []
+origin_shown (Some peer) = codes " from " ++ socket_text peer
+
+-- The name of a connection, with the address of its peer.
+abbrev pub connection_shown : ℕ → Option SocketAddr → List ℕ
+connection_shown place peer = who_shown (Connection place) ++ origin_shown peer
+
+-- The end of the line for a peer that took a connection.
+abbrev pub joined_shown : Bool → List ℕ
+joined_shown true = codes " joined in place of one that did not answer\n"
+joined_shown false = codes " joined\n"
+
+-- The line for a peer that took a connection.
+abbrev pub joined_line : ℕ → Option SocketAddr → Bool → List ℕ
+joined_line place peer replaces = connection_shown place peer ++ joined_shown replaces
+
+-- The line for a peer that took a connection is written; of other lines nothing is said.
+abbrev pub ShowsChange : Note → Option (List ℕ) → Option (List ℕ) → Type 0
+ShowsChange (Joined place peer replaces) old new =
+    Appends old new (joined_line place peer replaces)
+ShowsChange note old new = ⊤
+
+-- The start of a line that is printed while a station waits for its peers: a trace has the time 0.
+abbrev pub start_shown : Bool → List ℕ
+start_shown trace = if trace then time_shown 0 else []
+
+-- Peers can connect at this address.
+abbrev pub listening_line : SocketAddr → List ℕ
+listening_line address = codes "listening at " ++ socket_text address ++ codes "\n"
+
+-- How many terminals have connected.
+abbrev pub connected_shown : ℕ → List ℕ
+connected_shown connected = codes "waiting for terminals: " ++ decimal connected
+
+-- How many are wanted.
+abbrev pub wanted_shown : ℕ → List ℕ
+wanted_shown wanted = codes " of " ++ decimal wanted ++ codes " connected\n"
+
+-- How many terminals have connected of those that are wanted.
+abbrev pub waiting_line : ℕ → ℕ → List ℕ
+waiting_line connected wanted = connected_shown connected ++ wanted_shown wanted
+
+-- A terminal waits for the control station.
+abbrev pub waiting_for_control : List ℕ
+waiting_for_control = codes "waiting for the control station\n"

@@ -3,12 +3,13 @@
 ghost use Rattle.std.specs.Prelude.{◌≡◌, ◌-◌, false, length};
 ghost use Rattle.bsc_monitor.specs.Progress.{progress_of};
 
+use crate::answering::Answering;
 use crate::ended::LastWatch;
 use crate::progress::Progress;
 use crate::trace::Who;
 use crate::watch::Watch;
 use crate::{Limits, Party, Timer};
-use bsc_connections::{LiveError, Monitor, Note};
+use bsc_connections::{LiveError, Monitor, Note, Pace};
 use bsc_control::Control;
 use std::alloc::Allocator;
 use std::io::Write;
@@ -22,6 +23,12 @@ pub struct ControlWatch<'a, A: Allocator, T: Drop, W, D> {
 
     /// Counts visits and rounds.
     progress: Progress,
+
+    /// How the next wait begins.
+    pace: Pace,
+
+    /// Which terminals do not answer.
+    answering: Answering,
 }
 
 impl<'a, A: Allocator + Copy, T: Timer + Drop, W: Write, D: Write> ControlWatch<'a, A, T, W, D> {
@@ -40,6 +47,8 @@ impl<'a, A: Allocator + Copy, T: Timer + Drop, W: Write, D: Write> ControlWatch<
         ControlWatch {
             watch,
             progress: Progress::new(control, limits, listens),
+            pace: Pace::AtOnce,
+            answering: Answering::new(),
         }
     }
 
@@ -65,19 +74,31 @@ impl<'a, A: Allocator + Copy, T: Timer + Drop, W: Write, D: Write> ControlWatch<
 
 impl<'a, A: Allocator + Copy, T: Timer + Drop, W: Write, D: Write, B: Allocator> Monitor<Control<B>>
     for ControlWatch<'a, A, T, W, D> {
+    ghost use Rattle.std.specs.Prelude.{◌≡◌, OnOk};
+    ghost use Rattle.bsc_monitor.specs.Progress.{pace_after};
     ghost use Rattle.bsc_monitor.specs.Watching.{Counts, Sees, output_of};
 
     ghost has_ended = { λ w. w.progress.ended };
+
+    ghost paces = { λ w. w.pace };
 
     ghost is_told = { λ old station happening result new.
         Sees ⟦<Control<B> as Party>⟧ station happening result
         (output_of W.contents old.watch) (output_of W.contents new.watch)
         × Counts result ⟦<Control<B> as Party>⟧ station happening
         (record { output = output_of W.contents old.watch; progress = old.progress })
-        (record { output = output_of W.contents new.watch; progress = new.progress }) };
+        (record { output = output_of W.contents new.watch; progress = new.progress })
+        × (OnOk result (new.pace ≡ pace_after old.progress station happening)) };
 
     fn note(&mut self, station: &Control<B>, note: Note<'_>) -> Result<bool, LiveError> {
         let found = self.watch.see(station, Who::Control, &note)?;
+        let unanswered = self.answering.note(station, &note);
+        self.watch.tell_unanswered(unanswered)?;
+        self.pace = self.progress.pace_after(station, &note);
         Ok(self.progress.note(station, &note, found))
+    }
+
+    fn pace(&self) -> Pace {
+        self.pace
     }
 }

@@ -6,7 +6,7 @@ use crate::Timer;
 use crate::trace::Who;
 use crate::watch::{Watch, live};
 use bsc_bid::Station;
-use bsc_connections::{LiveError, Monitor, Note};
+use bsc_connections::{LiveError, Monitor, Note, Pace};
 use bsc_frame::{Heard, MessageBuffer};
 use std::alloc::Allocator;
 use std::io::Write;
@@ -55,9 +55,12 @@ pub struct LastWatch<'a, A: Allocator, T: Drop, W, D> {
 impl<'a, A: Allocator + Copy, T: Timer + Drop, W: Write, D: Write> Monitor<Ended>
     for LastWatch<'a, A, T, W, D> {
     ghost use Rattle.std.specs.Prelude.{◌≡◌};
+    ghost use Rattle.bsc_connections.specs.declared.awaited.Pace.TheVariants.{AtOnce};
     ghost use Rattle.bsc_monitor.specs.Watching.{ended_told, output_of};
 
     ghost has_ended = { λ w. w.ended };
+
+    ghost paces = { λ _. AtOnce };
 
     ghost is_told = { λ old _ happening result new.
         (output_of W.contents new.watch ≡ output_of W.contents old.watch)
@@ -67,8 +70,12 @@ impl<'a, A: Allocator + Copy, T: Timer + Drop, W: Write, D: Write> Monitor<Ended
         live(self.watch.tell(Who::Control, &note))?;
         match note {
             Note::Heard { .. } | Note::Silence | Note::Closed { .. } => self.ended = true,
-            Note::Sent { .. } | Note::Joined { .. } => {}
+            Note::Sent { .. } | Note::Joined { .. } | Note::Refused { .. } => {}
         }
         Ok(!self.ended)
+    }
+
+    fn pace(&self) -> Pace {
+        Pace::AtOnce
     }
 }

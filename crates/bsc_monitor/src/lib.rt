@@ -10,7 +10,9 @@
 //! clock of its own.
 #![tactic(auto)]
 
+mod answering;
 mod arrivals;
+mod beginning;
 mod channel_end;
 mod control_party;
 mod control_watch;
@@ -32,6 +34,7 @@ mod trace;
 mod visits;
 mod watch;
 
+pub use beginning::Beginning;
 pub use channel_end::ChannelEnd;
 pub use control_watch::ControlWatch;
 pub use ended::{Ended, LastWatch};

@@ -3,12 +3,13 @@
 ghost use Rattle.std.specs.Prelude.{◌≡◌, ◌-◌, length, not, true};
 ghost use Rattle.bsc_connections.specs.Notes.{told_by};
 ghost use Rattle.bsc_monitor.specs.Progress.{after_event, after_sent, ends_when_sent, ends_with};
-ghost use Rattle.bsc_monitor.specs.Progress.{progress_after, progress_of};
+ghost use Rattle.bsc_monitor.specs.Progress.{begins_after_idle, pace_after, progress_after};
+ghost use Rattle.bsc_monitor.specs.Progress.{progress_of};
 
 use crate::rounds::{Limits, Rounds};
 use crate::station_standing;
 use crate::visits::Visits;
-use bsc_connections::Note;
+use bsc_connections::{Note, Pace};
 use bsc_control::Control;
 use std::alloc::Allocator;
 
@@ -59,6 +60,32 @@ impl Progress {
         self.closed
     }
 
+    /// Whether what the control station has just sent, and what is not counted yet, begins a round
+    /// after an idle one.
+    pub fn begins_after_idle<B: Allocator>(&self, control: &Control<B>) -> bool
+        ensures { result ≡ begins_after_idle self.now control.now }
+    {
+        let mut visits = self.visits;
+        match visits.sent(control) {
+            Some(entry) => {
+                let more = station_standing(control).waiting;
+                self.rounds.ends_idle(entry, control.place(), more)
+            }
+            None => false,
+        }
+    }
+
+    /// Returns how the wait after an event begins that is not counted yet: with a pause after what
+    /// begins a round after an idle one.
+    pub fn pace_after<B: Allocator>(&self, control: &Control<B>, note: &Note<'_>) -> Pace
+        ensures { result ≡ pace_after self.now control.now (told_by note.now) }
+    {
+        match note {
+            Note::Sent { .. } if self.begins_after_idle(control) => Pace::AfterPause,
+            _ => Pace::AtOnce,
+        }
+    }
+
     /// Counts an event; `found` tells whether records arrived with it. Returns `false` if the
     /// control station has ended.
     pub fn note<B: Allocator>(&mut self, control: &Control<B>, note: &Note<'_>, found: bool) -> bool
@@ -86,7 +113,8 @@ impl Progress {
                 self.closed = !self.listens;
                 self.closed
             }
-            Note::Heard { .. } | Note::Silence | Note::Joined { .. } => false,
+            Note::Heard { .. } | Note::Silence => false,
+            Note::Joined { .. } | Note::Refused { .. } => false,
         }
     }
 

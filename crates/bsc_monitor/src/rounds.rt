@@ -1,7 +1,7 @@
 //! The rounds of a poll list, and the limits at which a control station ends.
 
 ghost use Rattle.std.specs.Prelude.{◌≡◌, true, false};
-ghost use Rattle.bsc_monitor.specs.Rounds.{rounds_of, after_visit, are_enough};
+ghost use Rattle.bsc_monitor.specs.Rounds.{rounds_of, after_visit, are_enough, ends_idle};
 
 /// The limits at which a control station ends.
 #[derive(Clone, Copy)]
@@ -61,6 +61,14 @@ impl Rounds {
         self.found = false;
         self.rounds = self.rounds.saturating_add(1);
         self.idle = if idle { self.idle.saturating_add(1) } else { 0 };
+    }
+
+    /// Whether the end of the visit to an entry ends an idle round; the parameters are those of
+    /// `visited`.
+    pub fn ends_idle(&self, entry: usize, next: usize, more: bool) -> bool
+        ensures { result ≡ ends_idle self.now entry next more }
+    {
+        entry == self.last && next == 0 && !self.found && !more
     }
 
     /// Whether a control station with these limits ends.

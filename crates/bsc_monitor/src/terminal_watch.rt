@@ -6,7 +6,7 @@ use crate::trace::Who;
 use crate::watch::Watch;
 use crate::{LineTerminal, Party, Timer};
 use bsc_carrier::CarrierError;
-use bsc_connections::{LiveError, Monitor, Note};
+use bsc_connections::{LiveError, Monitor, Note, Pace};
 use std::alloc::Allocator;
 use std::io::Write;
 
@@ -50,9 +50,12 @@ impl<'a, A: Allocator + Copy, T: Timer + Drop, W: Write, D: Write, B: Allocator>
     LineTerminal<B>,
 > for TerminalWatch<'a, A, T, W, D> {
     ghost use Rattle.std.specs.Prelude.{◌≡◌};
+    ghost use Rattle.bsc_connections.specs.declared.awaited.Pace.TheVariants.{AtOnce};
     ghost use Rattle.bsc_monitor.specs.Watching.{Sees, closing_told, output_of};
 
     ghost has_ended = { λ w. w.ended };
+
+    ghost paces = { λ _. AtOnce };
 
     ghost is_told = { λ old station happening result new.
         Sees ⟦<LineTerminal<B> as Party>⟧ station happening result
@@ -68,5 +71,9 @@ impl<'a, A: Allocator + Copy, T: Timer + Drop, W: Write, D: Write, B: Allocator>
             self.ended = true;
         }
         Ok(!self.ended)
+    }
+
+    fn pace(&self) -> Pace {
+        Pace::AtOnce
     }
 }

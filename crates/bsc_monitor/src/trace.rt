@@ -6,17 +6,19 @@ ghost use Rattle.std.specs.Io.KnownBytes.{Appends};
 ghost use Rattle.bsc_connections.specs.Notes.{told_by};
 ghost use Rattle.bsc_frame.specs.Reading.{heard};
 ghost use Rattle.bsc_print.specs.Names.{name_of};
-ghost use Rattle.bsc_monitor.specs.Traces.{IsTraced, deed_shown, octets_shown, silence_line};
+ghost use Rattle.bsc_monitor.specs.Traces.{IsTraced, ShowsChange, connection_shown, deed_shown};
+ghost use Rattle.bsc_monitor.specs.Traces.{joined_shown, octets_shown, origin_shown, silence_line};
 ghost use Rattle.bsc_monitor.specs.Traces.{heard_from as sender_heard, time_shown};
 ghost use Rattle.bsc_monitor.specs.Traces.{transmission_line, who_shown};
 
 use bsc_carrier::CarrierError;
-use bsc_connections::Note;
+use bsc_connections::{Note, Refusal};
 use bsc_frame::laws::{one_reading, reading};
 use bsc_frame::{TextBuffer, decode};
 use bsc_print::{PrintError, put, write_chars, write_heard_name};
 use std::alloc::Allocator;
 use std::io::Write;
+use std::net::SocketAddr;
 
 /// The sender of a transmission, as far as the station knows it.
 #[derive(Clone, Copy)]
@@ -42,7 +44,7 @@ enum Deed {
 }
 
 /// Writes the time at the start of a line, in milliseconds.
-fn write_time<W: Write>(time: u64, out: &mut W) -> Result<(), PrintError>
+pub(crate) fn write_time<W: Write>(time: u64, out: &mut W) -> Result<(), PrintError>
     ensures { OnOk result (Appends (W.contents out.old) (W.contents out.new)
         (time_shown time)) }
 {
@@ -145,10 +147,9 @@ pub(crate) fn write_note<A: Allocator, W: Write>(
         }
         Note::Sent { octets } => write_transmission(alloc, time, me, Deed::Sent, octets, out),
         Note::Silence => write_silence(time, out),
-        Note::Joined { connection } => write_joined(time, *connection, out),
-        Note::Closed { connection, why } => {
+        Note::Joined { .. } | Note::Refused { .. } | Note::Closed { .. } => {
             write_time(time, out)?;
-            write_closed(*connection, *why, out)
+            write_change(note, out)
         }
     }
 }
@@ -163,15 +164,42 @@ fn heard_from(me: Who, connection: usize) -> Who
     }
 }
 
-/// Writes the line for a connection that was closed by a fault, without a time. Writes nothing for
-/// any other event.
-pub(crate) fn write_fault<W: Write>(note: &Note<'_>, out: &mut W) -> Result<(), PrintError> {
+/// Writes the line for a peer that joined or was refused, or for a connection that is closed,
+/// without a time. Writes nothing for any other event.
+pub(crate) fn write_change<W: Write>(note: &Note<'_>, out: &mut W) -> Result<(), PrintError>
+    ensures { OnOk result (ShowsChange note.now (W.contents out.old) (W.contents out.new)) }
+{
     match note {
+        Note::Joined {
+            connection,
+            peer,
+            replaces,
+        } => {
+            write_connection(*connection, *peer, out)?;
+            put(joined_text(*replaces), out)?;
+            Ok(())
+        }
+        Note::Refused { peer, why } => write_refused(*peer, *why, out),
         Note::Closed {
             connection,
-            why: Some(why),
-        } => write_closed(*connection, Some(*why), out),
-        _ => Ok(()),
+            peer,
+            why,
+        } => {
+            write_connection(*connection, *peer, out)?;
+            write_closed(*why, out)
+        }
+        Note::Heard { .. } | Note::Silence | Note::Sent { .. } => Ok(()),
+    }
+}
+
+/// Writes the line for a terminal that has not answered, without a time.
+pub(crate) fn write_unanswered<W: Write>(terminal: usize, out: &mut W) -> Result<(), PrintError>
+    ensures { OnOk result (Appends (W.contents out.old) (W.contents out.new)
+        (codes "terminal " ++ decimal terminal ++ codes " has not answered\n")) }
+{
+    match write!(out, "terminal {terminal} has not answered\n") {
+        Ok(()) => Ok(()),
+        Err(_) => Err(PrintError::Output),
     }
 }
 
@@ -185,28 +213,67 @@ fn write_silence<W: Write>(time: u64, out: &mut W) -> Result<(), PrintError>
     }
 }
 
-/// Writes the line for a peer that took over the connection with this index.
-fn write_joined<W: Write>(time: u64, connection: usize, out: &mut W) -> Result<(), PrintError>
+/// Writes the name of the connection with this index, with the address of its peer if it is known.
+fn write_connection<W: Write>(
+    connection: usize,
+    peer: Option<SocketAddr>,
+    out: &mut W,
+) -> Result<(), PrintError>
     ensures { OnOk result (Appends (W.contents out.old) (W.contents out.new)
-        (codes "+" ++ decimal time ++ codes " connection " ++ decimal connection
-        ++ codes " joined\n")) }
+        (connection_shown connection peer)) }
 {
-    match write!(out, "+{time} connection {connection} joined\n") {
+    write_who(Who::Connection(connection), out)?;
+    write_origin(peer, out)?;
+    Ok(())
+}
+
+/// Writes the address of a peer, if it is known.
+fn write_origin<W: Write>(peer: Option<SocketAddr>, out: &mut W) -> Result<(), PrintError>
+    ensures { OnOk result (Appends (W.contents out.old) (W.contents out.new)
+        (origin_shown peer)) }
+{
+    let Some(peer) = peer else {
+        return Ok(());
+    };
+    match write!(out, " from {peer}") {
         Ok(()) => Ok(()),
         Err(_) => Err(PrintError::Output),
     }
 }
 
-/// Writes that the connection with this index is closed, and why. Without a reason, its peer closed
-/// it between transmissions.
-fn write_closed<W: Write>(
-    connection: usize,
-    why: Option<CarrierError>,
+/// Returns the end of the line for a peer that took a connection.
+fn joined_text(replaces: bool) -> &'static [u8]
+    ensures { result.now ≡ joined_shown replaces }
+{
+    if replaces {
+        b" joined in place of one that did not answer\n"
+    } else {
+        b" joined\n"
+    }
+}
+
+/// Writes the line for a peer that has no connection, and why.
+fn write_refused<W: Write>(
+    peer: Option<SocketAddr>,
+    why: Refusal,
     out: &mut W,
 ) -> Result<(), PrintError> {
+    let written = match peer {
+        Some(peer) => write!(out, "refused {peer}: {why}\n"),
+        None => write!(out, "refused a peer: {why}\n"),
+    };
+    match written {
+        Ok(()) => Ok(()),
+        Err(_) => Err(PrintError::Output),
+    }
+}
+
+/// Writes the end of the line for a connection that is closed, and why. Without a reason, its peer
+/// closed it between transmissions.
+fn write_closed<W: Write>(why: Option<CarrierError>, out: &mut W) -> Result<(), PrintError> {
     let written = match why {
-        Some(why) => write!(out, "connection {connection} closed: {why}\n"),
-        None => write!(out, "connection {connection} closed\n"),
+        Some(why) => write!(out, " closed: {why}\n"),
+        None => write!(out, " closed\n"),
     };
     match written {
         Ok(()) => Ok(()),

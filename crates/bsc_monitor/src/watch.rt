@@ -5,7 +5,7 @@ ghost use Rattle.bsc_connections.specs.Notes.{told_by};
 ghost use Rattle.bsc_monitor.specs.Watching.{IsFound, PrintsArrivals, Sees, output_of};
 
 use crate::arrivals::print_arrivals;
-use crate::trace::{Who, write_fault, write_note};
+use crate::trace::{Who, write_change, write_note, write_time, write_unanswered};
 use crate::{Party, Timer};
 use bsc_connections::{LiveError, Note};
 use bsc_print::{Form, PrintError};
@@ -24,7 +24,7 @@ pub struct Printing {
 }
 
 /// Prints what happens to a station: the records that arrive to one writer, and the trace to
-/// another. A connection that was closed by a fault is always reported to the second.
+/// another. Which peers join, leave and are refused is always reported to the second.
 #[derive(Drop)]
 pub struct Watch<'a, A: Allocator, T: Drop, W, D> {
     alloc: A,
@@ -86,7 +86,8 @@ impl<'a, A: Allocator + Copy, T: Timer + Drop, W: Write, D: Write> Watch<'a, A, 
         live(self.tell(me, note))?;
         match note {
             Note::Heard { .. } | Note::Silence => self.print_records(station),
-            Note::Sent { .. } | Note::Joined { .. } | Note::Closed { .. } => Ok(false),
+            Note::Sent { .. } | Note::Joined { .. } | Note::Refused { .. } | Note::Closed { .. } =>
+                Ok(false),
         }
     }
 
@@ -116,7 +117,29 @@ impl<'a, A: Allocator + Copy, T: Timer + Drop, W: Write, D: Write> Watch<'a, A, 
         }
     }
 
-    /// Prints the line for an event: a line of the trace, or without a trace only that of a fault.
+    /// Prints that this terminal has not answered, in a trace with the time. Prints nothing if there
+    /// is none.
+    pub(crate) fn tell_unanswered(&mut self, terminal: Option<usize>) -> Result<(), LiveError>
+        ensures { output_of W.contents self.new ≡ output_of W.contents self.old }
+    {
+        match terminal {
+            Some(terminal) => live(self.write_unanswered(terminal)),
+            None => Ok(()),
+        }
+    }
+
+    /// Writes the line for a terminal that has not answered, in a trace with the time.
+    fn write_unanswered(&mut self, terminal: usize) -> Result<(), PrintError>
+        ensures { output_of W.contents self.new ≡ output_of W.contents self.old }
+    {
+        if self.printing.trace {
+            write_time(self.timer.milliseconds(), self.errors)?;
+        }
+        write_unanswered(terminal, self.errors)
+    }
+
+    /// Prints the line for an event: a line of the trace, or without a trace only that of a peer
+    /// that joined, left or was refused.
     pub(crate) fn tell(&mut self, me: Who, note: &Note<'_>) -> Result<(), PrintError>
         ensures { output_of W.contents self.new ≡ output_of W.contents self.old }
     {
@@ -124,7 +147,7 @@ impl<'a, A: Allocator + Copy, T: Timer + Drop, W: Write, D: Write> Watch<'a, A, 
             let time = self.timer.milliseconds();
             return write_note(self.alloc, time, me, note, self.errors);
         }
-        write_fault(note, self.errors)
+        write_change(note, self.errors)
     }
 }
 

@@ -5,6 +5,8 @@ use Rattle.bsc_options.specs.declared.error.OptionError.TheVariants.{Station, Te
 use Rattle.bsc_options.specs.declared.error.OptionError.TheVariants.{ConnectNeedsShared}
 use Rattle.bsc_options.specs.declared.error.OptionError.TheVariants.{NeedsControl}
 use Rattle.bsc_options.specs.declared.error.OptionError.TheVariants.{PatienceNeedsConnect}
+use Rattle.bsc_options.specs.declared.error.OptionError.TheVariants.{ReplaceAfterNeedsListen}
+use Rattle.bsc_options.specs.declared.error.OptionError.TheVariants.{ReplaceAfter, Pause}
 use Rattle.bsc_options.specs.declared.error.OptionError.TheVariants.{GapNeedsRaw, TextAndBytes}
 use Rattle.bsc_options.specs.declared.error.OptionError.TheVariants.{RepeatedInput, Gap, TimeOut}
 use Rattle.bsc_options.specs.declared.error.OptionError.TheVariants.{GapNotBelowTimeOut, Patience}
@@ -17,8 +19,9 @@ reason Station = codes "either --control or --terminal must say which station it
 reason TerminalNumber = codes "--terminal takes the number of a terminal"
 reason Place = codes "either --listen or --connect must say where its connections are"
 reason ConnectNeedsShared = codes "--control with --connect needs --shared"
-reason NeedsControl = codes "--shared, --rounds and --idle-rounds need --control"
+reason NeedsControl = codes "--shared, --pause, --rounds and --idle-rounds need --control"
 reason PatienceNeedsConnect = codes "--patience needs --connect"
+reason ReplaceAfterNeedsListen = codes "--replace-after needs --control and --listen"
 reason GapNeedsRaw = codes "--gap needs --raw"
 reason TextAndBytes = codes "--text and --bytes cannot both be given"
 reason RepeatedInput = codes "CONFIG and --offer cannot name standard input more than once"
@@ -26,6 +29,8 @@ reason Gap = codes "--gap takes milliseconds, 1 to 3600000"
 reason TimeOut = codes "--time-out takes milliseconds, 1 to 3600000"
 reason GapNotBelowTimeOut = codes "with --raw the gap must be less than the time-out"
 reason Patience = codes "--patience takes milliseconds, 1 to 3600000"
+reason ReplaceAfter = codes "--replace-after takes milliseconds, 1 to 3600000"
+reason Pause = codes "--pause takes milliseconds, 0 to 3600000"
 reason Rounds = codes "--rounds takes a number from 1 up"
 reason IdleRounds = codes "--idle-rounds takes a number from 1 up"
 reason NoTerminal = codes "--terminal names a terminal that is not in CONFIG"
@@ -40,6 +45,7 @@ is_conflict Place = true
 is_conflict ConnectNeedsShared = true
 is_conflict NeedsControl = true
 is_conflict PatienceNeedsConnect = true
+is_conflict ReplaceAfterNeedsListen = true
 is_conflict GapNeedsRaw = true
 is_conflict TextAndBytes = true
 is_conflict RepeatedInput = true
@@ -47,6 +53,8 @@ is_conflict Gap = false
 is_conflict TimeOut = false
 is_conflict GapNotBelowTimeOut = true
 is_conflict Patience = false
+is_conflict ReplaceAfter = false
+is_conflict Pause = false
 is_conflict Rounds = false
 is_conflict IdleRounds = false
 is_conflict NoTerminal = false

@@ -1,6 +1,6 @@
 -- The settings in the options of a station.
-use Rattle.std.specs.Prelude.{ℕ, ◌-◌, ◌^◌, nat_le, ◌&&◌, ◌||◌, not, Bool, true, false, List}
-use Rattle.std.specs.Prelude.{Option, Some, None, is_some, ok_or, Result, Ok, Err}
+use Rattle.std.specs.Prelude.{ℕ, ◌-◌, ◌*◌, ◌^◌, min, nat_le, ◌&&◌, ◌||◌, not, Bool, true, false}
+use Rattle.std.specs.Prelude.{List, Option, Some, None, is_some, ok_or, Result, Ok, Err}
 use Rattle.std.specs.Prelude.{if◌then◌else◌}
 use Rattle.bsc_asked.specs.StationWords.{AskedWords}
 use Rattle.bsc_print.specs.declared.form.Form.{Form}
@@ -52,17 +52,20 @@ abbrev pub unless : Bool → OptionError → Result (Unit {0}) OptionError
 unless broken why = if broken then Err why else Ok tt
 
 -- The options that this station may not have, or needs: a control station that connects reaches all
--- terminals by one connection; only a control station counts rounds.
+-- terminals by one connection; only a control station pauses and counts rounds.
 abbrev pub fits_role : AskedWords → Role → Result (Unit {0}) OptionError
 fits_role w Control = unless (is_some w.connect && not w.shared) error.ConnectNeedsShared
 fits_role w (Terminal number) =
-    unless (w.shared || (is_some w.rounds || is_some w.idle_rounds)) error.NeedsControl
+    unless (w.shared || (is_some w.pause || (is_some w.rounds || is_some w.idle_rounds)))
+    error.NeedsControl
 
 -- The options fit the station and one another.
 abbrev pub fits_together : AskedWords → Role → Result (Unit {0}) OptionError
 fits_together w role = do
   of_role ← fits_role w role
   patience ← unless (is_some w.patience && not (is_some w.connect)) error.PatienceNeedsConnect
+  replace ← unless (is_some w.replace_after && not (w.control && is_some w.listen))
+      error.ReplaceAfterNeedsListen
   gap ← unless (is_some w.gap && not w.raw) error.GapNeedsRaw
   form ← unless (w.text && w.bytes) error.TextAndBytes
   unless (repeats_input w role) error.RepeatedInput
@@ -76,16 +79,29 @@ number_in why least most absent (Some text) = ok_or (number_within least most te
 abbrev pub hour : ℕ
 hour = 3600000
 
+-- Three times a time, up to the largest value of 64 bits.
+abbrev pub three_times : ℕ → ℕ
+three_times time = min (time * 3) (2 ^ 64 - 1)
+
 -- The times of a station in milliseconds. The gap is 50 and the time-out 3000 unless given, and the
--- patience is the time-out. With raw octets the gap is less than the time-out: otherwise no
--- transmission would end before a silence.
+-- patience is the time-out, and a connection is replaced after three time-outs. The pause is 20.
+-- With raw octets the gap is less than the time-out: otherwise no transmission would end before a
+-- silence.
 abbrev pub times_in : AskedWords → Result Times OptionError
 times_in w = do
   gap ← number_in error.Gap 1 hour 50 w.gap
   time_out ← number_in error.TimeOut 1 hour 3000 w.time_out
   below ← unless (w.raw && nat_le time_out gap) error.GapNotBelowTimeOut
   patience ← number_in error.Patience 1 hour time_out w.patience
-  Ok (record { gap = gap; time_out = time_out; patience = patience })
+  replace_after ← number_in error.ReplaceAfter 1 hour (three_times time_out) w.replace_after
+  pause ← number_in error.Pause 0 hour 20 w.pause
+  Ok (record {
+    gap = gap;
+    time_out = time_out;
+    patience = patience;
+    replace_after = replace_after;
+    pause = pause;
+  })
 
 -- The number of rounds, if it is limited.
 abbrev pub rounds_in : Option (List ℕ) → Result (Option ℕ) OptionError

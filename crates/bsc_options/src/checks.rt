@@ -35,7 +35,8 @@ fn check_role(words: &StationWords, role: Role) -> Result<(), OptionError>
             unless(is_broken, OptionError::ConnectNeedsShared)
         }
         Role::Terminal { .. } => {
-            let is_broken = words.shared || is_given(&words.rounds) || is_given(&words.idle_rounds);
+            let counts = is_given(&words.rounds) || is_given(&words.idle_rounds);
+            let is_broken = words.shared || is_given(&words.pause) || counts;
             unless(is_broken, OptionError::NeedsControl)
         }
     }
@@ -48,6 +49,9 @@ pub(crate) fn check_together(words: &StationWords, role: Role) -> Result<(), Opt
     check_role(words, role)?;
     let is_broken = is_given(&words.patience) && !is_given(&words.connect);
     unless(is_broken, OptionError::PatienceNeedsConnect)?;
+    let is_listening = words.control && is_given(&words.listen);
+    let is_broken = is_given(&words.replace_after) && !is_listening;
+    unless(is_broken, OptionError::ReplaceAfterNeedsListen)?;
     unless(is_given(&words.gap) && !words.raw, OptionError::GapNeedsRaw)?;
     unless(words.text && words.bytes, OptionError::TextAndBytes)?;
     unless(repeats_input(words, role), OptionError::RepeatedInput)

@@ -22,11 +22,14 @@ pub enum OptionError {
     /// `--control` and `--connect` are given without `--shared`.
     ConnectNeedsShared,
 
-    /// `--shared`, `--rounds` or `--idle-rounds` is given without `--control`.
+    /// `--shared`, `--pause`, `--rounds` or `--idle-rounds` is given without `--control`.
     NeedsControl,
 
     /// `--patience` is given without `--connect`.
     PatienceNeedsConnect,
+
+    /// `--replace-after` is given without both `--control` and `--listen`.
+    ReplaceAfterNeedsListen,
 
     /// `--gap` is given without `--raw`.
     GapNeedsRaw,
@@ -48,6 +51,12 @@ pub enum OptionError {
 
     /// The value of `--patience` is not a number of milliseconds up to an hour.
     Patience,
+
+    /// The value of `--replace-after` is not a number of milliseconds up to an hour.
+    ReplaceAfter,
+
+    /// The value of `--pause` is not a number of milliseconds from 0 up to an hour.
+    Pause,
 
     /// The value of `--rounds` is not a number from 1 up.
     Rounds,
@@ -75,8 +84,11 @@ impl OptionError {
             OptionError::TerminalNumber => "--terminal takes the number of a terminal",
             OptionError::Place => "either --listen or --connect must say where its connections are",
             OptionError::ConnectNeedsShared => "--control with --connect needs --shared",
-            OptionError::NeedsControl => "--shared, --rounds and --idle-rounds need --control",
+            OptionError::NeedsControl => {
+                "--shared, --pause, --rounds and --idle-rounds need --control"
+            }
             OptionError::PatienceNeedsConnect => "--patience needs --connect",
+            OptionError::ReplaceAfterNeedsListen => "--replace-after needs --control and --listen",
             OptionError::GapNeedsRaw => "--gap needs --raw",
             OptionError::TextAndBytes => "--text and --bytes cannot both be given",
             OptionError::RepeatedInput => {
@@ -86,6 +98,8 @@ impl OptionError {
             OptionError::TimeOut => "--time-out takes milliseconds, 1 to 3600000",
             OptionError::GapNotBelowTimeOut => "with --raw the gap must be less than the time-out",
             OptionError::Patience => "--patience takes milliseconds, 1 to 3600000",
+            OptionError::ReplaceAfter => "--replace-after takes milliseconds, 1 to 3600000",
+            OptionError::Pause => "--pause takes milliseconds, 0 to 3600000",
             OptionError::Rounds => "--rounds takes a number from 1 up",
             OptionError::IdleRounds => "--idle-rounds takes a number from 1 up",
             OptionError::NoTerminal => "--terminal names a terminal that is not in CONFIG",
@@ -105,6 +119,7 @@ impl OptionError {
             | OptionError::ConnectNeedsShared
             | OptionError::NeedsControl
             | OptionError::PatienceNeedsConnect
+            | OptionError::ReplaceAfterNeedsListen
             | OptionError::GapNeedsRaw
             | OptionError::TextAndBytes
             | OptionError::RepeatedInput
@@ -116,6 +131,8 @@ impl OptionError {
             | OptionError::Gap
             | OptionError::TimeOut
             | OptionError::Patience
+            | OptionError::ReplaceAfter
+            | OptionError::Pause
             | OptionError::Rounds
             | OptionError::IdleRounds => false,
         }

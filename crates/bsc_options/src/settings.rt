@@ -20,6 +20,9 @@ const GAP: u64 = 50;
 /// The time-out in milliseconds, unless given.
 const TIME_OUT: u64 = 3_000;
 
+/// The pause after an idle round in milliseconds, unless given.
+const PAUSE: u64 = 20;
+
 /// The number of idle rounds in a row after which a control station ends, unless given.
 const IDLE_ROUNDS: u64 = 2;
 
@@ -57,6 +60,12 @@ pub struct Times {
 
     /// How long a station tries to connect.
     pub patience: u64,
+
+    /// After how much silence a newcomer replaces a connection that has not answered.
+    pub replace_after: u64,
+
+    /// The pause after an idle round.
+    pub pause: u64,
 }
 
 /// The settings of a station.
@@ -153,10 +162,21 @@ fn read_times(words: &StationWords) -> Result<Times, OptionError>
         OptionError::GapNotBelowTimeOut,
     )?;
     let patience = number(&words.patience, 1, HOUR, time_out, OptionError::Patience)?;
+    let three = time_out.saturating_mul(3);
+    let replace_after = number(
+        &words.replace_after,
+        1,
+        HOUR,
+        three,
+        OptionError::ReplaceAfter,
+    )?;
+    let pause = number(&words.pause, 0, HOUR, PAUSE, OptionError::Pause)?;
     Ok(Times {
         gap,
         time_out,
         patience,
+        replace_after,
+        pause,
     })
 }
 

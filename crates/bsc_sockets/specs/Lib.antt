@@ -1,3 +1,4 @@
 pub mod Answers
 pub mod Ready
+pub mod Standings
 pub mod Times

@@ -4,6 +4,7 @@ ghost use Rattle.std.specs.Prelude.{◌≡◌, ◌<◌, ◌^◌, ◌+◌, [], fa
 
 use crate::directions::{Reading, Writing};
 use crate::listening::addresses;
+use crate::sockets::Peer;
 use crate::writable::Writable;
 use crate::{ConnectionSettings, Listening, Sockets, SocketsError};
 use mio::net::TcpStream;
@@ -24,6 +25,18 @@ pub struct Peers {
 
     /// Whether a further peer is a newcomer; else the system refuses it.
     pub keeps_listening: bool,
+}
+
+/// Is told how a station waits for its peers.
+pub trait Reception {
+    /// Peers can connect at this address from now on.
+    fn listens(&mut self, address: SocketAddr);
+
+    /// This many peers have connected of those that are wanted, and the station waits for the next.
+    fn waits(&mut self, connected: usize, wanted: usize);
+
+    /// This peer has the connection at this place.
+    fn joined(&mut self, place: usize, peer: SocketAddr);
 }
 
 /// Sockets with a connection at each of their places.
@@ -109,13 +122,14 @@ fn connect_to<N: Net + Clock, A: Allocator>(
 /// connect. Fails with `NobodyConnected` if a peer does not connect within their patience, which
 /// begins anew for each, with `Sockets` if the system refuses what a connection needs, and with
 /// `Memory` if memory cannot be allocated. If it keeps listening, a further peer is a newcomer;
-/// else the system refuses that peer.
-pub fn listen<'a, N: Net + Clock, A: Allocator + Copy>(
+/// else the system refuses that peer. The reception is told of the address and of each peer.
+pub fn listen<'a, N: Net + Clock, A: Allocator + Copy, H: Reception>(
     runtime: &'a N,
     alloc: A,
     listening: Listening,
     peers: Peers,
     settings: ConnectionSettings,
+    reception: &mut H,
 ) -> Result<Begun<'a, N, A>, SocketsError>
     requires { peers.count < 2 ^ 16 }
     ensures count { IfOk result (λ begun. length begun.connections.items ≡ peers.count) }
@@ -123,7 +137,7 @@ pub fn listen<'a, N: Net + Clock, A: Allocator + Copy>(
         → IfOk result (λ begun. IsNone begun.sockets.listener) }
 {
     let mut begun = Begun::new(runtime, alloc, peers.count, settings)?;
-    begun.take_peers(listening, peers)?;
+    begun.take_peers(listening, peers, reception)?;
     Ok(begun)
 }
 
@@ -156,14 +170,22 @@ impl<'a, N: Net + Clock, A: Allocator + Copy> Begun<'a, N, A> {
     }
 
     /// Takes a connection from each of these peers, and then keeps listening or stops.
-    fn take_peers(&mut self, listening: Listening, peers: Peers) -> Result<(), SocketsError>
+    fn take_peers<H: Reception>(
+        &mut self,
+        listening: Listening,
+        peers: Peers,
+        reception: &mut H,
+    ) -> Result<(), SocketsError>
         requires { self.old.connections.items ≡ [] }
         ensures count { OnOk result (length self.new.connections.items ≡ peers.count) }
         ensures refuses { peers.keeps_listening ≡ false
             → OnOk result (IsNone self.new.sockets.listener) }
     {
+        if let Ok(address) = listening.address() {
+            reception.listens(address);
+        }
         self.sockets.take_peers_of(listening)?;
-        self.add_peers(peers.count, peers.patience)?;
+        self.add_peers(peers.count, peers.patience, reception)?;
         if !peers.keeps_listening {
             self.sockets.stop_listening();
         }
@@ -171,13 +193,20 @@ impl<'a, N: Net + Clock, A: Allocator + Copy> Begun<'a, N, A> {
     }
 
     /// Takes a connection from each of the next peers that connect, up to this many.
-    fn add_peers(&mut self, peers: usize, patience: Duration) -> Result<(), SocketsError>
+    fn add_peers<H: Reception>(
+        &mut self,
+        peers: usize,
+        patience: Duration,
+        reception: &mut H,
+    ) -> Result<(), SocketsError>
         requires { self.old.connections.items ≡ [] }
         ensures { OnOk result (length self.new.connections.items ≡ peers) }
     {
         'peers: for place in 0..peers {
-            let stream = self.sockets.next_peer(patience)?;
+            reception.waits(place, peers);
+            let Peer { stream, address } = self.sockets.next_peer(patience)?;
             self.add(place, stream)?;
+            reception.joined(place, address);
         }
         Ok(())
     }

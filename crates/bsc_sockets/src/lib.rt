@@ -18,11 +18,12 @@ mod error;
 mod listening;
 mod ready;
 mod sockets;
+mod standings;
 mod time_limit;
 mod times;
 mod writable;
 
-pub use begin::{Begun, Peers, connect, connect_to_any, listen};
+pub use begin::{Begun, Peers, Reception, connect, connect_to_any, listen};
 pub use directions::{Reading, Writing};
 pub use error::SocketsError;
 pub use listening::Listening;

@@ -1,20 +1,23 @@
 //! Waits for all connections of a station.
 
 ghost use Rattle.std.specs.Prelude.{◌≡◌, ◌<◌, ◌^◌, ◌↔◌, IfOk, IfSome, IsNone, IsSome, IsTrue};
+ghost use Rattle.std.specs.Prelude.{OnOk, false, is_some};
 ghost use Rattle.bsc_sockets.specs.Answers.{IsAnswer};
-ghost use Rattle.bsc_sockets.specs.Times.{IsKept};
+ghost use Rattle.bsc_sockets.specs.Standings.{is_known, moves_time_out, standings_value};
+ghost use Rattle.bsc_sockets.specs.Times.{IsEnd, IsKept};
 
 use crate::directions::{Reading, Writing, directions};
 use crate::ready::Ready;
+use crate::standings::Standings;
 use crate::time_limit::TimeLimit;
-use crate::times::Times;
+use crate::times::{End, Times};
 use crate::{Listening, SocketsError};
-use bsc_connections::{Awaited, LiveError, Waiter};
+use bsc_connections::{Awaited, Handled, LiveError, Pace, Waiter};
 use mio::net::{TcpListener, TcpStream};
 use mio::{Events, Interest, Poll, Token};
 use std::alloc::{AllocError, Allocator};
 use std::io::ErrorKind;
-use std::net::Net;
+use std::net::{Net, SocketAddr};
 use std::time::{Clock, Duration};
 
 /// The most places served in turn before the system is asked what else has arrived, so that a peer
@@ -37,6 +40,13 @@ pub struct ConnectionSettings {
     /// time.
     pub gap: Duration,
 
+    /// The time of silence without an answer at a place after which a newcomer may replace the
+    /// connection there.
+    pub replace_after: Duration,
+
+    /// The pause with which a wait begins if the monitor of the station asks for it.
+    pub pause: Duration,
+
     /// Whether the first wait, if nothing has arrived, returns at once that the time has passed, so
     /// that a control station makes its first call without delay.
     pub begins: bool,
@@ -55,14 +65,25 @@ pub struct Sockets<'a, N: Net + Clock, A: Allocator> {
     places: usize,
     listener: Option<TcpListener>,
     /// A peer that has connected and has no place yet.
-    newcomer: Option<TcpStream>,
+    newcomer: Option<Peer>,
+    /// Whether the system could not accept a peer when it was last asked for one.
+    refuses: bool,
     settings: ConnectionSettings,
+    /// The peers, and how long nobody has answered at each place.
+    standings: Standings<A>,
     /// The times of the time-out and of the gaps.
     times: Times<A>,
     /// The number of places served since the system was last asked.
     unasked: usize,
     /// The number of events served since a time has passed whose end is not told yet.
     overdue: usize,
+}
+
+/// A peer that has connected.
+#[derive(Drop)]
+pub(crate) struct Peer {
+    pub(crate) stream: TcpStream,
+    pub(crate) address: SocketAddr,
 }
 
 /// What is sought among what is ready.
@@ -94,7 +115,9 @@ impl<'a, N: Net + Clock, A: Allocator + Copy> Sockets<'a, N, A> {
             places,
             listener: None,
             newcomer: None,
+            refuses: false,
             settings,
+            standings: Standings::new(alloc, places)?,
             times: Times::new(alloc, places)?,
             unasked: 0,
             overdue: 0,
@@ -129,14 +152,18 @@ impl<'a, N: Net + Clock, A: Allocator + Copy> Sockets<'a, N, A> {
     ) -> Result<(Reading, Writing<'a, N, A>), SocketsError>
         ensures newcomer { self.new.newcomer ≡ self.old.newcomer }
         ensures time_out { self.new.times.time_out ≡ self.old.times.time_out }
+        ensures stranger { IfOk result
+            (λ _. is_known (standings_value self.new.standings) place ≡ false) }
     {
         let (runtime, alloc) = (self.runtime, self.alloc);
+        let peer = stream.peer_addr().ok();
         let (mut reading, writing) = directions(runtime, alloc, stream, self.settings.time_out)?;
-        self.ready.clear(place);
-        self.times.stop_gap(place);
         self.poll
             .registry()
             .register(&mut reading.stream, Token(place), Interest::READABLE)?;
+        self.ready.clear(place);
+        self.times.stop_gap(place);
+        self.standings.joined(place, peer);
         Ok((reading, writing))
     }
 
@@ -144,6 +171,7 @@ impl<'a, N: Net + Clock, A: Allocator + Copy> Sockets<'a, N, A> {
     pub(crate) fn within(&mut self, time: Duration, sought: Sought) -> Result<Awaited, LiveError>
         ensures answer { IfOk result (IsAnswer self.new.places self.new.newcomer) }
         ensures times { self.new.times ≡ self.old.times }
+        ensures standings { self.new.standings ≡ self.old.standings }
     {
         if self.unasked >= MAX_ANSWERS_UNASKED {
             self.ask(Duration::ZERO)?;
@@ -159,6 +187,7 @@ impl<'a, N: Net + Clock, A: Allocator + Copy> Sockets<'a, N, A> {
     fn in_time(&mut self, left: Duration) -> Result<Awaited, LiveError>
         ensures answer { IfOk result (IsAnswer self.new.places self.new.newcomer) }
         ensures times { self.new.times ≡ self.old.times }
+        ensures standings { self.new.standings ≡ self.old.standings }
     {
         if self.is_overdue(left) {
             return Ok(Awaited::TimeOut);
@@ -168,7 +197,8 @@ impl<'a, N: Net + Clock, A: Allocator + Copy> Sockets<'a, N, A> {
 
     /// Returns whether no time is left and enough was served since.
     fn is_overdue(&mut self, left: Duration) -> bool
-        ensures { self.new.times ≡ self.old.times }
+        ensures times { self.new.times ≡ self.old.times }
+        ensures standings { self.new.standings ≡ self.old.standings }
     {
         self.overdue = if left.is_zero() {
             self.overdue.saturating_add(1)
@@ -187,6 +217,7 @@ impl<'a, N: Net + Clock, A: Allocator + Copy> Sockets<'a, N, A> {
     fn asked_within(&mut self, time: Duration, sought: Sought) -> Result<Awaited, LiveError>
         ensures answer { IfOk result (IsAnswer self.new.places self.new.newcomer) }
         ensures times { self.new.times ≡ self.old.times }
+        ensures standings { self.new.standings ≡ self.old.standings }
     {
         let Ok(limit) = TimeLimit::begin(self.runtime, time) else {
             return Err(LiveError::Wait);
@@ -217,6 +248,7 @@ impl<'a, N: Net + Clock, A: Allocator + Copy> Sockets<'a, N, A> {
     fn found(&mut self, sought: Sought) -> Option<Awaited>
         ensures answer { IfSome result (IsAnswer self.new.places self.new.newcomer) }
         ensures times { self.new.times ≡ self.old.times }
+        ensures standings { self.new.standings ≡ self.old.standings }
     {
         match sought {
             Sought::Newcomer if self.has_newcomer() => Some(Awaited::Newcomer),
@@ -230,6 +262,7 @@ impl<'a, N: Net + Clock, A: Allocator + Copy> Sockets<'a, N, A> {
     fn next_ready(&mut self) -> Option<Awaited>
         ensures answer { IfSome result (IsAnswer self.new.places self.new.newcomer) }
         ensures times { self.new.times ≡ self.old.times }
+        ensures standings { self.new.standings ≡ self.old.standings }
     {
         'turns: for _ in 0..=self.places {
             let place = self.ready.next_place()?;
@@ -237,18 +270,23 @@ impl<'a, N: Net + Clock, A: Allocator + Copy> Sockets<'a, N, A> {
                 self.unasked = self.unasked.saturating_add(1);
                 return Some(Awaited::Octets { connection: place });
             }
+            let refused = self.refuses;
             if self.has_newcomer() {
                 return Some(Awaited::Newcomer);
+            }
+            if self.refuses && !refused {
+                return Some(Awaited::NotAccepted);
             }
         }
         None
     }
 
     /// Returns whether there is a peer that has connected and has no place yet, and keeps that
-    /// peer.
+    /// peer. Records whether the system refuses to accept one.
     fn has_newcomer(&mut self) -> bool
         ensures answer { IsTrue result ↔ IsSome self.new.newcomer }
         ensures times { self.new.times ≡ self.old.times }
+        ensures standings { self.new.standings ≡ self.old.standings }
     {
         if self.newcomer.is_some() {
             return true;
@@ -257,23 +295,60 @@ impl<'a, N: Net + Clock, A: Allocator + Copy> Sockets<'a, N, A> {
             self.ready.clear(self.places);
             return false;
         };
+        self.refuses = false;
         match listener.accept() {
-            Ok((stream, _)) => {
-                self.newcomer = Some(stream);
+            Ok((stream, address)) => {
+                self.newcomer = Some(Peer { stream, address });
                 true
             }
-            // The peer left before it was accepted; another one may be waiting.
-            Err(error) if error.kind() == ErrorKind::ConnectionAborted => false,
-            Err(_) => {
-                self.ready.clear(self.places);
+            Err(error) => {
+                match error.kind() {
+                    ErrorKind::WouldBlock => self.ready.clear(self.places),
+                    // The peer has left, or a signal came: another peer may be waiting.
+                    ErrorKind::ConnectionAborted | ErrorKind::Interrupted => {}
+                    // For example, no descriptor is left: the system is asked again later.
+                    _ => self.refuses = true,
+                }
                 false
             }
         }
     }
 
+    /// Lets the pause pass if this wait begins with one. What arrives meanwhile is ready after it.
+    fn rest(&mut self) -> Result<(), LiveError>
+        ensures time_out { self.new.times.time_out ≡ self.old.times.time_out }
+        ensures pace { OnOk result (self.new.times.pace ≡ Pace.AtOnce) }
+        ensures standings { self.new.standings ≡ self.old.standings }
+    {
+        match self.times.take_pace() {
+            Pace::AtOnce => Ok(()),
+            Pace::AfterPause => self.pause(self.settings.pause),
+        }
+    }
+
+    /// Lets this time pass.
+    fn pause(&mut self, time: Duration) -> Result<(), LiveError>
+        ensures times { self.new.times ≡ self.old.times }
+        ensures standings { self.new.standings ≡ self.old.standings }
+    {
+        let Ok(limit) = TimeLimit::begin(self.runtime, time) else {
+            return Err(LiveError::Wait);
+        };
+        let mut left = time;
+        'asks: for _ in 0..u64::MAX {
+            if left.is_zero() {
+                break;
+            }
+            self.ask(left)?;
+            left = self.left(limit)?;
+        }
+        Ok(())
+    }
+
     /// Asks the system what has arrived, and waits until something has or the time has passed.
     fn ask(&mut self, time: Duration) -> Result<(), LiveError>
-        ensures { self.new.times ≡ self.old.times }
+        ensures times { self.new.times ≡ self.old.times }
+        ensures standings { self.new.standings ≡ self.old.standings }
     {
         self.unasked = 0;
         if self.poll.poll(&mut self.events, Some(time)).is_err() {
@@ -285,11 +360,40 @@ impl<'a, N: Net + Clock, A: Allocator + Copy> Sockets<'a, N, A> {
         }
     }
 
+    /// Returns the event of this end, and counts this time if it is a silence.
+    fn end(&mut self, end: End, silence: Duration) -> Awaited
+        ensures event { IsEnd result }
+        ensures time_out { self.new.times.time_out ≡ self.old.times.time_out }
+        ensures pace { self.new.times.pace ≡ self.old.times.pace }
+        ensures places { self.new.standings.places ≡ self.old.standings.places }
+    {
+        let awaited = self.times.end(end);
+        if awaited == Awaited::TimeOut {
+            self.standings.silence(silence);
+        }
+        awaited
+    }
+
+    /// Whether the time of the time-out begins anew after this. If peers may connect, a
+    /// transmission that was not answered may be that of a stranger, unless the station has
+    /// answered one on the same connection before.
+    fn moves_time_out(&self, what: Handled) -> bool
+        ensures { result ≡ moves_time_out (is_some self.now.listener)
+            (standings_value self.now.standings) what }
+    {
+        match what {
+            Handled::Unanswered { connection } => {
+                self.listener.is_none() || self.standings.is_known(connection)
+            }
+            Handled::Answered { .. } | Handled::Silence => true,
+        }
+    }
+
     /// Returns the next peer that connects within this time.
-    pub(crate) fn next_peer(&mut self, patience: Duration) -> Result<TcpStream, SocketsError> {
+    pub(crate) fn next_peer(&mut self, patience: Duration) -> Result<Peer, SocketsError> {
         match self.within(patience, Sought::Newcomer) {
             Ok(_) => match self.newcomer.take() {
-                Some(stream) => Ok(stream),
+                Some(peer) => Ok(peer),
                 None => Err(SocketsError::NobodyConnected),
             },
             Err(LiveError::Memory) => Err(SocketsError::Memory),
@@ -306,9 +410,11 @@ impl<'a, N: Net + Clock, A: Allocator + Copy> Sockets<'a, N, A> {
         ensures taken { IsNone self.new.newcomer }
         ensures nobody { IsNone self.old.newcomer → IfOk result IsNone }
         ensures time_out { self.new.times.time_out ≡ self.old.times.time_out }
+        ensures stranger { IfOk result (λ joined. IfSome joined
+            (λ _. is_known (standings_value self.new.standings) place ≡ false)) }
     {
         match self.newcomer.take() {
-            Some(stream) if place < self.places => Ok(Some(self.open(place, stream)?)),
+            Some(peer) if place < self.places => Ok(Some(self.open(place, peer.stream)?)),
             _ => Ok(None),
         }
     }
@@ -327,47 +433,73 @@ fn set_all<A: Allocator, B: Allocator>(
 
 impl<'a, N: Net + Clock, A: Allocator + Copy> Waiter<Reading, Writing<'a, N, A>>
     for Sockets<'a, N, A> {
-    ghost use Rattle.std.specs.Prelude.{◌≡◌, IfOk, IsNone};
+    ghost use Rattle.std.specs.Duration.{as_nanos};
+    ghost use Rattle.std.specs.Prelude.{◌≡◌, IfOk, IfSome, IsNone, OnOk, false, is_some, length};
+    ghost use Rattle.bsc_connections.specs.declared.awaited.Pace.TheVariants.{AtOnce};
     ghost use Rattle.bsc_sockets.specs.Answers.{IsAnswer};
     ghost use Rattle.bsc_sockets.specs.Ready.{without_place};
+    ghost use Rattle.bsc_sockets.specs.Standings.{IsQuietest, is_known, moves_time_out, quiet_at};
+    ghost use Rattle.bsc_sockets.specs.Standings.{standings_after, standings_value, time_after};
     ghost use Rattle.bsc_sockets.specs.Times.{IsKept};
-    ghost use Rattle.bsc_sockets.specs.declared.times.Time.TheVariants.{Anew};
 
     ghost waits = { λ before result after.
         (IfOk result (IsAnswer after.places after.newcomer))
-        × IsKept before.times.time_out after.times.time_out };
+        × IsKept before.times.time_out after.times.time_out
+        × (OnOk result (after.times.pace ≡ AtOnce))
+        × (after.standings.places ≡ before.standings.places) };
 
-    ghost begins_time_out = { λ _ after. after.times.time_out ≡ Anew };
+    ghost handles = { λ before what pace after.
+        let standings = standings_value before.standings in
+        (after.times.time_out ≡ time_after
+        (moves_time_out (is_some before.listener) standings what) before.times.time_out)
+        × (after.times.pace ≡ pace)
+        × (standings_value after.standings ≡ standings_after standings what) };
 
-    ghost begins_gap = { λ before _ after. after.times.time_out ≡ before.times.time_out };
+    ghost begins_gap = { λ before _ after.
+        (after.times.time_out ≡ before.times.time_out) × (after.standings ≡ before.standings) };
 
     ghost has_nothing_left = { λ before place after.
         after ≡ record before { ready = without_place before.ready place } };
 
-    ghost joins = { λ before _ joined after. (IsNone after.newcomer)
+    ghost joins = { λ before place joined after. (IsNone after.newcomer)
         × (IsNone before.newcomer → IsNone joined)
-        × (after.times.time_out ≡ before.times.time_out) };
+        × (after.times.time_out ≡ before.times.time_out)
+        × (IfSome joined (λ _. is_known (standings_value after.standings) place ≡ false)) };
 
     ghost turns_away = { λ before after.
-        (IsNone after.newcomer) × (after.times ≡ before.times) };
+        (IsNone after.newcomer) × (after.times ≡ before.times)
+        × (after.standings ≡ before.standings) };
+
+    ghost may_replace = { λ waiter named.
+        let standings = standings_value waiter.standings in
+        IsQuietest (quiet_at standings) (length standings.places)
+        (as_nanos waiter.settings.replace_after) named };
 
     fn wait(&mut self) -> Result<Awaited, LiveError> {
+        self.rest()?;
         let ConnectionSettings { time_out, gap, .. } = self.settings;
         let next = self.times.next_end(self.runtime, time_out, gap)?;
-        let left = if self.settings.begins {
-            Duration::ZERO
+        // Before the first call of a station that begins no time has passed.
+        let (left, silence) = if self.settings.begins {
+            (Duration::ZERO, Duration::ZERO)
         } else {
-            next.left
+            (next.left, time_out)
         };
         self.settings.begins = false;
         match self.in_time(left)? {
-            Awaited::TimeOut => Ok(self.times.end(next)),
+            Awaited::TimeOut => Ok(self.end(next, silence)),
             awaited => Ok(awaited),
         }
     }
 
-    fn begin_time_out(&mut self) {
-        self.times.begin_time_out();
+    fn handled(&mut self, what: Handled, pace: Pace) {
+        self.times.set_pace(pace);
+        if self.moves_time_out(what) {
+            self.times.begin_time_out();
+        }
+        if let Handled::Answered { connection } = what {
+            self.standings.answered(connection);
+        }
     }
 
     fn begin_gap(&mut self, connection: usize) {
@@ -384,5 +516,20 @@ impl<'a, N: Net + Clock, A: Allocator + Copy> Waiter<Reading, Writing<'a, N, A>>
 
     fn turn_away(&mut self) {
         self.newcomer = None;
+    }
+
+    fn replaceable(&self) -> Option<usize> {
+        self.standings.quietest(self.settings.replace_after)
+    }
+
+    fn peer(&self, connection: usize) -> Option<SocketAddr> {
+        self.standings.peer(connection)
+    }
+
+    fn newcomer(&self) -> Option<SocketAddr> {
+        match &self.newcomer {
+            Some(peer) => Some(peer.address),
+            None => None,
+        }
     }
 }

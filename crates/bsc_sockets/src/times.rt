@@ -4,7 +4,7 @@ ghost use Rattle.std.specs.Prelude.{◌≡◌, IfOk};
 ghost use Rattle.bsc_sockets.specs.Times.{IsEnd, IsKept};
 
 use crate::time_limit::TimeLimit;
-use bsc_connections::{Awaited, LiveError};
+use bsc_connections::{Awaited, LiveError, Pace};
 use std::alloc::{AllocError, Allocator};
 use std::time::{Clock, Duration};
 
@@ -32,6 +32,8 @@ pub(crate) struct End {
 #[derive(Drop)]
 pub(crate) struct Times<A: Allocator> {
     time_out: Time,
+    /// How the next wait begins.
+    pace: Pace,
     /// The time of the gap at each place, if one is awaited there.
     gaps: Vec<Option<Time>, A>,
 }
@@ -46,13 +48,15 @@ impl<A: Allocator> Times<A> {
         }
         Ok(Times {
             time_out: Time::Anew,
+            pace: Pace::AtOnce,
             gaps,
         })
     }
 
     /// Begins the time of the time-out anew, with the next wait.
     pub(crate) fn begin_time_out(&mut self)
-        ensures { self.new.time_out ≡ Time.Anew }
+        ensures time_out { self.new.time_out ≡ Time.Anew }
+        ensures pace { self.new.pace ≡ self.old.pace }
     {
         self.time_out = Time::Anew;
     }
@@ -66,9 +70,29 @@ impl<A: Allocator> Times<A> {
         }
     }
 
+    /// Begins the next wait so.
+    pub(crate) fn set_pace(&mut self, pace: Pace)
+        ensures time_out { self.new.time_out ≡ self.old.time_out }
+        ensures pace { self.new.pace ≡ pace }
+    {
+        self.pace = pace;
+    }
+
+    /// Returns how this wait begins; the next one begins at once.
+    pub(crate) fn take_pace(&mut self) -> Pace
+        ensures time_out { self.new.time_out ≡ self.old.time_out }
+        ensures pace { self.new.pace ≡ Pace.AtOnce }
+        ensures taken { result ≡ self.old.pace }
+    {
+        let pace = self.pace;
+        self.pace = Pace::AtOnce;
+        pace
+    }
+
     /// Awaits no gap at this place.
     pub(crate) fn stop_gap(&mut self, place: usize)
-        ensures { self.new.time_out ≡ self.old.time_out }
+        ensures time_out { self.new.time_out ≡ self.old.time_out }
+        ensures pace { self.new.pace ≡ self.old.pace }
     {
         if let Some(gap) = self.gaps.get_mut(place) {
             *gap = None;
@@ -84,7 +108,8 @@ impl<A: Allocator> Times<A> {
         time_out: Duration,
         gap: Duration,
     ) -> Result<End, LiveError>
-        ensures { IsKept self.old.time_out self.new.time_out }
+        ensures time_out { IsKept self.old.time_out self.new.time_out }
+        ensures pace { self.new.pace ≡ self.old.pace }
     {
         let (limit, left) = running(clock, self.time_out, time_out)?;
         self.time_out = Time::Since(limit);
@@ -108,6 +133,7 @@ impl<A: Allocator> Times<A> {
     pub(crate) fn end(&mut self, end: End) -> Awaited
         ensures event { IsEnd result }
         ensures time_out { self.new.time_out ≡ self.old.time_out }
+        ensures pace { self.new.pace ≡ self.old.pace }
     {
         let Some(connection) = end.gap else {
             return Awaited::TimeOut;

@@ -23,6 +23,8 @@ station_app =
     ∷ option (codes "gap")
     ∷ option (codes "time-out")
     ∷ option (codes "patience")
+    ∷ option (codes "replace-after")
+    ∷ option (codes "pause")
     ∷ option (codes "rounds")
     ∷ option (codes "idle-rounds")
     ∷ value_list (codes "offer")
@@ -49,6 +51,8 @@ words_in rows = record {
   gap = first_of (codes "gap") rows;
   time_out = first_of (codes "time-out") rows;
   patience = first_of (codes "patience") rows;
+  replace_after = first_of (codes "replace-after") rows;
+  pause = first_of (codes "pause") rows;
   rounds = first_of (codes "rounds") rows;
   idle_rounds = first_of (codes "idle-rounds") rows;
   offers = unwrap_or (all_of (codes "offer") rows) [];
@@ -75,6 +79,8 @@ pub record NumberTexts : Type 0 where
   pub gap : Option Text
   pub time_out : Option Text
   pub patience : Option Text
+  pub replace_after : Option Text
+  pub pause : Option Text
   pub rounds : Option Text
   pub idle_rounds : Option Text
 
@@ -83,6 +89,8 @@ number_texts n = record {
   gap = option_map string_bytes n.gap;
   time_out = option_map string_bytes n.time_out;
   patience = option_map string_bytes n.patience;
+  replace_after = option_map string_bytes n.replace_after;
+  pause = option_map string_bytes n.pause;
   rounds = option_map string_bytes n.rounds;
   idle_rounds = option_map string_bytes n.idle_rounds;
 }
@@ -93,6 +101,8 @@ numbers_in rows = record {
   gap = first_of (codes "gap") rows;
   time_out = first_of (codes "time-out") rows;
   patience = first_of (codes "patience") rows;
+  replace_after = first_of (codes "replace-after") rows;
+  pause = first_of (codes "pause") rows;
   rounds = first_of (codes "rounds") rows;
   idle_rounds = first_of (codes "idle-rounds") rows;
 }

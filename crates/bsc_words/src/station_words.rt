@@ -27,6 +27,8 @@ struct Numbers {
     gap: Option<String>,
     time_out: Option<String>,
     patience: Option<String>,
+    replace_after: Option<String>,
+    pause: Option<String>,
     rounds: Option<String>,
     idle_rounds: Option<String>,
 }
@@ -54,6 +56,8 @@ fn numbers_of(alloc: Global, matches: &ArgMatches<'_>) -> Result<Numbers, AllocE
         gap: option_text(alloc, matches, "gap")?,
         time_out: option_text(alloc, matches, "time-out")?,
         patience: option_text(alloc, matches, "patience")?,
+        replace_after: option_text(alloc, matches, "replace-after")?,
+        pause: option_text(alloc, matches, "pause")?,
         rounds: option_text(alloc, matches, "rounds")?,
         idle_rounds: option_text(alloc, matches, "idle-rounds")?,
     })
@@ -77,6 +81,8 @@ pub(crate) fn station_words(
         gap,
         time_out,
         patience,
+        replace_after,
+        pause,
         rounds,
         idle_rounds,
     } = numbers;
@@ -91,6 +97,8 @@ pub(crate) fn station_words(
         gap,
         time_out,
         patience,
+        replace_after,
+        pause,
         rounds,
         idle_rounds,
         offers,

@@ -119,6 +119,18 @@ pub(crate) const STATION: Subcommand = Subcommand {
             help: "How long to try to connect, in milliseconds; the time-out unless given",
         },
         Entry {
+            id: "replace-after",
+            given: Value,
+            value: "MS",
+            help: "Let a newcomer replace what has not answered for MS, 3 time-outs unless given",
+        },
+        Entry {
+            id: "pause",
+            given: Value,
+            value: "MS",
+            help: "Pause after an idle round, in milliseconds, 0 to 3600000, 20 unless given",
+        },
+        Entry {
             id: "rounds",
             given: Value,
             value: "N",

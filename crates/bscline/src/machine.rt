@@ -5,18 +5,18 @@ use bsc_attending::{Network, Opened, Wanted};
 use bsc_carrier::Cable;
 use bsc_input::{Files, InputError, read_input};
 use bsc_loopback::{LoopbackError, connect};
-use bsc_monitor::Timer;
+use bsc_monitor::{Beginning, Timer};
 use bsc_options::Place;
 use bsc_running::Cables;
 use bsc_sockets::{
-    Begun, ConnectionSettings, Listening, Reading, Sockets, SocketsError, Writing,
+    Begun, ConnectionSettings, Listening, Reading, Reception, Sockets, SocketsError, Writing,
     connect as connect_to, listen,
 };
 use std::alloc::Global;
 use std::fs::File;
 use std::io;
 use std::io::{Error, ErrorKind, Write};
-use std::net::Net;
+use std::net::{Net, SocketAddr};
 use std::rt::Files as Filing;
 use std::thread::sleep;
 use std::time::{Clock, Duration, Instant};
@@ -71,6 +71,36 @@ impl<R: Eprint> Write for Errors<'_, R> {
     }
 }
 
+/// Tells on standard error how a station waits for its peers. What standard error does not take is
+/// lost.
+#[derive(Drop)]
+struct Receiving<'a, R> {
+    errors: Errors<'a, R>,
+    lines: Beginning,
+
+    /// Whether the peers are terminals; else there is one, the control station.
+    of_terminals: bool,
+}
+
+impl<R: Eprint> Reception for Receiving<'_, R> {
+    fn listens(&mut self, address: SocketAddr) {
+        let _ = self.lines.write_listening(address, &mut self.errors);
+    }
+
+    fn waits(&mut self, connected: usize, wanted: usize) {
+        let _ = if self.of_terminals {
+            self.lines
+                .write_waiting(connected, wanted, &mut self.errors)
+        } else {
+            self.lines.write_waiting_for_control(&mut self.errors)
+        };
+    }
+
+    fn joined(&mut self, place: usize, peer: SocketAddr) {
+        let _ = self.lines.write_joined(place, peer, &mut self.errors);
+    }
+}
+
 impl<R: AllocGlobal + Filing> Files for Machine<'_, R> {
     fn read_file(&mut self, path: &str) -> Result<Vec<u8>, InputError> {
         match File::open(self.runtime, path) {
@@ -118,7 +148,7 @@ fn connect_within<'a, R: AllocGlobal + Clock + Net>(
 }
 
 /// Makes the connections that a station asks for.
-fn begin<'a, R: AllocGlobal + Clock + Net>(
+fn begin<'a, R: AllocGlobal + Clock + Eprint + Net>(
     runtime: &'a R,
     wanted: &Wanted<'_>,
 ) -> Result<Begun<'a, R, Global>, SocketsError> {
@@ -130,7 +160,21 @@ fn begin<'a, R: AllocGlobal + Clock + Net>(
         }
         Place::Listen { address } => {
             let listening = Listening::bind(runtime, address)?;
-            listen(runtime, runtime.alloc(), listening, wanted.peers(), settings)
+            let mut reception = Receiving {
+                errors: Errors { runtime },
+                lines: Beginning {
+                    trace: wanted.trace,
+                },
+                of_terminals: wanted.begins,
+            };
+            listen(
+                runtime,
+                runtime.alloc(),
+                listening,
+                wanted.peers(),
+                settings,
+                &mut reception,
+            )
         }
     }
 }

@@ -4,7 +4,7 @@
 use bsc_attending::{Network, Opened, Wanted};
 use bsc_carrier::Cable;
 use bsc_command::{Fault, command};
-use bsc_connections::{Awaited, LiveError, Waiter};
+use bsc_connections::{Awaited, Handled, LiveError, Pace, Waiter};
 use bsc_input::{Files, InputError};
 use bsc_loopback::LoopbackError;
 use bsc_monitor::Timer;
@@ -14,6 +14,7 @@ use bsc_sockets::SocketsError;
 use std::alloc::{AllocError, Global};
 use std::io;
 use std::io::{BufWriter, Error, ErrorKind, Read, Write};
+use std::net::SocketAddr;
 use test_fixtures::configurations::TWO_TERMINALS;
 
 /// An unused end of a connection.
@@ -90,7 +91,7 @@ pub(crate) struct Scripted {
 impl Waiter<Pieces, Vec<u8>> for Scripted {
     ghost waits = { λ _ _ _. Unit {0} };
 
-    ghost begins_time_out = { λ _ _. Unit {0} };
+    ghost handles = { λ _ _ _ _. Unit {0} };
 
     ghost begins_gap = { λ _ _ _. Unit {0} };
 
@@ -99,6 +100,8 @@ impl Waiter<Pieces, Vec<u8>> for Scripted {
     ghost joins = { λ _ _ _ _. Unit {0} };
 
     ghost turns_away = { λ _ _. Unit {0} };
+
+    ghost may_replace = { λ _ _. Unit {0} };
 
     fn wait(&mut self) -> Result<Awaited, LiveError> {
         let Some(&step) = self.steps.first() else {
@@ -117,7 +120,19 @@ impl Waiter<Pieces, Vec<u8>> for Scripted {
         Ok(Awaited::Octets { connection: 0 })
     }
 
-    fn begin_time_out(&mut self) {}
+    fn handled(&mut self, _what: Handled, _pace: Pace) {}
+
+    fn replaceable(&self) -> Option<usize> {
+        None
+    }
+
+    fn peer(&self, _connection: usize) -> Option<SocketAddr> {
+        None
+    }
+
+    fn newcomer(&self) -> Option<SocketAddr> {
+        None
+    }
 
     fn begin_gap(&mut self, _connection: usize) {}
 
@@ -146,6 +161,9 @@ pub(crate) struct Asking {
     pub(crate) time_out: u64,
     pub(crate) gap: u64,
     pub(crate) patience: u64,
+    pub(crate) replace_after: u64,
+    pub(crate) pause: u64,
+    pub(crate) trace: bool,
 }
 
 /// The octets of a connection and of that of another peer, at most one piece in each read, and the
@@ -220,6 +238,9 @@ impl Network for Machine {
             time_out: wanted.time_out,
             gap: wanted.gap,
             patience: wanted.patience,
+            replace_after: wanted.replace_after,
+            pause: wanted.pause,
+            trace: wanted.trace,
         });
         let reader = Pieces {
             left: self.scene.pieces,

@@ -128,11 +128,19 @@ const TERMINALS: &[Row] = &[
     ),
     (&["--patience", "0"], OptionError::Patience),
     (&["--patience", "3600001"], OptionError::Patience),
+    (
+        &["--replace-after", "9"],
+        OptionError::ReplaceAfterNeedsListen,
+    ),
+    (&["--pause", "9"], OptionError::NeedsControl),
 ];
 
 /// Options that do not fit a control station that listens.
 const CONTROLS: &[Row] = &[
     (&["--patience", "9"], OptionError::PatienceNeedsConnect),
+    (&["--replace-after", "0"], OptionError::ReplaceAfter),
+    (&["--pause", "3600001"], OptionError::Pause),
+    (&["--replace-after", "3600001"], OptionError::ReplaceAfter),
     (&["--rounds", "0"], OptionError::Rounds),
     (&["--rounds", "18446744073709551616"], OptionError::Rounds),
     (&["--idle-rounds", "0"], OptionError::IdleRounds),

@@ -52,6 +52,9 @@ const CONNECTING: Asking = Asking {
     time_out: 3_000,
     gap: 50,
     patience: 3_000,
+    replace_after: 9_000,
+    pause: 20,
+    trace: false,
 };
 
 /// What a control station that listens requests, without further options.
@@ -64,6 +67,9 @@ const CONTROLLING: Asking = Asking {
     time_out: 6_000,
     gap: 50,
     patience: 3_000,
+    replace_after: 9_000,
+    pause: 20,
+    trace: false,
 };
 
 const CASES: &[Case] = &[
@@ -124,6 +130,7 @@ const CASES: &[Case] = &[
                 time_out: 9,
                 gap: 7,
                 patience: 9,
+                replace_after: 27,
                 ..CONNECTING
             }),
             out: TERMINAL,
@@ -188,6 +195,10 @@ const CASES: &[Case] = &[
             "0=-",
             "--idle-rounds",
             "1",
+            "--replace-after",
+            "70",
+            "--pause",
+            "0",
         ]),
         input: Some("HI\n"),
         takes: true,
@@ -197,7 +208,11 @@ const CASES: &[Case] = &[
             steps: b"trrrrrr",
         },
         due: Due {
-            asking: Some(CONTROLLING),
+            asking: Some(Asking {
+                replace_after: 70,
+                pause: 0,
+                ..CONTROLLING
+            }),
             out: "from 0: spooled 0\nto 0: offered 1, known 1\nfrom 1: spooled 0\n\
             to 1: offered 0, known 0\n",
             errors: "",
@@ -261,6 +276,7 @@ const CASES: &[Case] = &[
                 time_out: 80,
                 gap: 9,
                 patience: 40,
+                replace_after: 120,
                 ..CONNECTING
             }),
             out: "from 0: spooled 0\nto 0: offered 1, known 0\nfrom 1: spooled 0\n\

@@ -43,7 +43,8 @@ const ASKED: &[Row] = &[
         ],
         "Station(StationWords { config: \"c\", control: true, terminal: None, \
 listen: Some(\"h:1\"), connect: None, shared: false, raw: false, gap: None, time_out: None, \
-patience: None, rounds: None, idle_rounds: None, offers: [], text: false, bytes: false, \
+patience: None, replace_after: None, pause: None, rounds: None, idle_rounds: None, offers: [], \
+text: false, bytes: false, \
 report_records: false, trace: true })",
     ),
     (
@@ -67,12 +68,15 @@ report_records: false, trace: true })",
             "--idle-rounds",
             "6",
             "--patience=5",
+            "--replace-after=4",
+            "--pause=3",
             "--bytes",
             "--report-records",
         ],
         "Station(StationWords { config: \"c\", control: false, terminal: Some(\"1\"), \
 listen: None, connect: Some(\"h:1\"), shared: true, raw: true, gap: Some(\"9\"), \
-time_out: Some(\"8\"), patience: Some(\"5\"), rounds: Some(\"7\"), idle_rounds: Some(\"6\"), \
+time_out: Some(\"8\"), patience: Some(\"5\"), \
+replace_after: Some(\"4\"), pause: Some(\"3\"), rounds: Some(\"7\"), idle_rounds: Some(\"6\"), \
 offers: [\"a\", \"b\"], text: true, bytes: true, report_records: true, trace: false })",
     ),
     (&["bscline"], "Names"),
@@ -161,25 +165,29 @@ Arguments:
   <CONFIG>  The configuration, in TOML; - is standard input
 
 Options:
-      --control            Be the control station
-      --terminal <T>       Be terminal T, counted from 0
-      --listen <ADDRESS>   Let peers connect at this address
-      --connect <ADDRESS>  Connect to a peer at this address
-      --shared             Reach all terminals by one connection
-      --raw                Send octets as they stand; a gap ends a transmission
-      --gap <MS>           The gap in milliseconds, less than the time-out, 50 unless given; needs \
---raw
-      --time-out <MS>      The time-out in milliseconds, 1 to 3600000, 3000 unless given
-      --patience <MS>      How long to try to connect, in milliseconds; the time-out unless given
-      --rounds <N>         End after N rounds of the poll list
-      --idle-rounds <N>    End after N idle rounds in a row, 2 unless given
-      --offer <OFFER>      Offer the lines of PATH: at a terminal PATH, at the control station \
+      --control             Be the control station
+      --terminal <T>        Be terminal T, counted from 0
+      --listen <ADDRESS>    Let peers connect at this address
+      --connect <ADDRESS>   Connect to a peer at this address
+      --shared              Reach all terminals by one connection
+      --raw                 Send octets as they stand; a gap ends a transmission
+      --gap <MS>            The gap in milliseconds, less than the time-out, 50 unless given; \
+needs --raw
+      --time-out <MS>       The time-out in milliseconds, 1 to 3600000, 3000 unless given
+      --patience <MS>       How long to try to connect, in milliseconds; the time-out unless given
+      --replace-after <MS>  Let a newcomer replace what has not answered for MS, 3 time-outs \
+unless given
+      --pause <MS>          Pause after an idle round, in milliseconds, 0 to 3600000, 20 unless \
+given
+      --rounds <N>          End after N rounds of the poll list
+      --idle-rounds <N>     End after N idle rounds in a row, 2 unless given
+      --offer <OFFER>       Offer the lines of PATH: at a terminal PATH, at the control station \
 T.S=PATH
-      --text               Print records as text on one line, with escapes
-      --bytes              Print records as they stand
-      --report-records     Repeat the records that arrived in the report
-      --trace              Print what is sent and heard on standard error
-  -h, --help               Print help
+      --text                Print records as text on one line, with escapes
+      --bytes               Print records as they stand
+      --report-records      Repeat the records that arrived in the report
+      --trace               Print what is sent and heard on standard error
+  -h, --help                Print help
 
 Example: bscline station examples/lossy_line/line.toml --control --listen 127.0.0.1:2780 --text
 ";

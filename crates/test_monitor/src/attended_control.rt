@@ -41,7 +41,8 @@ const CONTROL_TRACE: &[u8] = b"+1 silence
 +16 control sent CALL B 161604ff1616c285ff
 +17 silence
 +18 control sent CALL A 161604ff1616c185ff
-+19 connection 0 heard EOT 161604ff
++19 terminal 1 has not answered
++20 connection 0 heard EOT 161604ff
 ";
 
 /// How a control station prints records, with a trace.
@@ -189,7 +190,53 @@ to 0: offered 1, known 0, in doubt
 from 1: spooled 0
 to 1: offered 0, known 0
 ";
-    const END: &[u8] = b"+28 control sent CALL A 161604ff1616c185ff\n+29 silence\n";
+    const END: &[u8] = b"+29 control sent CALL A 161604ff1616c185ff
++30 terminal 1 has not answered
++31 silence
+";
     assert!(rt; prints(rt.alloc(), &ATTENDED, STANDING, PRINTED, END)?);
+    Ok(())
+}
+
+/// The number of lines of a trace which say that a terminal has not answered.
+fn unanswered(trace: &[u8]) -> usize {
+    let mut count = 0usize;
+    for line in trace.split(|octet| *octet == b'\n') {
+        if line.ends_with(b" has not answered") {
+            count = count.saturating_add(1);
+        }
+    }
+    count
+}
+
+/// Attends such a control station. Returns how often its trace says that a terminal has not
+/// answered.
+fn tells_of_unanswered(alloc: Global, attended: &Attended) -> Result<usize, Fail> {
+    let mut control = sending_control(alloc)?;
+    let (mut out, mut trace) = (Vec::new(alloc), Vec::new(alloc));
+    attend_control(alloc, &mut control, attended, &mut out, &mut trace)?;
+    Ok(unanswered(&trace))
+}
+
+/// In two rounds nobody answers, but the first terminal a poll of the second one: it is told of
+/// again in the third.
+#[test]
+fn a_terminal_without_answers_is_told_of_once(rt: HostRuntime) -> Result<(), Fail> {
+    const LIMITS: Limits = Limits {
+        rounds: None,
+        idle_rounds: 9,
+    };
+    const NEVER: Attended = Attended {
+        limits: LIMITS,
+        octets: b"",
+        steps: b"tttttttttttttttttttttttttttttt",
+    };
+    const ONCE: Attended = Attended {
+        limits: LIMITS,
+        octets: b"\x00\x04\x16\x16\x04\xFF",
+        steps: b"tttttttttttttttttrrtttttttttttt",
+    };
+    assert_eq!(rt; tells_of_unanswered(rt.alloc(), &NEVER)?, 2);
+    assert_eq!(rt; tells_of_unanswered(rt.alloc(), &ONCE)?, 3);
     Ok(())
 }

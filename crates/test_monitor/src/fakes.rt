@@ -1,10 +1,11 @@
 //! A scripted connection, and a clock that counts.
 
-use bsc_connections::{Awaited, Connection, LiveError, SocketRecords, Waiter};
+use bsc_connections::{Awaited, Connection, Handled, LiveError, Pace, SocketRecords, Waiter};
 use bsc_monitor::Timer;
 use std::alloc::{AllocError, Global};
 use std::io;
 use std::io::{Read, Write};
+use std::net::SocketAddr;
 
 /// Returns these octets, and then the end of the stream.
 #[derive(Drop)]
@@ -72,7 +73,7 @@ pub(crate) struct Scripted {
 impl Waiter<Told, Taking> for Scripted {
     ghost waits = { λ _ _ _. Unit {0} };
 
-    ghost begins_time_out = { λ _ _. Unit {0} };
+    ghost handles = { λ _ _ _ _. Unit {0} };
 
     ghost begins_gap = { λ _ _ _. Unit {0} };
 
@@ -81,6 +82,8 @@ impl Waiter<Told, Taking> for Scripted {
     ghost joins = { λ _ _ _ _. Unit {0} };
 
     ghost turns_away = { λ _ _. Unit {0} };
+
+    ghost may_replace = { λ _ _. Unit {0} };
 
     fn wait(&mut self) -> Result<Awaited, LiveError> {
         let Some(&step) = self.steps.first() else {
@@ -93,7 +96,19 @@ impl Waiter<Told, Taking> for Scripted {
         Ok(Awaited::Octets { connection: 0 })
     }
 
-    fn begin_time_out(&mut self) {}
+    fn handled(&mut self, _what: Handled, _pace: Pace) {}
+
+    fn replaceable(&self) -> Option<usize> {
+        None
+    }
+
+    fn peer(&self, _connection: usize) -> Option<SocketAddr> {
+        None
+    }
+
+    fn newcomer(&self) -> Option<SocketAddr> {
+        None
+    }
 
     fn begin_gap(&mut self, _connection: usize) {}
 

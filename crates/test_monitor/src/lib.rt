@@ -10,6 +10,8 @@ mod attended_control;
 #[cfg(test)]
 mod attended_terminal;
 #[cfg(test)]
+mod beginning;
+#[cfg(test)]
 mod fakes;
 #[cfg(test)]
 mod growths;

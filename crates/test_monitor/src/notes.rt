@@ -1,9 +1,10 @@
 //! The lines of a trace for the notes that a watch receives.
 
+use crate::beginning::address;
 use crate::fakes::Counting;
 use crate::stations::control_of;
 use bsc_carrier::CarrierError;
-use bsc_connections::{LiveError, Monitor, Note};
+use bsc_connections::{LiveError, Monitor, Note, Refusal};
 use bsc_control::Control;
 use bsc_monitor::{ControlWatch, Limits, Printing, Watch};
 use bsc_print::Form;
@@ -23,24 +24,59 @@ const PRINTING: Printing = Printing {
 /// Notes that have lines of the trace.
 const NOTES: &[Note<'static>] = &[
     Note::Silence,
-    Note::Joined { connection: 1 },
+    Note::Joined {
+        connection: 1,
+        peer: None,
+        replaces: false,
+    },
+    Note::Refused {
+        peer: None,
+        why: Refusal::NotAccepted,
+    },
     Note::Sent { octets: EOT },
     Note::Closed {
         connection: 0,
+        peer: None,
         why: Some(CarrierError::Short),
     },
     Note::Closed {
         connection: 1,
+        peer: None,
         why: None,
     },
 ];
 
+/// Such notes of a peer whose address is known.
+fn notes_of_peer() -> [Note<'static>; 3] {
+    let peer = Some(address());
+    [
+        Note::Joined {
+            connection: 1,
+            peer,
+            replaces: true,
+        },
+        Note::Refused {
+            peer,
+            why: Refusal::NoPlace,
+        },
+        Note::Closed {
+            connection: 1,
+            peer,
+            why: None,
+        },
+    ]
+}
+
 /// The lines of these notes.
 const TRACE: &[u8] = b"+1 silence
 +2 connection 1 joined
-+3 control sent EOT 161604ff
-+4 connection 0 closed: the input ended within a record
-+5 connection 1 closed
++3 refused a peer: the system cannot accept it yet
++4 control sent EOT 161604ff
++5 connection 0 closed: the input ended within a record
++6 connection 1 closed
++7 connection 1 from 127.0.0.1:2780 joined in place of one that did not answer
++8 refused 127.0.0.1:2780: every place is taken
++9 connection 1 from 127.0.0.1:2780 closed
 ";
 
 /// Passes these notes to a watch.
@@ -60,6 +96,9 @@ fn tell<W: Write>(
     };
     let mut watch = ControlWatch::new(control, watch, limits, true);
     for note in NOTES {
+        watch.note(control, *note)?;
+    }
+    for note in &notes_of_peer() {
         watch.note(control, *note)?;
     }
     Ok(())

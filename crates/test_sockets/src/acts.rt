@@ -1,6 +1,6 @@
 //! The acts of a station and its peers in a test, and the acts at the station.
 
-use bsc_connections::{Awaited, Waiter};
+use bsc_connections::{Awaited, Handled, Pace, Waiter};
 use std::io;
 use std::io::{ErrorKind, Read, Write};
 use std::time::Instant;
@@ -9,10 +9,13 @@ use std::time::Instant;
 pub(crate) type Read4 = Result<&'static [u8], ErrorKind>;
 
 /// What peers do every 5 milliseconds to keep a station busy.
-#[derive(Clone, Copy)]
+#[derive(Clone, Copy, PartialEq, Eq)]
 pub(crate) enum Busy {
     /// The last peer sends an octet, which the station reads.
     Octets,
+
+    /// The same, and the station takes it for a transmission that it does not answer.
+    Transmissions,
 
     /// Another peer connects, which the station turns away.
     Peers,
@@ -53,6 +56,9 @@ pub(crate) enum Act {
     /// this result after at least the first number of milliseconds, and less than the second.
     Passes(Awaited, u128, u128),
 
+    /// The same with a wait that begins with a pause.
+    PassesAfterPause(Awaited, u128, u128),
+
     /// The same while peers keep the station busy.
     PassesThough(Busy, Awaited, u128, u128),
 
@@ -61,6 +67,12 @@ pub(crate) enum Act {
 
     /// Nothing is left to read on a connection.
     NothingLeft(usize),
+
+    /// The station answers a transmission of a connection.
+    Answers(usize),
+
+    /// The connection that may be replaced.
+    Replaceable(Option<usize>),
 
     /// Another peer connects.
     Comes,
@@ -86,17 +98,25 @@ pub(crate) fn station_goes<R: Read + Drop, W: Write + Drop, S: Waiter<R, W>>(
         Act::LetsGo(place) => lets_go(connections, place),
         Act::Joins(place, joins) => joins_at(sockets, connections, place) == joins,
         Act::Waits(awaited) => {
-            sockets.begin_time_out();
+            sockets.handled(Handled::Silence, Pace::AtOnce);
             sockets.wait() == Ok(awaited)
         }
         Act::Passes(awaited, least, most) => {
-            is_between(passed(rt, sockets, awaited), least, most)
+            is_between(passed(rt, sockets, awaited, Pace::AtOnce), least, most)
+        }
+        Act::PassesAfterPause(awaited, least, most) => {
+            is_between(passed(rt, sockets, awaited, Pace::AfterPause), least, most)
         }
         Act::Shares(least) => shares(sockets, least),
         Act::NothingLeft(place) => {
             sockets.nothing_left(place);
             true
         }
+        Act::Answers(connection) => {
+            sockets.handled(Handled::Answered { connection }, Pace::AtOnce);
+            true
+        }
+        Act::Replaceable(place) => sockets.replaceable() == place,
         Act::TurnsAway => {
             sockets.turn_away();
             true
@@ -200,8 +220,8 @@ fn joins_at<R: Drop, W: Drop, S: Waiter<R, W>>(
 }
 
 /// Begins the time of the time-out, and that of the gap of this result.
-pub(crate) fn begin<R, W, S: Waiter<R, W>>(sockets: &mut S, awaited: Awaited) {
-    sockets.begin_time_out();
+pub(crate) fn begin<R, W, S: Waiter<R, W>>(sockets: &mut S, awaited: Awaited, pace: Pace) {
+    sockets.handled(Handled::Silence, pace);
     if let Awaited::Gap { connection } = awaited {
         sockets.begin_gap(connection);
     }
@@ -212,8 +232,9 @@ fn passed<R, W, S: Waiter<R, W>>(
     rt: &HostRuntime,
     sockets: &mut S,
     expected: Awaited,
+    pace: Pace,
 ) -> Option<u128> {
-    begin(sockets, expected);
+    begin(sockets, expected, pace);
     let start = Instant::now(rt).ok()?;
     let awaited = sockets.wait();
     let passed = start.elapsed(rt).ok()?.as_millis();

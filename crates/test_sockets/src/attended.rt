@@ -4,8 +4,10 @@ use crate::memory::Piece::{Fails, Octets};
 use crate::memory::{Counts, Ends, Expecting, NOT_TOLD, Pieces, Told};
 use crate::watching::{Answers, Expects};
 use bsc_carrier::CarrierError;
-use bsc_connections::Awaited::{Gap, Newcomer, TimeOut};
-use bsc_connections::{Awaited, Connection, Framing, Gaps, LiveError, Note, SocketRecords, attend};
+use bsc_connections::Awaited::{Gap, Newcomer, NotAccepted, TimeOut};
+use bsc_connections::{
+    Awaited, Connection, Framing, Gaps, LiveError, Note, Refusal, SocketRecords, attend,
+};
 use std::alloc::Global;
 use std::io::ErrorKind;
 use std::test::Fail;
@@ -19,6 +21,9 @@ struct Attended {
     second: Ends,
     newcomer: Ends,
 
+    /// The place of the connection that a newcomer may replace.
+    replaceable: Option<usize>,
+
     /// The results of the waits.
     waits: &'static [Awaited],
 
@@ -27,8 +32,8 @@ struct Attended {
     notes: &'static [Note<'static>],
     result: Result<(), LiveError>,
 
-    /// What the waiter was told. The time of the time-out begins anew after each transmission that
-    /// is heard and each silence, and with nothing else.
+    /// What the waiter was told. It is told of each transmission that is heard and of each silence,
+    /// and of nothing else, that it was handled.
     counts: Counts,
 }
 
@@ -73,6 +78,7 @@ const OVER_RECORDS: &[Attended] = &[
         ),
         second: (&[], EOT_AND_ACK0),
         newcomer: NONE,
+        replaceable: None,
         waits: &[
             FIRST, FIRST, FIRST, FIRST, FIRST, FIRST, TimeOut, FIRST, FIRST, FIRST, SECOND,
         ],
@@ -86,10 +92,12 @@ const OVER_RECORDS: &[Attended] = &[
             Note::Sent { octets: ACK0 },
             Note::Closed {
                 connection: 0,
+                peer: None,
                 why: None,
             },
             Note::Closed {
                 connection: 1,
+                peer: None,
                 why: None,
             },
         ],
@@ -97,7 +105,9 @@ const OVER_RECORDS: &[Attended] = &[
         counts: Counts {
             nothing_left: 5,
             turned_away: 0,
-            time_outs: 2,
+            handled: 2,
+            answers: 1,
+            pauses: 2,
             gaps: 0,
         },
     },
@@ -106,14 +116,17 @@ const OVER_RECORDS: &[Attended] = &[
         first: (&[Octets(&[0x00])], &[]),
         second: (&[Octets(&[0x08, 0x01])], &[]),
         newcomer: NONE,
+        replaceable: None,
         waits: &[FIRST, FIRST, FIRST, SECOND],
         notes: &[
             Note::Closed {
                 connection: 0,
+                peer: None,
                 why: Some(CarrierError::Short),
             },
             Note::Closed {
                 connection: 1,
+                peer: None,
                 why: Some(CarrierError::Length),
             },
         ],
@@ -121,25 +134,30 @@ const OVER_RECORDS: &[Attended] = &[
         counts: Counts {
             nothing_left: 3,
             turned_away: 0,
-            time_outs: 0,
+            handled: 0,
+            answers: 0,
+            pauses: 0,
             gaps: 0,
         },
     },
     Attended {
-        shows: "a write that fails is told by the next read, and then no more",
+        shows: "a write that fails is told before the next wait, and then no more",
         first: (&[], &[0x00, 0x04, 0x16, 0x16, 0x04, 0xff]),
         second: (&[Octets(&[0x00])], &[]),
         newcomer: NONE,
-        waits: &[TimeOut, SECOND, SECOND, FIRST],
+        replaceable: None,
+        waits: &[TimeOut, SECOND, FIRST],
         notes: &[
             Note::Silence,
             Note::Sent { octets: EOT },
             Note::Closed {
                 connection: 1,
+                peer: None,
                 why: Some(CarrierError::Device),
             },
             Note::Closed {
                 connection: 0,
+                peer: None,
                 why: None,
             },
         ],
@@ -147,7 +165,9 @@ const OVER_RECORDS: &[Attended] = &[
         counts: Counts {
             nothing_left: 3,
             turned_away: 0,
-            time_outs: 1,
+            handled: 1,
+            answers: 0,
+            pauses: 1,
             gaps: 0,
         },
     },
@@ -156,13 +176,27 @@ const OVER_RECORDS: &[Attended] = &[
         first: (&[Octets(&[0x00, 0x00])], &[]),
         second: NONE,
         newcomer: (&[Octets(&[0x00, 0x01]), Octets(&[0x55])], &[]),
-        waits: &[Newcomer, FIRST, FIRST, Newcomer, FIRST, FIRST],
+        replaceable: None,
+        waits: &[Newcomer, FIRST, FIRST, Newcomer, NotAccepted, FIRST, FIRST],
         notes: &[
+            Note::Refused {
+                peer: None,
+                why: Refusal::NoPlace,
+            },
             Note::Closed {
                 connection: 0,
+                peer: None,
                 why: Some(CarrierError::Length),
             },
-            Note::Joined { connection: 0 },
+            Note::Joined {
+                connection: 0,
+                peer: None,
+                replaces: false,
+            },
+            Note::Refused {
+                peer: None,
+                why: Refusal::NotAccepted,
+            },
             Note::Heard {
                 connection: 0,
                 octets: &[0x55],
@@ -172,7 +206,37 @@ const OVER_RECORDS: &[Attended] = &[
         counts: Counts {
             nothing_left: 2,
             turned_away: 1,
-            time_outs: 1,
+            handled: 1,
+            answers: 0,
+            pauses: 0,
+            gaps: 0,
+        },
+    },
+    Attended {
+        shows: "a newcomer takes the place of a connection that may be replaced, and nothing of it",
+        first: (&[Octets(&[0x00, 0x04]), Octets(&[0x16])], &[]),
+        second: NONE,
+        newcomer: (&[Octets(&[0x00, 0x01]), Octets(&[0x55])], &[]),
+        replaceable: Some(0),
+        waits: &[FIRST, FIRST, Newcomer, FIRST, FIRST],
+        notes: &[
+            Note::Joined {
+                connection: 0,
+                peer: None,
+                replaces: true,
+            },
+            Note::Heard {
+                connection: 0,
+                octets: &[0x55],
+            },
+        ],
+        result: Ok(()),
+        counts: Counts {
+            nothing_left: 0,
+            turned_away: 0,
+            handled: 1,
+            answers: 0,
+            pauses: 0,
             gaps: 0,
         },
     },
@@ -184,6 +248,7 @@ const OVER_GAPS: &[Attended] = &[
         first: (&[], ACK0_AND_EOT),
         second: (&[Octets(&[0x16, 0x16]), Octets(&[0x04])], ACK0_AND_EOT),
         newcomer: NONE,
+        replaceable: None,
         waits: &[
             SECOND,
             SECOND,
@@ -202,10 +267,12 @@ const OVER_GAPS: &[Attended] = &[
             Note::Sent { octets: EOT },
             Note::Closed {
                 connection: 1,
+                peer: None,
                 why: None,
             },
             Note::Closed {
                 connection: 0,
+                peer: None,
                 why: None,
             },
         ],
@@ -213,7 +280,9 @@ const OVER_GAPS: &[Attended] = &[
         counts: Counts {
             nothing_left: 2,
             turned_away: 0,
-            time_outs: 2,
+            handled: 2,
+            answers: 1,
+            pauses: 2,
             gaps: 2,
         },
     },
@@ -222,6 +291,7 @@ const OVER_GAPS: &[Attended] = &[
         first: (&[], EOT_THEN_ACK0),
         second: (&[Octets(&[0x16, 0x16]), Octets(&[0x04])], EOT_THEN_ACK0),
         newcomer: NONE,
+        replaceable: None,
         waits: &[
             Gap { connection: 0 },
             Gap { connection: 2 },
@@ -241,6 +311,7 @@ const OVER_GAPS: &[Attended] = &[
             Note::Sent { octets: ACK0 },
             Note::Closed {
                 connection: 1,
+                peer: None,
                 why: None,
             },
         ],
@@ -248,7 +319,9 @@ const OVER_GAPS: &[Attended] = &[
         counts: Counts {
             nothing_left: 1,
             turned_away: 0,
-            time_outs: 2,
+            handled: 2,
+            answers: 1,
+            pauses: 2,
             gaps: 2,
         },
     },
@@ -257,16 +330,20 @@ const OVER_GAPS: &[Attended] = &[
         first: (&[Fails(ErrorKind::ConnectionReset)], &[]),
         second: NONE,
         newcomer: NONE,
+        replaceable: None,
         waits: &[FIRST],
         notes: &[Note::Closed {
             connection: 0,
+            peer: None,
             why: Some(CarrierError::Device),
         }],
         result: Ok(()),
         counts: Counts {
             nothing_left: 1,
             turned_away: 0,
-            time_outs: 0,
+            handled: 0,
+            answers: 0,
+            pauses: 0,
             gaps: 0,
         },
     },
@@ -287,6 +364,7 @@ fn goes_over<F: Framing + Drop>(
         waits: attended.waits,
         nowhere: 0,
         newcomer: attended.newcomer,
+        replaceable: attended.replaceable,
         counts: NOT_TOLD,
     };
     let mut monitor = Expects::new(attended.notes, attended.result.is_ok());
@@ -332,6 +410,7 @@ fn a_station_is_attended_for_millions_of_steps(rt: HostRuntime) -> Result<(), Fa
         waits: &[],
         nowhere: 2_000_000,
         newcomer: NONE,
+        replaceable: None,
         counts: NOT_TOLD,
     };
     let mut monitor = Expects::new(&[], false);

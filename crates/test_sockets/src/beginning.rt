@@ -1,7 +1,7 @@
 //! How connections begin, and the errors if they cannot.
 
 use crate::acts::{reads_at, writes_at};
-use crate::meeting::{bound, patience, peer, settings};
+use crate::meeting::{Told, bound, patience, peer, settings};
 use bsc_connections::{Awaited, Waiter};
 use bsc_sockets::{Begun, Listening, Peers, SocketsError, connect, connect_to_any, listen};
 use std::alloc::{AllocError, Allocator, Global};
@@ -33,7 +33,7 @@ pub(crate) fn connections_at<A: Allocator + Copy>(
         patience,
         keeps_listening: true,
     };
-    let begun = listen(rt, alloc, listening, peers, settings())?;
+    let begun = listen(rt, alloc, listening, peers, settings(), &mut Told::new())?;
     Ok(begun.connections.len())
 }
 
@@ -162,7 +162,7 @@ fn listens_to<P, Q: Write>(
     let Begun {
         mut sockets,
         mut connections,
-    } = listen(rt, alloc, listening, peers, settings())?;
+    } = listen(rt, alloc, listening, peers, settings(), &mut Told::new())?;
     let meets = writes_at(near, 0, &[0x16]) && hears(&mut sockets, &mut connections);
     let third = connections_to(rt, alloc, address);
     Ok(meets && third == Err(SocketsError::NobodyThere))

@@ -1,8 +1,8 @@
 //! A station that listens, and the peers that connected to it.
 
 use crate::acts::{Act, Busy, Read4, begin, is_between, reads, station_goes};
-use bsc_connections::{Awaited, Waiter};
-use bsc_sockets::{Begun, ConnectionSettings, Listening, Peers, SocketsError, listen};
+use bsc_connections::{Awaited, Handled, Pace, Waiter};
+use bsc_sockets::{Begun, ConnectionSettings, Listening, Peers, Reception, SocketsError, listen};
 use std::alloc::Global;
 use std::io;
 use std::io::{Read, Write};
@@ -15,11 +15,14 @@ pub(crate) fn patience() -> Duration {
     Duration::from_secs(5)
 }
 
-/// A time-out of 40 milliseconds, and a gap of 10.
+/// A time-out of 40 milliseconds, a gap of 10, and a pause of 15; a connection may be replaced
+/// after two time-outs.
 pub(crate) fn settings() -> ConnectionSettings {
     ConnectionSettings {
         time_out: Duration::from_millis(40),
         gap: Duration::from_millis(10),
+        replace_after: Duration::from_millis(80),
+        pause: Duration::from_millis(15),
         begins: false,
     }
 }
@@ -36,6 +39,48 @@ pub(crate) fn peer(rt: &HostRuntime, address: SocketAddr) -> io::Result<TcpStrea
     let stream = TcpStream::connect(rt, address)?;
     stream.set_read_timeout(Some(patience()))?;
     Ok(stream)
+}
+
+/// What is told while a station waits for its peers.
+#[derive(Clone, Copy, Debug)]
+pub(crate) struct Told {
+    /// The address at which they can connect.
+    address: Option<SocketAddr>,
+
+    /// The number of waits; each has to be told of as many connections.
+    waits: usize,
+
+    /// The number of peers that joined; each has to be told of its place.
+    joined: usize,
+}
+
+impl Told {
+    /// Nothing is told yet.
+    pub(crate) fn new() -> Told {
+        Told {
+            address: None,
+            waits: 0,
+            joined: 0,
+        }
+    }
+}
+
+impl Reception for Told {
+    fn listens(&mut self, address: SocketAddr) {
+        self.address = Some(address);
+    }
+
+    fn waits(&mut self, connected: usize, _wanted: usize) {
+        if connected == self.waits {
+            self.waits = self.waits.saturating_add(1);
+        }
+    }
+
+    fn joined(&mut self, place: usize, _peer: SocketAddr) {
+        if place == self.joined {
+            self.joined = self.joined.saturating_add(1);
+        }
+    }
 }
 
 /// A station, and its peers in the order in which they connected.
@@ -61,7 +106,12 @@ fn meet<'a>(
         patience: patience(),
         keeps_listening: true,
     };
-    let begun = listen(rt, alloc, listening, wanted, settings)?;
+    let mut told = Told::new();
+    let begun = listen(rt, alloc, listening, wanted, settings, &mut told)?;
+    let count = wanted.count;
+    if told.address != Some(address) || (told.waits, told.joined) != (count, count) {
+        return Err(Fail::new(format_args!("{told:?}, and not of {count}")));
+    }
     Ok(Meeting {
         rt,
         address,
@@ -155,14 +205,14 @@ impl<'a> Meeting<'a> {
     /// The number of milliseconds after which a wait has this result, though peers keep the station
     /// busy, at most 200 times. The times begin with the first wait.
     fn passed(&mut self, busy: Busy, expected: Awaited) -> Option<u128> {
-        begin(&mut self.begun.sockets, expected);
+        begin(&mut self.begun.sockets, expected, Pace::AtOnce);
         let start = Instant::now(self.rt).ok()?;
         for _ in 0..200u32 {
             let begun = Instant::now(self.rt).ok()?;
             if !self.disturbs(busy) {
                 return None;
             }
-            if self.serves()? == expected {
+            if self.serves(busy)? == expected {
                 return Some(start.elapsed(self.rt).ok()?.as_millis());
             }
             pause(self.rt, begun)?;
@@ -173,7 +223,7 @@ impl<'a> Meeting<'a> {
     /// Whether a peer keeps the station busy once.
     fn disturbs(&mut self, busy: Busy) -> bool {
         match busy {
-            Busy::Octets => match self.peers.last_mut() {
+            Busy::Octets | Busy::Transmissions => match self.peers.last_mut() {
                 Some(peer) => peer.write_all(b"x").is_ok(),
                 None => false,
             },
@@ -182,7 +232,7 @@ impl<'a> Meeting<'a> {
     }
 
     /// Waits once and serves what happened.
-    fn serves(&mut self) -> Option<Awaited> {
+    fn serves(&mut self, busy: Busy) -> Option<Awaited> {
         let Begun {
             sockets,
             connections,
@@ -193,9 +243,12 @@ impl<'a> Meeting<'a> {
                 let (reading, _) = connections.get_mut(connection)?;
                 let _ = reading.read(&mut [0u8; 64]);
                 sockets.nothing_left(connection);
+                if busy == Busy::Transmissions {
+                    sockets.handled(Handled::Unanswered { connection }, Pace::AtOnce);
+                }
             }
             Awaited::Newcomer => sockets.turn_away(),
-            Awaited::Gap { .. } | Awaited::TimeOut => {}
+            Awaited::NotAccepted | Awaited::Gap { .. } | Awaited::TimeOut => {}
         }
         Some(awaited)
     }

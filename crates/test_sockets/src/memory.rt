@@ -1,9 +1,10 @@
 //! A reader with given octets, a writer that accepts only given octets, and a waiter with given
 //! results.
 
-use bsc_connections::{Awaited, LiveError, Waiter};
+use bsc_connections::{Awaited, Handled, LiveError, Pace, Waiter};
 use std::io;
 use std::io::{Error, ErrorKind, Read, Write};
+use std::net::SocketAddr;
 
 /// The result of one read.
 #[derive(Clone, Copy)]
@@ -68,6 +69,8 @@ pub(crate) struct Told {
     pub(crate) waits: &'static [Awaited],
     pub(crate) nowhere: u64,
     pub(crate) newcomer: Ends,
+    /// The place of the connection that may be replaced.
+    pub(crate) replaceable: Option<usize>,
     pub(crate) counts: Counts,
 }
 
@@ -81,8 +84,12 @@ pub(crate) struct Counts {
     pub(crate) nothing_left: u32,
     /// To turn a newcomer away.
     pub(crate) turned_away: u32,
-    /// To begin the time of the time-out anew.
-    pub(crate) time_outs: u32,
+    /// What the station has handled.
+    pub(crate) handled: u32,
+    /// What it has answered of that.
+    pub(crate) answers: u32,
+    /// The pauses that the monitor asked for.
+    pub(crate) pauses: u32,
     /// To begin the gap of a connection anew.
     pub(crate) gaps: u32,
 }
@@ -91,7 +98,9 @@ pub(crate) struct Counts {
 pub(crate) const NOT_TOLD: Counts = Counts {
     nothing_left: 0,
     turned_away: 0,
-    time_outs: 0,
+    handled: 0,
+    answers: 0,
+    pauses: 0,
     gaps: 0,
 };
 
@@ -100,7 +109,7 @@ impl Waiter<Pieces, Expecting> for Told {
 
     ghost waits = { λ _ _ _. ⊤ };
 
-    ghost begins_time_out = { λ _ _. ⊤ };
+    ghost handles = { λ _ _ _ _. ⊤ };
 
     ghost begins_gap = { λ _ _ _. ⊤ };
 
@@ -109,6 +118,8 @@ impl Waiter<Pieces, Expecting> for Told {
     ghost joins = { λ _ _ _ _. ⊤ };
 
     ghost turns_away = { λ _ _. ⊤ };
+
+    ghost may_replace = { λ _ _. ⊤ };
 
     fn wait(&mut self) -> Result<Awaited, LiveError> {
         match self.waits.split_first() {
@@ -124,8 +135,14 @@ impl Waiter<Pieces, Expecting> for Told {
         }
     }
 
-    fn begin_time_out(&mut self) {
-        self.counts.time_outs = self.counts.time_outs.wrapping_add(1);
+    fn handled(&mut self, what: Handled, pace: Pace) {
+        self.counts.handled = self.counts.handled.wrapping_add(1);
+        if matches!(what, Handled::Answered { .. }) {
+            self.counts.answers = self.counts.answers.wrapping_add(1);
+        }
+        if pace == Pace::AfterPause {
+            self.counts.pauses = self.counts.pauses.wrapping_add(1);
+        }
     }
 
     fn begin_gap(&mut self, _connection: usize) {
@@ -143,5 +160,17 @@ impl Waiter<Pieces, Expecting> for Told {
 
     fn turn_away(&mut self) {
         self.counts.turned_away = self.counts.turned_away.wrapping_add(1);
+    }
+
+    fn replaceable(&self) -> Option<usize> {
+        self.replaceable
+    }
+
+    fn peer(&self, _connection: usize) -> Option<SocketAddr> {
+        None
+    }
+
+    fn newcomer(&self) -> Option<SocketAddr> {
+        None
     }
 }

@@ -1,7 +1,7 @@
 //! Each growth of memory is refused in turn.
 
 use crate::beginning::{connections_at, connections_to, text};
-use crate::meeting::{bound, patience, peer, settings};
+use crate::meeting::{Told, bound, patience, peer, settings};
 use bsc_connections::{Awaited, Waiter};
 use bsc_sockets::{Peers, Sockets, SocketsError, listen};
 use std::alloc::{Allocator, Global};
@@ -65,7 +65,7 @@ fn without_peer<'a, A: Allocator + Copy>(
         patience: patience(),
         keeps_listening: true,
     };
-    let begun = listen(rt, alloc, listening, peers, settings())?;
+    let begun = listen(rt, alloc, listening, peers, settings(), &mut Told::new())?;
     Ok((begun.sockets, address))
 }
 

@@ -1,8 +1,8 @@
 //! The octets that a station receives and sends.
 
 use crate::acts::Act::{
-    Comes, Empties, Ends, Fills, Hears, Joins, LetsGo, NothingLeft, Passes, PassesThough, Reads,
-    Sends, Shares, TurnsAway, Waits, Writes,
+    Answers, Comes, Empties, Ends, Fills, Hears, Joins, LetsGo, NothingLeft, Passes,
+    PassesAfterPause, PassesThough, Reads, Replaceable, Sends, Shares, TurnsAway, Waits, Writes,
 };
 use crate::acts::{Act, Busy};
 use crate::meeting::{Encounter, play};
@@ -85,6 +85,37 @@ fn a_station_and_its_peers_meet(rt: HostRuntime) -> Result<(), Fail> {
     play(&rt, rt.alloc(), MEETINGS)
 }
 
+const REPLACED: &[Encounter] = &[Encounter {
+    shows: "the connection that nobody answers on for two time-outs may be replaced, unless closed",
+    peers: 2,
+    begins: false,
+    acts: &[
+        Replaceable(None),
+        Waits(Awaited::TimeOut),
+        Replaceable(None),
+        Answers(0),
+        Waits(Awaited::TimeOut),
+        Replaceable(Some(1)),
+        Comes,
+        Waits(Awaited::Newcomer),
+        Sends(1, b"lost"),
+        LetsGo(1),
+        Joins(1, true),
+        Replaceable(None),
+        Sends(2, b"here"),
+        Waits(Awaited::Octets { connection: 1 }),
+        Reads(1, Ok(b"here")),
+        NothingLeft(1),
+        Waits(Awaited::TimeOut),
+        Replaceable(Some(0)),
+    ],
+}];
+
+#[test]
+fn a_connection_without_answers_is_replaced(rt: HostRuntime) -> Result<(), Fail> {
+    play(&rt, rt.alloc(), REPLACED)
+}
+
 const BUSY: &[Encounter] = &[Encounter {
     shows: "one peer has octets at all times, a second one has some, and a third one comes",
     peers: 2,
@@ -104,14 +135,19 @@ fn no_peer_hides_another(rt: HostRuntime) -> Result<(), Fail> {
 }
 
 const QUIET: &[Encounter] = &[Encounter {
-    shows: "a time-out and a gap pass in their time, and the first wait at once where it begins",
+    shows: "a time-out, a gap and a pause pass in their time, and the first wait at once",
     peers: 1,
     begins: true,
     acts: &[
         Passes(Awaited::TimeOut, 0, 30),
         Passes(Awaited::TimeOut, 40, 400),
+        Replaceable(None),
         Passes(GAP, 10, 400),
+        PassesAfterPause(Awaited::TimeOut, 55, 400),
         Passes(Awaited::TimeOut, 40, 400),
+        Sends(0, b"here"),
+        PassesAfterPause(FIRST, 15, 400),
+        Passes(FIRST, 0, 15),
     ],
 }];
 
@@ -122,6 +158,7 @@ const DISTURBED: &[Encounter] = &[Encounter {
     acts: &[
         PassesThough(Busy::Octets, Awaited::TimeOut, 40, 400),
         PassesThough(Busy::Octets, GAP, 10, 400),
+        PassesThough(Busy::Transmissions, Awaited::TimeOut, 40, 400),
         PassesThough(Busy::Peers, Awaited::TimeOut, 40, 400),
     ],
 }];

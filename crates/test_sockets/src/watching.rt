@@ -5,7 +5,7 @@ ghost use Rattle.std.specs.Prelude.{◌≡◌};
 
 use bsc_bid::Station;
 use bsc_carrier::CarrierError;
-use bsc_connections::{LiveError, Monitor, Note};
+use bsc_connections::{LiveError, Monitor, Note, Pace, Refusal};
 use bsc_frame::{Heard, MessageBuffer, Reply};
 
 /// Answers a message with ACK0 and a failed text with NAK, and sends EOT after a silence.
@@ -49,6 +49,8 @@ pub(crate) struct Expects {
     taken: usize,
     ends: bool,
     has_ended: bool,
+    /// A pause after a note of what was sent.
+    pace: Pace,
 }
 
 /// The octets of a note, the number of its connection, and the reason for closing it. Notes of
@@ -64,8 +66,22 @@ fn parts<'a>(
         Note::Heard { connection, octets } => (Some(octets), Some(connection), None),
         Note::Silence => (None, None, None),
         Note::Sent { octets } => (Some(octets), None, None),
-        Note::Joined { connection } => (None, Some(connection), None),
-        Note::Closed { connection, why } => (None, Some(connection), Some(why)),
+        Note::Joined {
+            connection,
+            replaces: false,
+            ..
+        } => (None, Some(connection), None),
+        Note::Joined { connection, .. } => (Some(b"replaced"), Some(connection), None),
+        Note::Refused {
+            why: Refusal::NoPlace,
+            ..
+        } => (Some(b"refused"), None, None),
+        Note::Refused { .. } => (Some(b"not accepted"), None, None),
+        Note::Closed {
+            connection,
+            why,
+            ..
+        } => (None, Some(connection), Some(why)),
     }
 }
 
@@ -77,6 +93,7 @@ impl Expects {
             taken: 0,
             ends,
             has_ended: false,
+            pace: Pace::AtOnce,
         }
     }
 
@@ -101,9 +118,15 @@ impl Expects {
 impl Monitor<Answers> for Expects {
     ghost has_ended = { λ expects. expects.has_ended };
 
+    ghost paces = { λ expects. expects.pace };
+
     ghost is_told = { λ _ _ _ _ _. Unit {0} };
 
     fn note(&mut self, _station: &Answers, note: Note<'_>) -> Result<bool, LiveError> {
+        self.pace = match note {
+            Note::Sent { .. } => Pace::AfterPause,
+            _ => Pace::AtOnce,
+        };
         if !self.is_next(&note) {
             return Err(LiveError::Output);
         }
@@ -111,5 +134,9 @@ impl Monitor<Answers> for Expects {
             self.has_ended = true;
         }
         Ok(!self.has_ended)
+    }
+
+    fn pace(&self) -> Pace {
+        self.pace
     }
 }

@@ -1,11 +1,25 @@
 -- `answer_at` tells the monitor what the station heard, and sends what it answers if the monitor
 -- accepts.
-use Rattle.std.proofs.Common.{ℕ, List, ◌∷◌, get_or, refl, sym, subst}
+use Rattle.std.proofs.Common.{◌≡◌, ℕ, Bool, List, ◌∷◌, Option, None, Some, get_or, refl, sym, subst}
+use Rattle.std.proofs.Common.{◌∙◌, ap}
 use Rattle.std.proofs.lemmas.Option.{slice_get-get_or}
 use Rattle.bsc_frame.specs.Spells.{IsHeardAs}
 use Rattle.bsc_bid.specs.Station.{IsSent}
+use Rattle.bsc_frame.specs.declared.message.Message.{Message}
+use Rattle.bsc_connections.specs.Attending.{handled_by, handled_if}
+use Rattle.bsc_connections.specs.declared.awaited.Handled.{Handled}
+use Rattle.bsc_connections.specs.declared.awaited.Pace.{Pace}
 use Rattle.bsc_connections.specs.Histories.{WasHeard}
 use Rattle.bsc_connections.proofs.attending.answer_at.Goals as goal
+
+-- The waiter is told that the station answered exactly if there is an answer.
+answered_if_sent : (answer : Option Message) (is_sent : Bool) (sent heard : List ℕ) (place : ℕ)
+    → IsSent answer is_sent sent
+    → handled_if is_sent place ≡ handled_by (WasHeard place heard) answer
+answered_if_sent None is_sent sent heard place (unsent, none) =
+    ap (λ (b : Bool). handled_if b place) unsent
+answered_if_sent (Some m) is_sent sent heard place (was_sent, is, message) =
+    ap (λ (b : Bool). handled_if b place) was_sent
 
 pub returns-clause-hears : goal.returns-clause-hears
 returns-clause-hears g c =
@@ -34,7 +48,13 @@ returns-clause-hears g c =
           later = later;
           replies = replies;
           happens = refl;
-          begins = c.begin_time_out.ensures;
+          handles = subst (λ (what : Handled).
+              g.T.Waiter.handles c.args.waiter.now what (g.M.Monitor.paces c.reply-result.new.monitor)
+              c.handled.new.self)
+              (c.handled_at.ensures ∙ answered_if_sent answer c.hear-is_sent.result _ octets
+              c.args.connection sends)
+              (subst (λ (pace : Pace). g.T.Waiter.handles c.args.waiter.now c.handled_at.result pace
+              c.handled.new.self) c.pace.ensures c.handled.ensures);
         };
       },
     )

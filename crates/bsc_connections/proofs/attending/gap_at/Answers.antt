@@ -12,7 +12,7 @@ pub returns-then-not-awaits_gap_at-clause-does : goal.returns-then-not-awaits_ga
 returns-then-not-awaits_gap_at-clause-does g c = (
   [],
   subst (λ (b : Bool). GapPasses
-      (session_parts g.S.Station g.R.Read g.W.Write g.F.Framing g.M.Monitor.is_told g.T.Waiter)
+      (session_parts g.S.Station g.R.Read g.W.Write g.F.Framing g.M.Monitor.is_told g.M.Monitor.paces g.T.Waiter)
       c.args.connection b
       (record {
         station = c.args.station.now;
@@ -44,7 +44,7 @@ returns-clause-does g c =
     let (happened, heard) = c.answer_at.ensures.hears in (
       happened,
       subst (λ (b : Bool). GapPasses
-          (session_parts g.S.Station g.R.Read g.W.Write g.F.Framing g.M.Monitor.is_told g.T.Waiter)
+          (session_parts g.S.Station g.R.Read g.W.Write g.F.Framing g.M.Monitor.is_told g.M.Monitor.paces g.T.Waiter)
           place b
           (record {
             station = c.args.station.now;

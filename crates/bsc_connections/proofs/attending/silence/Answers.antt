@@ -1,6 +1,8 @@
 -- `silence` tells the monitor, and sends what the station answers if the monitor accepts.
 use Rattle.std.proofs.Common.{ℕ, List, ◌∷◌, refl, sym, subst}
 use Rattle.bsc_bid.specs.Station.{IsSent}
+use Rattle.bsc_connections.specs.declared.awaited.Handled.TheVariants.{Silence}
+use Rattle.bsc_connections.specs.declared.awaited.Pace.{Pace}
 use Rattle.bsc_connections.specs.Histories.{WasSilent}
 use Rattle.bsc_connections.proofs.attending.silence.Goals as goal
 
@@ -20,7 +22,9 @@ returns-clause-silent g c =
           later = later;
           replies = replies;
           happens = refl;
-          begins = c.begin_time_out.ensures;
+          handles = subst (λ (pace : Pace).
+              g.T.Waiter.handles c.args.waiter.now Silence pace c.handled.new.self)
+              c.pace.ensures c.handled.ensures;
         };
       },
     )

@@ -10,13 +10,18 @@ returns c =
     let gap = c.in_ok-option_text.ensures ∙ first_value-rows found (codes "gap") in
     let time_out = c.in_ok-option_text-2.ensures ∙ first_value-rows found (codes "time-out") in
     let patience = c.in_ok-option_text-3.ensures ∙ first_value-rows found (codes "patience") in
-    let rounds = c.in_ok-option_text-4.ensures ∙ first_value-rows found (codes "rounds") in
-    let idle_rounds = c.in_ok-option_text-5.ensures
+    let replace_after = c.in_ok-option_text-4.ensures
+    ∙ first_value-rows found (codes "replace-after") in
+    let pause = c.in_ok-option_text-5.ensures ∙ first_value-rows found (codes "pause") in
+    let rounds = c.in_ok-option_text-6.ensures ∙ first_value-rows found (codes "rounds") in
+    let idle_rounds = c.in_ok-option_text-7.ensures
     ∙ first_value-rows found (codes "idle-rounds") in
     λ i. record {
       gap = gap i;
       time_out = time_out i;
       patience = patience i;
+      replace_after = replace_after i;
+      pause = pause i;
       rounds = rounds i;
       idle_rounds = idle_rounds i;
     }

@@ -33,6 +33,8 @@ returns c =
     let gap = ap (λ (n : NumberTexts). n.gap) numbers in
     let time_out = ap (λ (n : NumberTexts). n.time_out) numbers in
     let patience = ap (λ (n : NumberTexts). n.patience) numbers in
+    let replace_after = ap (λ (n : NumberTexts). n.replace_after) numbers in
+    let pause = ap (λ (n : NumberTexts). n.pause) numbers in
     let rounds = ap (λ (n : NumberTexts). n.rounds) numbers in
     let idle_rounds = ap (λ (n : NumberTexts). n.idle_rounds) numbers in
     λ i. record {
@@ -46,6 +48,8 @@ returns c =
       gap = gap i;
       time_out = time_out i;
       patience = patience i;
+      replace_after = replace_after i;
+      pause = pause i;
       rounds = rounds i;
       idle_rounds = idle_rounds i;
       offers = offers i;

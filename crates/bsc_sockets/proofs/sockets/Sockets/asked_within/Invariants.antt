@@ -2,6 +2,7 @@
 use Rattle.std.proofs.Common.{◌≡◌}
 use Rattle.bsc_sockets.proofs.sockets.Sockets.asked_within.Given as goal
 
--- The times stay as they were.
+-- The times and the standings stay as they were.
 abbrev pub invariant-asks : goal.invariant-asks
-invariant-asks g l = l.self.times ≡ l.fn.self.times
+invariant-asks g l =
+    (l.self.times ≡ l.fn.self.times) × (l.self.standings ≡ l.fn.self.standings)

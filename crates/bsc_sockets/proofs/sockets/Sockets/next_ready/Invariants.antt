@@ -2,6 +2,7 @@
 use Rattle.std.proofs.Common.{◌≡◌}
 use Rattle.bsc_sockets.proofs.sockets.Sockets.next_ready.Given as goal
 
--- The times stay as they were.
+-- The times and the standings stay as they were.
 abbrev pub invariant-turns : goal.invariant-turns
-invariant-turns g l = l.self.times ≡ l.fn.self.times
+invariant-turns g l =
+    (l.self.times ≡ l.fn.self.times) × (l.self.standings ≡ l.fn.self.standings)

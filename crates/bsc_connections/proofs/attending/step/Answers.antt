@@ -1,0 +1,34 @@
+-- `step` tells the monitor of a peer that the system could not accept, and does nothing else; or it
+-- tells of a connection that is closed, without a wait.
+use Rattle.std.proofs.Common.{[], ◌∷◌, Ok, inl, inr, refl, subst}
+use Rattle.bsc_connections.specs.declared.awaited.Awaited.{Awaited}
+use Rattle.bsc_connections.specs.declared.awaited.Awaited.TheVariants.{NotAccepted, Octets}
+use Rattle.bsc_connections.specs.Histories.{WasRefused}
+use Rattle.bsc_connections.proofs.attending.step.Goals as goal
+
+pub returns-in-Ok-NotAccepted-clause-steps : goal.returns-in-Ok-NotAccepted-clause-steps
+returns-in-Ok-NotAccepted-clause-steps g c =
+    inl (
+      WasRefused ∷ [],
+      record {
+        awaited = NotAccepted;
+        waiter = c.wait.new.self;
+        begins = inl (subst (λ (a : Awaited).
+            g.T.Waiter.waits c.args.waiter.now (Ok a) c.wait.new.self)
+            c.in-Ok-NotAccepted.field-0-is c.in-Ok-NotAccepted.ensures);
+        does = (refl, refl, (refl, c.note.ensures.told), refl);
+      },
+    )
+
+pub returns-in-Some-clause-steps : goal.returns-in-Some-clause-steps
+returns-in-Some-clause-steps g c =
+    let (happened, does) = c.read_at.ensures.does in
+    inl (
+      happened,
+      record {
+        awaited = Octets c.in-Some.connection;
+        waiter = c.args.waiter.now;
+        begins = inr (c.in-Some.connection, refl, c.in-Some.ensures, refl);
+        does = does;
+      },
+    )

@@ -1,0 +1,135 @@
+//! The lines printed while a station waits for its peers.
+
+ghost use Rattle.std.specs.Prelude.{◌≡◌, ◌++◌, OnOk, Some, false};
+ghost use Rattle.std.specs.Io.KnownBytes.{Appends};
+ghost use Rattle.bsc_monitor.specs.Traces.{connected_shown, joined_line, listening_line};
+ghost use Rattle.bsc_monitor.specs.Traces.{start_shown};
+ghost use Rattle.bsc_monitor.specs.Traces.{waiting_for_control, waiting_line, wanted_shown};
+
+use crate::trace::{write_change, write_time};
+use bsc_connections::Note;
+use bsc_print::{PrintError, put};
+use std::io::Write;
+use std::net::SocketAddr;
+
+/// The lines printed while a station waits for its peers. In a trace each begins with the time 0.
+#[derive(Clone, Copy)]
+pub struct Beginning {
+    /// Whether they are lines of a trace.
+    pub trace: bool,
+}
+
+impl Beginning {
+    /// Writes that peers can connect at this address.
+    pub fn write_listening<W: Write>(
+        self,
+        address: SocketAddr,
+        out: &mut W,
+    ) -> Result<(), PrintError>
+        ensures { OnOk result (Appends (W.contents out.old) (W.contents out.new)
+            (start_shown self.trace ++ listening_line address)) }
+    {
+        self.write_start(out)?;
+        write_address(address, out)?;
+        Ok(())
+    }
+
+    /// Writes how many terminals have connected of those that are wanted.
+    pub fn write_waiting<W: Write>(
+        self,
+        connected: usize,
+        wanted: usize,
+        out: &mut W,
+    ) -> Result<(), PrintError>
+        ensures { OnOk result (Appends (W.contents out.old) (W.contents out.new)
+            (start_shown self.trace ++ waiting_line connected wanted)) }
+    {
+        self.write_start(out)?;
+        write_counts(connected, wanted, out)?;
+        Ok(())
+    }
+
+    /// Writes that a terminal waits for the control station.
+    pub fn write_waiting_for_control<W: Write>(self, out: &mut W) -> Result<(), PrintError>
+        ensures { OnOk result (Appends (W.contents out.old) (W.contents out.new)
+            (start_shown self.trace ++ waiting_for_control)) }
+    {
+        self.write_start(out)?;
+        put(b"waiting for the control station\n", out)?;
+        Ok(())
+    }
+
+    /// Writes that this peer has the connection at this place.
+    pub fn write_joined<W: Write>(
+        self,
+        place: usize,
+        peer: SocketAddr,
+        out: &mut W,
+    ) -> Result<(), PrintError>
+        ensures { OnOk result (Appends (W.contents out.old) (W.contents out.new)
+            (start_shown self.trace ++ joined_line place (Some peer) false)) }
+    {
+        let note = Note::Joined {
+            connection: place,
+            peer: Some(peer),
+            replaces: false,
+        };
+        self.write_start(out)?;
+        write_change(&note, out)?;
+        Ok(())
+    }
+
+    /// Writes the time at the start of a line, if it is one of a trace.
+    fn write_start<W: Write>(self, out: &mut W) -> Result<(), PrintError>
+        ensures { OnOk result (Appends (W.contents out.old) (W.contents out.new)
+            (start_shown self.trace)) }
+    {
+        if self.trace {
+            return write_time(0, out);
+        }
+        Ok(())
+    }
+}
+
+/// Writes the address at which peers can connect.
+fn write_address<W: Write>(address: SocketAddr, out: &mut W) -> Result<(), PrintError>
+    ensures { OnOk result (Appends (W.contents out.old) (W.contents out.new)
+        (listening_line address)) }
+{
+    match write!(out, "listening at {address}\n") {
+        Ok(()) => Ok(()),
+        Err(_) => Err(PrintError::Output),
+    }
+}
+
+/// Writes how many terminals have connected, and how many are wanted.
+fn write_counts<W: Write>(connected: usize, wanted: usize, out: &mut W) -> Result<(), PrintError>
+    ensures { OnOk result (Appends (W.contents out.old) (W.contents out.new)
+        (waiting_line connected wanted)) }
+{
+    write_connected(connected, out)?;
+    write_wanted(wanted, out)?;
+    Ok(())
+}
+
+/// Writes how many terminals have connected.
+fn write_connected<W: Write>(connected: usize, out: &mut W) -> Result<(), PrintError>
+    ensures { OnOk result (Appends (W.contents out.old) (W.contents out.new)
+        (connected_shown connected)) }
+{
+    match write!(out, "waiting for terminals: {connected}") {
+        Ok(()) => Ok(()),
+        Err(_) => Err(PrintError::Output),
+    }
+}
+
+/// Writes how many terminals are wanted, and the end of the line.
+fn write_wanted<W: Write>(wanted: usize, out: &mut W) -> Result<(), PrintError>
+    ensures { OnOk result (Appends (W.contents out.old) (W.contents out.new)
+        (wanted_shown wanted)) }
+{
+    match write!(out, " of {wanted} connected\n") {
+        Ok(()) => Ok(()),
+        Err(_) => Err(PrintError::Output),
+    }
+}

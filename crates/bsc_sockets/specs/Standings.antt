@@ -1,0 +1,90 @@
+-- Which peers are stations of the line, and for how long nobody has answered at each place.
+use Rattle.std.specs.Prelude.{◌≡◌, ◌<◌, ◌≤◌, ◌-◌, ◌&&◌, ℕ, Bool, true, false, not, List, length}
+use Rattle.std.specs.Prelude.{Option, None, Some, slice_get, slice_set, if◌then◌else◌}
+use Rattle.bsc_connections.specs.declared.awaited.Handled.{Handled}
+use Rattle.bsc_connections.specs.declared.awaited.Handled.TheVariants.{Answered, Unanswered}
+use Rattle.bsc_connections.specs.declared.awaited.Handled.TheVariants.{Silence}
+use Rattle.std.specs.declared.net.socket_addr.SocketAddr.{SocketAddr}
+use Rattle.bsc_sockets.specs.declared.standings.Standing.{Standing}
+use Rattle.bsc_sockets.specs.declared.standings.Standings.{Standings}
+use Rattle.bsc_sockets.specs.declared.times.Time.{Time}
+use Rattle.bsc_sockets.specs.declared.times.Time.TheVariants.{Anew}
+
+-- What is known of the peer at each place, and the time of all silences.
+pub record StandingsValue : Type 0 where
+  pub places : List Standing
+  pub silence : ℕ
+
+abbrev pub standings_value : {A : Type 0} → Standings A → StandingsValue
+standings_value s = record { places = s.places.items; silence = s.silence }
+
+-- The standings after this place has become that, if there is such a place.
+abbrev pub changed_at : StandingsValue → ℕ → Option Standing → StandingsValue
+changed_at standings place None = standings
+changed_at standings place (Some new) =
+    record standings { places = slice_set standings.places place new }
+
+-- The peer of a place connects: nobody has answered it yet.
+abbrev pub newly : Option SocketAddr → ℕ → Option Standing → Option Standing
+newly peer silence None = None
+newly peer silence (Some old) = Some (record { peer = peer; since = silence; answered = false })
+
+-- The station has answered the peer of a place.
+abbrev pub now_answered : ℕ → Option Standing → Option Standing
+now_answered silence None = None
+now_answered silence (Some old) = Some (record old { since = silence; answered = true })
+
+-- The standings after this peer has connected at this place.
+abbrev pub after_joining : Option SocketAddr → StandingsValue → ℕ → Option Standing → StandingsValue
+after_joining peer standings place old =
+    changed_at standings place (newly peer standings.silence old)
+
+-- The standings after the station has answered a transmission from this place.
+abbrev pub after_answer : StandingsValue → ℕ → Option Standing → StandingsValue
+after_answer standings place old =
+    changed_at standings place (now_answered standings.silence old)
+
+-- Whether the station has answered the peer of this place.
+abbrev pub was_answered : Option Standing → Bool
+was_answered None = false
+was_answered (Some standing) = standing.answered
+
+-- Whether the station has answered the peer at this place.
+abbrev pub is_known : StandingsValue → ℕ → Bool
+is_known standings place = was_answered (slice_get standings.places place)
+
+-- For how much silence nobody has answered at this place.
+abbrev pub quiet_of : ℕ → Option Standing → ℕ
+quiet_of silence None = 0
+quiet_of silence (Some standing) = silence - standing.since
+
+abbrev pub quiet_at : StandingsValue → ℕ → ℕ
+quiet_at standings place = quiet_of standings.silence (slice_get standings.places place)
+
+-- Of this many places the one where nobody has answered for the most silence, if that is at least
+-- this much; none if it is less at each of them.
+abbrev pub IsQuietest : (ℕ → ℕ) → ℕ → ℕ → Option ℕ → Type 0
+IsQuietest quiet places least None = (place : ℕ) → place < places → quiet place < least
+IsQuietest quiet places least (Some found) =
+    (found < places) × (least ≤ quiet found)
+    × ((place : ℕ) → place < places → quiet place ≤ quiet found)
+
+-- Whether the time of the time-out begins anew after this. If peers may connect, a transmission
+-- that the station does not answer counts only if it has answered one at that place before.
+abbrev pub moves_time_out : Bool → StandingsValue → Handled → Bool
+moves_time_out listens standings (Answered place) = true
+moves_time_out listens standings (Unanswered place) =
+    if listens then is_known standings place else true
+moves_time_out listens standings Silence = true
+
+-- The time of the time-out after this.
+abbrev pub time_after : Bool → Time → Time
+time_after true time = Anew
+time_after false time = time
+
+-- The standings after this.
+abbrev pub standings_after : StandingsValue → Handled → StandingsValue
+standings_after standings (Answered place) =
+    after_answer standings place (slice_get standings.places place)
+standings_after standings (Unanswered place) = standings
+standings_after standings Silence = standings

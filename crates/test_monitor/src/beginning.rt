@@ -1,0 +1,48 @@
+//! The lines printed while a station waits for its peers.
+
+use bsc_monitor::Beginning;
+use bsc_print::PrintError;
+use std::io::Write;
+use std::net::{Ipv4Addr, SocketAddr, SocketAddrV4};
+use std::test::Fail;
+
+/// The address at which a station listens, and that of its peer.
+pub(crate) fn address() -> SocketAddr {
+    SocketAddr::V4(SocketAddrV4::new(Ipv4Addr::LOCALHOST, 2_780))
+}
+
+const LINES: &[u8] = b"listening at 127.0.0.1:2780
+waiting for terminals: 1 of 12 connected
+waiting for the control station
+connection 3 from 127.0.0.1:2780 joined
+";
+
+const TRACED: &[u8] = b"+0 listening at 127.0.0.1:2780
++0 waiting for terminals: 1 of 12 connected
++0 waiting for the control station
++0 connection 3 from 127.0.0.1:2780 joined
+";
+
+/// Writes each of the lines.
+fn tell<W: Write>(lines: Beginning, out: &mut W) -> Result<(), PrintError> {
+    lines.write_listening(address(), out)?;
+    lines.write_waiting(1, 12, out)?;
+    lines.write_waiting_for_control(out)?;
+    lines.write_joined(3, address(), out)
+}
+
+#[test]
+fn a_station_says_for_what_it_waits(rt: HostRuntime) -> Result<(), Fail> {
+    let mut out = Vec::new(rt.alloc());
+    tell(Beginning { trace: false }, &mut out)?;
+    assert_eq!(rt; out.as_slice(), LINES);
+    Ok(())
+}
+
+#[test]
+fn in_a_trace_the_lines_have_a_time(rt: HostRuntime) -> Result<(), Fail> {
+    let mut out = Vec::new(rt.alloc());
+    tell(Beginning { trace: true }, &mut out)?;
+    assert_eq!(rt; out.as_slice(), TRACED);
+    Ok(())
+}
