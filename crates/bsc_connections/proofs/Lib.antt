@@ -1,3 +1,4 @@
+mod Admissions
 mod Attendance
 mod Gathered
 mod Kept

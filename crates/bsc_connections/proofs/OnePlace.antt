@@ -9,7 +9,7 @@ use Rattle.std.proofs.lemmas.Slice.Zip.{AllZip-long}
 use Rattle.std.proofs.lemmas.Option.{slice_get_within, slice_get-get_or, get_or_from_slice_get}
 use Rattle.std.specs.Prelude.{nat_eq}
 use Rattle.std.specs.List.{AllZip}
-use Rattle.bsc_connections.specs.Histories.{WasHeard, heard_in}
+use Rattle.bsc_connections.specs.Histories.{if_same_place}
 
 -- ---- places of a list
 
@@ -58,13 +58,12 @@ same_or_other_place at place = same_place_by_test (nat_eq at place) at place ref
 
 -- ---- transmissions of a history
 
-pub heard_at_same_place : (at place : ℕ) (octets : List ℕ) → at ≡ place
-    → heard_in place (WasHeard at octets)
-    ≡ octets ∷ []
-heard_at_same_place at place octets same = ap (λ (b : Bool). cond b (octets ∷ []) []) (eq-eqb at
+pub arrived_at_same_place : (at place : ℕ) (octets : List ℕ) → at ≡ place
+    → if_same_place place at octets ≡ octets ∷ []
+arrived_at_same_place at place octets same = ap (λ (b : Bool). cond b (octets ∷ []) []) (eq-eqb at
     place same)
 
-pub nothing_heard_at_other_place : (at place : ℕ) (octets : List ℕ) → nat_eq at place ≡ false
-    → heard_in place (WasHeard at octets) ≡ []
-nothing_heard_at_other_place at place octets other = ap (λ (b : Bool). cond b (octets ∷ []) [])
+pub nothing_arrived_at_other_place : (at place : ℕ) (octets : List ℕ) → nat_eq at place ≡ false
+    → if_same_place place at octets ≡ []
+nothing_arrived_at_other_place at place octets other = ap (λ (b : Bool). cond b (octets ∷ []) [])
     other

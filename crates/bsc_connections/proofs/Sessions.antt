@@ -12,7 +12,7 @@ use Rattle.bsc_frame.specs.Wire.{wire}
 use Rattle.bsc_carrier.specs.declared.error.CarrierError.{CarrierError}
 use Rattle.bsc_connections.specs.declared.awaited.Awaited.{Awaited}
 use Rattle.bsc_connections.specs.declared.awaited.Awaited.TheVariants.{Octets, Newcomer, Gap}
-use Rattle.bsc_connections.specs.declared.awaited.Awaited.TheVariants.{NotAccepted, TimeOut}
+use Rattle.bsc_connections.specs.declared.awaited.Awaited.TheVariants.{NotAccepted, NotAllowed, TimeOut, Stopped}
 use Rattle.bsc_connections.specs.declared.awaited.Waiter as waiter_of
 use Rattle.bsc_connections.specs.declared.awaited.LiveError.{LiveError}
 use Rattle.bsc_connections.specs.declared.awaited.Pace.{Pace}
@@ -24,23 +24,23 @@ use Rattle.bsc_bid.specs.declared.station.Station as station_of
 use Rattle.bsc_connections.specs.Parts.{ConnectionParts, SessionParts}
 use Rattle.bsc_connections.specs.Connections.{ConnectionValue, Takes, TakesOpen, Sends}
 use Rattle.bsc_connections.specs.Histories.{Happening, WasHeard, WasSilent, HasJoined}
-use Rattle.bsc_connections.specs.Histories.{HasClosed, WasRefused}
+use Rattle.bsc_connections.specs.Histories.{HasClosed, WasRefused, WasIgnored, WasStopped}
 use Rattle.bsc_connections.specs.Histories.{sent_where_some}
-use Rattle.bsc_connections.specs.Histories.{heard_in, heard_at, sent_in, all_sent, IsNoJoining}
+use Rattle.bsc_connections.specs.Histories.{if_same_place, arrived_in, arrived_at, sent_in, all_sent, IsNoJoining}
 use Rattle.bsc_connections.specs.Histories.{NobodyJoins}
 use Rattle.bsc_connections.specs.Attending.{SendsAll, IsTakenAt, ReadsAt, GapPasses, JoinsAs}
 use Rattle.bsc_connections.specs.Attending.{Joins, Does, ended, goes_on, fails, fails_to_wait}
-use Rattle.bsc_connections.specs.Attending.{awaits_gap, Answers, Around, Session}
+use Rattle.bsc_connections.specs.Attending.{awaits_gap, Answers, Around, Session, HearsIfAdmitted}
 use Rattle.bsc_connections.specs.Streams.{Carries, CarriedAt, CarriesFromStart, CarriesSinceJoining}
 use Rattle.bsc_connections.specs.Streams.{CarriesHistory, carried_at}
 use Rattle.bsc_connections.proofs.OnePlace.{other_place_unchanged, changed_place_has_new}
 use Rattle.bsc_connections.proofs.OnePlace.{related_at_place, same_or_other_place}
-use Rattle.bsc_connections.proofs.OnePlace.{heard_at_same_place}
-use Rattle.bsc_connections.proofs.OnePlace.{nothing_heard_at_other_place}
+use Rattle.bsc_connections.proofs.OnePlace.{arrived_at_same_place}
+use Rattle.bsc_connections.proofs.OnePlace.{nothing_arrived_at_other_place}
 use Rattle.bsc_carrier.specs.Cable.{ChangesAt}
 use Rattle.bsc_frame.proofs.Elements.{all_append}
 
--- What is heard of the octets that are given fits what a framing does with them.
+-- What arrives in the octets that are given fits what a framing does with them.
 pub record Fits {F : Type 0} (feeds : F → List ℕ → Result (ℕ × Bool) CarrierError → F → Type 0)
     (ends : F → Bool → F → Type 0) (last : F → List ℕ)
     (gives : F → List ℕ → List (List ℕ) → F → Type 0) : Type 0 where
@@ -60,11 +60,11 @@ module _ {R W F : Type 0} (parts : ConnectionParts R W F)
   C = ConnectionValue R W F
 
   abbrev Conveys : List (List ℕ) → List (List ℕ) → C → C → Type 0
-  Conveys heard sent old new = Carries parts gives (record { heard = heard; sent = sent }) old new
+  Conveys arrived sent old new = Carries parts gives (record { arrived = arrived; sent = sent }) old new
 
   abbrev Came : ℕ → List (List ℕ) → List (List ℕ) → List C → C → Type 0
-  Came place heard sent before now =
-      CarriedAt parts gives place (record { heard = heard; sent = sent }) before now
+  Came place arrived sent before now =
+      CarriedAt parts gives place (record { arrived = arrived; sent = sent }) before now
 
   abbrev last : F → List ℕ
   last framing = parts.framing.last framing
@@ -105,7 +105,7 @@ module _ {R W F : Type 0} (parts : ConnectionParts R W F)
         is_open = is;
         given = [];
         read = Consumes-nil (remaining r);
-        heard_of = fits.nothing c.framing;
+        arrivals = fits.nothing c.framing;
         written = Appends-nil (contents w);
       }
 
@@ -132,8 +132,8 @@ module _ {R W F : Type 0} (parts : ConnectionParts R W F)
         read =
             Consumes-trans (remaining p.reader_before) (remaining p.reader_now)
             (remaining q.reader_now) p.given q.given p.read read;
-        heard_of =
-            fits.both a.framing b.framing c.framing p.given q.given h k p.heard_of q.heard_of;
+        arrivals =
+            fits.both a.framing b.framing c.framing p.given q.given h k p.arrivals q.arrivals;
         written =
             subst (λ (l : List ℕ). Appends (contents p.writer_before) (contents q.writer_now) l)
             (sym (flat_map-append framed s t))
@@ -160,7 +160,7 @@ module _ {R W F : Type 0} (parts : ConnectionParts R W F)
         is_open = w.stays_open;
         given = [];
         read = Consumes-nil (remaining w.reader);
-        heard_of = gives_same a.framing b.framing w.held;
+        arrivals = gives_same a.framing b.framing w.held;
         written =
             subst (λ (l : List ℕ). Appends (contents w.before) (contents w.after) l)
             (sym (append-nil (framed octets))) w.written;
@@ -180,7 +180,7 @@ module _ {R W F : Type 0} (parts : ConnectionParts R W F)
         is_open = is;
         given = [];
         read = Consumes-nil (remaining r);
-        heard_of = fits.gap a.framing b.framing ends_it;
+        arrivals = fits.gap a.framing b.framing ends_it;
         written = Appends-nil (contents w);
       }
 
@@ -192,10 +192,10 @@ module _ {R W F : Type 0} (parts : ConnectionParts R W F)
   Consumes-kept_nil (Some x) (Some y) kept = sym kept
 
   carries_given_of_read : (taken : Taken) (a b : C) (t : TakesOpen parts taken a b)
-      (given : List ℕ) (heard : List (List ℕ))
+      (given : List ℕ) (arrived : List (List ℕ))
       → Consumes (remaining t.before) (remaining t.after) given
-      → gives a.framing given heard b.framing → Conveys heard [] a b
-  carries_given_of_read taken a b t given heard read heard_of =
+      → gives a.framing given arrived b.framing → Conveys arrived [] a b
+  carries_given_of_read taken a b t given arrived read arrivals =
       record {
         reader_before = t.before;
         reader_now = t.after;
@@ -205,17 +205,17 @@ module _ {R W F : Type 0} (parts : ConnectionParts R W F)
         is_open = t.stays_open;
         given = given;
         read = read;
-        heard_of = heard_of;
+        arrivals = arrivals;
         written = Appends-nil (contents t.writer);
       }
 
-  -- What a read with this result adds to what was heard.
-  abbrev heard_by : Taken → C → List (List ℕ)
-  heard_by Whole c = last c.framing ∷ []
-  heard_by _ c = []
+  -- What a read with this result adds to what arrived.
+  abbrev arrived_by : Taken → C → List (List ℕ)
+  arrived_by Whole c = last c.framing ∷ []
+  arrived_by _ c = []
 
   carries_read : (taken : Taken) (a b : C) → b.ends ≢ None → Takes parts a taken b
-      → Conveys (heard_by taken b) [] a b
+      → Conveys (arrived_by taken b) [] a b
   carries_read Nothing a b is_up (inl (closed, same)) =
       absurd (is_up (ap (λ (c : C). c.ends) same ∙ closed))
   carries_read Nothing a b is_up (inr t) =
@@ -231,13 +231,18 @@ module _ {R W F : Type 0} (parts : ConnectionParts R W F)
       let (piece, read, fed) = t.reads in
       carries_given_of_read Part a b t piece [] read (fits.part a.framing b.framing piece fed)
   carries_read Whole a b is_up t =
-      let (piece, read, fed) = t.reads in
-      carries_given_of_read Whole a b t piece (last b.framing ∷ []) read
-      (fits.whole a.framing b.framing piece fed)
+      elim t.reads [
+        | inl (piece, read, fed) ↦
+            carries_given_of_read Whole a b t piece (last b.framing ∷ []) read
+            (fits.whole a.framing b.framing piece fed)
+        | inr end ↦
+            carries_given_of_read Whole a b t [] (last b.framing ∷ []) end.none
+            (fits.gap a.framing b.framing end.ended)
+      ]
 
-  was_open_if_carried : (heard sent : List (List ℕ)) (a b : C) → Conveys heard sent a b
+  was_open_if_carried : (arrived sent : List (List ℕ)) (a b : C) → Conveys arrived sent a b
       → a.ends ≢ None
-  was_open_if_carried heard sent a b p none =
+  was_open_if_carried arrived sent a b p none =
       let clash : ◌≡◌ {A = Option (R × W)} (Some (p.reader_before, p.writer_before)) None =
       sym p.was_open ∙ none in absurd cc
 
@@ -283,7 +288,7 @@ module _ {R W F : Type 0} (parts : ConnectionParts R W F)
 
   came_sent : (sent : Option Message) (place : ℕ) (before after : List C) (b : C)
       → SendsAll parts sent before after → slice_get after place ≡ Some b → b.ends ≢ None
-      → Came place (heard_at place (sent_where_some sent)) (all_sent (sent_where_some sent)) before
+      → Came place (arrived_at place (sent_where_some sent)) (all_sent (sent_where_some sent)) before
       b
   came_sent None place before after b same is is_up = came_nothing_if_unchanged place before after b
       same is is_up
@@ -293,7 +298,7 @@ module _ {R W F : Type 0} (parts : ConnectionParts R W F)
       (a, was, carries_sent (wire m) a b is_up sends)
 
   -- A read that ends no transmission.
-  came_nothing_by_part : (taken : Taken) → ((c : C) → heard_by taken c ≡ [])
+  came_nothing_by_part : (taken : Taken) → ((c : C) → arrived_by taken c ≡ [])
       → (at place : ℕ) (before after : List C) (b : C)
       → IsTakenAt parts at before taken after
       → slice_get after place ≡ Some b → b.ends ≢ None → Came place [] [] before b
@@ -312,21 +317,21 @@ module _ {R W F : Type 0} (parts : ConnectionParts R W F)
       ]
 
   -- A change at one place that ends a transmission.
-  came_heard_by_change : (at place : ℕ) (P : C → C → Type 0)
+  came_by_change : (at place : ℕ) (P : C → C → Type 0)
       → ((x y : C) → y.ends ≢ None → P x y → Conveys (last y.framing ∷ []) [] x y)
       → (before after : List C) (heard b : C)
       → ChangesAt at P before after → slice_get after at ≡ Some heard → slice_get after place
       ≡ Some b → b.ends ≢ None
-      → Came place (heard_in place (WasHeard at (last heard.framing))) [] before b
-  came_heard_by_change at place P conveys before after heard b changes there is is_up =
+      → Came place (if_same_place place at (last heard.framing)) [] before b
+  came_by_change at place P conveys before after heard b changes there is is_up =
       elim (place_after_change at place P before after b changes is) [
         | inl (same, (a, was, changed)) ↦
             let one : Some heard ≡ Some b = sym there ∙ ap (λ (n : ℕ). slice_get after n) same
             ∙ is in
             let it : heard ≡ b = ap (λ (o : Option C). elim o [ None ↦ b | Some c ↦ c ]) one in
-            let list : last b.framing ∷ [] ≡ heard_in place (WasHeard at (last heard.framing)) =
+            let list : last b.framing ∷ [] ≡ if_same_place place at (last heard.framing) =
             ap (λ (c : C). last c.framing ∷ []) (sym it)
-            ∙ sym (heard_at_same_place at place (last heard.framing) same) in (
+            ∙ sym (arrived_at_same_place at place (last heard.framing) same) in (
               a,
               was,
               subst (λ (h : List (List ℕ)). Conveys h [] a b) list
@@ -336,35 +341,36 @@ module _ {R W F : Type 0} (parts : ConnectionParts R W F)
           b,
           was,
           subst (λ (h : List (List ℕ)). Conveys h [] b b)
-              (sym (nothing_heard_at_other_place at place (last heard.framing) other))
+              (sym (nothing_arrived_at_other_place at place (last heard.framing) other))
               (carries_nothing b is_up),
         )
       ]
 
   -- A read that ends a transmission.
-  came_heard_by_read : (at place : ℕ) (before after : List C) (heard b : C)
+  came_by_whole_read : (at place : ℕ) (before after : List C) (heard b : C)
       → IsTakenAt parts at before Whole after
       → slice_get after at ≡ Some heard → slice_get after place ≡ Some b → b.ends ≢ None
-      → Came place (heard_in place (WasHeard at (last heard.framing))) [] before b
-  came_heard_by_read at place before after heard b (inr (nowhere, nothing, same)) there is is_up =
+      → Came place (if_same_place place at (last heard.framing)) [] before b
+  came_by_whole_read at place before after heard b (inr (nowhere, nothing, same)) there is is_up =
       let clash : Whole ≡ Nothing = nothing in absurd cc
-  came_heard_by_read at place before after heard b (inl changes) there is is_up =
-      came_heard_by_change at place (λ b a. Takes parts b Whole a)
+  came_by_whole_read at place before after heard b (inl changes) there is is_up =
+      came_by_change at place (λ b a. Takes parts b Whole a)
       (λ x y y_up takes. carries_read Whole x y y_up takes) before after heard b changes there
       is is_up
 
   -- What was carried for a history was carried for an equal one.
   came_for_equal_history : (place : ℕ) (before : List C) (b : C) (happened told : List Happening)
       → happened ≡ told
-      → Came place (heard_at place told) (all_sent told) before b
-      → Came place (heard_at place happened) (all_sent happened) before b
+      → Came place (arrived_at place told) (all_sent told) before b
+      → Came place (arrived_at place happened) (all_sent happened) before b
   came_for_equal_history place before b happened told is came =
-      subst (λ (hs : List Happening). Came place (heard_at place hs) (all_sent hs) before b)
+      subst (λ (hs : List Happening). Came place (arrived_at place hs) (all_sent hs) before b)
       (sym is) came
 
   -- ---- one step after another
   module _ {S M T : Type 0} (station : station_of.Ghosts S)
-      (is_told : M → S → Happening → Result Bool LiveError → M → Type 0) (paces : M → Pace)
+      (is_told : M → S → Happening → Result Bool LiveError → M → Type 0)
+      (admits : M → S → ℕ → List ℕ → Bool) (paces : M → Pace)
       (waiter : waiter_of.Ghosts T R W) where
     abbrev session : SessionParts S R W F M T
     session =
@@ -372,6 +378,7 @@ module _ {R W F : Type 0} (parts : ConnectionParts R W F)
           station = station;
           connection = parts;
           is_told = is_told;
+          admits = admits;
           paces = paces;
           waiter = waiter;
         }
@@ -386,7 +393,7 @@ module _ {R W F : Type 0} (parts : ConnectionParts R W F)
     -- connection.
     abbrev Went : ℕ → List C → List Happening → C → Type 0
     Went place before happened b =
-        (NobodyJoins place happened × Came place (heard_at place happened) (all_sent happened)
+        (NobodyJoins place happened × Came place (arrived_at place happened) (all_sent happened)
         before b)
         ⊎ ((happened ≡ HasJoined place ∷ []) × starts b.framing)
 
@@ -410,7 +417,7 @@ module _ {R W F : Type 0} (parts : ConnectionParts R W F)
         (old between : Now) (happened : List Happening) (result : Result Bool LiveError) (new : Now)
         (b : C) → IsNoJoining place happening
         → ((m : C) → slice_get between.connections place ≡ Some m → m.ends ≢ None
-        → Came place (heard_in place happening) (sent_in happening) old.connections m)
+        → Came place (arrived_in place happening) (sent_in happening) old.connections m)
         → Answers session happening answer between happened result new
         → slice_get new.connections place ≡ Some b → b.ends ≢ None
         → Went place old.connections happened b
@@ -422,10 +429,32 @@ module _ {R W F : Type 0} (parts : ConnectionParts R W F)
           subst (NobodyJoins place) (sym happens) (none, nobody_joins_by_sending place r.sent),
           came_for_equal_history place old.connections b happened
               (happening ∷ sent_where_some r.sent) happens
-              (came_in_turn place (heard_in place happening) (sent_in happening)
-              (heard_at place (sent_where_some r.sent)) (all_sent (sent_where_some r.sent))
+              (came_in_turn place (arrived_in place happening) (sent_in happening)
+              (arrived_at place (sent_where_some r.sent)) (all_sent (sent_where_some r.sent))
               old.connections between.connections b first
               (came_sent r.sent place between.connections new.connections b r.sends is is_up)),
+        )
+
+    -- A transmission that was heard or ignored, after what brought it.
+    went_by_arrival : (admitted : Bool) (at place : ℕ) (octets : List ℕ) (old between : Now)
+        (happened : List Happening) (result : Result Bool LiveError) (new : Now) (b : C)
+        → ((m : C) → slice_get between.connections place ≡ Some m → m.ends ≢ None
+        → Came place (if_same_place place at octets) [] old.connections m)
+        → HearsIfAdmitted session admitted at octets between happened result new
+        → slice_get new.connections place ≡ Some b → b.ends ≢ None
+        → Went place old.connections happened b
+    went_by_arrival true at place octets old between happened result new b first h is is_up =
+        went_by_answer place (WasHeard at octets) h.answer old between happened result new b tt
+        first h.answers is is_up
+    went_by_arrival false at place octets old between happened result new b first
+        (station, same, told, waits) is is_up =
+        inl (
+          subst (NobodyJoins place) (sym told.0) (tt, tt),
+          came_for_equal_history place old.connections b happened (WasIgnored at octets ∷ []) told.0
+              (came_in_turn place (if_same_place place at octets) [] [] [] old.connections
+              between.connections b first
+              (came_nothing_if_unchanged place between.connections new.connections b same is
+              is_up)),
         )
 
     went_by_read : (taken : Taken) (at place : ℕ) (old : Now) (happened : List Happening)
@@ -434,11 +463,12 @@ module _ {R W F : Type 0} (parts : ConnectionParts R W F)
         → slice_get new.connections place ≡ Some b → b.ends ≢ None
         → Went place old.connections happened b
     went_by_read Whole at place old happened result new b (between, taken, h) is is_up =
-        went_by_answer place (WasHeard at (last h.connection.framing)) h.answer old
-        (record old { connections = between }) happened result new b tt
-        (λ m there m_up. came_heard_by_read at place old.connections between h.connection m taken
+        went_by_arrival
+        (admits old.monitor old.station at (last h.connection.framing)) at place
+        (last h.connection.framing) old (record old { connections = between }) happened result new b
+        (λ m there m_up. came_by_whole_read at place old.connections between h.connection m taken
         h.at there m_up)
-        h.answers is is_up
+        h.heard is is_up
     went_by_read Nothing at place old happened result new b r is is_up =
         went_if_nothing_happened place old.connections happened b r.tells.0
         (came_nothing_by_part Nothing (λ c. refl) at place old.connections new.connections b
@@ -490,6 +520,16 @@ module _ {R W F : Type 0} (parts : ConnectionParts R W F)
               (came_nothing_if_unchanged place old new b same is is_up),
         )
 
+    went_by_stop : (place : ℕ) (old new : List C) (happened : List Happening) (b : C)
+        → new ≡ old → happened ≡ WasStopped ∷ [] → slice_get new place ≡ Some b → b.ends ≢ None
+        → Went place old happened b
+    went_by_stop place old new happened b same stopped is is_up =
+        inl (
+          subst (NobodyJoins place) (sym stopped) (tt, tt),
+          came_for_equal_history place old b happened (WasStopped ∷ []) stopped
+              (came_nothing_if_unchanged place old new b same is is_up),
+        )
+
     went_by_joining : (given : Option ℕ) (place : ℕ) (old : Now)
         (happened : List Happening) (result : Result Bool LiveError) (new : Now) (b : C)
         → Joins session given old happened result new
@@ -508,13 +548,15 @@ module _ {R W F : Type 0} (parts : ConnectionParts R W F)
         → slice_get new.connections place ≡ Some b → b.ends ≢ None
         → Went place old.connections happened b
     went_by_gap true at place old happened result new b h is is_up =
-        went_by_answer place (WasHeard at (last h.heard.connection.framing)) h.heard.answer old
-        (record old { connections = h.between }) happened result new b tt
-        (λ m there m_up. came_heard_by_change at place
+        went_by_arrival
+        (admits old.monitor old.station at (last h.arrives.connection.framing)) at place
+        (last h.arrives.connection.framing) old (record old { connections = h.between }) happened
+        result new b
+        (λ m there m_up. came_by_change at place
         (λ b a. (a.ends ≡ b.ends) × parts.framing.ends b.framing true a.framing)
         (λ x y y_up ended. carries_gap x y y_up ended.0 ended.1) old.connections h.between
-        h.heard.connection m h.ended h.heard.at there m_up)
-        h.heard.answers is is_up
+        h.arrives.connection m h.ended h.arrives.at there m_up)
+        h.arrives.heard is is_up
     went_by_gap false at place old happened result new b (none, ok, same) is is_up =
         went_if_nothing_happened place old.connections happened b none
         (came_nothing_if_unchanged place old.connections new.connections b
@@ -532,12 +574,16 @@ module _ {R W F : Type 0} (parts : ConnectionParts R W F)
     went_by_event NotAccepted place old happened result new b (same, kept, refused, waits) is
         is_up =
         went_by_refusal place old.connections new.connections happened b kept refused.0 is is_up
+    went_by_event NotAllowed place old happened result new b (same, joins) is is_up =
+        went_by_joining None place old happened result new b joins is is_up
     went_by_event (Gap at) place old happened result new b passes is is_up =
         went_by_gap (awaits_gap parts.framing.awaits (slice_get old.connections at)) at place old
         happened result new b passes is is_up
     went_by_event TimeOut place old happened result new b silent is is_up =
         went_by_answer place WasSilent silent.answer old old happened result new b tt
         (λ m there m_up. (m, there, carries_nothing m m_up)) silent.answers is is_up
+    went_by_event Stopped place old happened result new b (same, kept, stopped, waits) is is_up =
+        went_by_stop place old.connections new.connections happened b kept stopped.0 is is_up
 
     -- A step, followed by what was carried after it.
     carries_with_step_first : (place : ℕ) (before between : List C) (happened history : List
@@ -567,7 +613,7 @@ module _ {R W F : Type 0} (parts : ConnectionParts R W F)
         later,
       ),
     )) =
-        elim (first m there (was_open_if_carried (heard_at place history) (all_sent history) m now
+        elim (first m there (was_open_if_carried (arrived_at place history) (all_sent history) m now
         later)) [
           | inr (joined, none) ↦
               inr (record {
@@ -581,17 +627,17 @@ module _ {R W F : Type 0} (parts : ConnectionParts R W F)
               })
           | inl (none, (a, was, sooner)) ↦
               let both =
-              carries_in_turn (heard_at place happened) (all_sent happened)
-              (heard_at place history) (all_sent history) a m now sooner later in
+              carries_in_turn (arrived_at place happened) (all_sent happened)
+              (arrived_at place history) (all_sent history) a m now sooner later in
               inl (
                 all_append (IsNoJoining place) happened history none nobody,
                 (
                   a,
                   was,
                   subst (λ (h : List (List ℕ)). Conveys h (all_sent (happened ++ history)) a now)
-                      (sym (flat_map-append (heard_in place) happened history))
+                      (sym (flat_map-append (arrived_in place) happened history))
                       (subst (λ (s : List (List ℕ)). Conveys
-                      (heard_at place happened ++ heard_at place history) s a now)
+                      (arrived_at place happened ++ arrived_at place history) s a now)
                       (sym (flat_map-append sent_in happened history)) both),
                 ),
               )
@@ -601,7 +647,7 @@ module _ {R W F : Type 0} (parts : ConnectionParts R W F)
 carries_one_step : {R W F : Type 0} (parts : ConnectionParts R W F)
     (gives : F → List ℕ → List (List ℕ) → F → Type 0) (place : ℕ)
     (before : List (ConnectionValue R W F)) (happened : List Happening) (now : ConnectionValue R W F)
-    (nothing : Carries parts gives (record { heard = []; sent = [] }) now now)
+    (nothing : Carries parts gives (record { arrived = []; sent = [] }) now now)
     → ((NobodyJoins place happened
     × CarriedAt parts gives place (carried_at place happened) before now)
     ⊎ ((happened ≡ HasJoined place ∷ []) × parts.framing.starts now.framing))
@@ -639,15 +685,15 @@ carries_history {S} {R} {W} {F} {M} {T} parts gives fits old new [] place now (f
 carries_history parts gives fits old new whole place now
     (goes_on {mid = mid} {happened = happened} {history = history} {is_more = is_more} step rest) is
     is_up =
-    carries_with_step_first parts.connection gives fits parts.station parts.is_told parts.paces parts.waiter
+    carries_with_step_first parts.connection gives fits parts.station parts.is_told parts.admits parts.paces parts.waiter
     place old.connections mid.connections happened history now
     (λ m there m_up. went_by_event parts.connection gives fits parts.station parts.is_told
-    parts.paces parts.waiter step.awaited place (record old { waiter = step.waiter }) happened (Ok is_more) mid
+    parts.admits parts.paces parts.waiter step.awaited place (record old { waiter = step.waiter }) happened (Ok is_more) mid
     m step.does there m_up)
     (carries_history parts gives fits mid new history place now rest is is_up)
 carries_history parts gives fits old new happened place now (fails {error = error} step) is is_up =
     carries_one_step parts.connection gives place old.connections happened now
     (carries_nothing parts.connection gives fits now is_up)
-    (went_by_event parts.connection gives fits parts.station parts.is_told parts.paces parts.waiter
+    (went_by_event parts.connection gives fits parts.station parts.is_told parts.admits parts.paces parts.waiter
     step.awaited place (record old { waiter = step.waiter }) happened (Err error) new now step.does
     is is_up)

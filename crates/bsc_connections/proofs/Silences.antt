@@ -4,7 +4,7 @@ use Rattle.std.proofs.Common.{◌∙◌, ap, slice_get}
 use Rattle.bsc_frame.specs.declared.message.Message.{Message}
 use Rattle.bsc_connections.specs.declared.awaited.Awaited.{Awaited}
 use Rattle.bsc_connections.specs.declared.awaited.Awaited.TheVariants.{Octets, Newcomer, Gap}
-use Rattle.bsc_connections.specs.declared.awaited.Awaited.TheVariants.{NotAccepted, TimeOut}
+use Rattle.bsc_connections.specs.declared.awaited.Awaited.TheVariants.{NotAccepted, NotAllowed, TimeOut, Stopped}
 use Rattle.bsc_connections.specs.declared.awaited.LiveError.{LiveError}
 use Rattle.bsc_connections.specs.declared.connection.Taken.{Taken}
 use Rattle.bsc_connections.specs.declared.connection.Taken.TheVariants.{Nothing, Interrupted, Part}
@@ -13,7 +13,7 @@ use Rattle.bsc_connections.specs.declared.connection.Taken.TheVariants.{Closed}
 use Rattle.bsc_connections.specs.Parts.{SessionParts}
 use Rattle.bsc_connections.specs.Connections.{ConnectionValue}
 use Rattle.bsc_connections.specs.Histories.{Happening, sent_where_some}
-use Rattle.bsc_connections.specs.Attending.{HearsLast, ReadsAt, GapPasses, Joins, JoinsAs, Does}
+use Rattle.bsc_connections.specs.Attending.{Arrives, HearsIfAdmitted, ReadsAt, GapPasses, Joins, JoinsAs, Does}
 use Rattle.bsc_connections.specs.Attending.{Around, Session, awaits_gap}
 use Rattle.bsc_connections.specs.Silences.{silences, silences_due, TellsEachSilence}
 
@@ -25,18 +25,30 @@ module _ {S R W F M T : Type 0} (parts : SessionParts S R W F M T) where
   abbrev Now : Type 0
   Now = Session S (ConnectionValue R W F) M T
 
-  no_silence_in_hearing : (place : ℕ) (old : Now) (happened : List Happening)
-      (result : Result Bool LiveError) (new : Now) → HearsLast parts place old happened result new
+  no_silence_in_arrival : (admitted : Bool) (place : ℕ) (octets : List ℕ) (old : Now)
+      (happened : List Happening) (result : Result Bool LiveError) (new : Now)
+      → HearsIfAdmitted parts admitted place octets old happened result new
       → silences happened ≡ 0
-  no_silence_in_hearing place old happened result new h =
+  no_silence_in_arrival true place octets old happened result new h =
       ap silences h.answers.happens ∙ ap silences h.answers.replies.happens
       ∙ silences_of_sent h.answers.replies.sent
+  no_silence_in_arrival false place octets old happened result new (station, same, told, waits) =
+      ap silences told.0
+
+  no_silence_by_arrival : (place : ℕ) (old : Now) (happened : List Happening)
+      (result : Result Bool LiveError) (new : Now) → Arrives parts place old happened result new
+      → silences happened ≡ 0
+  no_silence_by_arrival place old happened result new a =
+      no_silence_in_arrival
+      (parts.admits old.monitor old.station place
+      (parts.connection.framing.last a.connection.framing))
+      place (parts.connection.framing.last a.connection.framing) old happened result new a.heard
 
   no_silence_in_read : (taken : Taken) (place : ℕ) (old : Now) (happened : List Happening)
       (result : Result Bool LiveError) (new : Now) → ReadsAt parts place taken old happened result new
       → silences happened ≡ 0
   no_silence_in_read Whole place old happened result new (between, taken, h) =
-      no_silence_in_hearing place (record old { connections = between }) happened result new h
+      no_silence_by_arrival place (record old { connections = between }) happened result new h
   no_silence_in_read Nothing place old happened result new r = ap silences r.tells.0
   no_silence_in_read Interrupted place old happened result new r = ap silences r.tells.0
   no_silence_in_read Part place old happened result new r = ap silences r.tells.0
@@ -64,8 +76,8 @@ module _ {S R W F M T : Type 0} (parts : SessionParts S R W F M T) where
       (result : Result Bool LiveError) (new : Now)
       → GapPasses parts place awaits old happened result new → silences happened ≡ 0
   no_silence_at_gap true place old happened result new h =
-      no_silence_in_hearing place (record old { connections = h.between }) happened result new
-      h.heard
+      no_silence_by_arrival place (record old { connections = h.between }) happened result new
+      h.arrives
   no_silence_at_gap false place old happened result new (none, ok, same) = ap silences none
 
   silences_are_due : (awaited : Awaited) (old : Now) (happened : List Happening)
@@ -77,6 +89,8 @@ module _ {S R W F M T : Type 0} (parts : SessionParts S R W F M T) where
       no_silence_in_joining given old happened result new joins
   silences_are_due NotAccepted old happened result new (same, unchanged, refused, waits) =
       ap silences refused.0
+  silences_are_due NotAllowed old happened result new (same, joins) =
+      no_silence_in_joining None old happened result new joins
   silences_are_due (Gap place) old happened result new passes =
       no_silence_at_gap
       (awaits_gap parts.connection.framing.awaits (slice_get old.connections place)) place old
@@ -84,6 +98,8 @@ module _ {S R W F M T : Type 0} (parts : SessionParts S R W F M T) where
   silences_are_due TimeOut old happened result new silent = ap silences silent.answers.happens
       ∙ ap (λ (n : ℕ). 1 + n) (ap silences silent.answers.replies.happens
       ∙ silences_of_sent silent.answers.replies.sent)
+  silences_are_due Stopped old happened result new (same, unchanged, stopped, waits) =
+      ap silences stopped.0
 
   pub tells_each_silence : TellsEachSilence parts
   tells_each_silence old new happened result step =

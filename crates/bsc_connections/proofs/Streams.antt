@@ -1,6 +1,6 @@
--- What is heard from the octets that a connection gives, under either framing.
+-- What arrives in the octets that a connection gives, under either framing.
 use Rattle.std.proofs.Common.{◌≡◌, ◌≢◌, ℕ, Bool, true, false, List, [], ◌∷◌, ◌++◌, length, take}
-use Rattle.std.proofs.Common.{Result, Ok, refl, sym, ◌∙◌, ap, ap₂, subst, append_assoc, append-nil}
+use Rattle.std.proofs.Common.{Option, None, Some, inl, inr, not, Result, Ok, refl, sym, ◌∙◌, ap, ap₂, subst, append_assoc, append-nil}
 use Rattle.std.proofs.Common.{arith}
 use Rattle.std.proofs.lemmas.List.{take_all, map-append}
 use Rattle.std.proofs.lemmas.List.Folds.{concat-append}
@@ -13,8 +13,14 @@ use Rattle.bsc_carrier.specs.declared.error.CarrierError.{CarrierError}
 use Rattle.bsc_carrier.proofs.Fronts.{not_whole_and_partial, is_partial_nil}
 use Rattle.bsc_connections.specs.declared.socket_records.SocketRecords.{SocketRecords}
 use Rattle.bsc_connections.specs.declared.limits.TheConstants.{KEPT}
-use Rattle.bsc_connections.specs.Framings.{GapsValue, Gathers, EndsAtGap}
-use Rattle.bsc_connections.specs.Streams.{begun_of, GivesRecords, GivesByGaps}
+use Rattle.bsc_connections.specs.Framings.{GapsValue, Gathers, EndsAtGap, is_empty}
+use Rattle.bsc_connections.specs.Parts.{connection_parts}
+use Rattle.bsc_connections.specs.Connections.{Input, ReadsNoMore}
+use Rattle.bsc_connections.specs.Streams.{begun_of, GivesRecords, GivesByGaps, LosesNothing}
+use Rattle.bsc_connections.specs.declared.framing.Framing as framing_of
+use Rattle.std.specs.declared.io.Read as read
+use Rattle.std.specs.declared.io.Write as write
+use Rattle.bsc_carrier.specs.declared.error.CarrierError.TheVariants.{Device}
 use Rattle.bsc_connections.proofs.Gathered.{take_of_front}
 use Rattle.bsc_connections.proofs.Sessions.{Fits}
 use Rattle.bsc_frame.proofs.Elements.{all_append}
@@ -152,3 +158,29 @@ gaps_fit = record {
   whole = gaps_whole;
   gap = gaps_gap;
 }
+
+-- ---- the end of the input
+
+nothing_begun : (begun : List ℕ) → not (is_empty begun) ≡ false → begun ≡ []
+nothing_begun [] none = refl
+nothing_begun (x ∷ begun) none = let clash : true ≡ false = none in absurd cc
+
+module _ {R W : Type 0} (reader : read.Ghosts R) (writer : write.Ghosts W)
+    (framing : framing_of.Ghosts GapsValue)
+    (awaits : (gaps : GapsValue) → framing.awaits gaps ≡ not (is_empty gaps.begun)) where
+  nothing_begun_at_end : (old new : Input R GapsValue)
+      → ReadsNoMore reader framing None old new → old.framing.begun ≡ []
+  nothing_begun_at_end old new (inl end) =
+      nothing_begun old.framing.begun (sym (awaits old.framing) ∙ end.ended.0)
+  nothing_begun_at_end old new (inr (inl refused)) =
+      let clash : ◌≡◌ {A = Option CarrierError} None (Some refused.error) = refused.why_is in
+      absurd cc
+  nothing_begun_at_end old new (inr (inr device)) =
+      let clash : ◌≡◌ {A = Option CarrierError} None (Some Device) = device in absurd cc
+
+  pub loses_nothing : LosesNothing (connection_parts reader writer framing)
+  loses_nothing old new (closed, inl (none, device)) =
+      let clash : ◌≡◌ {A = Option CarrierError} None (Some Device) = device in absurd cc
+  loses_nothing old new (closed, inr c) =
+      nothing_begun_at_end (record { reader = c.before; framing = old.framing })
+      (record { reader = c.after; framing = new.framing }) c.reads

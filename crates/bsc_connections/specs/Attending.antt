@@ -9,7 +9,8 @@ use Rattle.bsc_frame.specs.Wire.{wire}
 use Rattle.bsc_frame.specs.Spells.{IsHeardAs}
 use Rattle.bsc_connections.specs.declared.awaited.Awaited.{Awaited}
 use Rattle.bsc_connections.specs.declared.awaited.Awaited.TheVariants.{Octets, Newcomer, Gap}
-use Rattle.bsc_connections.specs.declared.awaited.Awaited.TheVariants.{NotAccepted, TimeOut}
+use Rattle.bsc_connections.specs.declared.awaited.Awaited.TheVariants.{NotAccepted, NotAllowed}
+use Rattle.bsc_connections.specs.declared.awaited.Awaited.TheVariants.{TimeOut, Stopped}
 use Rattle.bsc_connections.specs.declared.awaited.Handled.{Handled}
 use Rattle.bsc_connections.specs.declared.awaited.Handled.TheVariants.{Answered, Unanswered}
 use Rattle.bsc_connections.specs.declared.awaited.Handled.TheVariants.{Silence}
@@ -20,7 +21,8 @@ use Rattle.bsc_connections.specs.declared.connection.Taken.TheVariants.{Closed}
 use Rattle.bsc_connections.specs.Parts.{ConnectionParts, SessionParts}
 use Rattle.bsc_connections.specs.Connections.{ConnectionValue, Takes, Sends}
 use Rattle.bsc_connections.specs.Histories.{Happening, WasHeard, WasSilent, WasSent, HasJoined}
-use Rattle.bsc_connections.specs.Histories.{HasClosed, WasRefused, sent_where_some}
+use Rattle.bsc_connections.specs.Histories.{HasClosed, WasIgnored, WasRefused, WasStopped}
+use Rattle.bsc_connections.specs.Histories.{sent_where_some}
 use Rattle.bsc_carrier.specs.Cable.{ChangesAt}
 
 -- A station, its connections, the monitor that is told what happens, and the waiter.
@@ -166,17 +168,44 @@ module _ {S R W F M T : Type 0} (parts : SessionParts S R W F M T) where
     pub acted : parts.station.acts old.station new.station answer
     pub answers : Answers WasSilent answer old happened result new
 
-  -- The station hears the last transmission of the connection at this place, and answers.
-  pub record HearsLast (place : ℕ) (old : Now) (happened : List Happening)
+  -- The station hears these octets, which arrived on the connection at this place, and answers.
+  pub record Hears (place : ℕ) (octets : List ℕ) (old : Now) (happened : List Happening)
       (result : Result Bool LiveError) (new : Now) : Type 0 where
-    pub connection : ConnectionValue R W F
     pub heard : Heard
     pub answer : Option Message
-    pub at : slice_get old.connections place ≡ Some connection
-    pub is_heard : IsHeardAs (parts.connection.framing.last connection.framing) heard
+    pub is_heard : IsHeardAs octets heard
     pub heeds : parts.station.hears old.station heard new.station answer
-    pub answers : Answers (WasHeard place (parts.connection.framing.last connection.framing)) answer
-        old happened result new
+    pub answers : Answers (WasHeard place octets) answer old happened result new
+
+  -- These octets arrived on the connection at this place, and the station hears nothing of them.
+  -- The monitor is told, nothing is sent, and the waiter is told nothing, so that no time-out
+  -- moves.
+  abbrev pub Ignores : ℕ → List ℕ → Now → List Happening → Result Bool LiveError → Now → Type 0
+  Ignores place octets old happened result new =
+      (new.station ≡ old.station)
+      × (new.connections ≡ old.connections)
+      × TellsOne (WasIgnored place octets) new.station old.monitor happened result new.monitor
+      × (new.waiter ≡ old.waiter)
+
+  -- These octets arrived on the connection at this place. The station hears them if the monitor
+  -- admits them, as the flag says, and ignores them otherwise.
+  abbrev pub HearsIfAdmitted : Bool → ℕ → List ℕ → Now → List Happening → Result Bool LiveError
+      → Now → Type 0
+  HearsIfAdmitted true place octets old happened result new =
+      Hears place octets old happened result new
+  HearsIfAdmitted false place octets old happened result new =
+      Ignores place octets old happened result new
+
+  -- The last transmission of the connection at this place has arrived. The monitor decides whether
+  -- the station hears it.
+  pub record Arrives (place : ℕ) (old : Now) (happened : List Happening)
+      (result : Result Bool LiveError) (new : Now) : Type 0 where
+    pub connection : ConnectionValue R W F
+    pub at : slice_get old.connections place ≡ Some connection
+    pub heard : HearsIfAdmitted
+        (parts.admits old.monitor old.station place
+        (parts.connection.framing.last connection.framing))
+        place (parts.connection.framing.last connection.framing) old happened result new
 
   -- What the waiter is told of a read that completes no transmission: the gap of the connection
   -- begins anew if octets arrived and a gap would end them, and a connection that has nothing left
@@ -206,27 +235,27 @@ module _ {S R W F M T : Type 0} (parts : SessionParts S R W F M T) where
         (awaits_gap parts.connection.framing.awaits (slice_get new.connections place)) old.waiter
         new.waiter
 
-  -- A read at this place completes a transmission and the station hears it, or completes none.
+  -- A read at this place completes a transmission, or completes none.
   abbrev pub ReadsAt : ℕ → Taken → Now → List Happening → Result Bool LiveError → Now → Type 0
   ReadsAt place Whole old happened result new =
       (between : List (ConnectionValue R W F))
       × IsTakenAt parts.connection place old.connections Whole between
-      × HearsLast place (record old { connections = between }) happened result new
+      × Arrives place (record old { connections = between }) happened result new
   ReadsAt place taken old happened result new = ReadsNoWhole place taken old happened result new
 
-  -- A gap ends the transmission that has begun at this place, and the station hears it.
-  pub record HearsAtGap (place : ℕ) (old : Now) (happened : List Happening)
+  -- A gap ends the transmission that has begun at this place.
+  pub record ArrivesAtGap (place : ℕ) (old : Now) (happened : List Happening)
       (result : Result Bool LiveError) (new : Now) : Type 0 where
     pub between : List (ConnectionValue R W F)
     pub ended : ChangesAt place
         (λ b a. (a.ends ≡ b.ends) × parts.connection.framing.ends b.framing true a.framing)
         old.connections between
-    pub heard : HearsLast place (record old { connections = between }) happened result new
+    pub arrives : Arrives place (record old { connections = between }) happened result new
 
   -- The gap has passed at this place. It ends what has begun there if a gap would end it, as the
   -- flag says; else nothing is done.
   abbrev pub GapPasses : ℕ → Bool → Now → List Happening → Result Bool LiveError → Now → Type 0
-  GapPasses place true old happened result new = HearsAtGap place old happened result new
+  GapPasses place true old happened result new = ArrivesAtGap place old happened result new
   GapPasses place false old happened result new =
       (happened ≡ []) × (result ≡ Ok true) × (new ≡ old)
 
@@ -242,7 +271,7 @@ module _ {S R W F M T : Type 0} (parts : SessionParts S R W F M T) where
       × TellsOne (HasJoined place) station old.monitor happened result new.monitor
 
   -- A peer that has connected joins at this place, as a connection of its own in place of the one
-  -- that was there; or it is turned away, because there is no place, and the monitor is told.
+  -- that was there; or it is turned away, because it gets no place, and the monitor is told.
   abbrev pub Joins : Option ℕ → Now → List Happening → Result Bool LiveError → Now → Type 0
   Joins (Some place) old happened result new =
       (joined : Option (R × W)) × parts.waiter.joins old.waiter place joined new.waiter
@@ -270,11 +299,18 @@ module _ {S R W F M T : Type 0} (parts : SessionParts S R W F M T) where
       × (new.connections ≡ old.connections)
       × TellsOne WasRefused new.station old.monitor happened result new.monitor
       × (new.waiter ≡ old.waiter)
+  Does NotAllowed old happened result new =
+      (new.station ≡ old.station) × Joins None old happened result new
   Does (Gap place) old happened result new =
       GapPasses place
       (awaits_gap parts.connection.framing.awaits (slice_get old.connections place)) old happened
       result new
   Does TimeOut old happened result new = IsSilent old happened result new
+  Does Stopped old happened result new =
+      (new.station ≡ old.station)
+      × (new.connections ≡ old.connections)
+      × TellsOne WasStopped new.station old.monitor happened result new.monitor
+      × (new.waiter ≡ old.waiter)
 
   -- What a step begins with: a wait returned this event; or it was not waited for, because the
   -- connection at its place is closed, which is to be told.

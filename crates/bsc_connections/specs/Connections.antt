@@ -1,7 +1,7 @@
 -- What a read and a transmission do to one connection.
-use Rattle.std.specs.Prelude.{⊤, ◌≡◌, ◌⊎◌, ℕ, Bool, true, false, List, length, Option, None, Some}
-use Rattle.std.specs.Prelude.{Ok, Err, if◌then◌else◌}
-use Rattle.std.specs.Io.KnownBytes.{Appends, Consumes, Keeps}
+use Rattle.std.specs.Prelude.{⊤, ◌≡◌, ◌⊎◌, ℕ, ◌<◌, Bool, true, false, List, [], length, Option}
+use Rattle.std.specs.Prelude.{None, Some, Ok, Err, if◌then◌else◌}
+use Rattle.std.specs.Io.KnownBytes.{Appends, Consumes, IsAtEnd, Keeps}
 use Rattle.std.specs.declared.io.ErrorKind.{ErrorKind}
 use Rattle.std.specs.declared.io.ErrorKind.TheVariants as kind
 use Rattle.std.specs.declared.io.Read as read
@@ -50,8 +50,24 @@ pub record Input (R F : Type 0) : Type 0 where
   pub reader : R
   pub framing : F
 
+-- The framing of a connection, by what is known of it.
+module _ {F : Type 0} (framing : framing_of.Ghosts F) where
+  -- The input has ended: a read that asked for octets gave none. That ends the transmission that
+  -- has begun, if a gap would end it; otherwise it closes the connection.
+  abbrev pub IsEndedBy : Taken → F → F → Type 0
+  IsEndedBy Whole old new = framing.ends old true new
+  IsEndedBy (Closed why) old new =
+      (framing.awaits old ≡ false) × (why ≡ ending_error (framing.short old))
+  IsEndedBy _ old new = ⊥
+
 -- The reader of a connection and its framing, by what is known of them.
 module _ {R F : Type 0} (reading : read.Ghosts R) (framing : framing_of.Ghosts F) where
+  -- Nothing was read, since the input has ended.
+  pub record ReadsEnd (taken : Taken) (old new : Input R F) : Type 0 where
+    pub none : Consumes (reading.remaining old.reader) (reading.remaining new.reader) []
+    pub at_end : 0 < framing.room old.framing → IsAtEnd (reading.remaining new.reader)
+    pub ended : IsEndedBy framing taken old.framing new.framing
+
   -- Nothing was read.
   abbrev pub ReadsNothing : Input R F → Input R F → Type 0
   ReadsNothing old new =
@@ -73,19 +89,19 @@ module _ {R F : Type 0} (reading : read.Ghosts R) (framing : framing_of.Ghosts F
     pub refused : framing.feeds old.framing piece (Err error) new.framing
     pub why_is : why ≡ Some error
 
-  -- Why a read closes the connection: the input has ended, which may cut a transmission short; the
-  -- framing refuses what was read; or the device failed.
+  -- Why a read closes the connection: the input has ended, which may cut a transmission short but
+  -- loses none that a gap would end; the framing refuses what was read; or the device failed.
   abbrev pub ReadsNoMore : Option CarrierError → Input R F → Input R F → Type 0
   ReadsNoMore why old new =
-      (why ≡ ending_error (framing.short old.framing))
-      ⊎ (RefusesPiece why old new ⊎ (why ≡ Some Device))
+      ReadsEnd (Closed why) old new ⊎ (RefusesPiece why old new ⊎ (why ≡ Some Device))
 
-  -- What one read does to the reader and the framing.
+  -- What one read does to the reader and the framing. A transmission is complete by what was read,
+  -- or by the end of the input.
   abbrev pub Reads : Taken → Input R F → Input R F → Type 0
   Reads Nothing old new = ReadsNothing old new
   Reads Interrupted old new = ReadsNothing old new
   Reads Part old new = ReadsPiece false old new
-  Reads Whole old new = ReadsPiece true old new
+  Reads Whole old new = ReadsPiece true old new ⊎ ReadsEnd Whole old new
   Reads (Closed why) old new = ReadsNoMore why old new
 
 module _ {R W F : Type 0} (parts : ConnectionParts R W F) where

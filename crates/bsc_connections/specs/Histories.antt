@@ -9,6 +9,8 @@ use Rattle.bsc_carrier.specs.declared.error.CarrierError.{CarrierError}
 pub data Happening : Type 0 where
   -- A transmission of these octets was heard on the connection at this place.
   WasHeard : (place : ℕ) (octets : List ℕ) → Happening
+  -- A transmission of these octets arrived on the connection at this place, and was not heard.
+  WasIgnored : (place : ℕ) (octets : List ℕ) → Happening
   -- A time-out passed.
   WasSilent : Happening
   -- A transmission of these octets was sent on every open connection.
@@ -19,20 +21,27 @@ pub data Happening : Type 0 where
   WasRefused : Happening
   -- The connection at this place is closed: by this fault, or by its peer between transmissions.
   HasClosed : (place : ℕ) (why : Option CarrierError) → Happening
+  -- The station was asked to end.
+  WasStopped : Happening
 
 -- The history of what was sent: one entry, or none if nothing was sent.
 abbrev pub sent_where_some : Option Message → List Happening
 sent_where_some None = []
 sent_where_some (Some m) = WasSent (wire m) ∷ []
 
--- The transmission that was heard at this place, if this entry is one.
-abbrev pub heard_in : ℕ → Happening → List (List ℕ)
-heard_in place (WasHeard at octets) = if nat_eq at place then octets ∷ [] else []
-heard_in place _ = []
+-- The transmission of these octets, if both places are the same.
+abbrev pub if_same_place : ℕ → ℕ → List ℕ → List (List ℕ)
+if_same_place place at octets = if nat_eq at place then octets ∷ [] else []
 
--- All transmissions that were heard at this place, in order.
-abbrev pub heard_at : ℕ → List Happening → List (List ℕ)
-heard_at place history = flat_map (heard_in place) history
+-- The transmission that arrived at this place, if this entry is one: it was heard or ignored.
+abbrev pub arrived_in : ℕ → Happening → List (List ℕ)
+arrived_in place (WasHeard at octets) = if_same_place place at octets
+arrived_in place (WasIgnored at octets) = if_same_place place at octets
+arrived_in place _ = []
+
+-- All transmissions that arrived at this place, in order.
+abbrev pub arrived_at : ℕ → List Happening → List (List ℕ)
+arrived_at place history = flat_map (arrived_in place) history
 
 -- The transmission that was sent, if this entry is one.
 abbrev pub sent_in : Happening → List (List ℕ)

@@ -6,3 +6,4 @@ pub mod Notes
 pub mod Attending
 pub mod Streams
 pub mod Silences
+pub mod Admissions

@@ -8,10 +8,11 @@ use Rattle.bsc_carrier.specs.Record.{IsCarried, socket_record}
 use Rattle.bsc_carrier.specs.Stream.{Splits}
 use Rattle.bsc_connections.specs.declared.socket_records.SocketRecords.{SocketRecords}
 use Rattle.bsc_connections.specs.Parts.{ConnectionParts, SessionParts}
-use Rattle.bsc_connections.specs.Connections.{ConnectionValue}
+use Rattle.bsc_connections.specs.declared.connection.Taken.TheVariants.{Closed}
+use Rattle.bsc_connections.specs.Connections.{ConnectionValue, Takes}
 use Rattle.bsc_connections.specs.declared.limits.TheConstants.{KEPT}
 use Rattle.bsc_connections.specs.Framings.{GapsValue}
-use Rattle.bsc_connections.specs.Histories.{Happening, HasJoined, heard_at, all_sent, NobodyJoins}
+use Rattle.bsc_connections.specs.Histories.{Happening, HasJoined, arrived_at, all_sent, NobodyJoins}
 use Rattle.bsc_connections.specs.Attending.{Session, Attends}
 
 -- The octets that have arrived since the last complete record.
@@ -19,44 +20,45 @@ abbrev pub begun_of : SocketRecords → List ℕ
 begun_of records = records.assembler.begun
 
 -- These octets arrived after those of the record that had begun before. Together they are the
--- records of the transmissions that were heard, each once and in order, followed by what has begun
+-- records of the transmissions that arrived, each once and in order, followed by what has begun
 -- now.
-pub record GivesRecords (old : SocketRecords) (given : List ℕ) (heard : List (List ℕ))
+pub record GivesRecords (old : SocketRecords) (given : List ℕ) (arrived : List (List ℕ))
     (new : SocketRecords) : Type 0 where
-  pub records : begun_of old ++ given ≡ flat_map socket_record heard ++ begun_of new
-  pub carried : AllByRecursion IsCarried heard
+  pub records : begun_of old ++ given ≡ flat_map socket_record arrived ++ begun_of new
+  pub carried : AllByRecursion IsCarried arrived
   pub rest : ¬ BeginsRecord (begun_of old) → ¬ BeginsRecord (begun_of new)
 
--- Gaps divide these octets. Those between one gap and the next are heard as one transmission, the
--- first 2,049 of them. Those after the last gap have begun a transmission, of which the first 2,049
--- are kept.
-pub record CutsAtGaps (octets : List ℕ) (heard : List (List ℕ)) (begun : List ℕ) : Type 0 where
+-- Gaps divide these octets, and the end of the input counts as one. Those between one gap and the
+-- next arrived as one transmission, the first 2,049 of them. Those after the last gap have begun a
+-- transmission, of which the first 2,049 are kept.
+pub record CutsAtGaps (octets : List ℕ) (arrived : List (List ℕ)) (begun : List ℕ) : Type 0 where
   pub between : List (List ℕ)
   pub later : List ℕ
   pub whole : octets ≡ concat between ++ later
   pub some : AllByRecursion (λ octets. octets ≢ []) between
-  pub first : heard ≡ map (take KEPT) between
+  pub first : arrived ≡ map (take KEPT) between
   pub kept_of : begun ≡ take KEPT later
 
 -- These octets arrived after those that had arrived since the last gap.
 abbrev pub GivesByGaps : GapsValue → List ℕ → List (List ℕ) → GapsValue → Type 0
-GivesByGaps old given heard new =
-    (sooner : List ℕ) → old.begun ≡ take KEPT sooner → CutsAtGaps (sooner ++ given) heard new.begun
+GivesByGaps old given arrived new =
+    (sooner : List ℕ) → old.begun ≡ take KEPT sooner
+    → CutsAtGaps (sooner ++ given) arrived new.begun
 
--- The transmissions that a connection carried: those that were heard from it, and those that were
--- sent on it.
+-- The transmissions that a connection carried: those that arrived from it, heard or ignored, and
+-- those that were sent on it.
 pub record Carried : Type 0 where
-  pub heard : List (List ℕ)
+  pub arrived : List (List ℕ)
   pub sent : List (List ℕ)
 
--- All that a history has of one place: what was heard there, and all that was sent.
+-- All that a history has of one place: what arrived there, and all that was sent.
 abbrev pub carried_at : ℕ → List Happening → Carried
-carried_at place history = record { heard = heard_at place history; sent = all_sent history }
+carried_at place history = record { arrived = arrived_at place history; sent = all_sent history }
 
 module _ {R W F : Type 0} (parts : ConnectionParts R W F)
     (gives : F → List ℕ → List (List ℕ) → F → Type 0) where
-  -- A connection was open and is open. Its reader gave some octets, from which these transmissions
-  -- were heard. The octets that carry the transmissions that were sent were written to its writer,
+  -- A connection was open and is open. Its reader gave some octets, in which these transmissions
+  -- arrived. The octets that carry the transmissions that were sent were written to its writer,
   -- each once and in order.
   pub record Carries (carried : Carried) (old new : ConnectionValue R W F) : Type 0 where
     pub reader_before : R
@@ -68,7 +70,7 @@ module _ {R W F : Type 0} (parts : ConnectionParts R W F)
     pub given : List ℕ
     pub read : Consumes (parts.reader.remaining reader_before) (parts.reader.remaining reader_now)
         given
-    pub heard_of : gives old.framing given carried.heard new.framing
+    pub arrivals : gives old.framing given carried.arrived new.framing
     pub written : Appends (parts.writer.contents writer_before) (parts.writer.contents writer_now)
         (flat_map parts.framing.framed carried.sent)
 
@@ -98,7 +100,7 @@ module _ {R W F : Type 0} (parts : ConnectionParts R W F)
     pub carries : Carries (carried_at place later) joined now
 
 -- In every session, the streams of a connection that is open at its end carried everything the
--- history has of it and nothing else: what was heard at its place, and all that was sent.
+-- history has of it and nothing else: what arrived at its place, and all that was sent.
 abbrev pub CarriesHistory : {S R W F M T : Type 0} → SessionParts S R W F M T
     → (F → List ℕ → List (List ℕ) → F → Type 0) → Type 0
 CarriesHistory {S} {R} {W} {F} {M} {T} parts gives =
@@ -109,9 +111,16 @@ CarriesHistory {S} {R} {W} {F} {M} {T} parts gives =
     → CarriesFromStart parts.connection gives place history old.connections now
     ⊎ CarriesSinceJoining parts.connection gives place history now
 
--- If no whole record had begun before, the octets split into the records of what was heard and what
--- has begun now. A stream splits in only one way, so what was heard is all that the octets contain.
+-- If no whole record had begun before, the octets split into the records of what arrived and what
+-- has begun now. A stream splits in only one way, so what arrived is all that the octets contain.
 abbrev pub SplitsAll : SocketRecords → List ℕ → List (List ℕ) → SocketRecords → Type 0
-SplitsAll old given heard new =
-    GivesRecords old given heard new → ¬ BeginsRecord (begun_of old)
-    → Splits (begun_of old ++ given) heard (begun_of new)
+SplitsAll old given arrived new =
+    GivesRecords old given arrived new → ¬ BeginsRecord (begun_of old)
+    → Splits (begun_of old ++ given) arrived (begun_of new)
+
+-- When a read closes a connection over gaps without an error, no transmission has begun that had
+-- not arrived: the end of the input had ended it before.
+abbrev pub LosesNothing : {R W : Type 0} → ConnectionParts R W GapsValue → Type 0
+LosesNothing {R} {W} parts =
+    (old new : ConnectionValue R W GapsValue) → Takes parts old (Closed None) new
+    → old.framing.begun ≡ []

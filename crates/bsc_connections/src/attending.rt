@@ -8,7 +8,7 @@ ghost use Rattle.bsc_frame.specs.declared.message.Message.{Message};
 ghost use Rattle.bsc_connections.specs.Parts.{connection_parts, session_parts};
 ghost use Rattle.bsc_connections.specs.Connections.{Sends};
 ghost use Rattle.bsc_connections.specs.Histories.{Happening};
-ghost use Rattle.bsc_connections.specs.Attending.{Attends, StepsOrFails, Does, HearsLast, IsSilent};
+ghost use Rattle.bsc_connections.specs.Attending.{Attends, StepsOrFails, Does, Arrives, IsSilent};
 ghost use Rattle.bsc_connections.specs.Attending.{IsTakenAt, PlaceFor, Replies, awaits_gap};
 ghost use Rattle.bsc_connections.specs.Attending.{first_closed, handled_if, is_closed_at};
 
@@ -19,13 +19,14 @@ use bsc_bid::Station;
 use bsc_frame::Wire;
 use std::io::{Read, Write};
 
-/// Attends a station over these connections until the monitor ends it. The monitor is told what the
-/// station heard, or that a time-out passed, before the station's answer is written. If it accepts
-/// that, the answer is written to every open connection before anything else is heard; if it
-/// refuses, nothing is written. A connection that fails or ends is closed for good, and a peer that
-/// connects later takes its place; if none is closed, that of a connection that the waiter says may
-/// be replaced. Returns at once with any error of the waiter or of the monitor, and with `Count`
-/// after 2^64 - 1 steps.
+/// Attends a station over these connections until the monitor ends it. The station hears each
+/// transmission that the monitor admits; of one that it does not admit the monitor is only told.
+/// The monitor is told what the station heard, or that a time-out passed, before the station's
+/// answer is written. If it accepts that, the answer is written to every open connection before
+/// anything else is heard; if it refuses, nothing is written. A connection that fails or ends is
+/// closed for good, and a peer that connects later takes its place; if none is closed, that of a
+/// connection that the waiter says may be replaced. Returns at once with any error of the waiter or
+/// of the monitor, and with `Count` after 2^64 - 1 steps.
 pub fn attend<
     S: Station,
     R: Read + Drop,
@@ -40,7 +41,9 @@ pub fn attend<
     monitor: &mut M,
 ) -> Result<(), LiveError>
     ensures attends { (history : List Happening)
-        × Attends (session_parts S.Station R.Read W.Write F.Framing M.is_told M.paces T.Waiter)
+        × Attends
+        (session_parts S.Station R.Read W.Write F.Framing M.is_told M.admits M.paces
+        T.Waiter)
         (record {
           station = station.old;
           connections = connections.old;
@@ -80,7 +83,7 @@ fn step<
     monitor: &mut M,
 ) -> Result<bool, LiveError>
     ensures steps { StepsOrFails
-        (session_parts S.Station R.Read W.Write F.Framing M.is_told M.paces T.Waiter)
+        (session_parts S.Station R.Read W.Write F.Framing M.is_told M.admits M.paces T.Waiter)
         (record {
           station = station.old;
           connections = connections.old;
@@ -108,10 +111,16 @@ fn step<
             let (peer, why) = (None, Refusal::NotAccepted);
             monitor.note(station, Note::Refused { peer, why })
         }
+        Ok(Awaited::NotAllowed) => {
+            let (peer, why) = (waiter.newcomer(), Refusal::NotAllowed);
+            waiter.turn_away();
+            monitor.note(station, Note::Refused { peer, why })
+        }
         Ok(Awaited::Gap { connection }) => {
             gap_at(station, connections, connection, waiter, monitor)
         }
         Ok(Awaited::TimeOut) => silence(station, connections, waiter, monitor),
+        Ok(Awaited::Stopped) => monitor.note(station, Note::Stopped),
         Err(error) => Err(error),
     }
 }
@@ -191,7 +200,8 @@ fn reply<S: Station, R: Read + Drop, W: Write + Drop, F: Framing + Drop, M: Moni
     }
 }
 
-/// Reads once at this place. If the read completes a transmission, the station hears it.
+/// Reads once at this place. If the read completes a transmission, the station hears it if the
+/// monitor admits it.
 fn read_at<
     S: Station,
     R: Read + Drop,
@@ -207,7 +217,9 @@ fn read_at<
     monitor: &mut M,
 ) -> Result<bool, LiveError>
     ensures does { (happened : List Happening)
-        × Does (session_parts S.Station R.Read W.Write F.Framing M.is_told M.paces T.Waiter)
+        × Does
+        (session_parts S.Station R.Read W.Write F.Framing M.is_told M.admits M.paces
+        T.Waiter)
         (Awaited.Octets connection)
         (record {
           station = station.old;
@@ -236,7 +248,7 @@ fn read_at<
             }
             Ok(true)
         }
-        Taken::Whole => answer_at(station, connections, connection, waiter, monitor),
+        Taken::Whole => arrive_at(station, connections, connection, waiter, monitor),
         Taken::Closed { why } => {
             waiter.nothing_left(connection);
             let peer = waiter.peer(connection);
@@ -266,10 +278,11 @@ fn take_at<R: Read + Drop, W: Write + Drop, F: Framing + Drop>(
     connections[place].take()
 }
 
-/// Lets the station hear the last transmission of the connection at this place, tells the monitor
-/// what was heard, and sends the station's answer if the monitor accepts. The waiter is then told
-/// whether the station had an answer.
-fn answer_at<
+/// Lets the station hear the last transmission of the connection at this place if the monitor
+/// admits it, tells the monitor what was heard, and sends the station's answer if the monitor
+/// accepts. The waiter is then told whether the station had an answer. If the monitor does not
+/// admit the transmission, it is told of it, and nothing else is done.
+fn arrive_at<
     S: Station,
     R: Read + Drop,
     W: Write + Drop,
@@ -284,8 +297,10 @@ fn answer_at<
     monitor: &mut M,
 ) -> Result<bool, LiveError>
     requires { connection < length connections.old }
-    ensures hears { (happened : List Happening)
-        × HearsLast (session_parts S.Station R.Read W.Write F.Framing M.is_told M.paces T.Waiter)
+    ensures arrives { (happened : List Happening)
+        × Arrives
+        (session_parts S.Station R.Read W.Write F.Framing M.is_told M.admits M.paces
+        T.Waiter)
         connection
         (record {
           station = station.old;
@@ -302,8 +317,11 @@ fn answer_at<
         }) }
     ensures ended { IfOk result (λ goes_on. goes_on ≡ false → M.has_ended monitor.new ≡ true) }
 {
-    let mut wire = Wire::new();
     let octets = connections[connection].octets();
+    if !monitor.admits(station, connection, octets) {
+        return monitor.note(station, Note::Ignored { connection, octets });
+    }
+    let mut wire = Wire::new();
     let is_sent = station.hear(octets, &mut wire);
     let told = monitor.note(station, Note::Heard { connection, octets });
     let result = reply(station, connections, told, is_sent, &wire, monitor);
@@ -323,7 +341,7 @@ fn handled_at(connection: usize, is_answered: bool) -> Handled
 }
 
 /// Handles a gap at this place: it ends the transmission that has begun there, if there is one that
-/// a gap would end.
+/// a gap would end. The station hears that if the monitor admits it.
 fn gap_at<
     S: Station,
     R: Read + Drop,
@@ -339,7 +357,9 @@ fn gap_at<
     monitor: &mut M,
 ) -> Result<bool, LiveError>
     ensures does { (happened : List Happening)
-        × Does (session_parts S.Station R.Read W.Write F.Framing M.is_told M.paces T.Waiter)
+        × Does
+        (session_parts S.Station R.Read W.Write F.Framing M.is_told M.admits M.paces
+        T.Waiter)
         (Awaited.Gap connection)
         (record {
           station = station.old;
@@ -360,7 +380,7 @@ fn gap_at<
         return Ok(true);
     }
     let _ = connections[connection].gap();
-    answer_at(station, connections, connection, waiter, monitor)
+    arrive_at(station, connections, connection, waiter, monitor)
 }
 
 /// Tells the station of a silence, tells the monitor of it, and sends the station's answer if the
@@ -379,7 +399,9 @@ fn silence<
     monitor: &mut M,
 ) -> Result<bool, LiveError>
     ensures silent { (happened : List Happening)
-        × IsSilent (session_parts S.Station R.Read W.Write F.Framing M.is_told M.paces T.Waiter)
+        × IsSilent
+        (session_parts S.Station R.Read W.Write F.Framing M.is_told M.admits M.paces
+        T.Waiter)
         (record {
           station = station.old;
           connections = connections.old;
@@ -452,7 +474,9 @@ fn join<
     monitor: &mut M,
 ) -> Result<bool, LiveError>
     ensures does { (happened : List Happening)
-        × Does (session_parts S.Station R.Read W.Write F.Framing M.is_told M.paces T.Waiter)
+        × Does
+        (session_parts S.Station R.Read W.Write F.Framing M.is_told M.admits M.paces
+        T.Waiter)
         Awaited.Newcomer
         (record {
           station = station.old;

@@ -22,11 +22,18 @@ pub enum Awaited {
     /// descriptor is left. Later waits try again.
     NotAccepted,
 
+    /// Another peer has connected whose address may not.
+    NotAllowed,
+
     /// The gap has passed since the last octets of the connection at this place.
     Gap { connection: usize },
 
     /// The time-out has passed since its time was begun (GA27-3004, time-outs).
     TimeOut,
+
+    /// The station is asked to end. A waiter returns it once when that is asked, and a second time
+    /// when a time-out has passed since then.
+    Stopped,
 }
 
 /// What a station has handled, after which the time of the time-out may begin anew.
@@ -103,10 +110,11 @@ pub trait Waiter<R, W> {
     /// The place whose connection a newcomer may replace, if there is one.
     ghost may_replace: { Self → Option ℕ → Type 0 };
 
-    /// Waits until octets arrive, a peer connects, a gap has passed, or the time-out has. It may
-    /// return `Octets` for a connection that has nothing to read. Once it has returned `Octets` for
-    /// a connection it keeps doing so until `nothing_left` is called. It returns `Gap` once for
-    /// each gap that was begun, unless the gap is begun anew before it has passed.
+    /// Waits until octets arrive, a peer connects, a gap has passed, the time-out has, or the
+    /// station is asked to end. It may return `Octets` for a connection that has nothing to read.
+    /// Once it has returned `Octets` for a connection it keeps doing so until `nothing_left` is
+    /// called. It returns `Gap` once for each gap that was begun, unless the gap is begun anew
+    /// before it has passed.
     fn wait(&mut self) -> Result<Awaited, LiveError>
         ensures { waits self.old result self.new };
 
@@ -130,7 +138,8 @@ pub trait Waiter<R, W> {
     fn join(&mut self, connection: usize) -> Option<(R, W)>
         ensures { joins self.old connection result self.new };
 
-    /// Turns away the peer that has connected, because no place is free.
+    /// Turns away the peer that has connected, because no place is free or because it may not
+    /// connect.
     fn turn_away(&mut self)
         ensures { turns_away self.old self.new };
 

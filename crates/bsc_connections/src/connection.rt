@@ -1,9 +1,9 @@
 //! One connection of a station.
 
-ghost use Rattle.std.specs.Prelude.{◌≡◌, None, Some, not, is_none, true};
+ghost use Rattle.std.specs.Prelude.{◌≡◌, ◌<◌, length, None, Some, not, is_none, true};
 ghost use Rattle.bsc_connections.specs.Parts.{connection_parts};
 ghost use Rattle.bsc_connections.specs.Connections.{Takes, Sends, Reads, IsClosedOrNothing};
-ghost use Rattle.bsc_connections.specs.Connections.{GivesNoOctets, ending_error, failure_means};
+ghost use Rattle.bsc_connections.specs.Connections.{GivesNoOctets, IsEndedBy, failure_means};
 
 use crate::Framing;
 use crate::limits::MAX_READ;
@@ -164,6 +164,7 @@ impl<R: Read + Drop, W: Write + Drop, F: Framing + Drop> Connection<R, W, F> {
 /// Reads once, at most as many octets as the framing wants and there is room for, and feeds them to
 /// the framing.
 fn read_into<R: Read, F: Framing>(reader: &mut R, framing: &mut F, room: &mut [u8]) -> Taken
+    requires { 0 < length room.old }
     ensures { Reads R.Read F.Framing result
         (record { reader = reader.old; framing = framing.old })
         (record { reader = reader.new; framing = framing.new }) }
@@ -180,11 +181,16 @@ fn read_into<R: Read, F: Framing>(reader: &mut R, framing: &mut F, room: &mut [u
     }
 }
 
-/// Returns what the end of the input means: the error `Short` if it cuts a transmission short, else
-/// a close without an error.
-fn ended<F: Framing>(framing: &F) -> Taken
-    ensures { result ≡ Taken.Closed (ending_error (F.short framing.now)) }
+/// Handles the end of the input. If a gap would end the transmission that has begun, this ends it,
+/// and the next read finds the end again. Otherwise it closes the connection: with the error
+/// `Short` if it cuts a transmission short, else without an error.
+fn ended<F: Framing>(framing: &mut F) -> Taken
+    ensures { IsEndedBy F.Framing result framing.old framing.new }
 {
+    if framing.awaits_gap() {
+        let _ = framing.gap();
+        return Taken::Whole;
+    }
     let why = if framing.is_short() {
         Some(CarrierError::Short)
     } else {

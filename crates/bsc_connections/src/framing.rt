@@ -21,7 +21,7 @@ pub trait Framing {
     /// Whether a transmission has begun that a gap would end.
     ghost awaits: { Self → Bool };
 
-    /// Whether the end of the input would cut a transmission short.
+    /// Whether the end of the input would cut a transmission short, which a gap would not end.
     ghost short: { Self → Bool };
 
     /// The octets of the last complete transmission.

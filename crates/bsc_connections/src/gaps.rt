@@ -7,9 +7,9 @@ use std::io::Write;
 use std::marker::Model;
 
 /// A framing in which a transmission is the octets, as they stand on the line, that arrive without
-/// a gap between them. Of a transmission longer than 2,048 octets the first 2,049 are kept, so that
-/// it is heard as noise. `feed` fails with `Length` if more than 1,048,576 octets arrive without a
-/// gap.
+/// a gap between them; the end of the input ends one as a gap does. Of a transmission longer than
+/// 2,048 octets the first 2,049 are kept, so that it is heard as noise. `feed` fails with `Length`
+/// if more than 1,048,576 octets arrive without a gap.
 #[derive(Drop)]
 pub struct Gaps {
     /// The octets that arrived since the last gap, and those of the last transmission that a gap
@@ -91,7 +91,7 @@ impl Framing for Gaps {
         !self.octets.begun().is_empty()
     }
 
-    /// Returns false: a transmission that has begun ends when the input ends.
+    /// Returns false: a transmission that has begun is complete when the input ends.
     fn is_short(&self) -> bool {
         false
     }

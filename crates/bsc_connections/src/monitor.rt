@@ -1,6 +1,6 @@
 //! The monitor that watches a station.
 
-ghost use Rattle.std.specs.Prelude.{◌≡◌, Bool, true, not, IfOk, Result};
+ghost use Rattle.std.specs.Prelude.{◌≡◌, ℕ, List, Bool, true, not, IfOk, Result};
 ghost use Rattle.bsc_connections.specs.declared.awaited.LiveError.{LiveError as LiveErrorValue};
 ghost use Rattle.bsc_connections.specs.declared.awaited.Pace.{Pace as PaceValue};
 ghost use Rattle.bsc_connections.specs.Histories.{Happening};
@@ -22,6 +22,10 @@ pub enum Refusal {
     /// tried again later.
     #[error("the system cannot accept it yet")]
     NotAccepted,
+
+    /// The address of the peer may not connect. The peer was turned away.
+    #[error("its address is not allowed")]
+    NotAllowed,
 }
 
 /// What happened. A monitor is told of it after the station has acted, and before the station's
@@ -30,6 +34,13 @@ pub enum Refusal {
 pub enum Note<'a> {
     /// These octets were heard on the connection at this place.
     Heard {
+        connection: usize,
+        octets: &'a [u8],
+    },
+
+    /// These octets arrived on the connection at this place, and the station did not hear them,
+    /// since the monitor did not admit them.
+    Ignored {
         connection: usize,
         octets: &'a [u8],
     },
@@ -63,12 +74,20 @@ pub enum Note<'a> {
         peer: Option<SocketAddr>,
         why: Option<CarrierError>,
     },
+
+    /// The station was asked to end.
+    Stopped,
 }
 
-/// Sees what happens to a station of type `S`, accepts or refuses it, and decides when to end.
+/// Sees what happens to a station of type `S`, decides what it hears, accepts or refuses what
+/// happened, and decides when to end.
 pub trait Monitor<S> {
     /// Whether the station is no longer to be attended.
     ghost has_ended: { Self → Bool };
+
+    /// Whether the station, as it is then, hears these octets, which arrived on the connection at
+    /// this place.
+    ghost admits: { Self → S → ℕ → List ℕ → Bool };
 
     /// How the next wait begins.
     ghost paces: { Self → PaceValue };
@@ -84,6 +103,11 @@ pub trait Monitor<S> {
         ensures told { is_told self.old station.now (told_by note.entry) result self.new }
         ensures answer { IfOk result (λ goes_on. goes_on ≡ not (has_ended self.new)) }
         ensures kept { has_ended self.old ≡ true → has_ended self.new ≡ true };
+
+    /// Returns whether the station hears this transmission, which arrived on the connection at this
+    /// place. One that is not admitted is not heard; the monitor is told of it.
+    fn admits(&self, station: &S, connection: usize, octets: &[u8]) -> bool
+        ensures { result ≡ admits self.now station.now connection octets.now };
 
     /// Returns how the wait begins that follows what was noted last.
     fn pace(&self) -> Pace

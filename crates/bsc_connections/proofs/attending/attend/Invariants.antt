@@ -12,7 +12,7 @@ invariant-steps g l =
     (history : List Happening) (last : Session g.row.S.Denot
     (ConnectionValue g.row.R.Denot g.row.W.Denot g.row.F.Denot) g.row.M.Denot g.row.T.Denot)
     → Attends
-    (session_parts g.S.Station g.R.Read g.W.Write g.F.Framing g.M.Monitor.is_told g.M.Monitor.paces g.T.Waiter)
+    (session_parts g.S.Station g.R.Read g.W.Write g.F.Framing g.M.Monitor.is_told g.M.Monitor.admits g.M.Monitor.paces g.T.Waiter)
     (record {
       station = l.station;
       connections = l.connections;
@@ -21,7 +21,7 @@ invariant-steps g l =
     }) history last
     → (whole : List Happening)
     × Attends
-    (session_parts g.S.Station g.R.Read g.W.Write g.F.Framing g.M.Monitor.is_told g.M.Monitor.paces g.T.Waiter)
+    (session_parts g.S.Station g.R.Read g.W.Write g.F.Framing g.M.Monitor.is_told g.M.Monitor.admits g.M.Monitor.paces g.T.Waiter)
     (record {
       station = l.fn.station;
       connections = l.fn.connections;

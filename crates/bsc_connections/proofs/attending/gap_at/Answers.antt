@@ -1,5 +1,4 @@
--- If a transmission has begun at this place that a gap would end, `gap_at` ends it and the station
--- hears it.
+-- If a transmission has begun at this place that a gap would end, `gap_at` ends it, and it arrives.
 use Rattle.std.proofs.Common.{◌≡◌, ◌<◌, ℕ, Bool, true, Option, Some, [], length, slice_get, get_or}
 use Rattle.std.proofs.Common.{Ok, refl, sym, ◌∙◌, ap, subst}
 use Rattle.std.proofs.lemmas.Option.{slice_get-get_or}
@@ -12,7 +11,7 @@ pub returns-then-not-awaits_gap_at-clause-does : goal.returns-then-not-awaits_ga
 returns-then-not-awaits_gap_at-clause-does g c = (
   [],
   subst (λ (b : Bool). GapPasses
-      (session_parts g.S.Station g.R.Read g.W.Write g.F.Framing g.M.Monitor.is_told g.M.Monitor.paces g.T.Waiter)
+      (session_parts g.S.Station g.R.Read g.W.Write g.F.Framing g.M.Monitor.is_told g.M.Monitor.admits g.M.Monitor.paces g.T.Waiter)
       c.args.connection b
       (record {
         station = c.args.station.now;
@@ -41,10 +40,10 @@ returns-clause-does g c =
     awaits ∙ ap (λ (o : Option (ConnectionValue g.row.R.Denot g.row.W.Denot g.row.F.Denot)).
     awaits_gap g.F.Framing.awaits o) at in
     let ended : c.gap.result ≡ true = c.gap.ensures.ended ∙ sym it_awaits in
-    let (happened, heard) = c.answer_at.ensures.hears in (
+    let (happened, arrives) = c.arrive_at.ensures.arrives in (
       happened,
       subst (λ (b : Bool). GapPasses
-          (session_parts g.S.Station g.R.Read g.W.Write g.F.Framing g.M.Monitor.is_told g.M.Monitor.paces g.T.Waiter)
+          (session_parts g.S.Station g.R.Read g.W.Write g.F.Framing g.M.Monitor.is_told g.M.Monitor.admits g.M.Monitor.paces g.T.Waiter)
           place b
           (record {
             station = c.args.station.now;
@@ -52,11 +51,11 @@ returns-clause-does g c =
             monitor = c.args.monitor.now;
             waiter = c.args.waiter.now;
           })
-          happened c.answer_at.result (record {
-            station = c.answer_at.new.station;
-            connections = c.answer_at.new.connections;
-            monitor = c.answer_at.new.monitor;
-            waiter = c.answer_at.new.waiter;
+          happened c.arrive_at.result (record {
+            station = c.arrive_at.new.station;
+            connections = c.arrive_at.new.connections;
+            monitor = c.arrive_at.new.monitor;
+            waiter = c.arrive_at.new.waiter;
           })) awaits
           (record {
             between = _;
@@ -71,6 +70,6 @@ returns-clause-does g c =
                     c.gap.ensures.ends,
               ),
             );
-            heard = heard;
+            arrives = arrives;
           }),
     )

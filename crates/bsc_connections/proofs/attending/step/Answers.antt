@@ -1,9 +1,11 @@
--- `step` tells the monitor of a peer that the system could not accept, and does nothing else; or it
--- tells of a connection that is closed, without a wait.
+-- `step` tells the monitor of a peer that the system could not accept or that may not connect, or
+-- that the station is asked to end, and does nothing else; or it tells of a connection that is
+-- closed, without a wait.
 use Rattle.std.proofs.Common.{[], ◌∷◌, Ok, inl, inr, refl, subst}
 use Rattle.bsc_connections.specs.declared.awaited.Awaited.{Awaited}
-use Rattle.bsc_connections.specs.declared.awaited.Awaited.TheVariants.{NotAccepted, Octets}
-use Rattle.bsc_connections.specs.Histories.{WasRefused}
+use Rattle.bsc_connections.specs.declared.awaited.Awaited.TheVariants.{NotAccepted, NotAllowed, Octets}
+use Rattle.bsc_connections.specs.declared.awaited.Awaited.TheVariants.{Stopped}
+use Rattle.bsc_connections.specs.Histories.{WasRefused, WasStopped}
 use Rattle.bsc_connections.proofs.attending.step.Goals as goal
 
 pub returns-in-Ok-NotAccepted-clause-steps : goal.returns-in-Ok-NotAccepted-clause-steps
@@ -17,6 +19,34 @@ returns-in-Ok-NotAccepted-clause-steps g c =
             g.T.Waiter.waits c.args.waiter.now (Ok a) c.wait.new.self)
             c.in-Ok-NotAccepted.field-0-is c.in-Ok-NotAccepted.ensures);
         does = (refl, refl, (refl, c.note.ensures.told), refl);
+      },
+    )
+
+pub returns-in-Ok-NotAllowed-clause-steps : goal.returns-in-Ok-NotAllowed-clause-steps
+returns-in-Ok-NotAllowed-clause-steps g c =
+    inl (
+      WasRefused ∷ [],
+      record {
+        awaited = NotAllowed;
+        waiter = c.wait.new.self;
+        begins = inl (subst (λ (a : Awaited).
+            g.T.Waiter.waits c.args.waiter.now (Ok a) c.wait.new.self)
+            c.in-Ok-NotAllowed.field-0-is c.in-Ok-NotAllowed.ensures);
+        does = (refl, (refl, (refl, c.note-in-Ok-NotAllowed.ensures.told), c.turn_away.ensures));
+      },
+    )
+
+pub returns-in-Ok-Stopped-clause-steps : goal.returns-in-Ok-Stopped-clause-steps
+returns-in-Ok-Stopped-clause-steps g c =
+    inl (
+      WasStopped ∷ [],
+      record {
+        awaited = Stopped;
+        waiter = c.wait.new.self;
+        begins = inl (subst (λ (a : Awaited).
+            g.T.Waiter.waits c.args.waiter.now (Ok a) c.wait.new.self)
+            c.in-Ok-Stopped.field-0-is c.in-Ok-Stopped.ensures);
+        does = (refl, refl, (refl, c.note-in-Ok-Stopped.ensures.told), refl);
       },
     )
 
