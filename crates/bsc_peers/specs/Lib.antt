@@ -1,0 +1,4 @@
+pub mod Addresses
+pub mod Networks
+pub mod NetworkTexts
+pub mod Lists
