@@ -1,6 +1,7 @@
 -- Which peers are stations of the line, and for how long nobody has answered at each place.
 use Rattle.std.specs.Prelude.{◌≡◌, ◌<◌, ◌≤◌, ◌-◌, ◌&&◌, ℕ, Bool, true, false, not, List, length}
-use Rattle.std.specs.Prelude.{Option, None, Some, slice_get, slice_set, if◌then◌else◌}
+use Rattle.std.specs.Prelude.{Option, None, Some, slice_get, slice_set, replicate}
+use Rattle.std.specs.Prelude.{if◌then◌else◌}
 use Rattle.bsc_connections.specs.declared.awaited.Handled.{Handled}
 use Rattle.bsc_connections.specs.declared.awaited.Handled.TheVariants.{Answered, Unanswered}
 use Rattle.bsc_connections.specs.declared.awaited.Handled.TheVariants.{Silence}
@@ -17,6 +18,19 @@ pub record StandingsValue : Type 0 where
 
 abbrev pub standings_value : {A : Type 0} → Standings A → StandingsValue
 standings_value s = record { places = s.places.items; silence = s.silence }
+
+-- Nothing is known of the peer of a place.
+abbrev pub unknown : Standing
+unknown = record { peer = None; since = 0; answered = false }
+
+-- What is known of this many places before a peer has connected.
+abbrev pub new_standings : ℕ → StandingsValue
+new_standings places = record { places = replicate places unknown; silence = 0 }
+
+-- The address of the peer of a place, if it is known.
+abbrev pub peer_of : Option Standing → Option SocketAddr
+peer_of None = None
+peer_of (Some standing) = standing.peer
 
 -- The standings after this place has become that, if there is such a place.
 abbrev pub changed_at : StandingsValue → ℕ → Option Standing → StandingsValue

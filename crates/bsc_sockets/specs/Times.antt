@@ -1,5 +1,5 @@
 -- The time of the time-out.
-use Rattle.std.specs.Prelude.{◌≡◌, ⊤}
+use Rattle.std.specs.Prelude.{◌≡◌, ⊤, ℕ, Option, None, Some}
 use Rattle.bsc_connections.specs.declared.awaited.Awaited.{Awaited}
 use Rattle.bsc_connections.specs.declared.awaited.Awaited.TheVariants.{Gap, TimeOut}
 use Rattle.bsc_sockets.specs.declared.times.Time.{Time}
@@ -16,3 +16,8 @@ abbrev pub IsEnd : Awaited → Type 0
 IsEnd (Gap connection) = ⊤
 IsEnd TimeOut = ⊤
 IsEnd _ = ⊥
+
+-- The event of the end of the gap at this place, or of the time-out.
+abbrev pub event_of : Option ℕ → Awaited
+event_of None = TimeOut
+event_of (Some place) = Gap place

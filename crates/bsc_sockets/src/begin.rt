@@ -37,6 +37,9 @@ pub trait Reception {
 
     /// This peer has the connection at this place.
     fn joined(&mut self, place: usize, peer: SocketAddr);
+
+    /// The address of this peer may not connect, and it was turned away.
+    fn refused(&mut self, peer: SocketAddr);
 }
 
 /// Sockets with a connection at each of their places.
@@ -70,7 +73,8 @@ pub fn connect<'a, N: Net + Clock, A: Allocator + Copy>(
 
 /// Connects to the first of these addresses that answers. Fails with `NobodyThere` if no address
 /// gives a connection, for example because the peer refuses, cannot be reached, or does not answer
-/// within `patience`, with `Sockets` if the system refuses what else the connection needs, and with
+/// within `patience`, with `CannotWatchInput` if the system does not report the descriptor that
+/// asks the station to end, with `Sockets` if it refuses what else the connection needs, and with
 /// `Memory` if memory cannot be allocated.
 pub fn connect_to_any<'a, N: Net + Clock, A: Allocator + Copy>(
     runtime: &'a N,
@@ -81,8 +85,8 @@ pub fn connect_to_any<'a, N: Net + Clock, A: Allocator + Copy>(
 ) -> Result<Begun<'a, N, A>, SocketsError>
     ensures { IfOk result (λ begun. length begun.connections.items ≡ 1) }
 {
-    let stream = first_answer(runtime, alloc, addresses, patience)?;
     let mut begun = Begun::new(runtime, alloc, 1, settings)?;
+    let stream = first_answer(runtime, alloc, addresses, patience)?;
     begun.add(0, stream)?;
     Ok(begun)
 }
@@ -119,10 +123,13 @@ fn connect_to<N: Net + Clock, A: Allocator>(
 }
 
 /// Takes a connection from each of these peers, fewer than 65,536, in the order in which they
-/// connect. Fails with `NobodyConnected` if a peer does not connect within their patience, which
-/// begins anew for each, with `Sockets` if the system refuses what a connection needs, and with
-/// `Memory` if memory cannot be allocated. If it keeps listening, a further peer is a newcomer;
-/// else the system refuses that peer. The reception is told of the address and of each peer.
+/// connect. A peer whose address is not allowed is turned away, and the patience goes on meanwhile.
+/// Fails with `NobodyConnected` if a peer does not connect within their patience, which begins anew
+/// for each, with `Stopped` if the station is asked to end before that, with `CannotWatchInput` if
+/// the system does not report the descriptor that asks it to, with `Sockets` if it refuses what a
+/// connection needs, and with `Memory` if memory cannot be allocated. If it keeps listening, a
+/// further peer is a newcomer; else the system refuses that peer. The reception is told of the
+/// address and of each peer.
 pub fn listen<'a, N: Net + Clock, A: Allocator + Copy, H: Reception>(
     runtime: &'a N,
     alloc: A,
@@ -204,7 +211,7 @@ impl<'a, N: Net + Clock, A: Allocator + Copy> Begun<'a, N, A> {
     {
         'peers: for place in 0..peers {
             reception.waits(place, peers);
-            let Peer { stream, address } = self.sockets.next_peer(patience)?;
+            let Peer { stream, address } = self.sockets.next_peer(patience, reception)?;
             self.add(place, stream)?;
             reception.joined(place, address);
         }

@@ -23,6 +23,12 @@ pub enum SocketsError {
     /// A peer did not connect in time.
     NobodyConnected,
 
+    /// The station was asked to end before its peers had connected.
+    Stopped,
+
+    /// The system does not report when standard input ends, for example because it is a file.
+    CannotWatchInput,
+
     /// The system refused a socket, a setting of it, or to wait for it.
     Sockets,
 
@@ -38,6 +44,8 @@ impl Display for SocketsError {
             SocketsError::CannotListen => "cannot listen at this address",
             SocketsError::NobodyThere => "nobody is there",
             SocketsError::NobodyConnected => "nobody has connected",
+            SocketsError::Stopped => "the station was asked to end before its peers connected",
+            SocketsError::CannotWatchInput => "cannot wait for the end of standard input",
             SocketsError::Sockets => "cannot make the sockets",
             SocketsError::Memory => "out of memory",
         })

@@ -4,7 +4,10 @@
 //!
 //! - `Listening` is an address that is bound; `listen` waits there for `Peers`.
 //! - `connect` and `connect_to_any` make one connection to a peer that listens.
-//! - `Sockets` waits for octets, for a further peer, or until a gap or the time-out has passed.
+//! - `Sockets` waits for octets, for a further peer, or until a gap or the time-out has passed. A
+//!   peer with an address that is not allowed is turned away.
+//! - A descriptor such as that of standard input asks the station to end when its other end is
+//!   closed.
 //! - `Reading` and `Writing` are the two directions of a connection. A read does not wait, and a
 //!   write waits no longer than the time-out.
 //!
@@ -17,14 +20,18 @@ mod directions;
 mod error;
 mod listening;
 mod ready;
+mod settings;
 mod sockets;
 mod standings;
+mod stopping;
 mod time_limit;
 mod times;
+mod waiting;
 mod writable;
 
 pub use begin::{Begun, Peers, Reception, connect, connect_to_any, listen};
 pub use directions::{Reading, Writing};
 pub use error::SocketsError;
 pub use listening::Listening;
-pub use sockets::{ConnectionSettings, Sockets};
+pub use settings::ConnectionSettings;
+pub use sockets::Sockets;

@@ -1,5 +1,8 @@
 //! An address at which peers connect.
 
+ghost use Rattle.std.specs.Prelude.{◌≡◌, IfErr};
+ghost use Rattle.bsc_sockets.specs.Listening.{IsBindError};
+
 use crate::SocketsError;
 use mio::net::TcpListener;
 use std::io::ErrorKind;
@@ -16,9 +19,11 @@ impl Listening {
     /// addresses, at the first that can be bound. With port 0 the system chooses a port. Fails with
     /// `Address` if the text is not an address. If no address can be bound, fails with
     /// `AddressInUse` if another process listens at the last of them, else with `CannotListen`.
-    pub fn bind<N: Net>(runtime: &N, address: &str) -> Result<Listening, SocketsError> {
+    pub fn bind<N: Net>(runtime: &N, address: &str) -> Result<Listening, SocketsError>
+        ensures { IfErr result IsBindError }
+    {
         let mut why = SocketsError::Address;
-        for address in addresses(runtime, address)? {
+        'addresses: for address in addresses(runtime, address)? {
             match TcpListener::bind(runtime, address) {
                 Ok(listener) => return Ok(Listening { listener }),
                 Err(error) if error.kind() == ErrorKind::AddrInUse => {
@@ -32,7 +37,9 @@ impl Listening {
 
     /// Returns the address and port at which it listens. Fails with `Sockets` if the system does
     /// not tell them.
-    pub fn address(&self) -> Result<SocketAddr, SocketsError> {
+    pub fn address(&self) -> Result<SocketAddr, SocketsError>
+        ensures { IfErr result (λ why. why ≡ SocketsError.Sockets) }
+    {
         Ok(self.listener.local_addr()?)
     }
 }
@@ -41,7 +48,9 @@ impl Listening {
 pub(crate) fn addresses<N: Net>(
     runtime: &N,
     address: &str,
-) -> Result<std::net::HostAddrs, SocketsError> {
+) -> Result<std::net::HostAddrs, SocketsError>
+    ensures { IfErr result (λ why. why ≡ SocketsError.Address) }
+{
     match address.to_socket_addrs(runtime) {
         Ok(addresses) => Ok(addresses),
         Err(_) => Err(SocketsError::Address),

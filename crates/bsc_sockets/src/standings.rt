@@ -1,9 +1,10 @@
 //! The peers of the connections, and for how long nobody has answered at each place.
 
 ghost use Rattle.std.specs.Prelude.{◌≡◌, ◌+◌, ◌^◌, ◌-◌, min, false, length, slice_get, option_map};
+ghost use Rattle.std.specs.Prelude.{IfOk};
 ghost use Rattle.std.specs.Duration.{as_nanos};
 ghost use Rattle.bsc_sockets.specs.Standings.{IsQuietest, after_answer, after_joining, is_known};
-ghost use Rattle.bsc_sockets.specs.Standings.{quiet_at, standings_value};
+ghost use Rattle.bsc_sockets.specs.Standings.{new_standings, peer_of, quiet_at, standings_value};
 
 use std::alloc::{AllocError, Allocator};
 use std::net::SocketAddr;
@@ -35,7 +36,9 @@ pub(crate) struct Standings<A: Allocator> {
 
 impl<A: Allocator> Standings<A> {
     /// Returns what is known of this many places before a peer has connected.
-    pub(crate) fn new(alloc: A, places: usize) -> Result<Standings<A>, AllocError> {
+    pub(crate) fn new(alloc: A, places: usize) -> Result<Standings<A>, AllocError>
+        ensures { IfOk result (λ standings. standings_value standings ≡ new_standings places) }
+    {
         let mut standings = Vec::new(alloc);
         for _ in 0..places {
             standings.push(Standing {
@@ -90,7 +93,9 @@ impl<A: Allocator> Standings<A> {
     }
 
     /// Returns the address of the peer at this place, if it is known.
-    pub(crate) fn peer(&self, place: usize) -> Option<SocketAddr> {
+    pub(crate) fn peer(&self, place: usize) -> Option<SocketAddr>
+        ensures { result ≡ peer_of (slice_get self.now.places.items place) }
+    {
         match self.places.get(place) {
             Some(standing) => standing.peer,
             None => None,

@@ -1,7 +1,7 @@
 //! The times of the time-out and of the gaps.
 
-ghost use Rattle.std.specs.Prelude.{◌≡◌, IfOk};
-ghost use Rattle.bsc_sockets.specs.Times.{IsEnd, IsKept};
+ghost use Rattle.std.specs.Prelude.{◌≡◌, IfOk, None, Some, replicate, slice_set};
+ghost use Rattle.bsc_sockets.specs.Times.{IsEnd, IsKept, event_of};
 
 use crate::time_limit::TimeLimit;
 use bsc_connections::{Awaited, LiveError, Pace};
@@ -41,7 +41,11 @@ pub(crate) struct Times<A: Allocator> {
 impl<A: Allocator> Times<A> {
     /// Returns the times for this many places: that of the time-out begins with the next wait, and
     /// no gap is awaited.
-    pub(crate) fn new(alloc: A, places: usize) -> Result<Times<A>, AllocError> {
+    pub(crate) fn new(alloc: A, places: usize) -> Result<Times<A>, AllocError>
+        ensures time_out { IfOk result (λ times. times.time_out ≡ Time.Anew) }
+        ensures pace { IfOk result (λ times. times.pace ≡ Pace.AtOnce) }
+        ensures gaps { IfOk result (λ times. times.gaps.items ≡ replicate places None) }
+    {
         let mut gaps = Vec::new(alloc);
         for _ in 0..places {
             gaps.push(None)?;
@@ -63,7 +67,10 @@ impl<A: Allocator> Times<A> {
 
     /// Begins the gap at this place anew, with the next wait.
     pub(crate) fn begin_gap(&mut self, place: usize)
-        ensures { self.new.time_out ≡ self.old.time_out }
+        ensures time_out { self.new.time_out ≡ self.old.time_out }
+        ensures pace { self.new.pace ≡ self.old.pace }
+        ensures gaps { self.new.gaps.items
+            ≡ slice_set self.old.gaps.items place (Some Time.Anew) }
     {
         if let Some(gap) = self.gaps.get_mut(place) {
             *gap = Some(Time::Anew);
@@ -93,6 +100,7 @@ impl<A: Allocator> Times<A> {
     pub(crate) fn stop_gap(&mut self, place: usize)
         ensures time_out { self.new.time_out ≡ self.old.time_out }
         ensures pace { self.new.pace ≡ self.old.pace }
+        ensures gaps { self.new.gaps.items ≡ slice_set self.old.gaps.items place None }
     {
         if let Some(gap) = self.gaps.get_mut(place) {
             *gap = None;
@@ -132,6 +140,7 @@ impl<A: Allocator> Times<A> {
     /// Returns the event of this end. A gap that has ended is no longer awaited.
     pub(crate) fn end(&mut self, end: End) -> Awaited
         ensures event { IsEnd result }
+        ensures whose { result ≡ event_of end.gap }
         ensures time_out { self.new.time_out ≡ self.old.time_out }
         ensures pace { self.new.pace ≡ self.old.pace }
     {
@@ -144,7 +153,7 @@ impl<A: Allocator> Times<A> {
 }
 
 /// Returns the limit of a time that begins now or has begun, and what is left of it.
-fn running<C: Clock>(
+pub(crate) fn running<C: Clock>(
     clock: &C,
     time: Time,
     whole: Duration,

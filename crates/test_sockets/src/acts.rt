@@ -19,6 +19,9 @@ pub(crate) enum Busy {
 
     /// Another peer connects, which the station turns away.
     Peers,
+
+    /// No peer does anything.
+    Nobody,
 }
 
 /// An act at the peer or the connection with this number.

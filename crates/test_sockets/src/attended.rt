@@ -4,7 +4,7 @@ use crate::memory::Piece::{Fails, Octets};
 use crate::memory::{Counts, Ends, Expecting, NOT_TOLD, Pieces, Told};
 use crate::watching::{Answers, Expects};
 use bsc_carrier::CarrierError;
-use bsc_connections::Awaited::{Gap, Newcomer, NotAccepted, TimeOut};
+use bsc_connections::Awaited::{Gap, Newcomer, NotAccepted, NotAllowed, Stopped, TimeOut};
 use bsc_connections::{
     Awaited, Connection, Framing, Gaps, LiveError, Note, Refusal, SocketRecords, attend,
 };
@@ -59,9 +59,45 @@ const ACK0_AND_EOT: &[u8] = &[0x16, 0x16, 0x10, 0xb0, 0xff, 0x16, 0x16, 0x04, 0x
 /// The octets of EOT and of ACK0.
 const EOT_THEN_ACK0: &[u8] = &[0x16, 0x16, 0x04, 0xff, 0x16, 0x16, 0x10, 0xb0, 0xff];
 
+/// The octets of a transmission that the monitor does not admit.
+const STRANGE: &[u8] = &[0x16, 0x16, 0x02, 0x41, 0x83, 0x00, 0xff];
+
 const NONE: Ends = (&[], &[]);
 
 const OVER_RECORDS: &[Attended] = &[
+    Attended {
+        shows: "what is not admitted is not heard, and a stop and a peer turned away are told",
+        first: (&[Octets(&[0x00, 0x07]), Octets(STRANGE)], &[]),
+        second: NONE,
+        newcomer: NONE,
+        replaceable: None,
+        waits: &[FIRST, FIRST, Stopped, NotAllowed, FIRST],
+        notes: &[
+            Note::Ignored {
+                connection: 0,
+                octets: STRANGE,
+            },
+            Note::Stopped,
+            Note::Refused {
+                peer: None,
+                why: Refusal::NotAllowed,
+            },
+            Note::Closed {
+                connection: 0,
+                peer: None,
+                why: None,
+            },
+        ],
+        result: Ok(()),
+        counts: Counts {
+            nothing_left: 1,
+            turned_away: 1,
+            handled: 0,
+            answers: 0,
+            pauses: 0,
+            gaps: 0,
+        },
+    },
     Attended {
         shows: "a record that is begun is kept over a time-out, and what is sent goes out once",
         first: (
@@ -323,6 +359,53 @@ const OVER_GAPS: &[Attended] = &[
             answers: 1,
             pauses: 2,
             gaps: 2,
+        },
+    },
+    Attended {
+        shows: "the end of the input ends what has begun, and is the end after that",
+        first: (&[Octets(&[0x16, 0x16]), Octets(&[0x04, 0xff])], ACK0),
+        second: (&[Octets(STRANGE)], ACK0),
+        newcomer: NONE,
+        replaceable: None,
+        waits: &[
+            SECOND,
+            SECOND,
+            FIRST,
+            FIRST,
+            FIRST,
+            Gap { connection: 0 },
+            FIRST,
+            SECOND,
+        ],
+        notes: &[
+            Note::Ignored {
+                connection: 1,
+                octets: STRANGE,
+            },
+            Note::Heard {
+                connection: 0,
+                octets: EOT,
+            },
+            Note::Sent { octets: ACK0 },
+            Note::Closed {
+                connection: 0,
+                peer: None,
+                why: None,
+            },
+            Note::Closed {
+                connection: 1,
+                peer: None,
+                why: None,
+            },
+        ],
+        result: Ok(()),
+        counts: Counts {
+            nothing_left: 2,
+            turned_away: 0,
+            handled: 1,
+            answers: 1,
+            pauses: 1,
+            gaps: 3,
         },
     },
     Attended {

@@ -38,7 +38,10 @@ pub(crate) fn connections_at<A: Allocator + Copy>(
 }
 
 /// Fails unless the result is this fault.
-fn is_told<T: Drop>(told: Result<T, SocketsError>, fault: SocketsError) -> Result<(), Fail> {
+pub(crate) fn is_told<T: Drop>(
+    told: Result<T, SocketsError>,
+    fault: SocketsError,
+) -> Result<(), Fail> {
     match told.err() {
         Some(told) if told == fault => Ok(()),
         told => Err(Fail::new(format_args!("{told:?}, and not {fault:?}"))),
@@ -46,7 +49,7 @@ fn is_told<T: Drop>(told: Result<T, SocketsError>, fault: SocketsError) -> Resul
 }
 
 /// Fails unless at least `least` milliseconds and less than a second have passed since `start`.
-fn has_passed(rt: &HostRuntime, start: Instant, least: u128) -> Result<(), Fail> {
+pub(crate) fn has_passed(rt: &HostRuntime, start: Instant, least: u128) -> Result<(), Fail> {
     let passed = start.elapsed(rt)?.as_millis();
     if least <= passed && passed < 1_000 {
         Ok(())
@@ -195,6 +198,14 @@ const PRINTED: &[(SocketsError, &str)] = &[
     (SocketsError::CannotListen, "cannot listen at this address"),
     (SocketsError::NobodyThere, "nobody is there"),
     (SocketsError::NobodyConnected, "nobody has connected"),
+    (
+        SocketsError::Stopped,
+        "the station was asked to end before its peers connected",
+    ),
+    (
+        SocketsError::CannotWatchInput,
+        "cannot wait for the end of standard input",
+    ),
     (SocketsError::Sockets, "cannot make the sockets"),
     (SocketsError::Memory, "out of memory"),
 ];

@@ -7,9 +7,13 @@
 #[cfg(test)]
 mod acts;
 #[cfg(test)]
+mod allowed;
+#[cfg(test)]
 mod attended;
 #[cfg(test)]
 mod beginning;
+#[cfg(test)]
+mod ending;
 #[cfg(test)]
 mod framings;
 #[cfg(test)]
@@ -20,5 +24,7 @@ mod memory;
 mod refusals;
 #[cfg(test)]
 mod sockets;
+#[cfg(test)]
+mod stopped;
 #[cfg(test)]
 mod watching;

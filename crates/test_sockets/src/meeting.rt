@@ -2,6 +2,7 @@
 
 use crate::acts::{Act, Busy, Read4, begin, is_between, reads, station_goes};
 use bsc_connections::{Awaited, Handled, Pace, Waiter};
+use bsc_peers::Networks;
 use bsc_sockets::{Begun, ConnectionSettings, Listening, Peers, Reception, SocketsError, listen};
 use std::alloc::Global;
 use std::io;
@@ -24,6 +25,8 @@ pub(crate) fn settings() -> ConnectionSettings {
         replace_after: Duration::from_millis(80),
         pause: Duration::from_millis(15),
         begins: false,
+        allowed: Networks::new(),
+        stops_with: None,
     }
 }
 
@@ -52,6 +55,9 @@ pub(crate) struct Told {
 
     /// The number of peers that joined; each has to be told of its place.
     joined: usize,
+
+    /// The number of peers that were turned away.
+    pub(crate) refused: usize,
 }
 
 impl Told {
@@ -61,6 +67,7 @@ impl Told {
             address: None,
             waits: 0,
             joined: 0,
+            refused: 0,
         }
     }
 }
@@ -80,6 +87,10 @@ impl Reception for Told {
         if place == self.joined {
             self.joined = self.joined.saturating_add(1);
         }
+    }
+
+    fn refused(&mut self, _peer: SocketAddr) {
+        self.refused = self.refused.saturating_add(1);
     }
 }
 
@@ -151,24 +162,33 @@ pub(crate) struct Encounter {
 /// Plays each of these cases with a new station.
 pub(crate) fn play(rt: &HostRuntime, alloc: Global, encounters: &[Encounter]) -> Result<(), Fail> {
     for encounter in encounters {
-        if let Some(place) = first_wrong(rt, alloc, encounter)? {
-            let shows = encounter.shows;
-            return Err(Fail::new(format_args!("{shows}: not so at {place}")));
-        }
+        let mut settings = settings();
+        settings.begins = encounter.begins;
+        play_one(rt, alloc, settings, None, encounter)?;
     }
     Ok(())
 }
 
-/// The place of the first act with another result.
-fn first_wrong(
+/// Plays this case with a new station that has these settings. A peer that is given is the first,
+/// though it has no connection to the station.
+pub(crate) fn play_one(
     rt: &HostRuntime,
     alloc: Global,
+    settings: ConnectionSettings,
+    first: Option<TcpStream>,
     encounter: &Encounter,
-) -> Result<Option<usize>, Fail> {
-    let mut settings = settings();
-    settings.begins = encounter.begins;
+) -> Result<(), Fail> {
     let mut meeting = meet(rt, alloc, encounter.peers, settings)?;
-    Ok(meeting.first_wrong(encounter.acts))
+    if let Some(first) = first {
+        meeting.peers.insert(0, first)?;
+    }
+    match meeting.first_wrong(encounter.acts) {
+        Some(place) => {
+            let shows = encounter.shows;
+            Err(Fail::new(format_args!("{shows}: not so at {place}")))
+        }
+        None => Ok(()),
+    }
 }
 
 impl<'a> Meeting<'a> {
@@ -228,6 +248,7 @@ impl<'a> Meeting<'a> {
                 None => false,
             },
             Busy::Peers => self.comes(),
+            Busy::Nobody => true,
         }
     }
 
@@ -247,8 +268,8 @@ impl<'a> Meeting<'a> {
                     sockets.handled(Handled::Unanswered { connection }, Pace::AtOnce);
                 }
             }
-            Awaited::Newcomer => sockets.turn_away(),
-            Awaited::NotAccepted | Awaited::Gap { .. } | Awaited::TimeOut => {}
+            Awaited::Newcomer | Awaited::NotAllowed => sockets.turn_away(),
+            Awaited::NotAccepted | Awaited::Gap { .. } | Awaited::TimeOut | Awaited::Stopped => {}
         }
         Some(awaited)
     }

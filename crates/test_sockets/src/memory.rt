@@ -4,7 +4,7 @@
 use bsc_connections::{Awaited, Handled, LiveError, Pace, Waiter};
 use std::io;
 use std::io::{Error, ErrorKind, Read, Write};
-use std::net::SocketAddr;
+use std::net::{Ipv4Addr, SocketAddr, SocketAddrV4};
 
 /// The result of one read.
 #[derive(Clone, Copy)]
@@ -72,6 +72,22 @@ pub(crate) struct Told {
     /// The place of the connection that may be replaced.
     pub(crate) replaceable: Option<usize>,
     pub(crate) counts: Counts,
+}
+
+/// The address of the peer of the connection at this place.
+pub(crate) fn peer_at(connection: usize) -> Option<SocketAddr> {
+    let port = u16::try_from(connection).ok()?;
+    Some(address_with(port))
+}
+
+/// The address of each newcomer.
+pub(crate) fn newcomer() -> SocketAddr {
+    address_with(2_780)
+}
+
+/// The loopback address with this port.
+fn address_with(port: u16) -> SocketAddr {
+    SocketAddr::V4(SocketAddrV4::new(Ipv4Addr::LOCALHOST, port))
 }
 
 /// Octets at a place without a connection.
@@ -166,11 +182,11 @@ impl Waiter<Pieces, Expecting> for Told {
         self.replaceable
     }
 
-    fn peer(&self, _connection: usize) -> Option<SocketAddr> {
-        None
+    fn peer(&self, connection: usize) -> Option<SocketAddr> {
+        peer_at(connection)
     }
 
     fn newcomer(&self) -> Option<SocketAddr> {
-        None
+        Some(newcomer())
     }
 }

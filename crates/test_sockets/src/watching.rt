@@ -3,6 +3,7 @@
 
 ghost use Rattle.std.specs.Prelude.{◌≡◌};
 
+use crate::memory::{newcomer, peer_at};
 use bsc_bid::Station;
 use bsc_carrier::CarrierError;
 use bsc_connections::{LiveError, Monitor, Note, Pace, Refusal};
@@ -41,6 +42,9 @@ impl Station for Answers {
     ghost ignores_noise = { λ old new sent hears. hears refl };
 }
 
+/// The length of a transmission that is not admitted.
+const NOT_ADMITTED: usize = 7;
+
 /// Expects these notes in order, and fails at any other note.
 #[derive(Drop)]
 pub(crate) struct Expects {
@@ -64,6 +68,7 @@ fn parts<'a>(
 ) {
     match *note {
         Note::Heard { connection, octets } => (Some(octets), Some(connection), None),
+        Note::Ignored { connection, octets } => (Some(octets), Some(connection), Some(None)),
         Note::Silence => (None, None, None),
         Note::Sent { octets } => (Some(octets), None, None),
         Note::Joined {
@@ -76,12 +81,40 @@ fn parts<'a>(
             why: Refusal::NoPlace,
             ..
         } => (Some(b"refused"), None, None),
+        Note::Refused {
+            why: Refusal::NotAllowed,
+            ..
+        } => (Some(b"not allowed"), None, None),
         Note::Refused { .. } => (Some(b"not accepted"), None, None),
         Note::Closed {
             connection,
             why,
             ..
         } => (None, Some(connection), Some(why)),
+        Note::Stopped => (None, None, Some(None)),
+    }
+}
+
+/// Whether a note of a peer has its address: that of its connection, that of the newcomer that is
+/// turned away, or none if the system could not accept the peer.
+fn names_peer(note: &Note<'_>) -> bool {
+    match *note {
+        Note::Joined {
+            connection,
+            peer,
+            ..
+        } => peer == peer_at(connection),
+        Note::Closed {
+            connection,
+            peer,
+            ..
+        } => peer == peer_at(connection),
+        Note::Refused {
+            peer,
+            why: Refusal::NotAccepted,
+        } => peer.is_none(),
+        Note::Refused { peer, .. } => peer == Some(newcomer()),
+        _ => true,
     }
 }
 
@@ -97,14 +130,15 @@ impl Expects {
         }
     }
 
-    /// Whether this is the next expected note. The one after it is expected next.
+    /// Whether this is the next expected note, and names the peer that the waiter names. The one
+    /// after it is expected next.
     fn is_next(&mut self, note: &Note<'_>) -> bool
         ensures { self.new.has_ended ≡ self.old.has_ended }
     {
         let place = self.taken;
         self.taken = place.saturating_add(1);
         match self.notes.get(place) {
-            Some(expected) => parts(expected) == parts(note),
+            Some(expected) => parts(expected) == parts(note) && names_peer(note),
             None => false,
         }
     }
@@ -116,7 +150,12 @@ impl Expects {
 }
 
 impl Monitor<Answers> for Expects {
+    ghost use Rattle.std.specs.Prelude.{length, nat_eq, not};
+    ghost use Rattle.test_sockets.specs.declared.watching.TheConstants.{NOT_ADMITTED};
+
     ghost has_ended = { λ expects. expects.has_ended };
+
+    ghost admits = { λ _ _ _ octets. not (nat_eq (length octets) NOT_ADMITTED) };
 
     ghost paces = { λ expects. expects.pace };
 
@@ -134,6 +173,10 @@ impl Monitor<Answers> for Expects {
             self.has_ended = true;
         }
         Ok(!self.has_ended)
+    }
+
+    fn admits(&self, _station: &Answers, _connection: usize, octets: &[u8]) -> bool {
+        octets.len() != NOT_ADMITTED
     }
 
     fn pace(&self) -> Pace {

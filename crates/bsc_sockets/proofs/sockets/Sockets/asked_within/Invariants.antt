@@ -1,8 +1,11 @@
 -- The loop invariant of `asked_within`.
 use Rattle.std.proofs.Common.{◌≡◌}
+use Rattle.bsc_sockets.specs.Stopping.{times_told}
 use Rattle.bsc_sockets.proofs.sockets.Sockets.asked_within.Given as goal
 
--- The times and the standings stay as they were.
+-- The settings, the times and the standings stay as they were, and the station is told nothing.
 abbrev pub invariant-asks : goal.invariant-asks
 invariant-asks g l =
-    (l.self.times ≡ l.fn.self.times) × (l.self.standings ≡ l.fn.self.standings)
+    (l.self.settings ≡ l.fn.self.settings)
+    × (times_told l.self.stopping ≡ times_told l.fn.self.stopping)
+    × (l.self.times ≡ l.fn.self.times) × (l.self.standings ≡ l.fn.self.standings)

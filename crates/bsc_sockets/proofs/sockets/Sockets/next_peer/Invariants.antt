@@ -1,0 +1,7 @@
+-- The loop invariant of `next_peer`.
+use Rattle.std.proofs.Common.{◌≡◌}
+use Rattle.bsc_sockets.proofs.sockets.Sockets.next_peer.Given as goal
+
+-- The settings stay as they were.
+abbrev pub invariant-peers : goal.invariant-peers
+invariant-peers g l = l.self.settings ≡ l.fn.self.settings

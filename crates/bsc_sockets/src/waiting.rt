@@ -1,0 +1,377 @@
+//! Waits for what is ready.
+
+ghost use Rattle.std.specs.Prelude.{◌≡◌, ◌+◌, ◌↔◌, IfOk, IfSome, IsSome, IsTrue, OnOk, true};
+ghost use Rattle.std.specs.Option.{option_map_or};
+ghost use Rattle.bsc_sockets.specs.Answers.{IsAnswer, may_connect};
+ghost use Rattle.bsc_sockets.specs.Stopping.{asked_if, is_closed_in, stops_in, times_told};
+ghost use Rattle.bsc_sockets.specs.Times.{IsEnd};
+
+use crate::ready::Ready;
+use crate::sockets::Peer;
+use crate::stopping::{INPUT, is_closed};
+use crate::time_limit::TimeLimit;
+use crate::times::End;
+use crate::{Reception, Sockets, SocketsError};
+use bsc_connections::{Awaited, LiveError, Pace};
+use mio::Events;
+use std::alloc::{AllocError, Allocator};
+use std::io::ErrorKind;
+use std::net::Net;
+use std::time::{Clock, Duration};
+
+/// The most places served in turn before the system is asked what else has arrived, so that a peer
+/// that never stops sending does not hide another one.
+const MAX_ANSWERS_UNASKED: usize = 16;
+
+/// The most events that are served for each place after a time has passed and before its end is
+/// told: what arrived in time is heard first, and a peer that never stops sending does not hold up
+/// the end.
+const MAX_SERVED_OVERDUE: usize = 4;
+
+/// What is sought among what is ready.
+#[derive(Clone, Copy)]
+pub(crate) enum Sought {
+    /// A peer, or octets.
+    Anything,
+
+    /// A peer.
+    Newcomer,
+}
+
+impl<'a, N: Net + Clock, A: Allocator + Copy> Sockets<'a, N, A> {
+    /// Returns the first event that is sought, or `TimeOut` if none happens within this time.
+    pub(crate) fn within(&mut self, time: Duration, sought: Sought) -> Result<Awaited, LiveError>
+        ensures answer { IfOk result
+            (IsAnswer self.new.settings.allowed self.new.places self.new.newcomer) }
+        ensures settings { self.new.settings ≡ self.old.settings }
+        ensures stops { IfOk result (λ awaited. times_told self.new.stopping
+            ≡ times_told self.old.stopping + stops_in awaited) }
+        ensures times { self.new.times ≡ self.old.times }
+        ensures standings { self.new.standings ≡ self.old.standings }
+    {
+        if self.unasked >= MAX_ANSWERS_UNASKED {
+            self.ask(Duration::ZERO)?;
+        }
+        match self.found(sought) {
+            Some(awaited) => Ok(awaited),
+            None => self.asked_within(time, sought),
+        }
+    }
+
+    /// As `within`, of anything, but returns `TimeOut` at once if no time is left and enough was
+    /// served since.
+    pub(crate) fn in_time(&mut self, left: Duration) -> Result<Awaited, LiveError>
+        ensures answer { IfOk result
+            (IsAnswer self.new.settings.allowed self.new.places self.new.newcomer) }
+        ensures settings { self.new.settings ≡ self.old.settings }
+        ensures stops { IfOk result (λ awaited. times_told self.new.stopping
+            ≡ times_told self.old.stopping + stops_in awaited) }
+        ensures times { self.new.times ≡ self.old.times }
+        ensures standings { self.new.standings ≡ self.old.standings }
+    {
+        if self.is_overdue(left) {
+            return Ok(Awaited::TimeOut);
+        }
+        self.within(left, Sought::Anything)
+    }
+
+    /// Returns whether no time is left and enough was served since.
+    fn is_overdue(&mut self, left: Duration) -> bool
+        ensures settings { self.new.settings ≡ self.old.settings }
+        ensures stopping { self.new.stopping ≡ self.old.stopping }
+        ensures times { self.new.times ≡ self.old.times }
+        ensures standings { self.new.standings ≡ self.old.standings }
+    {
+        self.overdue = if left.is_zero() {
+            self.overdue.saturating_add(1)
+        } else {
+            0
+        };
+        let places = self.places.saturating_add(1);
+        let is_overdue = self.overdue > places.saturating_mul(MAX_SERVED_OVERDUE);
+        if is_overdue {
+            self.overdue = 0;
+        }
+        is_overdue
+    }
+
+    /// As `within`, but asks the system first.
+    fn asked_within(&mut self, time: Duration, sought: Sought) -> Result<Awaited, LiveError>
+        ensures answer { IfOk result
+            (IsAnswer self.new.settings.allowed self.new.places self.new.newcomer) }
+        ensures settings { self.new.settings ≡ self.old.settings }
+        ensures stops { IfOk result (λ awaited. times_told self.new.stopping
+            ≡ times_told self.old.stopping + stops_in awaited) }
+        ensures times { self.new.times ≡ self.old.times }
+        ensures standings { self.new.standings ≡ self.old.standings }
+    {
+        let Ok(limit) = TimeLimit::begin(self.runtime, time) else {
+            return Err(LiveError::Wait);
+        };
+        let mut left = time;
+        'asks: for _ in 0..u64::MAX {
+            self.ask(left)?;
+            if let Some(awaited) = self.found(sought) {
+                return Ok(awaited);
+            }
+            left = self.left(limit)?;
+            if left.is_zero() {
+                break;
+            }
+        }
+        Ok(Awaited::TimeOut)
+    }
+
+    /// Returns what is left of a time.
+    fn left(&self, limit: TimeLimit) -> Result<Duration, LiveError> {
+        match limit.left(self.runtime) {
+            Ok(left) => Ok(left),
+            Err(_) => Err(LiveError::Wait),
+        }
+    }
+
+    /// Returns what is sought if it is ready.
+    fn found(&mut self, sought: Sought) -> Option<Awaited>
+        ensures answer { IfSome result
+            (IsAnswer self.new.settings.allowed self.new.places self.new.newcomer) }
+        ensures settings { self.new.settings ≡ self.old.settings }
+        ensures stops { times_told self.new.stopping
+            ≡ times_told self.old.stopping + option_map_or stops_in result 0 }
+        ensures times { self.new.times ≡ self.old.times }
+        ensures standings { self.new.standings ≡ self.old.standings }
+    {
+        if self.stopping.tell() {
+            return Some(Awaited::Stopped);
+        }
+        match sought {
+            Sought::Newcomer if self.has_newcomer() => Some(self.newcomer_event()),
+            Sought::Newcomer => None,
+            Sought::Anything => self.next_ready(),
+        }
+    }
+
+    /// Returns what is to be served now. It takes the ready places in turn, including that of the
+    /// listener, and no more of them than there are places.
+    fn next_ready(&mut self) -> Option<Awaited>
+        ensures answer { IfSome result
+            (IsAnswer self.new.settings.allowed self.new.places self.new.newcomer) }
+        ensures settings { self.new.settings ≡ self.old.settings }
+        ensures stopping { self.new.stopping ≡ self.old.stopping }
+        ensures asked_nothing { option_map_or stops_in result 0 ≡ 0 }
+        ensures times { self.new.times ≡ self.old.times }
+        ensures standings { self.new.standings ≡ self.old.standings }
+    {
+        'turns: for _ in 0..=self.places {
+            let place = self.ready.next_place()?;
+            if place < self.places {
+                self.unasked = self.unasked.saturating_add(1);
+                return Some(Awaited::Octets { connection: place });
+            }
+            let refused = self.refuses;
+            if self.has_newcomer() {
+                return Some(self.newcomer_event());
+            }
+            if self.refuses && !refused {
+                return Some(Awaited::NotAccepted);
+            }
+        }
+        None
+    }
+
+    /// Returns the event of the peer that has connected: `NotAllowed` if it may not.
+    fn newcomer_event(&self) -> Awaited
+        requires { IsSome self.now.newcomer }
+        ensures answer { IsAnswer self.now.settings.allowed self.now.places self.now.newcomer result }
+        ensures stops { stops_in result ≡ 0 }
+    {
+        match &self.newcomer {
+            Some(peer) if !self.settings.allowed.allows(peer.address.ip()) => Awaited::NotAllowed,
+            _ => Awaited::Newcomer,
+        }
+    }
+
+    /// Returns whether there is a peer that has connected and has no place yet, and keeps that
+    /// peer. Records whether the system refuses to accept one.
+    fn has_newcomer(&mut self) -> bool
+        ensures answer { IsTrue result ↔ IsSome self.new.newcomer }
+        ensures settings { self.new.settings ≡ self.old.settings }
+        ensures stopping { self.new.stopping ≡ self.old.stopping }
+        ensures times { self.new.times ≡ self.old.times }
+        ensures standings { self.new.standings ≡ self.old.standings }
+    {
+        if self.newcomer.is_some() {
+            return true;
+        }
+        let Some(listener) = &self.listener else {
+            self.ready.clear(self.places);
+            return false;
+        };
+        self.refuses = false;
+        match listener.accept() {
+            Ok((stream, address)) => {
+                self.newcomer = Some(Peer { stream, address });
+                true
+            }
+            Err(error) => {
+                match error.kind() {
+                    ErrorKind::WouldBlock => self.ready.clear(self.places),
+                    // The peer has left, or a signal came: another peer may be waiting.
+                    ErrorKind::ConnectionAborted | ErrorKind::Interrupted => {}
+                    // For example, no descriptor is left: the system is asked again later.
+                    _ => self.refuses = true,
+                }
+                false
+            }
+        }
+    }
+
+    /// Lets the pause pass if this wait begins with one. What arrives meanwhile is ready after it.
+    pub(crate) fn rest(&mut self) -> Result<(), LiveError>
+        ensures settings { self.new.settings ≡ self.old.settings }
+        ensures told { times_told self.new.stopping ≡ times_told self.old.stopping }
+        ensures time_out { self.new.times.time_out ≡ self.old.times.time_out }
+        ensures pace { OnOk result (self.new.times.pace ≡ Pace.AtOnce) }
+        ensures standings { self.new.standings ≡ self.old.standings }
+    {
+        match self.times.take_pace() {
+            Pace::AtOnce => Ok(()),
+            Pace::AfterPause => self.pause(self.settings.pause),
+        }
+    }
+
+    /// Lets this time pass, or less of it if the station is asked to end.
+    fn pause(&mut self, time: Duration) -> Result<(), LiveError>
+        ensures settings { self.new.settings ≡ self.old.settings }
+        ensures told { times_told self.new.stopping ≡ times_told self.old.stopping }
+        ensures times { self.new.times ≡ self.old.times }
+        ensures standings { self.new.standings ≡ self.old.standings }
+    {
+        let Ok(limit) = TimeLimit::begin(self.runtime, time) else {
+            return Err(LiveError::Wait);
+        };
+        let mut left = time;
+        'asks: for _ in 0..u64::MAX {
+            if left.is_zero() || self.stopping.is_asked() {
+                break;
+            }
+            self.ask(left)?;
+            left = self.left(limit)?;
+        }
+        Ok(())
+    }
+
+    /// Asks the system what has arrived, and waits until something has or the time has passed.
+    fn ask(&mut self, time: Duration) -> Result<(), LiveError>
+        ensures settings { self.new.settings ≡ self.old.settings }
+        ensures asked { self.new.stopping
+            ≡ asked_if (is_closed_in INPUT self.new.events) self.old.stopping }
+        ensures told { times_told self.new.stopping ≡ times_told self.old.stopping }
+        ensures times { self.new.times ≡ self.old.times }
+        ensures standings { self.new.standings ≡ self.old.standings }
+    {
+        self.unasked = 0;
+        if self.poll.poll(&mut self.events, Some(time)).is_err() {
+            return Err(LiveError::Wait);
+        }
+        if is_closed(&self.events) {
+            self.stopping.ask();
+        }
+        match set_all(&mut self.ready, &self.events) {
+            Ok(()) => Ok(()),
+            Err(_) => Err(LiveError::Memory),
+        }
+    }
+
+    /// Returns the event of this end, and counts this time if it is a silence.
+    pub(crate) fn end(&mut self, end: End, silence: Duration) -> Awaited
+        ensures event { IsEnd result }
+        ensures settings { self.new.settings ≡ self.old.settings }
+        ensures stopping { self.new.stopping ≡ self.old.stopping }
+        ensures time_out { self.new.times.time_out ≡ self.old.times.time_out }
+        ensures pace { self.new.times.pace ≡ self.old.times.pace }
+        ensures places { self.new.standings.places ≡ self.old.standings.places }
+    {
+        let awaited = self.times.end(end);
+        if awaited == Awaited::TimeOut {
+            self.standings.silence(silence);
+        }
+        awaited
+    }
+
+    /// Returns the event of the second time that the station is told to end.
+    pub(crate) fn stop_again(&mut self) -> Awaited
+        ensures event { result ≡ Awaited.Stopped }
+        ensures settings { self.new.settings ≡ self.old.settings }
+        ensures told { times_told self.new.stopping ≡ 2 }
+        ensures times { self.new.times ≡ self.old.times }
+        ensures standings { self.new.standings ≡ self.old.standings }
+    {
+        self.stopping.tell_again();
+        Awaited::Stopped
+    }
+
+    /// Returns the next peer that may connect and does so within this time. The reception is told
+    /// of each peer that may not, which is turned away. Fails with `Stopped` if the station is
+    /// asked to end, and with `NobodyConnected` if no such peer connects in time.
+    pub(crate) fn next_peer<H: Reception>(
+        &mut self,
+        patience: Duration,
+        reception: &mut H,
+    ) -> Result<Peer, SocketsError>
+        ensures { IfOk result (λ peer. may_connect self.old.settings.allowed peer ≡ true) }
+    {
+        let limit = TimeLimit::begin(self.runtime, patience)?;
+        let mut left = patience;
+        'peers: for _ in 0..u64::MAX {
+            if let Some(peer) = self.peer_within(left, reception)? {
+                return Ok(peer);
+            }
+            left = limit.left(self.runtime)?;
+            if left.is_zero() {
+                break;
+            }
+        }
+        Err(SocketsError::NobodyConnected)
+    }
+
+    /// As `next_peer`, but returns `None` after the first peer that may not connect.
+    fn peer_within<H: Reception>(
+        &mut self,
+        left: Duration,
+        reception: &mut H,
+    ) -> Result<Option<Peer>, SocketsError>
+        ensures settings { self.new.settings ≡ self.old.settings }
+        ensures admitted { IfOk result (λ found.
+            IfSome found (λ peer. may_connect self.old.settings.allowed peer ≡ true)) }
+    {
+        match self.within(left, Sought::Newcomer) {
+            Ok(Awaited::Newcomer) => Ok(self.take_admitted()),
+            Ok(Awaited::NotAllowed) => {
+                if let Some(peer) = self.newcomer.take() {
+                    reception.refused(peer.address);
+                }
+                // Else such peers could hide that the station is asked to end.
+                self.unasked = self.unasked.saturating_add(1);
+                Ok(None)
+            }
+            Ok(Awaited::Stopped) => Err(SocketsError::Stopped),
+            Ok(_) => Err(SocketsError::NobodyConnected),
+            Err(LiveError::Memory) => Err(SocketsError::Memory),
+            Err(_) => Err(SocketsError::Sockets),
+        }
+    }
+}
+
+/// Records that something has arrived at the place of each event, except those of the input.
+fn set_all<A: Allocator, B: Allocator>(
+    ready: &mut Ready<A>,
+    events: &Events<B>,
+) -> Result<(), AllocError> {
+    for event in events {
+        let place = event.token().0;
+        if place != INPUT {
+            ready.set(place)?;
+        }
+    }
+    Ok(())
+}

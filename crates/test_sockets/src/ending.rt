@@ -1,0 +1,122 @@
+//! A raw peer that sends and ends its connection at once.
+
+use crate::meeting::{Told, bound, patience, peer, settings};
+use crate::watching::{Answers, Expects};
+use bsc_connections::{Connection, Gaps, Note, attend};
+use bsc_sockets::{Begun, ConnectionSettings, Listening, Peers, listen};
+use std::alloc::Global;
+use std::io;
+use std::io::Write;
+use std::net::{Shutdown, SocketAddr, TcpStream};
+use std::test::Fail;
+
+/// The octets of EOT and of ACK0.
+const EOT: &[u8] = &[0x16, 0x16, 0x04, 0xff];
+
+const ACK0: &[u8] = &[0x16, 0x16, 0x10, 0xb0, 0xff];
+
+/// Octets that no message begins with. A station does not answer them.
+const NOISE: &[u8] = &[0x16, 0x16];
+
+/// The end of a connection without a fault.
+const CLOSED: Note<'static> = Note::Closed {
+    connection: 0,
+    peer: None,
+    why: None,
+};
+
+/// What a peer sends, how it ends its connection, and what a station is told of it.
+struct Ending {
+    octets: &'static [u8],
+    how: Shutdown,
+    notes: &'static [Note<'static>],
+}
+
+/// A peer that reads no answer ends both directions, and one that reads an answer ends its own.
+const ENDINGS: &[Ending] = &[
+    Ending {
+        octets: NOISE,
+        how: Shutdown::Both,
+        notes: &[
+            Note::Heard {
+                connection: 0,
+                octets: NOISE,
+            },
+            CLOSED,
+        ],
+    },
+    Ending {
+        octets: EOT,
+        how: Shutdown::Write,
+        notes: &[
+            Note::Heard {
+                connection: 0,
+                octets: EOT,
+            },
+            Note::Sent { octets: ACK0 },
+            CLOSED,
+        ],
+    },
+];
+
+/// Times so long that neither a gap nor a time-out passes in a test.
+fn without_gaps() -> ConnectionSettings {
+    ConnectionSettings {
+        time_out: patience(),
+        gap: patience(),
+        ..settings()
+    }
+}
+
+/// A peer that has connected to this address, sent, and ended its connection as the case says.
+fn ended(rt: &HostRuntime, address: SocketAddr, ending: &Ending) -> io::Result<TcpStream> {
+    let mut peer = peer(rt, address)?;
+    peer.write_all(ending.octets)?;
+    peer.shutdown(ending.how)?;
+    Ok(peer)
+}
+
+/// Attends a station over the connection of one peer of this listener. Returns whether it was told
+/// exactly these notes.
+fn is_told(
+    rt: &HostRuntime,
+    alloc: Global,
+    listening: Listening,
+    notes: &'static [Note<'static>],
+) -> Result<bool, Fail> {
+    let wanted = Peers {
+        count: 1,
+        patience: patience(),
+        keeps_listening: false,
+    };
+    let Begun {
+        mut sockets,
+        connections,
+    } = listen(
+        rt,
+        alloc,
+        listening,
+        wanted,
+        without_gaps(),
+        &mut Told::new(),
+    )?;
+    let mut raw = Vec::new(alloc);
+    for (reader, writer) in connections {
+        raw.push(Connection::<_, _, Gaps>::new(reader, writer))?;
+    }
+    let mut monitor = Expects::new(notes, true);
+    let result = attend(&mut Answers, &mut raw, &mut sockets, &mut monitor);
+    Ok(result == Ok(()) && monitor.is_done())
+}
+
+#[test]
+fn what_a_raw_peer_sent_before_it_ended_is_heard(rt: HostRuntime) -> Result<(), Fail> {
+    for ending in ENDINGS {
+        let (listening, address) = bound(&rt)?;
+        let _peer = ended(&rt, address, ending)?;
+        if !is_told(&rt, rt.alloc(), listening, ending.notes)? {
+            return Err(Fail::new(format_args!("{:?}", ending.octets)));
+        }
+    }
+    Ok(())
+}
