@@ -1,11 +1,11 @@
 -- What is sent in a session is sent after the records that arrived are printed.
-use Rattle.std.proofs.Common.{◌≡◌, ◌≢◌, ℕ, ◌<◌, ◌≤◌, Bool, true, false, List, [], ◌∷◌, length, Option, None, Some}
-use Rattle.std.proofs.Common.{Result, Ok, Err, inl, inr, refl, sym, ◌∙◌, ap, subst, arith, max}
+use Rattle.std.proofs.Common.{◌≡◌, ◌≢◌, ℕ, ◌≤◌, Bool, true, false, List, [], ◌∷◌, length, Option, None, Some}
+use Rattle.std.proofs.Common.{Result, Ok, Err, refl, sym, ◌∙◌, ap, subst, arith, max}
 use Rattle.std.proofs.Common.{slice_get, slice_index, OnOk}
 use Rattle.bsc_frame.specs.declared.message.Message.{Message}
 use Rattle.bsc_connections.specs.declared.awaited.Awaited.{Awaited}
 use Rattle.bsc_connections.specs.declared.awaited.Awaited.TheVariants.{Octets, Newcomer, Gap}
-use Rattle.bsc_connections.specs.declared.awaited.Awaited.TheVariants.{NotAccepted, TimeOut}
+use Rattle.bsc_connections.specs.declared.awaited.Awaited.TheVariants.{NotAccepted, NotAllowed, TimeOut, Stopped}
 use Rattle.bsc_connections.specs.declared.awaited.LiveError.{LiveError}
 use Rattle.bsc_connections.specs.declared.connection.Taken.{Taken}
 use Rattle.bsc_connections.specs.declared.connection.Taken.TheVariants.{Nothing, Interrupted, Part}
@@ -14,9 +14,9 @@ use Rattle.bsc_connections.specs.Parts.{SessionParts}
 use Rattle.bsc_connections.specs.Connections.{ConnectionValue}
 use Rattle.bsc_connections.specs.Histories.{Happening, WasHeard, WasSilent, sent_where_some}
 use Rattle.bsc_connections.specs.Histories.{all_sent}
-use Rattle.bsc_connections.specs.Attending.{Session, Around, Answers, Replies, TellsSent}
+use Rattle.bsc_connections.specs.Attending.{Session, Around, Answers, TellsSent}
 use Rattle.bsc_connections.specs.Attending.{sent_if_accepted, ReadsAt, GapPasses, Joins, JoinsAs}
-use Rattle.bsc_connections.specs.Attending.{Does, awaits_gap, Steps}
+use Rattle.bsc_connections.specs.Attending.{Does, awaits_gap, Arrives, HearsIfAdmitted}
 use Rattle.bsc_monitor.specs.Arrivals.{arrived_on}
 use Rattle.bsc_monitor.specs.Watching.{Output, PrintsArrivals, Sees, ArePrinted}
 use Rattle.bsc_monitor.specs.Watching.{PrintsBeforeSending}
@@ -99,13 +99,30 @@ module _ {S R W F M T Z : Type 0} (parts : SessionParts S R W F M T) (party : pa
       prints_heard place octets new.station old.monitor told goes_on monitor is tells)
       (λ more. refl) a some
 
+  printed_if_admitted : (admitted : Bool) (place : ℕ) (octets : List ℕ) (old : Now)
+      (happened : List Happening) (result : Result Bool LiveError) (new : Now)
+      → HearsIfAdmitted parts admitted place octets old happened result new
+      → all_sent happened ≢ [] → Prints new.station old.monitor new.monitor
+  printed_if_admitted true place octets old happened result new h some =
+      printed_by_hearing place octets h.answer old happened result new h.answers some
+  printed_if_admitted false place octets old happened result new (station, same, told, waits) some =
+      absurd (nothing_sent happened _ told.0 refl some)
+
+  printed_by_arrival : (place : ℕ) (old : Now) (happened : List Happening)
+      (result : Result Bool LiveError) (new : Now) → Arrives parts place old happened result new
+      → all_sent happened ≢ [] → Prints new.station old.monitor new.monitor
+  printed_by_arrival place old happened result new a some =
+      printed_if_admitted
+      (parts.admits old.monitor old.station place
+      (parts.connection.framing.last a.connection.framing))
+      place (parts.connection.framing.last a.connection.framing) old happened result new a.heard some
+
   printed_by_read : (taken : Taken) (place : ℕ) (old : Now) (happened : List Happening)
       (result : Result Bool LiveError) (new : Now)
       → ReadsAt parts place taken old happened result new → all_sent happened ≢ []
       → Prints new.station old.monitor new.monitor
   printed_by_read Whole place old happened result new (between, taken, h) some =
-      printed_by_hearing place (parts.connection.framing.last h.connection.framing) h.answer
-      (record old { connections = between }) happened result new h.answers some
+      printed_by_arrival place (record old { connections = between }) happened result new h some
   printed_by_read Nothing place old happened result new r some =
       absurd (nothing_sent happened [] r.tells.0 refl some)
   printed_by_read Interrupted place old happened result new r some =
@@ -139,9 +156,8 @@ module _ {S R W F M T Z : Type 0} (parts : SessionParts S R W F M T) (party : pa
       → GapPasses parts place awaits old happened result new → all_sent happened ≢ []
       → Prints new.station old.monitor new.monitor
   printed_by_gap true place old happened result new h some =
-      printed_by_hearing place (parts.connection.framing.last h.heard.connection.framing)
-      h.heard.answer (record old { connections = h.between }) happened result new h.heard.answers
-      some
+      printed_by_arrival place (record old { connections = h.between }) happened result new
+      h.arrives some
   printed_by_gap false place old happened result new (none, ok, same) some =
       absurd (nothing_sent happened [] none refl some)
 
@@ -155,6 +171,8 @@ module _ {S R W F M T Z : Type 0} (parts : SessionParts S R W F M T) (party : pa
       printed_by_joining given old happened result new joins some
   printed_by_event NotAccepted old happened result new (same, kept, refused, waits) some =
       absurd (nothing_sent happened _ refused.0 refl some)
+  printed_by_event NotAllowed old happened result new (same, joins) some =
+      printed_by_joining None old happened result new joins some
   printed_by_event (Gap place) old happened result new passes some =
       printed_by_gap
       (awaits_gap parts.connection.framing.awaits (slice_get old.connections place)) place old
@@ -164,6 +182,8 @@ module _ {S R W F M T Z : Type 0} (parts : SessionParts S R W F M T) (party : pa
       (λ told goes_on monitor is tells.
       prints_silent new.station old.monitor told goes_on monitor is tells)
       (λ more. refl) silent.answers some
+  printed_by_event Stopped old happened result new (same, kept, stopped, waits) some =
+      absurd (nothing_sent happened _ stopped.0 refl some)
 
   -- What is printed is all that arrived.
   all_are_printed : (station : S) (old new : Output) → PrintsArrivals party station old new

@@ -1,11 +1,15 @@
+pub mod Answering
 pub mod Arrivals
 pub mod EndValues
 pub mod Ends
+pub mod Holding
 pub mod LineTerminal
 pub mod Offers
 pub mod Printed
 pub mod Progress
 pub mod Rounds
 pub mod Traces
+pub mod TrustReport
+pub mod Trusting
 pub mod Visits
 pub mod Watching

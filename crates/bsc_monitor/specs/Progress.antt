@@ -1,6 +1,6 @@
 -- How far a control station has come in its poll list, and when it ends.
 use Rattle.std.specs.Prelude.{ℕ, Bool, true, false, not, ◌||◌, length, Option, None, Some}
-use Rattle.bsc_connections.specs.Histories.{Happening, WasSent, HasClosed}
+use Rattle.bsc_connections.specs.Histories.{Happening, WasSent, WasSilent, WasStopped, HasClosed}
 use Rattle.bsc_connections.specs.declared.awaited.Pace.{Pace}
 use Rattle.bsc_connections.specs.declared.awaited.Pace.TheVariants.{AfterPause, AtOnce}
 use Rattle.bsc_control.specs.Control.{ControlValue, peer_at}
@@ -20,6 +20,7 @@ progress_of limits last listens =
       rounds = rounds_of last false 0 0;
       listens = listens;
       closed = false;
+      stopped = false;
       ended = false;
     }
 
@@ -51,27 +52,33 @@ idle_with r (Some entry) c = ends_idle r entry c.place (has_more c)
 abbrev pub begins_after_idle : Progress → ControlValue → Bool
 begins_after_idle p c = idle_with p.rounds (visit_ended p.visits.polled c) c
 
--- Whether there are enough rounds after the visit to this entry, or none.
-abbrev pub enough_after : Rounds → Limits → Option ℕ → ControlValue → Bool
-enough_after r limits None c = false
-enough_after r limits (Some entry) c = are_enough (after_visit r entry c.place (has_more c)) limits
+-- Whether the control station ends with the visit to this entry, or with none: it was asked to end,
+-- as the flag says, or there are enough rounds after the visit.
+abbrev pub enough_after : Bool → Rounds → Limits → Option ℕ → ControlValue → Bool
+enough_after stopped r limits None c = false
+enough_after stopped r limits (Some entry) c =
+    stopped || are_enough (after_visit r entry c.place (has_more c)) limits
 
 -- Whether the control station ends after it has sent something: the visit to an entry has ended,
--- and there are enough rounds.
+-- and there are enough rounds, or it was asked to end.
 abbrev pub ends_when_sent : Progress → ControlValue → Bool
-ends_when_sent p c = enough_after p.rounds p.limits (visit_ended p.visits.polled c) c
+ends_when_sent p c = enough_after p.stopped p.rounds p.limits (visit_ended p.visits.polled c) c
 
--- The progress after an event. Only what the control station sends counts, and a connection that is
--- closed, if no other peer can connect.
+-- The progress after an event. Only what the control station sends counts, that it is asked to end,
+-- and a connection that is closed, if no other peer can connect.
 abbrev pub after_event : Progress → ControlValue → Happening → Progress
 after_event p c (WasSent octets) = after_sent p c
 after_event p c (HasClosed place why) = record p { closed = not p.listens }
+after_event p c WasStopped = record p { stopped = true }
 after_event p c _ = p
 
--- Whether the control station ends with an event.
+-- Whether the control station ends with an event. Once it was asked to end it ends at a silence, or
+-- if it is asked again.
 abbrev pub ends_with : Progress → ControlValue → Happening → Bool
 ends_with p c (WasSent octets) = ends_when_sent p c
 ends_with p c (HasClosed place why) = not p.listens
+ends_with p c WasSilent = p.stopped
+ends_with p c WasStopped = p.stopped
 ends_with p c _ = false
 
 -- A record arrived in the round, or none did.

@@ -5,12 +5,15 @@ use Rattle.std.specs.Fmt.{decimal}
 use Rattle.std.specs.Io.KnownBytes.{Appends}
 use Rattle.std.specs.Net.Text.{socket_text}
 use Rattle.std.specs.declared.net.socket_addr.SocketAddr.{SocketAddr}
-use Rattle.bsc_connections.specs.Histories.{Happening, WasHeard, WasSilent, WasSent}
+use Rattle.bsc_connections.specs.Histories.{Happening, WasHeard, WasIgnored, WasSilent, WasSent}
+use Rattle.bsc_connections.specs.Histories.{WasStopped}
 use Rattle.bsc_connections.specs.declared.monitor.Note.{Note}
 use Rattle.bsc_connections.specs.declared.monitor.Note.TheVariants.{Joined}
 use Rattle.bsc_frame.specs.declared.message.Heard.{Heard}
 use Rattle.bsc_frame.specs.Reading.{heard}
 use Rattle.bsc_print.specs.Names.{chars_shown, name_of}
+use Rattle.bsc_trust.specs.Reasons.{reason_text}
+use Rattle.bsc_trust.specs.declared.distrust.Distrust.{Distrust}
 use Rattle.bsc_monitor.specs.declared.trace.Who.{Who}
 use Rattle.bsc_monitor.specs.declared.trace.Who.TheVariants.{Control, Terminal, Connection}
 use Rattle.bsc_monitor.specs.declared.trace.Deed.{Deed}
@@ -26,6 +29,7 @@ who_shown (Connection place) = codes "connection " ++ decimal place
 abbrev pub deed_shown : Deed → List ℕ
 deed_shown deed.Sent = codes " sent "
 deed_shown deed.Heard = codes " heard "
+deed_shown deed.Ignored = codes " ignored "
 
 -- The end of a line: the octets in hexadecimal text.
 abbrev pub octets_shown : List ℕ → List ℕ
@@ -49,13 +53,22 @@ heard_from _ place = Control
 abbrev pub silence_line : ℕ → List ℕ
 silence_line time = time_shown time ++ codes "silence\n"
 
--- The line for what happened to this station was written, if it is a transmission or a time-out.
+-- The line for a station that is asked to end.
+abbrev pub stopped_line : ℕ → List ℕ
+stopped_line time = time_shown time ++ codes "asked to end\n"
+
+-- The line for what happened to this station was written, if it is a transmission or a time-out, or
+-- that the station is asked to end.
 abbrev pub IsTraced : Happening → ℕ → Who → Option (List ℕ) → Option (List ℕ) → Type 0
 IsTraced (WasHeard place octets) time me old new =
     Appends old new (transmission_line time (heard_from me place) deed.Heard (heard octets) octets)
+IsTraced (WasIgnored place octets) time me old new =
+    Appends old new
+    (transmission_line time (heard_from me place) deed.Ignored (heard octets) octets)
 IsTraced (WasSent octets) time me old new =
     Appends old new (transmission_line time me deed.Sent (heard octets) octets)
 IsTraced WasSilent time me old new = Appends old new (silence_line time)
+IsTraced WasStopped time me old new = Appends old new (stopped_line time)
 IsTraced _ time me old new = ⊤
 
 -- The address of a peer, if it is known.
@@ -90,6 +103,11 @@ start_shown trace = if trace then time_shown 0 else []
 abbrev pub listening_line : SocketAddr → List ℕ
 listening_line address = codes "listening at " ++ socket_text address ++ codes "\n"
 
+-- A peer was turned away, since its address is not allowed.
+abbrev pub not_allowed_line : SocketAddr → List ℕ
+not_allowed_line peer =
+    codes "refused " ++ socket_text peer ++ codes ": its address is not allowed\n"
+
 -- How many terminals have connected.
 abbrev pub connected_shown : ℕ → List ℕ
 connected_shown connected = codes "waiting for terminals: " ++ decimal connected
@@ -105,3 +123,7 @@ waiting_line connected wanted = connected_shown connected ++ wanted_shown wanted
 -- A terminal waits for the control station.
 abbrev pub waiting_for_control : List ℕ
 waiting_for_control = codes "waiting for the control station\n"
+
+-- Why the line is not trusted.
+abbrev pub distrust_line : Distrust → List ℕ
+distrust_line why = codes "not trusted: " ++ reason_text why ++ codes "\n"

@@ -1,14 +1,18 @@
 -- What a watch prints when it is told what happened.
-use Rattle.std.specs.Prelude.{◌≡◌, ◌≢◌, ℕ, ◌<◌, ◌≤◌, Bool, true, false, ◌||◌, List, [], length}
+use Rattle.std.specs.Prelude.{◌≡◌, ◌≢◌, ℕ, ◌<◌, ◌≤◌, Bool, true, false, ◌||◌, ◌&&◌, List, []}
+use Rattle.std.specs.Prelude.{length}
 use Rattle.std.specs.Prelude.{Option, Result, Ok, Err, OnOk, slice_index}
 use Rattle.std.specs.Io.KnownBytes.{Appends}
 use Rattle.bsc_connections.specs.declared.awaited.LiveError.{LiveError}
 use Rattle.bsc_connections.specs.Parts.{SessionParts}
 use Rattle.bsc_connections.specs.Connections.{ConnectionValue}
-use Rattle.bsc_connections.specs.Histories.{Happening, WasHeard, WasSilent, HasClosed, all_sent}
+use Rattle.bsc_connections.specs.Histories.{Happening, WasHeard, WasSilent, WasStopped, HasClosed}
+use Rattle.bsc_connections.specs.Histories.{all_sent}
 use Rattle.bsc_connections.specs.Attending.{Session, Steps}
 use Rattle.bsc_carrier.specs.declared.error.CarrierError.{CarrierError}
 use Rattle.bsc_control.specs.Control.{ControlValue}
+use Rattle.bsc_tributary.specs.Tributary.{is_control_mode}
+use Rattle.bsc_tributary.specs.declared.mode.Mode.{Mode}
 use Rattle.bsc_report.specs.Channels.{each_below}
 use Rattle.bsc_monitor.specs.Arrivals.{AreCounted, AsManyArePrinted, MoreArePrinted}
 use Rattle.bsc_monitor.specs.Arrivals.{arrivals_of, arrived_on}
@@ -72,33 +76,51 @@ Counts (Ok goes_on) party control happening old new =
     × (new.progress ≡ progress_after old.progress found control happening)
 Counts (Err error) party control happening old new = new.progress ≡ old.progress
 
--- Whether a terminal has ended, and the fault that closed its connection, if it was a fault.
+-- Whether a terminal was asked to end, whether it has ended, and the fault that closed its
+-- connection, if it was a fault.
 pub record Closing : Type 0 where
   pub ended : Bool
   pub closed : Option CarrierError
+  pub stopped : Bool
 
--- The same after this: a terminal ends when its connection is closed.
-abbrev pub closing_after : Closing → Happening → Closing
-closing_after old (HasClosed place why) = record { ended = true; closed = why }
-closing_after old _ = old
+abbrev pub closing_of : Bool → Option CarrierError → Bool → Closing
+closing_of ended closed stopped = record { ended = ended; closed = closed; stopped = stopped }
+
+-- The same after this, in this mode of the terminal: it ends when its connection is closed. Once it
+-- was asked to end it ends in control mode, or if it is asked again.
+abbrev pub closing_after : Closing → Mode → Happening → Closing
+closing_after old mode (HasClosed place why) = closing_of true why old.stopped
+closing_after old mode WasStopped =
+    closing_of (old.ended || (old.stopped || is_control_mode mode)) old.closed true
+closing_after old mode _ =
+    closing_of (old.ended || (old.stopped && is_control_mode mode)) old.closed old.stopped
 
 -- The same after the watch of the terminal was told this. If it refuses, nothing changes.
-abbrev pub closing_told : Result Bool LiveError → Closing → Happening → Closing
-closing_told (Ok goes_on) old happening = closing_after old happening
-closing_told (Err error) old happening = old
+abbrev pub closing_told : Result Bool LiveError → Closing → Mode → Happening → Closing
+closing_told (Ok goes_on) old mode happening = closing_after old mode happening
+closing_told (Err error) old mode happening = old
 
--- Whether a control station that has ended is attended no further after this: its last call is
--- answered, or nobody answers, or a connection is closed.
-abbrev pub is_last : Happening → Bool
-is_last (WasHeard place octets) = true
-is_last WasSilent = true
-is_last (HasClosed place why) = true
-is_last _ = false
+-- Whether a control station that has ended was asked to end, and whether it is attended no further.
+pub record Last : Type 0 where
+  pub ended : Bool
+  pub stopped : Bool
 
--- Whether it has ended after this. If the watch refuses, that does not change.
-abbrev pub ended_told : Result Bool LiveError → Bool → Happening → Bool
-ended_told (Ok goes_on) ended happening = ended || is_last happening
-ended_told (Err error) ended happening = ended
+abbrev pub last_of : Bool → Bool → Last
+last_of ended stopped = record { ended = ended; stopped = stopped }
+
+-- The same after this: its last call is answered, or nobody answers, or a connection is closed, or
+-- it is asked to end and was asked before.
+abbrev pub last_after : Last → Happening → Last
+last_after old (WasHeard place octets) = last_of true old.stopped
+last_after old WasSilent = last_of true old.stopped
+last_after old (HasClosed place why) = last_of true old.stopped
+last_after old WasStopped = last_of (old.ended || old.stopped) true
+last_after old _ = old
+
+-- The same after the watch was told this. If it refuses, nothing changes.
+abbrev pub last_told : Result Bool LiveError → Last → Happening → Last
+last_told (Ok goes_on) old happening = last_after old happening
+last_told (Err error) old happening = old
 
 -- In every step of a session in which the station sends something, the records that have arrived at
 -- it are printed: the lines of those that had not been printed before, and of no others.

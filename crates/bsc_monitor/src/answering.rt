@@ -1,5 +1,11 @@
 //! The terminals that do not answer their polls.
 
+ghost use Rattle.std.specs.Prelude.{◌≡◌, Some};
+ghost use Rattle.bsc_connections.specs.Notes.{told_by};
+ghost use Rattle.bsc_monitor.specs.Answering.{answering_after, answering_sent, new_answering};
+ghost use Rattle.bsc_monitor.specs.Answering.{poll_over, told_after, unanswered, unreplied};
+ghost use Rattle.bsc_monitor.specs.Answering.{untold};
+
 use bsc_connections::Note;
 use bsc_control::{Control, Replied, Task};
 use bsc_directory::limits::MAX_TERMINALS;
@@ -20,7 +26,9 @@ pub(crate) struct Answering {
 
 impl Answering {
     /// Returns that nothing was told, before anything has been sent.
-    pub fn new() -> Answering {
+    pub fn new() -> Answering
+        ensures { result ≡ new_answering }
+    {
         Answering {
             polled: None,
             silence: false,
@@ -30,34 +38,67 @@ impl Answering {
 
     /// Takes note of an event. Returns the terminal of which it is to be told that it has answered
     /// neither its poll nor a repetition of it; once, until it answers one.
-    pub fn note<B: Allocator>(&mut self, control: &Control<B>, note: &Note<'_>) -> Option<usize> {
+    pub fn note<B: Allocator>(&mut self, control: &Control<B>, note: &Note<'_>) -> Option<usize>
+        ensures state { self.new ≡ answering_after self.old control.now (told_by note.now) }
+        ensures answer { result ≡ unanswered self.old control.now (told_by note.now) }
+    {
         match note {
             Note::Heard { .. } => self.silence = false,
             Note::Silence => self.silence = true,
             Note::Sent { .. } => return self.sent(control),
             Note::Joined { .. } | Note::Refused { .. } | Note::Closed { .. } => {}
+            Note::Ignored { .. } | Note::Stopped => {}
         }
         None
     }
 
     /// Takes note of a transmission of the control station.
-    fn sent<B: Allocator>(&mut self, control: &Control<B>) -> Option<usize> {
-        let before = self.polled;
+    fn sent<B: Allocator>(&mut self, control: &Control<B>) -> Option<usize>
+        ensures state { self.new ≡ answering_sent self.old control.now }
+        ensures answer { result ≡ untold self.old (poll_over self.old control.now) }
+    {
+        let over = self.poll_over(control);
         self.polled = polled_by(control);
-        let terminal = before?;
+        match over {
+            Some(terminal) => self.end_poll(terminal),
+            None => None,
+        }
+    }
+
+    /// Returns the terminal whose poll is over with what the control station has just sent: its
+    /// poll was sent before, and is not repeated now.
+    fn poll_over<B: Allocator>(&self, control: &Control<B>) -> Option<usize>
+        ensures { result ≡ poll_over self.now control.now }
+    {
         if self.silence && control.failures() > 0 {
-            // The poll is repeated.
             return None;
         }
-        let told = self.told.get_mut(terminal)?;
-        let was_told = *told;
-        *told = self.silence;
-        (self.silence && !was_told).then_some(terminal)
+        self.polled
+    }
+
+    /// Takes note that the poll of this terminal is over.
+    fn end_poll(&mut self, terminal: usize) -> Option<usize>
+        ensures state { self.new
+            ≡ record self.old { told = told_after self.old (Some terminal) } }
+        ensures answer { result ≡ untold self.old (Some terminal) }
+    {
+        if terminal >= MAX_TERMINALS {
+            return None;
+        }
+        let was_told = self.told[terminal];
+        self.told[terminal] = self.silence;
+        if self.silence && !was_told {
+            Some(terminal)
+        } else {
+            None
+        }
     }
 }
 
 /// Returns the terminal that the control station polls, if it has not replied.
-fn polled_by<B: Allocator>(control: &Control<B>) -> Option<usize> {
+fn polled_by<B: Allocator>(control: &Control<B>) -> Option<usize>
+    ensures { result ≡ unreplied control.now }
+{
     match control.task() {
         Task::Polling {
             replied: Replied::Nothing,

@@ -3,7 +3,7 @@
 ghost use Rattle.std.specs.Prelude.{◌≡◌, ◌++◌, OnOk, Some, false};
 ghost use Rattle.std.specs.Io.KnownBytes.{Appends};
 ghost use Rattle.bsc_monitor.specs.Traces.{connected_shown, joined_line, listening_line};
-ghost use Rattle.bsc_monitor.specs.Traces.{start_shown};
+ghost use Rattle.bsc_monitor.specs.Traces.{not_allowed_line, start_shown};
 ghost use Rattle.bsc_monitor.specs.Traces.{waiting_for_control, waiting_line, wanted_shown};
 
 use crate::trace::{write_change, write_time};
@@ -79,6 +79,16 @@ impl Beginning {
         Ok(())
     }
 
+    /// Writes that this peer was turned away, since its address is not allowed.
+    pub fn write_refused<W: Write>(self, peer: SocketAddr, out: &mut W) -> Result<(), PrintError>
+        ensures { OnOk result (Appends (W.contents out.old) (W.contents out.new)
+            (start_shown self.trace ++ not_allowed_line peer)) }
+    {
+        self.write_start(out)?;
+        write_not_allowed(peer, out)?;
+        Ok(())
+    }
+
     /// Writes the time at the start of a line, if it is one of a trace.
     fn write_start<W: Write>(self, out: &mut W) -> Result<(), PrintError>
         ensures { OnOk result (Appends (W.contents out.old) (W.contents out.new)
@@ -97,6 +107,17 @@ fn write_address<W: Write>(address: SocketAddr, out: &mut W) -> Result<(), Print
         (listening_line address)) }
 {
     match write!(out, "listening at {address}\n") {
+        Ok(()) => Ok(()),
+        Err(_) => Err(PrintError::Output),
+    }
+}
+
+/// Writes that a peer was turned away, since its address is not allowed.
+fn write_not_allowed<W: Write>(peer: SocketAddr, out: &mut W) -> Result<(), PrintError>
+    ensures { OnOk result (Appends (W.contents out.old) (W.contents out.new)
+        (not_allowed_line peer)) }
+{
+    match write!(out, "refused {peer}: its address is not allowed\n") {
         Ok(()) => Ok(()),
         Err(_) => Err(PrintError::Output),
     }

@@ -3,11 +3,14 @@
 ghost use Rattle.std.specs.Prelude.{◌≡◌, false};
 
 use crate::Timer;
+use crate::held::{Calls, Seen};
 use crate::trace::Who;
+use crate::trusting::Trusting;
 use crate::watch::{Watch, live};
 use bsc_bid::Station;
 use bsc_connections::{LiveError, Monitor, Note, Pace};
 use bsc_frame::{Heard, MessageBuffer};
+use bsc_trust::Trust;
 use std::alloc::Allocator;
 use std::io::Write;
 
@@ -41,36 +44,73 @@ impl Station for Ended {
     ghost ignores_noise = { λ old new sent hearing. hearing };
 }
 
-/// Prints the last transmission that is heard, and ends with it, with a time-out or with the close
-/// of a connection.
+/// Prints the last transmission that is heard, and ends with it, with a time-out, with the close of a
+/// connection, or if it is asked to end a second time.
 #[derive(Drop)]
 pub struct LastWatch<'a, A: Allocator, T: Drop, W, D> {
     /// Prints the records and the trace.
     pub(crate) watch: Watch<'a, A, T, W, D>,
 
+    /// What is known of the premises, and which terminal was called last.
+    pub(crate) trusting: Trusting,
+
+    /// Whether the station was asked to end.
+    pub(crate) stopped: bool,
+
     /// Whether the run has ended.
     pub(crate) ended: bool,
 }
 
+impl<'a, A: Allocator + Copy, T: Timer + Drop, W: Write, D: Write> LastWatch<'a, A, T, W, D> {
+    /// Returns what is known of the premises.
+    pub fn trust(&self) -> Trust
+        ensures { result ≡ self.now.trusting.trust }
+    {
+        self.trusting.trust()
+    }
+}
+
 impl<'a, A: Allocator + Copy, T: Timer + Drop, W: Write, D: Write> Monitor<Ended>
     for LastWatch<'a, A, T, W, D> {
-    ghost use Rattle.std.specs.Prelude.{◌≡◌};
+    ghost use Rattle.std.specs.Prelude.{◌≡◌, OnOk};
     ghost use Rattle.bsc_connections.specs.declared.awaited.Pace.TheVariants.{AtOnce};
-    ghost use Rattle.bsc_monitor.specs.Watching.{ended_told, output_of};
+    ghost use Rattle.bsc_monitor.specs.Trusting.{KeepsTrust, is_admitted};
+    ghost use Rattle.bsc_monitor.specs.Watching.{last_of, last_told, output_of};
 
     ghost has_ended = { λ w. w.ended };
+
+    ghost admits = { λ w _ place octets.
+        is_admitted w.trusting.trust w.trusting.called place octets };
 
     ghost paces = { λ _. AtOnce };
 
     ghost is_told = { λ old _ happening result new.
         (output_of W.contents new.watch ≡ output_of W.contents old.watch)
-        × (new.ended ≡ ended_told result old.ended happening) };
+        × (last_of new.ended new.stopped
+        ≡ last_told result (last_of old.ended old.stopped) happening)
+        × (OnOk result (KeepsTrust old.trusting happening old.trusting.called new.trusting)) };
+
+    fn admits(&self, _station: &Ended, connection: usize, octets: &[u8]) -> bool {
+        self.trusting.admits_last(connection, octets)
+    }
 
     fn note(&mut self, _station: &Ended, note: Note<'_>) -> Result<bool, LiveError> {
-        live(self.watch.tell(Who::Control, &note))?;
+        let seen = Seen {
+            time: self.watch.milliseconds(),
+            me: Who::Control,
+            calls: Calls::Neither,
+        };
+        live(self.watch.tell(seen, &note))?;
+        let distrust = self.trusting.note(&note, seen.time);
+        self.watch.tell_distrust(distrust)?;
         match note {
             Note::Heard { .. } | Note::Silence | Note::Closed { .. } => self.ended = true,
-            Note::Sent { .. } | Note::Joined { .. } | Note::Refused { .. } => {}
+            Note::Stopped => {
+                self.ended = self.ended || self.stopped;
+                self.stopped = true;
+            }
+            Note::Ignored { .. } | Note::Sent { .. } => {}
+            Note::Joined { .. } | Note::Refused { .. } => {}
         }
         Ok(!self.ended)
     }

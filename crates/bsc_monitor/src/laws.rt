@@ -38,11 +38,13 @@ pub fn printed_before_sent<
     ensures control { PrintsBeforeSending
         (session_parts ⟦<Control<B> as Station>⟧ R.Read W.Write F.Framing
         ⟦<ControlWatch<'static, A, T, O, D> as Monitor<Control<B>>>⟧.is_told
+        ⟦<ControlWatch<'static, A, T, O, D> as Monitor<Control<B>>>⟧.admits
         ⟦<ControlWatch<'static, A, T, O, D> as Monitor<Control<B>>>⟧.paces
         Q.Waiter) ⟦<Control<B> as Party>⟧ (λ w. output_of O.contents w.watch) }
     ensures terminal { PrintsBeforeSending
         (session_parts ⟦<LineTerminal<B> as Station>⟧ R.Read W.Write F.Framing
         ⟦<TerminalWatch<'static, A, T, O, D> as Monitor<LineTerminal<B>>>⟧.is_told
+        ⟦<TerminalWatch<'static, A, T, O, D> as Monitor<LineTerminal<B>>>⟧.admits
         ⟦<TerminalWatch<'static, A, T, O, D> as Monitor<LineTerminal<B>>>⟧.paces
         Q.Waiter) ⟦<LineTerminal<B> as Party>⟧ (λ w. output_of O.contents w.watch) }
 {}

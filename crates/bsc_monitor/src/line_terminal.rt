@@ -5,6 +5,7 @@ ghost use Rattle.bsc_monitor.specs.Ends.{IsWay};
 ghost use Rattle.bsc_monitor.specs.LineTerminal.{line_terminal_of};
 ghost use Rattle.bsc_bid.specs.Terminal.{HasDistinctAddresses};
 ghost use Rattle.bsc_tributary.specs.Kept.{IsNewTerminal};
+ghost use Rattle.bsc_tributary.specs.Tributary.{is_control_mode};
 
 use crate::channel_end::queue_end;
 use crate::{ChannelEnd, Party, Received};
@@ -63,6 +64,15 @@ impl<A: Allocator> LineTerminal<A> {
         // Reading a field makes the invariant known here.
         let _ = &self.terminal;
         self.number
+    }
+
+    /// Whether it is in control mode, and so has neither a block to send nor one to receive.
+    pub(crate) fn in_control_mode(&self) -> bool
+        ensures { result ≡ is_control_mode self.now.tributary.mode }
+    {
+        // Reading a field makes the invariant known here.
+        let _ = &self.terminal;
+        self.tributary.in_control_mode()
     }
 
     /// Adds a record to those that the terminal has to send. The record must not be longer than the

@@ -31,6 +31,9 @@ pub(crate) struct Progress {
     /// Whether it ends because a connection was closed.
     closed: bool,
 
+    /// Whether it was asked to end.
+    stopped: bool,
+
     /// Whether it has ended.
     ended: bool,
 }
@@ -49,6 +52,7 @@ impl Progress {
             rounds: Rounds::new(control.poll_list().len() - 1),
             listens,
             closed: false,
+            stopped: false,
             ended: false,
         }
     }
@@ -58,6 +62,13 @@ impl Progress {
         ensures { result ≡ self.now.closed }
     {
         self.closed
+    }
+
+    /// Whether it was asked to end.
+    pub fn is_stopped(&self) -> bool
+        ensures { result ≡ self.now.stopped }
+    {
+        self.stopped
     }
 
     /// Whether what the control station has just sent, and what is not counted yet, begins a round
@@ -113,12 +124,19 @@ impl Progress {
                 self.closed = !self.listens;
                 self.closed
             }
-            Note::Heard { .. } | Note::Silence => false,
+            Note::Silence => self.stopped,
+            Note::Stopped => {
+                let was_stopped = self.stopped;
+                self.stopped = true;
+                was_stopped
+            }
+            Note::Heard { .. } | Note::Ignored { .. } => false,
             Note::Joined { .. } | Note::Refused { .. } => false,
         }
     }
 
-    /// Counts a transmission of the control station. Returns `true` if it has made enough rounds.
+    /// Counts a transmission of the control station. Returns `true` if it has made enough rounds, or
+    /// a visit has ended after it was asked to end.
     fn count_sent<B: Allocator>(&mut self, control: &Control<B>) -> bool
         ensures state { self.new ≡ after_sent self.old control.now }
         ensures ends { result ≡ ends_when_sent self.old control.now }
@@ -128,6 +146,6 @@ impl Progress {
         };
         let more = station_standing(control).waiting;
         self.rounds.visited(entry, control.place(), more);
-        self.rounds.are_enough(self.limits)
+        self.stopped || self.rounds.are_enough(self.limits)
     }
 }

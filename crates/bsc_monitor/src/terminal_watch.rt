@@ -2,6 +2,7 @@
 
 ghost use Rattle.std.specs.Prelude.{◌≡◌, None, false};
 
+use crate::held::{Calls, Seen};
 use crate::trace::Who;
 use crate::watch::Watch;
 use crate::{LineTerminal, Party, Timer};
@@ -10,7 +11,8 @@ use bsc_connections::{LiveError, Monitor, Note, Pace};
 use std::alloc::Allocator;
 use std::io::Write;
 
-/// Prints what happens to a terminal, and ends the run when its connection is closed.
+/// Prints what happens to a terminal, and ends the run when its connection is closed. If the terminal
+/// is asked to end, the run ends once it is in control mode; if it is asked again, at once.
 #[derive(Drop)]
 pub struct TerminalWatch<'a, A: Allocator, T: Drop, W, D> {
     /// Prints the records and the trace.
@@ -18,6 +20,9 @@ pub struct TerminalWatch<'a, A: Allocator, T: Drop, W, D> {
 
     /// The fault that closed the connection, if it was a fault.
     closed: Option<CarrierError>,
+
+    /// Whether the terminal was asked to end.
+    stopped: bool,
 
     /// Whether the run has ended.
     ended: bool,
@@ -28,11 +33,13 @@ impl<'a, A: Allocator + Copy, T: Timer + Drop, W: Write, D: Write> TerminalWatch
     pub fn new(watch: Watch<'a, A, T, W, D>) -> TerminalWatch<'a, A, T, W, D>
         ensures watch { result.watch ≡ watch.entry }
         ensures closed { result.closed ≡ None }
+        ensures stopped { result.stopped ≡ false }
         ensures ended { result.ended ≡ false }
     {
         TerminalWatch {
             watch,
             closed: None,
+            stopped: false,
             ended: false,
         }
     }
@@ -49,26 +56,45 @@ impl<'a, A: Allocator + Copy, T: Timer + Drop, W: Write, D: Write> TerminalWatch
 impl<'a, A: Allocator + Copy, T: Timer + Drop, W: Write, D: Write, B: Allocator> Monitor<
     LineTerminal<B>,
 > for TerminalWatch<'a, A, T, W, D> {
-    ghost use Rattle.std.specs.Prelude.{◌≡◌};
+    ghost use Rattle.std.specs.Prelude.{◌≡◌, true};
     ghost use Rattle.bsc_connections.specs.declared.awaited.Pace.TheVariants.{AtOnce};
-    ghost use Rattle.bsc_monitor.specs.Watching.{Sees, closing_told, output_of};
+    ghost use Rattle.bsc_monitor.specs.Watching.{Sees, closing_of, closing_told, output_of};
 
     ghost has_ended = { λ w. w.ended };
+
+    ghost admits = { λ _ _ _ _. true };
 
     ghost paces = { λ _. AtOnce };
 
     ghost is_told = { λ old station happening result new.
         Sees ⟦<LineTerminal<B> as Party>⟧ station happening result
         (output_of W.contents old.watch) (output_of W.contents new.watch)
-        × (closing_told result (record { ended = old.ended; closed = old.closed }) happening
-        ≡ record { ended = new.ended; closed = new.closed }) };
+        × (closing_told result (closing_of old.ended old.closed old.stopped)
+        station.tributary.mode happening
+        ≡ closing_of new.ended new.closed new.stopped) };
+
+    fn admits(&self, _station: &LineTerminal<B>, _connection: usize, _octets: &[u8]) -> bool {
+        true
+    }
 
     fn note(&mut self, station: &LineTerminal<B>, note: Note<'_>) -> Result<bool, LiveError> {
-        let me = Who::Terminal(station.line_number());
-        self.watch.see(station, me, &note)?;
-        if let Note::Closed { why, .. } = note {
-            self.closed = why;
-            self.ended = true;
+        let seen = Seen {
+            time: self.watch.milliseconds(),
+            me: Who::Terminal(station.line_number()),
+            calls: Calls::Heard,
+        };
+        self.watch.see(station, seen, &note)?;
+        let in_control_mode = station.in_control_mode();
+        match note {
+            Note::Closed { why, .. } => {
+                self.closed = why;
+                self.ended = true;
+            }
+            Note::Stopped => {
+                self.ended = self.ended || self.stopped || in_control_mode;
+                self.stopped = true;
+            }
+            _ => self.ended = self.ended || (self.stopped && in_control_mode),
         }
         Ok(!self.ended)
     }

@@ -7,7 +7,8 @@ ghost use Rattle.bsc_connections.specs.Notes.{told_by};
 ghost use Rattle.bsc_frame.specs.Reading.{heard};
 ghost use Rattle.bsc_print.specs.Names.{name_of};
 ghost use Rattle.bsc_monitor.specs.Traces.{IsTraced, ShowsChange, connection_shown, deed_shown};
-ghost use Rattle.bsc_monitor.specs.Traces.{joined_shown, octets_shown, origin_shown, silence_line};
+ghost use Rattle.bsc_monitor.specs.Traces.{distrust_line, joined_shown, octets_shown, origin_shown};
+ghost use Rattle.bsc_monitor.specs.Traces.{silence_line, stopped_line};
 ghost use Rattle.bsc_monitor.specs.Traces.{heard_from as sender_heard, time_shown};
 ghost use Rattle.bsc_monitor.specs.Traces.{transmission_line, who_shown};
 
@@ -16,6 +17,7 @@ use bsc_connections::{Note, Refusal};
 use bsc_frame::laws::{one_reading, reading};
 use bsc_frame::{TextBuffer, decode};
 use bsc_print::{PrintError, put, write_chars, write_heard_name};
+use bsc_trust::Distrust;
 use std::alloc::Allocator;
 use std::io::Write;
 use std::net::SocketAddr;
@@ -35,12 +37,15 @@ pub(crate) enum Who {
 
 /// What a station did with a transmission.
 #[derive(Clone, Copy)]
-enum Deed {
+pub(crate) enum Deed {
     /// The station sent it.
     Sent,
 
     /// The station heard it.
     Heard,
+
+    /// The station did not hear it, since it was not admitted.
+    Ignored,
 }
 
 /// Writes the time at the start of a line, in milliseconds.
@@ -76,12 +81,13 @@ fn deed_text(deed: Deed) -> &'static [u8]
     match deed {
         Deed::Sent => b" sent ",
         Deed::Heard => b" heard ",
+        Deed::Ignored => b" ignored ",
     }
 }
 
 /// Writes the line of a transmission: the time in milliseconds, who sent it, what the station did
 /// with it, its name, and its octets in hexadecimal text.
-fn write_transmission<A: Allocator, W: Write>(
+pub(crate) fn write_transmission<A: Allocator, W: Write>(
     alloc: A,
     time: u64,
     who: Who,
@@ -129,7 +135,8 @@ fn write_octets<A: Allocator, W: Write>(
 }
 
 /// Writes the line for an event of the station `me`: the time in milliseconds, and then the
-/// transmission that it sent or heard, the time-out, or the change of a connection.
+/// transmission that it sent, heard or ignored, the time-out, that it is asked to end, or the change
+/// of a connection.
 pub(crate) fn write_note<A: Allocator, W: Write>(
     alloc: A,
     time: u64,
@@ -145,8 +152,13 @@ pub(crate) fn write_note<A: Allocator, W: Write>(
             let who = heard_from(me, *connection);
             write_transmission(alloc, time, who, Deed::Heard, octets, out)
         }
+        Note::Ignored { connection, octets } => {
+            let who = heard_from(me, *connection);
+            write_transmission(alloc, time, who, Deed::Ignored, octets, out)
+        }
         Note::Sent { octets } => write_transmission(alloc, time, me, Deed::Sent, octets, out),
         Note::Silence => write_silence(time, out),
+        Note::Stopped => write_stopped(time, out),
         Note::Joined { .. } | Note::Refused { .. } | Note::Closed { .. } => {
             write_time(time, out)?;
             write_change(note, out)
@@ -155,7 +167,7 @@ pub(crate) fn write_note<A: Allocator, W: Write>(
 }
 
 /// Returns the sender of a transmission that the station `me` heard on a connection.
-fn heard_from(me: Who, connection: usize) -> Who
+pub(crate) fn heard_from(me: Who, connection: usize) -> Who
     ensures { result ≡ sender_heard me connection }
 {
     match me {
@@ -188,7 +200,8 @@ pub(crate) fn write_change<W: Write>(note: &Note<'_>, out: &mut W) -> Result<(),
             write_connection(*connection, *peer, out)?;
             write_closed(*why, out)
         }
-        Note::Heard { .. } | Note::Silence | Note::Sent { .. } => Ok(()),
+        Note::Heard { .. } | Note::Ignored { .. } | Note::Sent { .. } => Ok(()),
+        Note::Silence | Note::Stopped => Ok(()),
     }
 }
 
@@ -208,6 +221,27 @@ fn write_silence<W: Write>(time: u64, out: &mut W) -> Result<(), PrintError>
     ensures { OnOk result (Appends (W.contents out.old) (W.contents out.new) (silence_line time)) }
 {
     match write!(out, "+{time} silence\n") {
+        Ok(()) => Ok(()),
+        Err(_) => Err(PrintError::Output),
+    }
+}
+
+/// Writes the line for a station that is asked to end.
+fn write_stopped<W: Write>(time: u64, out: &mut W) -> Result<(), PrintError>
+    ensures { OnOk result (Appends (W.contents out.old) (W.contents out.new) (stopped_line time)) }
+{
+    match write!(out, "+{time} asked to end\n") {
+        Ok(()) => Ok(()),
+        Err(_) => Err(PrintError::Output),
+    }
+}
+
+/// Writes why the line is not trusted, without a time.
+pub(crate) fn write_distrust<W: Write>(why: Distrust, out: &mut W) -> Result<(), PrintError>
+    ensures { OnOk result (Appends (W.contents out.old) (W.contents out.new)
+        (distrust_line why)) }
+{
+    match write!(out, "not trusted: {why}\n") {
         Ok(()) => Ok(()),
         Err(_) => Err(PrintError::Output),
     }

@@ -5,10 +5,12 @@ ghost use Rattle.bsc_connections.specs.Notes.{told_by};
 ghost use Rattle.bsc_monitor.specs.Watching.{IsFound, PrintsArrivals, Sees, output_of};
 
 use crate::arrivals::print_arrivals;
-use crate::trace::{Who, write_change, write_note, write_time, write_unanswered};
-use crate::{Party, Timer};
+use crate::held::{HeldCall, Seen, write_held, write_next};
+use crate::trace::{write_change, write_distrust, write_note, write_time, write_unanswered};
+use crate::{Party, Timer, Tracing};
 use bsc_connections::{LiveError, Note};
 use bsc_print::{Form, PrintError};
+use bsc_trust::Distrust;
 use std::alloc::{AllocError, Allocator};
 use std::io::Write;
 
@@ -18,9 +20,9 @@ pub struct Printing {
     /// The form in which the characters of arriving records are printed.
     pub form: Form,
 
-    /// Whether a line is printed for each transmission, each time-out, and each connection that
-    /// begins or ends.
-    pub trace: bool,
+    /// Which transmissions and time-outs have a line. With any a line is also printed for each
+    /// connection that begins or ends.
+    pub trace: Tracing,
 }
 
 /// Prints what happens to a station: the records that arrive to one writer, and the trace to
@@ -35,6 +37,9 @@ pub struct Watch<'a, A: Allocator, T: Drop, W, D> {
     /// The clock of the trace.
     timer: T,
 
+    /// The line of the trace that is held back.
+    held: Option<HeldCall>,
+
     /// The number of records printed for each channel.
     printed: Vec<usize, A>,
 
@@ -46,6 +51,8 @@ pub struct Watch<'a, A: Allocator, T: Drop, W, D> {
 }
 
 impl<'a, A: Allocator + Copy, T: Timer + Drop, W: Write, D: Write> Watch<'a, A, T, W, D> {
+    ghost use Rattle.std.specs.Prelude.{None, replicate};
+
     /// Returns the output of a station at which nothing has arrived.
     pub fn new<P: Party>(
         alloc: A,
@@ -54,7 +61,12 @@ impl<'a, A: Allocator + Copy, T: Timer + Drop, W: Write, D: Write> Watch<'a, A, 
         timer: T,
         out: &'a mut W,
         errors: &'a mut D,
-    ) -> Result<Watch<'a, A, T, W, D>, AllocError> {
+    ) -> Result<Watch<'a, A, T, W, D>, AllocError>
+        ensures printing { IfOk result (λ watch. watch.printing ≡ printing) }
+        ensures printed { IfOk result (λ watch.
+            watch.printed.items ≡ replicate (P.receives station.now) 0) }
+        ensures held { IfOk result (λ watch. watch.held ≡ None) }
+    {
         let mut printed = Vec::new(alloc);
         for _ in 0..station.spools() {
             printed.push(0usize)?;
@@ -63,10 +75,18 @@ impl<'a, A: Allocator + Copy, T: Timer + Drop, W: Write, D: Write> Watch<'a, A, 
             alloc,
             printing,
             timer,
+            held: None,
             printed,
             out,
             errors,
         })
+    }
+
+    /// Returns the milliseconds since the start of the station.
+    pub(crate) fn milliseconds(&mut self) -> u64
+        ensures { output_of W.contents self.new ≡ output_of W.contents self.old }
+    {
+        self.timer.milliseconds()
     }
 
     /// Prints the output for an event: its line of the trace, and the records that have arrived.
@@ -75,7 +95,7 @@ impl<'a, A: Allocator + Copy, T: Timer + Drop, W: Write, D: Write> Watch<'a, A, 
     pub(crate) fn see<P: Party>(
         &mut self,
         station: &P,
-        me: Who,
+        seen: Seen,
         note: &Note<'_>,
     ) -> Result<bool, LiveError>
         ensures sees { Sees P.Party station.now (told_by note.now) result
@@ -83,11 +103,11 @@ impl<'a, A: Allocator + Copy, T: Timer + Drop, W: Write, D: Write> Watch<'a, A, 
         ensures found { IfOk result (λ found. IsFound P.Party station.now found
             (output_of W.contents self.old) (output_of W.contents self.new)) }
     {
-        live(self.tell(me, note))?;
+        live(self.tell(seen, note))?;
         match note {
             Note::Heard { .. } | Note::Silence => self.print_records(station),
-            Note::Sent { .. } | Note::Joined { .. } | Note::Refused { .. } | Note::Closed { .. } =>
-                Ok(false),
+            Note::Sent { .. } | Note::Ignored { .. } | Note::Stopped => Ok(false),
+            Note::Joined { .. } | Note::Refused { .. } | Note::Closed { .. } => Ok(false),
         }
     }
 
@@ -132,22 +152,53 @@ impl<'a, A: Allocator + Copy, T: Timer + Drop, W: Write, D: Write> Watch<'a, A, 
     fn write_unanswered(&mut self, terminal: usize) -> Result<(), PrintError>
         ensures { output_of W.contents self.new ≡ output_of W.contents self.old }
     {
-        if self.printing.trace {
-            write_time(self.timer.milliseconds(), self.errors)?;
-        }
+        self.write_start()?;
         write_unanswered(terminal, self.errors)
+    }
+
+    /// Prints why the line is not trusted, in a trace with the time. Prints nothing if there is no
+    /// reason.
+    pub(crate) fn tell_distrust(&mut self, why: Option<Distrust>) -> Result<(), LiveError>
+        ensures { output_of W.contents self.new ≡ output_of W.contents self.old }
+    {
+        match why {
+            Some(why) => live(self.write_distrust(why)),
+            None => Ok(()),
+        }
+    }
+
+    /// Writes why the line is not trusted, in a trace with the time.
+    fn write_distrust(&mut self, why: Distrust) -> Result<(), PrintError>
+        ensures { output_of W.contents self.new ≡ output_of W.contents self.old }
+    {
+        self.write_start()?;
+        write_distrust(why, self.errors)
+    }
+
+    /// Writes the start of a line that tells of no event: in a trace the line that is held back, and
+    /// the time.
+    fn write_start(&mut self) -> Result<(), PrintError>
+        ensures { output_of W.contents self.new ≡ output_of W.contents self.old }
+    {
+        if matches!(self.printing.trace, Tracing::Off) {
+            return Ok(());
+        }
+        let time = self.timer.milliseconds();
+        write_held(self.alloc, &self.held, self.errors)?;
+        self.held = None;
+        write_time(time, self.errors)
     }
 
     /// Prints the line for an event: a line of the trace, or without a trace only that of a peer
     /// that joined, left or was refused.
-    pub(crate) fn tell(&mut self, me: Who, note: &Note<'_>) -> Result<(), PrintError>
+    pub(crate) fn tell(&mut self, seen: Seen, note: &Note<'_>) -> Result<(), PrintError>
         ensures { output_of W.contents self.new ≡ output_of W.contents self.old }
     {
-        if self.printing.trace {
-            let time = self.timer.milliseconds();
-            return write_note(self.alloc, time, me, note, self.errors);
+        match self.printing.trace {
+            Tracing::Off => write_change(note, self.errors),
+            Tracing::Exchanges => write_next(self.alloc, seen, note, &mut self.held, self.errors),
+            Tracing::All => write_note(self.alloc, seen.time, seen.me, note, self.errors),
         }
-        write_change(note, self.errors)
     }
 }
 

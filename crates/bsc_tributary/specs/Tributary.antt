@@ -199,3 +199,9 @@ after_release t count =
       sender = (release_step t.sender t.queue count).sender;
       queue = (release_step t.sender t.queue count).queue;
     }
+
+-- whether a terminal in this mode is in control mode
+abbrev pub is_control_mode : Mode → Bool
+is_control_mode Control = true
+is_control_mode (Receiving s) = false
+is_control_mode Sending = false

@@ -9,7 +9,7 @@ ghost use Rattle.bsc_bid.specs.Terminal.{HasDistinctAddresses};
 ghost use Rattle.bsc_bid.specs.Sender.{release_step, is_in_doubt};
 ghost use Rattle.bsc_tributary.specs.Tributary.{without_line, poll_step, selection_step};
 ghost use Rattle.bsc_tributary.specs.Tributary.{mode_left, message_left, after_release, holds};
-ghost use Rattle.bsc_tributary.specs.Tributary.{spool_at};
+ghost use Rattle.bsc_tributary.specs.Tributary.{is_control_mode, spool_at};
 ghost use Rattle.bsc_tributary.specs.Kept.{IsTributary, IsNewTerminal, KeepsSetupAndMode};
 ghost use Rattle.bsc_tributary.specs.Kept.{IsHearing, IsNoCall};
 
@@ -117,6 +117,18 @@ impl<A: Allocator> Tributary<A> {
         ensures same { KeepsSetupAndMode self.old self.new }
     {
         self.urgent = true;
+    }
+
+    /// Whether the terminal is in control mode: it neither sends records nor takes texts.
+    /// (GA27-3004, control mode.)
+    pub fn in_control_mode(&self) -> bool
+        ensures mode { result ≡ is_control_mode self.now.mode }
+        ensures tributary { IsTributary self.now }
+    {
+        match self.mode {
+            Mode::Control => true,
+            Mode::Receiving { .. } | Mode::Sending => false,
+        }
     }
 
     /// Whether the last block that the terminal sent is in doubt, that is, not known to have

@@ -1,15 +1,16 @@
 //! A control station attended over a scripted connection. The octets are those of docs/PROTOCOL.md.
 
-use crate::fakes::{Counting, Scripted, connections};
-use crate::stations::sending_control;
+use crate::fakes::{Counting, Scripted, connections, trust_of};
+use crate::stations::{control_of, sending_control};
 use bsc_connections::attend;
 use bsc_control::Control;
 use bsc_monitor::{
-    ControlWatch, Ended, Limits, Printing, Standing, Watch, station_standing, write_report,
+    ControlWatch, Ended, Limits, Printing, Standing, Tracing, Watch, station_standing, write_report,
 };
 use bsc_print::Form;
 use std::alloc::Global;
 use std::test::Fail;
+use test_fixtures::configurations::TWO_TERMINALS;
 
 /// What the terminals send to a control station: ACK0, ACK1, a text, EOT; and EOT to its last call.
 const TO_CONTROL: &[u8] = b"\x00\x05\x16\x16\x10\xB0\xFF\
@@ -46,9 +47,9 @@ const CONTROL_TRACE: &[u8] = b"+1 silence
 ";
 
 /// How a control station prints records, with a trace.
-const PRINTING: Printing = Printing {
+const ALL: Printing = Printing {
     form: Form::Hexadecimal,
-    trace: true,
+    trace: Tracing::All,
 };
 
 /// The limits of a control station, the octets that it reads, and the waits before them: a time-out
@@ -64,13 +65,14 @@ struct Attended {
 fn attend_control(
     alloc: Global,
     control: &mut Control<Global>,
+    printing: Printing,
     attended: &Attended,
     out: &mut Vec<u8>,
     trace: &mut Vec<u8>,
 ) -> Result<(), Fail> {
     let mut connections = connections(alloc, attended.octets)?;
-    let watch = Watch::new(alloc, control, PRINTING, Counting { asked: 0 }, out, trace)?;
-    let mut watch = ControlWatch::new(control, watch, attended.limits, false);
+    let watch = Watch::new(alloc, control, printing, Counting { asked: 0 }, out, trace)?;
+    let mut watch = ControlWatch::new(control, watch, attended.limits, false, trust_of(1_000));
     let mut waiter = Scripted {
         steps: attended.steps,
     };
@@ -92,7 +94,7 @@ fn attend_and_report(
     trace: &mut Vec<u8>,
 ) -> Result<Standing, Fail> {
     let mut control = sending_control(alloc)?;
-    attend_control(alloc, &mut control, attended, out, trace)?;
+    attend_control(alloc, &mut control, ALL, attended, out, trace)?;
     write_report(alloc, None, &control, out)?;
     Ok(station_standing(&control))
 }
@@ -214,7 +216,7 @@ fn unanswered(trace: &[u8]) -> usize {
 fn tells_of_unanswered(alloc: Global, attended: &Attended) -> Result<usize, Fail> {
     let mut control = sending_control(alloc)?;
     let (mut out, mut trace) = (Vec::new(alloc), Vec::new(alloc));
-    attend_control(alloc, &mut control, attended, &mut out, &mut trace)?;
+    attend_control(alloc, &mut control, ALL, attended, &mut out, &mut trace)?;
     Ok(unanswered(&trace))
 }
 
@@ -238,5 +240,101 @@ fn a_terminal_without_answers_is_told_of_once(rt: HostRuntime) -> Result<(), Fai
     };
     assert_eq!(rt; tells_of_unanswered(rt.alloc(), &NEVER)?, 2);
     assert_eq!(rt; tells_of_unanswered(rt.alloc(), &ONCE)?, 3);
+    Ok(())
+}
+
+/// Whether a control station with a record to send, or with none, writes this trace when it is
+/// attended.
+fn traces(
+    alloc: Global,
+    sends: bool,
+    printing: Printing,
+    attended: &Attended,
+    wanted: &[u8],
+) -> Result<bool, Fail> {
+    let mut control = if sends {
+        sending_control(alloc)?
+    } else {
+        control_of(alloc, TWO_TERMINALS)?
+    };
+    let (mut out, mut trace) = (Vec::new(alloc), Vec::new(alloc));
+    attend_control(
+        alloc,
+        &mut control,
+        printing,
+        attended,
+        &mut out,
+        &mut trace,
+    )?;
+    Ok(trace.as_slice() == wanted)
+}
+
+/// A trace of exchanges.
+const EXCHANGES: Printing = Printing {
+    form: Form::Hexadecimal,
+    trace: Tracing::Exchanges,
+};
+
+/// Two rounds: of four polls one is answered by a text, and the poll after the last round by EOT.
+#[test]
+fn a_trace_of_exchanges_has_no_idle_polls(rt: HostRuntime) -> Result<(), Fail> {
+    const ATTENDED: Attended = Attended {
+        limits: Limits {
+            rounds: Some(2),
+            idle_rounds: 9,
+        },
+        octets: b"\x00\x04\x16\x16\x04\xFF\
+\x00\x04\x16\x16\x04\xFF\
+\x00\x09\x16\x16\x02\xC8\x49\x19\x83\x9B\xFF\
+\x00\x04\x16\x16\x04\xFF\
+\x00\x04\x16\x16\x04\xFF\
+\x00\x04\x16\x16\x04\xFF",
+        steps: b"trrrrrrrrrrrrrr",
+    };
+    const TRACE: &[u8] = b"+1 silence
++6 control sent CALL A 161604ff1616c185ff
++7 connection 0 heard TEXT ETX 1 161602c84919839bff
++8 control sent ACK1 16161031ff
++9 connection 0 heard EOT 161604ff
+";
+    assert!(rt; traces(rt.alloc(), false, EXCHANGES, &ATTENDED, TRACE)?);
+    Ok(())
+}
+
+/// The call of the last poll stands before the line that says that a terminal has not answered.
+#[test]
+fn a_trace_of_exchanges_has_all_else(rt: HostRuntime) -> Result<(), Fail> {
+    const ATTENDED: Attended = Attended {
+        limits: Limits {
+            rounds: Some(1),
+            idle_rounds: 9,
+        },
+        octets: TO_CONTROL,
+        steps: b"trrrrrrrrttttrr",
+    };
+    assert!(rt; traces(rt.alloc(), true, EXCHANGES, &ATTENDED, CONTROL_TRACE)?);
+    Ok(())
+}
+
+/// The station is asked to end, and does so at the next silence. It is asked again before its last
+/// call is answered.
+#[test]
+fn a_control_station_that_is_asked_twice_ends_at_once(rt: HostRuntime) -> Result<(), Fail> {
+    const ATTENDED: Attended = Attended {
+        limits: Limits {
+            rounds: None,
+            idle_rounds: 9,
+        },
+        octets: b"",
+        steps: b"tsts",
+    };
+    const TRACE: &[u8] = b"+1 silence
++2 control sent CALL A 161604ff1616c185ff
++3 asked to end
++4 silence
++5 control sent CALL A 161604ff1616c185ff
++6 asked to end
+";
+    assert!(rt; traces(rt.alloc(), false, ALL, &ATTENDED, TRACE)?);
     Ok(())
 }

@@ -1,10 +1,10 @@
 //! A terminal attended over a scripted connection. The octets are those of docs/PROTOCOL.md.
 
 use crate::fakes::{Counting, Scripted, Unflushed, connections};
-use crate::stations::sending_terminal;
+use crate::stations::{quiet_terminal, sending_terminal};
 use bsc_carrier::CarrierError;
 use bsc_connections::{LiveError, attend};
-use bsc_monitor::{LineTerminal, Printing, TerminalWatch, Watch, write_report};
+use bsc_monitor::{LineTerminal, Printing, TerminalWatch, Tracing, Watch, write_report};
 use bsc_print::Form;
 use std::alloc::Global;
 use std::io::Write;
@@ -32,20 +32,30 @@ const TERMINAL_TRACE: &[u8] = b"+1 control heard CALL A 161604ff1616c185ff
 +10 connection 0 closed
 ";
 
-/// Attends a terminal over a connection with these octets. Returns the fault for which the
-/// connection was closed, if there was one.
+/// The octets that a terminal reads, and the waits before them: octets to read for each `r`, and that
+/// it is asked to end for each `s`.
+#[derive(Clone, Copy)]
+struct Attended {
+    octets: &'static [u8],
+    steps: &'static [u8],
+}
+
+/// Attends a terminal over such a connection. Returns the fault for which the connection was closed,
+/// if there was one.
 fn attend_terminal(
     alloc: Global,
     terminal: &mut LineTerminal<Global>,
     printing: Printing,
-    octets: &'static [u8],
+    attended: &Attended,
     out: &mut Vec<u8>,
     trace: &mut Vec<u8>,
 ) -> Result<Option<CarrierError>, Fail> {
-    let mut connections = connections(alloc, octets)?;
+    let mut connections = connections(alloc, attended.octets)?;
     let watch = Watch::new(alloc, terminal, printing, Counting { asked: 0 }, out, trace)?;
     let mut watch = TerminalWatch::new(watch);
-    let mut waiter = Scripted { steps: b"" };
+    let mut waiter = Scripted {
+        steps: attended.steps,
+    };
     attend(terminal, &mut connections, &mut waiter, &mut watch)?;
     Ok(watch.closed())
 }
@@ -60,7 +70,8 @@ fn attend_and_report(
     trace: &mut Vec<u8>,
 ) -> Result<Option<CarrierError>, Fail> {
     let mut terminal = sending_terminal(alloc)?;
-    let closed = attend_terminal(alloc, &mut terminal, printing, octets, out, trace)?;
+    let attended = Attended { octets, steps: b"" };
+    let closed = attend_terminal(alloc, &mut terminal, printing, &attended, out, trace)?;
     write_report(alloc, Some(printing.form), &terminal, out)?;
     Ok(closed)
 }
@@ -82,7 +93,7 @@ fn prints(
 fn a_terminal_sends_and_receives(rt: HostRuntime) -> Result<(), Fail> {
     const PRINTING: Printing = Printing {
         form: Form::Hexadecimal,
-        trace: true,
+        trace: Tracing::All,
     };
     const PRINTED: &[u8] = b"to 0: 4849\nfrom 0: offered 1, known 1\nto 0: spooled 1\n  4849\n";
     assert!(rt;
@@ -101,7 +112,7 @@ fn a_terminal_sends_and_receives(rt: HostRuntime) -> Result<(), Fail> {
 fn a_fault_of_a_connection_is_told(rt: HostRuntime) -> Result<(), Fail> {
     const PRINTING: Printing = Printing {
         form: Form::Text,
-        trace: false,
+        trace: Tracing::Off,
     };
     const PRINTED: &[u8] = b"to 0: HI\nfrom 0: offered 1, known 1\nto 0: spooled 1\n  HI\n";
     const TOLD: &[u8] = b"connection 0 closed: the input ended within a record\n";
@@ -129,7 +140,7 @@ fn ends_unprinted<W: Write>(
 ) -> Result<bool, Fail> {
     const PRINTING: Printing = Printing {
         form: Form::Hexadecimal,
-        trace: true,
+        trace: Tracing::All,
     };
     let mut connections = connections(alloc, TO_TERMINAL)?;
     let watch = Watch::new(alloc, terminal, PRINTING, Counting { asked: 0 }, out, trace)?;
@@ -161,5 +172,78 @@ fn a_record_that_is_not_written_is_not_acknowledged(rt: HostRuntime) -> Result<(
 #[test]
 fn a_record_that_is_not_flushed_is_not_acknowledged(rt: HostRuntime) -> Result<(), Fail> {
     assert!(rt; refuses(rt.alloc(), &mut Unflushed)?);
+    Ok(())
+}
+
+/// Attends a terminal by these steps, and then until its connection is closed. Returns its trace.
+fn trace_of(
+    alloc: Global,
+    terminal: &mut LineTerminal<Global>,
+    trace: Tracing,
+    octets: &'static [u8],
+    steps: &'static [u8],
+) -> Result<Vec<u8>, Fail> {
+    let printing = Printing {
+        form: Form::Hexadecimal,
+        trace,
+    };
+    let attended = Attended { octets, steps };
+    let (mut out, mut errors) = (Vec::new(alloc), Vec::new(alloc));
+    attend_terminal(alloc, terminal, printing, &attended, &mut out, &mut errors)?;
+    Ok(errors)
+}
+
+/// A terminal hears the poll of another one, its own, that of the other one again, and a selection.
+#[test]
+fn a_trace_of_exchanges_has_no_calls_without_an_answer(rt: HostRuntime) -> Result<(), Fail> {
+    const OCTETS: &[u8] = b"\x00\x09\x16\x16\x04\xFF\x16\x16\xC2\x85\xFF\
+\x00\x09\x16\x16\x04\xFF\x16\x16\xC1\x85\xFF\
+\x00\x09\x16\x16\x04\xFF\x16\x16\xC2\x85\xFF\
+\x00\x09\x16\x16\x04\xFF\x16\x16\x61\x85\xFF";
+    const TRACE: &[u8] = b"+5 control heard CALL a 161604ff16166185ff
++6 terminal 0 sent ACK0 161610b0ff
++7 connection 0 closed
+";
+    let mut terminal = quiet_terminal(rt.alloc())?;
+    let trace = trace_of(rt.alloc(), &mut terminal, Tracing::Exchanges, OCTETS, b"")?;
+    assert_eq!(rt; trace.as_slice(), TRACE);
+    Ok(())
+}
+
+/// A terminal in control mode ends at once.
+#[test]
+fn a_terminal_that_is_asked_to_end_ends(rt: HostRuntime) -> Result<(), Fail> {
+    let mut terminal = sending_terminal(rt.alloc())?;
+    let trace = trace_of(rt.alloc(), &mut terminal, Tracing::All, TO_TERMINAL, b"s")?;
+    assert_eq!(rt; trace.as_slice(), b"+1 asked to end\n".as_slice());
+    Ok(())
+}
+
+/// A terminal that sends a block ends when its bid has ended, and at once if it is asked again.
+#[test]
+fn a_terminal_that_is_asked_to_end_ends_its_bid(rt: HostRuntime) -> Result<(), Fail> {
+    const ONCE: &[u8] = b"+1 control heard CALL A 161604ff1616c185ff
++2 terminal 0 sent TEXT ETX 1 161602c84919839bff
++3 asked to end
++4 control heard ACK1 16161031ff
++5 terminal 0 sent EOT 161604ff
+";
+    const TWICE: &[u8] = b"+1 control heard CALL A 161604ff1616c185ff
++2 terminal 0 sent TEXT ETX 1 161602c84919839bff
++3 asked to end
++4 asked to end
+";
+    let mut terminal = sending_terminal(rt.alloc())?;
+    let once = trace_of(rt.alloc(), &mut terminal, Tracing::All, TO_TERMINAL, b"rrs")?;
+    assert_eq!(rt; once.as_slice(), ONCE);
+    let mut terminal = sending_terminal(rt.alloc())?;
+    let twice = trace_of(
+        rt.alloc(),
+        &mut terminal,
+        Tracing::All,
+        TO_TERMINAL,
+        b"rrss",
+    )?;
+    assert_eq!(rt; twice.as_slice(), TWICE);
     Ok(())
 }

@@ -2,6 +2,7 @@
 
 use bsc_connections::{Awaited, Connection, Handled, LiveError, Pace, SocketRecords, Waiter};
 use bsc_monitor::Timer;
+use bsc_trust::{TerminalPeers, Trust};
 use std::alloc::{AllocError, Global};
 use std::io;
 use std::io::{Read, Write};
@@ -63,8 +64,15 @@ impl Timer for Counting {
     }
 }
 
-/// Reports octets to read on connection 0 for each `r` of the steps, and a time-out for each `t`;
-/// after the last step there are always octets to read.
+/// Returns what is known at the beginning of a line over one connection for all terminals, with
+/// this time-out in milliseconds.
+pub(crate) fn trust_of(time_out: u64) -> Trust {
+    Trust::new(true, time_out, TerminalPeers::new())
+}
+
+/// Reports octets to read on connection 0 for each `r` of the steps, a time-out for each `t`, and
+/// that the station is asked to end for each `s`; after the last step there are always octets to
+/// read.
 #[derive(Drop)]
 pub(crate) struct Scripted {
     pub(crate) steps: &'static [u8],
@@ -90,10 +98,11 @@ impl Waiter<Told, Taking> for Scripted {
             return Ok(Awaited::Octets { connection: 0 });
         };
         self.steps = &self.steps[1..];
-        if step == b't' {
-            return Ok(Awaited::TimeOut);
+        match step {
+            b't' => Ok(Awaited::TimeOut),
+            b's' => Ok(Awaited::Stopped),
+            _ => Ok(Awaited::Octets { connection: 0 }),
         }
-        Ok(Awaited::Octets { connection: 0 })
     }
 
     fn handled(&mut self, _what: Handled, _pace: Pace) {}

@@ -24,4 +24,6 @@ mod printed;
 #[cfg(test)]
 mod stations;
 #[cfg(test)]
+mod trusted;
+#[cfg(test)]
 mod visits;

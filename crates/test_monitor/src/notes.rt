@@ -1,12 +1,12 @@
 //! The lines of a trace for the notes that a watch receives.
 
 use crate::beginning::address;
-use crate::fakes::Counting;
+use crate::fakes::{Counting, trust_of};
 use crate::stations::control_of;
 use bsc_carrier::CarrierError;
 use bsc_connections::{LiveError, Monitor, Note, Refusal};
 use bsc_control::Control;
-use bsc_monitor::{ControlWatch, Limits, Printing, Watch};
+use bsc_monitor::{ControlWatch, Limits, Printing, Tracing, Watch};
 use bsc_print::Form;
 use std::alloc::Global;
 use std::io::Write;
@@ -18,7 +18,7 @@ use test_fixtures::octets::EOT;
 /// Hexadecimal records, with a trace.
 const PRINTING: Printing = Printing {
     form: Form::Hexadecimal,
-    trace: true,
+    trace: Tracing::All,
 };
 
 /// Notes that have lines of the trace.
@@ -33,7 +33,12 @@ const NOTES: &[Note<'static>] = &[
         peer: None,
         why: Refusal::NotAccepted,
     },
+    Note::Refused {
+        peer: None,
+        why: Refusal::NotAllowed,
+    },
     Note::Sent { octets: EOT },
+    Note::Stopped,
     Note::Closed {
         connection: 0,
         peer: None,
@@ -71,12 +76,14 @@ fn notes_of_peer() -> [Note<'static>; 3] {
 const TRACE: &[u8] = b"+1 silence
 +2 connection 1 joined
 +3 refused a peer: the system cannot accept it yet
-+4 control sent EOT 161604ff
-+5 connection 0 closed: the input ended within a record
-+6 connection 1 closed
-+7 connection 1 from 127.0.0.1:2780 joined in place of one that did not answer
-+8 refused 127.0.0.1:2780: every place is taken
-+9 connection 1 from 127.0.0.1:2780 closed
++4 refused a peer: its address is not allowed
++5 control sent EOT 161604ff
++6 asked to end
++7 connection 0 closed: the input ended within a record
++8 connection 1 closed
++9 connection 1 from 127.0.0.1:2780 joined in place of one that did not answer
++10 refused 127.0.0.1:2780: every place is taken
++11 connection 1 from 127.0.0.1:2780 closed
 ";
 
 /// Passes these notes to a watch.
@@ -94,7 +101,7 @@ fn tell<W: Write>(
         rounds: None,
         idle_rounds: u64::MAX,
     };
-    let mut watch = ControlWatch::new(control, watch, limits, true);
+    let mut watch = ControlWatch::new(control, watch, limits, true, trust_of(1_000));
     for note in NOTES {
         watch.note(control, *note)?;
     }

@@ -26,6 +26,15 @@ pub(crate) fn sending_terminal(alloc: Global) -> Result<LineTerminal<Global>, Fa
     terminal_of(alloc, &config)
 }
 
+/// Terminal 0 of a line of two, with nothing to send.
+pub(crate) fn quiet_terminal(alloc: Global) -> Result<LineTerminal<Global>, Fail> {
+    let config = read_config(alloc, TWO_TERMINALS.as_bytes())?;
+    if config.terminals() == 0 {
+        return Err(Fail::new("no terminal"));
+    }
+    Ok(new_terminal(alloc, &config, 0))
+}
+
 /// The control station of the line that a document describes, with nothing to send.
 pub(crate) fn control_of(alloc: Global, document: &str) -> Result<Control<Global>, Fail> {
     let config = read_config(alloc, document.as_bytes())?;

@@ -1,13 +1,13 @@
 //! The end of visits and rounds of the poll list, as a watch counts them.
 
-use crate::fakes::Counting;
+use crate::fakes::{Counting, trust_of};
 use crate::stations::{control_of, offer};
-use crate::visits::Event::{Asks, Heard, Offered, Silence};
+use crate::visits::Event::{Asks, Heard, Offered, Silence, Stopped};
 use bsc_bid::Station;
 use bsc_connections::{LiveError, Monitor, Note};
 use bsc_control::Control;
 use bsc_frame::Wire;
-use bsc_monitor::{ControlWatch, Limits, Printing, Watch};
+use bsc_monitor::{ControlWatch, Limits, Printing, Tracing, Watch};
 use bsc_print::Form;
 use std::alloc::Global;
 use std::test::Fail;
@@ -38,6 +38,9 @@ enum Event {
 
     /// These octets are heard.
     Heard(&'static [u8]),
+
+    /// The station is asked to end.
+    Stopped,
 }
 
 /// Events at the control station of one terminal, and the number of visits that end with them.
@@ -136,6 +139,41 @@ const ROUNDS: &[(&[Event], u64)] = &[
     ),
 ];
 
+/// Events at a control station of one terminal, and whether it has ended after them.
+const STOPS: &[(&[Event], bool)] = &[
+    // It ends with the visit to the entry that is polled, so with the next call.
+    (&[Silence, Stopped], false),
+    (&[Silence, Stopped, Heard(NOISE)], false),
+    (&[Silence, Stopped, Heard(EOT)], true),
+    (&[Silence, Stopped, Heard(TEXT_HI)], false),
+    (&[Silence, Stopped, Heard(TEXT_HI), Heard(EOT)], true),
+    // A selection ends no visit: the poll after it does.
+    (&[Offered(0), Silence, Stopped, Heard(ACK0)], false),
+    (
+        &[Offered(0), Silence, Stopped, Heard(ACK0), Heard(ACK1)],
+        false,
+    ),
+    (
+        &[
+            Offered(0),
+            Silence,
+            Stopped,
+            Heard(ACK0),
+            Heard(ACK1),
+            Heard(EOT),
+        ],
+        true,
+    ),
+    // It ends at a silence, whatever goes on.
+    (&[Stopped], false),
+    (&[Stopped, Silence], true),
+    (&[Silence, Stopped, Silence], true),
+    (&[Offered(0), Silence, Stopped, Heard(ACK0), Silence], true),
+    // If it is asked again it ends at once.
+    (&[Stopped, Stopped], true),
+    (&[Offered(0), Silence, Stopped, Heard(ACK0), Stopped], true),
+];
+
 /// Asks a terminal for the line.
 fn asks(control: &mut Control<Global>, terminal: usize) -> Result<(), Fail> {
     if terminal >= control.terminals() {
@@ -184,6 +222,7 @@ fn happens<M: Monitor<Control<Global>>>(
             };
             return Ok(tell(control, watch, note, &wire)?);
         }
+        Stopped => return Ok(tell(control, watch, Note::Stopped, &wire)?),
     }
     Ok(true)
 }
@@ -192,7 +231,7 @@ fn happens<M: Monitor<Control<Global>>>(
 fn has_ended(alloc: Global, document: &str, events: &[Event], rounds: u64) -> Result<bool, Fail> {
     let printing = Printing {
         form: Form::Hexadecimal,
-        trace: false,
+        trace: Tracing::Off,
     };
     let limits = Limits {
         rounds: Some(rounds),
@@ -202,7 +241,7 @@ fn has_ended(alloc: Global, document: &str, events: &[Event], rounds: u64) -> Re
     let (mut out, mut errors) = (Vec::new(alloc), Vec::new(alloc));
     let timer = Counting { asked: 0 };
     let watch = Watch::new(alloc, &control, printing, timer, &mut out, &mut errors)?;
-    let mut watch = ControlWatch::new(&control, watch, limits, true);
+    let mut watch = ControlWatch::new(&control, watch, limits, true, trust_of(1_000));
     let mut goes_on = true;
     for &event in events {
         goes_on = happens(alloc, &mut control, &mut watch, event)?;
@@ -239,5 +278,21 @@ fn a_visit_ends_at_a_call_that_repeats_no_poll(rt: HostRuntime) -> Result<(), Fa
 #[test]
 fn a_round_ends_when_the_first_entry_follows_the_last(rt: HostRuntime) -> Result<(), Fail> {
     assert_eq!(rt; first_wrong(rt.alloc(), TWO_TERMINALS, ROUNDS)?, None);
+    Ok(())
+}
+
+/// The place of the first row whose control station ends otherwise.
+fn first_stopped_wrong(alloc: Global) -> Result<Option<usize>, Fail> {
+    for (place, (events, ends)) in STOPS.iter().enumerate() {
+        if has_ended(alloc, ONE_TERMINAL, events, u64::MAX)? != *ends {
+            return Ok(Some(place));
+        }
+    }
+    Ok(None)
+}
+
+#[test]
+fn a_control_station_that_is_asked_to_end_ends_with_its_visit(rt: HostRuntime) -> Result<(), Fail> {
+    assert_eq!(rt; first_stopped_wrong(rt.alloc())?, None);
     Ok(())
 }

@@ -1,0 +1,71 @@
+-- What a control station can tell of the premises of its line, by what happens to it.
+use Rattle.std.specs.Prelude.{◌≡◌, ℕ, Bool, List, Option, None, Some}
+use Rattle.std.specs.Net.Socket.{socket_ip}
+use Rattle.std.specs.declared.net.ip_addr.IpAddr.{IpAddr}
+use Rattle.std.specs.declared.net.socket_addr.SocketAddr.{SocketAddr}
+use Rattle.bsc_connections.specs.Histories.{Happening, WasHeard, WasSent, HasJoined, HasClosed}
+use Rattle.bsc_connections.specs.Histories.{WasIgnored}
+use Rattle.bsc_connections.specs.declared.monitor.Note.{Note}
+use Rattle.bsc_connections.specs.declared.monitor.Note.TheVariants.{Joined}
+use Rattle.bsc_control.specs.Control.{ControlValue, current}
+use Rattle.bsc_control.specs.declared.task.Task.{Task}
+use Rattle.bsc_control.specs.declared.task.Task.TheVariants.{AtRest}
+use Rattle.bsc_frame.specs.Reading.{heard}
+use Rattle.bsc_trust.specs.Trust.{admits, after_closed, after_heard, after_ignored, after_joined}
+use Rattle.bsc_trust.specs.Trust.{after_sent, reason_told, told_of, told_of_sending}
+use Rattle.bsc_trust.specs.declared.distrust.Distrust.{Distrust}
+use Rattle.bsc_trust.specs.declared.trust.Trust.{Trust}
+use Rattle.bsc_monitor.specs.declared.trusting.Trusting.{Trusting}
+
+-- The terminal with this number is called in every task that a call begins.
+abbrev pub called_in : Task → ℕ → Option ℕ
+called_in AtRest terminal = None
+called_in _ terminal = Some terminal
+
+-- The terminal that the control station polls, selects or sends to.
+abbrev pub called_by : ControlValue → Option ℕ
+called_by c = called_in c.task (current c)
+
+abbrev pub trusting_of : Trust → Option ℕ → Trusting
+trusting_of trust called = record { trust = trust; called = called }
+
+-- Whether what arrived at this place is heard, by the terminal that is called.
+abbrev pub is_admitted : Trust → Option ℕ → ℕ → List ℕ → Bool
+is_admitted trust called place octets = admits trust called place (heard octets)
+
+-- The address of a peer, if it is known.
+abbrev pub address_of : Option SocketAddr → Option IpAddr
+address_of None = None
+address_of (Some peer) = Some (socket_ip peer)
+
+-- The address of the peer that joins with this, if it is known.
+abbrev pub joining_address : Note → Option IpAddr
+joining_address (Joined place peer replaces) = address_of peer
+joining_address _ = None
+
+-- What is known after this, which happened while this terminal was called, at this time. The
+-- address is that of the peer, if one joined.
+abbrev pub trust_after : Trust → Option ℕ → Happening → ℕ → Option IpAddr → Trust
+trust_after t called (WasHeard place octets) now peer =
+    after_heard t called place (heard octets) now
+trust_after t called (WasIgnored place octets) now peer = after_ignored t called place
+trust_after t called (WasSent octets) now peer = after_sent t now
+trust_after t called (HasJoined place) now peer = after_joined t place peer
+trust_after t called (HasClosed place why) now peer = after_closed t place
+trust_after t called _ now peer = t
+
+-- What is told of this: why it was ignored, or that it was the first late answer or late reply, and
+-- nothing spoke against trust before.
+abbrev pub distrust_told : Trust → Option ℕ → Happening → ℕ → Option Distrust
+distrust_told t called (WasHeard place octets) now = told_of t (heard octets) now
+distrust_told t called (WasIgnored place octets) now = Some (reason_told t called place)
+distrust_told t called (WasSent octets) now = told_of_sending t now
+distrust_told t called _ now = None
+
+-- This happened at some time, to a peer of some address if one joined; what is known of it is kept.
+-- Then this terminal is called.
+pub record KeepsTrust (old : Trusting) (happening : Happening) (called : Option ℕ)
+    (new : Trusting) : Type 0 where
+  pub now : ℕ
+  pub peer : Option IpAddr
+  pub is : new ≡ trusting_of (trust_after old.trust old.called happening now peer) called

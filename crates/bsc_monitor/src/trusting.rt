@@ -1,0 +1,132 @@
+//! What a control station can tell of the premises of its line, while it is attended.
+
+ghost use Rattle.std.specs.Prelude.{◌≡◌};
+ghost use Rattle.bsc_connections.specs.Notes.{told_by};
+ghost use Rattle.bsc_frame.specs.Reading.{heard};
+ghost use Rattle.bsc_trust.specs.Trust.{after_heard, told_of};
+ghost use Rattle.bsc_monitor.specs.Trusting.{called_by, distrust_told, is_admitted};
+ghost use Rattle.bsc_monitor.specs.Trusting.{address_of, joining_address, trust_after};
+ghost use Rattle.bsc_monitor.specs.Trusting.{trusting_of};
+
+use bsc_connections::Note;
+use bsc_control::{Control, Task};
+use bsc_frame::{TextBuffer, decode};
+use bsc_trust::{Distrust, Trust};
+use std::alloc::Allocator;
+use std::net::{IpAddr, SocketAddr};
+
+/// What is known of the premises, and which terminal was called last.
+#[derive(Clone, Copy)]
+pub(crate) struct Trusting {
+    /// What is known of the premises.
+    trust: Trust,
+
+    /// The terminal that was called after the last event.
+    called: Option<usize>,
+}
+
+impl Trusting {
+    /// Returns what is known of a control station that has sent nothing.
+    pub fn new<B: Allocator>(control: &Control<B>, trust: Trust) -> Trusting
+        ensures { result ≡ trusting_of trust (called_by control.now) }
+    {
+        Trusting {
+            trust,
+            called: called_by(control),
+        }
+    }
+
+    /// Returns what is known of the premises.
+    pub fn trust(&self) -> Trust
+        ensures { result ≡ self.now.trust }
+    {
+        self.trust
+    }
+
+    /// Returns whether what arrived at this place is heard, if this terminal is called.
+    pub fn admits_for(&self, called: Option<usize>, place: usize, octets: &[u8]) -> bool
+        ensures { result ≡ is_admitted self.now.trust called place octets.now }
+    {
+        let mut buffer = TextBuffer::new();
+        self.trust
+            .admits(called, place, &decode(octets, &mut buffer))
+    }
+
+    /// Returns whether what arrived at this place is heard, if the terminal is called that was
+    /// called last.
+    pub fn admits_last(&self, place: usize, octets: &[u8]) -> bool
+        ensures { result ≡ is_admitted self.now.trust self.now.called place octets.now }
+    {
+        self.admits_for(self.called, place, octets)
+    }
+
+    /// Takes note of an event at this time, in milliseconds. The terminal that was called last is
+    /// the one that was called when it happened. Returns what is to be told of it.
+    pub fn note(&mut self, note: &Note<'_>, now: u64) -> Option<Distrust>
+        ensures kept { self.new ≡ trusting_of
+            (trust_after self.old.trust self.old.called (told_by note.now) now
+            (joining_address note.now)) self.old.called }
+        ensures told { result
+            ≡ distrust_told self.old.trust self.old.called (told_by note.now) now }
+    {
+        match note {
+            Note::Heard { connection, octets } => self.hear(*connection, octets, now),
+            Note::Ignored { connection, .. } => Some(self.trust.ignored(self.called, *connection)),
+            Note::Sent { .. } => self.trust.sent(now),
+            Note::Joined {
+                connection,
+                peer,
+                ..
+            } => {
+                self.trust.joined(*connection, address_of(*peer));
+                None
+            }
+            Note::Closed { connection, .. } => {
+                self.trust.closed(*connection);
+                None
+            }
+            Note::Silence | Note::Refused { .. } | Note::Stopped => None,
+        }
+    }
+
+    /// Takes note of a transmission that was heard. Returns what is to be told of it.
+    fn hear(&mut self, place: usize, octets: &[u8], now: u64) -> Option<Distrust>
+        ensures kept { self.new ≡ trusting_of
+            (after_heard self.old.trust self.old.called place (heard octets.now) now)
+            self.old.called }
+        ensures told { result ≡ told_of self.old.trust (heard octets.now) now }
+    {
+        let mut buffer = TextBuffer::new();
+        let heard = decode(octets, &mut buffer);
+        self.trust.heard(self.called, place, &heard, now)
+    }
+
+    /// Takes note of the terminal that the control station calls now.
+    pub fn call<B: Allocator>(&mut self, control: &Control<B>)
+        ensures { self.new ≡ trusting_of self.old.trust (called_by control.now) }
+    {
+        self.called = called_by(control);
+    }
+}
+
+/// Returns the terminal that the control station polls, selects or sends to.
+pub(crate) fn called_by<B: Allocator>(control: &Control<B>) -> Option<usize>
+    ensures { result ≡ called_by control.now }
+{
+    let place = control.place();
+    let terminal = usize::from(control.poll_list()[place]);
+    match control.task() {
+        Task::AtRest => None,
+        Task::Selecting { .. } | Task::Sending { .. } | Task::Polling { .. } => Some(terminal),
+    }
+}
+
+/// Returns the address of a peer without its port, if it is known.
+fn address_of(peer: Option<SocketAddr>) -> Option<IpAddr>
+    ensures { result ≡ address_of peer }
+{
+    match peer {
+        Some(peer) => Some(peer.ip()),
+        None => None,
+    }
+}
