@@ -18,7 +18,7 @@ first_fault_reported (error.UnknownKey key) reading next is = ap (λ r. r >>= ne
 first_fault_reported (error.MissingKey key) reading next is = ap (λ r. r >>= next) is
 first_fault_reported (error.WrongValue key) reading next is = ap (λ r. r >>= next) is
 first_fault_reported error.Memory reading next is = tt
-first_fault_reported error.NotToml reading next is = absurd is
+first_fault_reported (error.NotToml line) reading next is = absurd is
 first_fault_reported error.NoTerminal reading next is = absurd is
 first_fault_reported error.TooManyTerminals reading next is = absurd is
 first_fault_reported (error.SameAddresses first second) reading next is = absurd is

@@ -1,5 +1,6 @@
 -- The result of reading a text.
-use Rattle.std.specs.Prelude.{◌≡◌, ℕ, List, Some, Result, Ok, Err, IsUtf8}
+use Rattle.std.specs.Prelude.{◌≡◌, ◌≤◌, ℕ, ◌+◌, ◌==◌, List, length, take, count_by, Some}
+use Rattle.std.specs.Prelude.{Result, Ok, Err, IsUtf8}
 use Rattle.toml.specs.Data.{Members}
 use Rattle.toml.specs.Parse.{parse_document}
 use Rattle.bsc_directory.specs.Refusals.{IsAccepted}
@@ -38,9 +39,16 @@ pub record IsWrong (text : List ℕ) (error : ConfigError) : Type 0 where
   pub read : IsDocument text document
   pub refused : Refuses (settings_in document) error
 
--- The reason for refusing a text: it is not a document, or the contents of the document are
--- refused. Out of memory may come in place of any answer.
+-- The number of the line of a place in the text, counted from 1.
+abbrev pub IsLineOf : List ℕ → ℕ → Type 0
+IsLineOf text line =
+    (place : ℕ) × (place ≤ length text)
+    × (line ≡ count_by (λ octet. octet == 10) (take place text) + 1)
+
+-- The reason for refusing a text: it is not a document, which shows on this line of the text, or
+-- the contents of the document are refused. Out of memory may come in place of any answer.
 abbrev pub IsRefusedFor : List ℕ → ConfigError → Type 0
-IsRefusedFor text NotToml = (document : Members) → IsDocument text document → ⊥
+IsRefusedFor text (NotToml line) =
+    ((document : Members) → IsDocument text document → ⊥) × IsLineOf text line
 IsRefusedFor text Memory = Unit {0}
 IsRefusedFor text error = IsWrong text error

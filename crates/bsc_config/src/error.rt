@@ -9,9 +9,10 @@ use thiserror::Error;
 /// `Memory` may come in place of any other.
 #[derive(Debug, Drop, Error)]
 pub enum ConfigError {
-    /// The text is not UTF-8, or is not a TOML document.
-    #[error("config: not toml")]
-    NotToml,
+    /// The text is not UTF-8, or is not a TOML document. It is one up to somewhere on this line of
+    /// the text, counted from 1.
+    #[error("config: not toml: line {line}")]
+    NotToml { line: u64 },
 
     /// A key that a configuration may not have: the smallest, compared byte by byte, of those in
     /// the document; otherwise the smallest of those in the first terminal that has one.

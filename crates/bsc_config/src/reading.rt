@@ -1,6 +1,6 @@
 //! Reads a configuration.
 
-ghost use Rattle.std.specs.Prelude.{◌≡◌, Some, IfErr, IfOk};
+ghost use Rattle.std.specs.Prelude.{◌≡◌, ◌≤◌, ◌+◌, ◌==◌, Some, IfErr, IfOk, count_by, length, take};
 ghost use Rattle.toml.specs.View.{table_view};
 ghost use Rattle.bsc_config.specs.Answers.{IsConfig, IsDocument, IsRefusedFor, Says};
 
@@ -17,9 +17,27 @@ fn document(alloc: Global, text: &[u8]) -> Result<Table, ConfigError>
 {
     match toml::table_from_slice(alloc, text) {
         Ok(table) => Ok(table),
-        Err(error) if error.is_memory() => Err(ConfigError::Memory),
-        Err(_) => Err(ConfigError::NotToml),
+        Err(error) => match error.span() {
+            Some(span) => Err(ConfigError::NotToml {
+                line: line_of(text, span.start),
+            }),
+            None => Err(ConfigError::Memory),
+        },
     }
+}
+
+/// Returns the number of the line of this place in a text, counted from 1.
+fn line_of(text: &[u8], place: usize) -> u64
+    requires { place ≤ length text.now }
+    ensures { result ≡ count_by (λ octet. octet == 10) (take place text.now) + 1 }
+{
+    let mut line = 1;
+    for octet in &text[..place] {
+        if *octet == b'\n' {
+            line += 1;
+        }
+    }
+    line
 }
 
 /// Reads the configuration in a TOML document, or returns the first reason for refusing it, in the

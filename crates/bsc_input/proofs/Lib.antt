@@ -1,1 +1,2 @@
+pub mod LineParts
 pub mod Splitting

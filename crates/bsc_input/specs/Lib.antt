@@ -1,4 +1,6 @@
 pub mod Hexadecimal
 pub mod Parts
 pub mod Lines
+pub mod Reading
 pub mod Texts
+pub mod Unreadable

@@ -14,13 +14,15 @@ IsTextAt path input text = path ≡ codes "-" → IfSome input (λ octets. text 
 -- The error for standard input that could not be read.
 abbrev pub input_error : InputError → TextError
 input_error input.TooLong = InputTooLong
-input_error input.Device = Input
+input_error (input.Device why) = Input
 input_error input.Memory = Memory
 
--- The error for a file that could not be read. It names the path, unless memory ran out.
+-- The error for a file that could not be read. It names the path, and why if the file could not be
+-- opened or read, unless memory ran out.
 abbrev pub IsErrorAt : List ℕ → InputError → TextError → Type 0
 IsErrorAt path input.TooLong (FileTooLong named) = string_bytes named ≡ path
-IsErrorAt path input.Device (CannotRead named) = string_bytes named ≡ path
+IsErrorAt path (input.Device why) (CannotRead named reason) =
+    (string_bytes named ≡ path) × (reason ≡ why)
 IsErrorAt path error Memory = Unit {0}
 IsErrorAt path error _ = ⊥
 
@@ -30,6 +32,6 @@ abbrev pub IsReadError : List ℕ → Option (List ℕ) → TextError → Type 0
 IsReadError path input InputTooLong =
     (path ≡ codes "-") × IfSome input (λ octets. MAX_INPUT < length octets)
 IsReadError path input Input = path ≡ codes "-"
-IsReadError path input (CannotRead named) = (path ≢ codes "-") × (string_bytes named ≡ path)
+IsReadError path input (CannotRead named why) = (path ≢ codes "-") × (string_bytes named ≡ path)
 IsReadError path input (FileTooLong named) = (path ≢ codes "-") × (string_bytes named ≡ path)
 IsReadError path input Memory = Unit {0}

@@ -2,23 +2,24 @@
 ghost use Rattle.std.specs.Prelude.{◌≡◌, ◌<◌, ◌≤◌, length, IfOk, OnOk, IfSome, IsErrOf};
 ghost use Rattle.std.specs.Io.KnownBytes.{IsAtEnd};
 
+use crate::Unreadable;
 use std::alloc::Allocator;
 use std::io::Read;
 use thiserror::Error;
 
-/// The maximum number of octets in an input.
+/// The maximum number of octets in an input that is read whole, and in a line of any other.
 pub const MAX_INPUT: usize = 1_048_576;
 
 /// The reason why an input could not be read.
 #[derive(Clone, Copy, Debug, PartialEq, Eq, Error)]
 pub enum InputError {
-    /// The input has more than `MAX_INPUT` octets.
+    /// The input, or a line that is read from it, has more than `MAX_INPUT` octets.
     #[error("input too long")]
     TooLong,
 
-    /// A read failed or was interrupted.
+    /// A read failed or was interrupted, for this reason.
     #[error("input fault")]
-    Device,
+    Device { why: Unreadable },
 
     /// An allocation failed.
     #[error("out of memory")]
@@ -48,7 +49,10 @@ pub fn read_input<A: Allocator, R: Read>(alloc: A, reader: &mut R) -> Result<Vec
                     return Err(InputError::Memory);
                 }
             }
-            Err(_) => return Err(InputError::Device),
+            Err(error) => {
+                let why = Unreadable::of(error.kind());
+                return Err(InputError::Device { why });
+            }
         }
     }
 }

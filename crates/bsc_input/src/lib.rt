@@ -1,5 +1,5 @@
-//! Reads input for the command: whole texts of bounded length from files or standard input, their
-//! lines and words, and octets in hexadecimal text.
+//! Reads input for the command: whole texts of bounded length from files or standard input, an
+//! input of any length line by line, lines and words of texts, and octets in hexadecimal text.
 //!
 //! The standard, GA27-3004, defines none of these; all of this is this project's own.
 #![tactic(auto)]
@@ -8,10 +8,14 @@ mod hexadecimal;
 mod input;
 mod lines;
 mod parts;
+mod reading;
 mod texts;
+mod unreadable;
 
 pub use hexadecimal::read_octets;
 pub use input::{InputError, MAX_INPUT, read_input};
 pub use lines::{is_blank, split_line, without_return};
 pub use parts::split_at_first;
+pub use reading::{LineEnd, read_line};
 pub use texts::{Files, STANDARD_INPUT, TextError, read_text};
+pub use unreadable::Unreadable;

@@ -3,7 +3,7 @@
 ghost use Rattle.std.specs.Prelude.{◌≡◌, ◌≢◌, IfErr, IfOk, codes};
 ghost use Rattle.bsc_input.specs.Texts.{IsErrorAt, IsReadError, IsTextAt};
 
-use crate::{InputError, read_input};
+use crate::{InputError, Unreadable, read_input};
 use std::alloc::Global;
 use std::io::Read;
 use thiserror::Error;
@@ -22,9 +22,9 @@ pub enum TextError {
     #[error("input fault")]
     Input,
 
-    /// The file at this path could not be opened or read.
-    #[error("cannot read {path}")]
-    CannotRead { path: String },
+    /// The file at this path could not be opened or read, for this reason.
+    #[error("cannot read {path}: {why}")]
+    CannotRead { path: String, why: Unreadable },
 
     /// The file at this path has more than [`MAX_INPUT`](crate::MAX_INPUT) octets.
     #[error("{path} is too long")]
@@ -43,7 +43,7 @@ impl From<InputError> for TextError {
     fn from(error: InputError) -> TextError {
         match error {
             InputError::TooLong => TextError::InputTooLong,
-            InputError::Device => TextError::Input,
+            InputError::Device { .. } => TextError::Input,
             InputError::Memory => TextError::Memory,
         }
     }
@@ -86,7 +86,7 @@ fn file_error(alloc: Global, path: &str, error: InputError) -> TextError
     };
     match error {
         InputError::TooLong => TextError::FileTooLong { path },
-        InputError::Device => TextError::CannotRead { path },
+        InputError::Device { why } => TextError::CannotRead { path, why },
         InputError::Memory => TextError::Memory,
     }
 }

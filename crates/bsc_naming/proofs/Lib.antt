@@ -3,3 +3,4 @@ pub mod Lines
 pub mod Lists
 pub mod Outcomes
 pub mod Parts
+pub mod Printed

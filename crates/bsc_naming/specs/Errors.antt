@@ -1,9 +1,13 @@
 -- The errors of each kind of work.
+use Rattle.std.specs.Prelude.{ℕ}
+use Rattle.bsc_input.specs.declared.input.InputError.{InputError}
+use Rattle.bsc_input.specs.declared.input.InputError.TheVariants as input
 use Rattle.bsc_print.specs.declared.error.PrintError.{PrintError}
 use Rattle.bsc_print.specs.declared.error.PrintError.TheVariants as print
 use Rattle.bsc_naming.specs.declared.error.NamingError.{NamingError}
 use Rattle.bsc_naming.specs.declared.error.NamingError.TheVariants.{NotHexadecimal}
-use Rattle.bsc_naming.specs.declared.error.NamingError.TheVariants.{NotHexadecimalAt, Output}
+use Rattle.bsc_naming.specs.declared.error.NamingError.TheVariants.{NotHexadecimalAt}
+use Rattle.bsc_naming.specs.declared.error.NamingError.TheVariants.{TooLongAt, Input, Output}
 use Rattle.bsc_naming.specs.declared.error.NamingError.TheVariants.{Memory}
 
 -- The error for a failure to print.
@@ -22,7 +26,18 @@ abbrev pub IsNameError : NamingError → Type 0
 IsNameError NotHexadecimal = Unit {0}
 IsNameError error = IsPrintError error
 
+-- The errors of naming one of many lines.
+abbrev pub IsWrongOrPrintError : NamingError → Type 0
+IsWrongOrPrintError (NotHexadecimalAt line) = Unit {0}
+IsWrongOrPrintError error = IsPrintError error
+
+-- The error for the line with this number if it could not be read.
+abbrev pub input_error : ℕ → InputError → NamingError
+input_error number input.TooLong = TooLongAt number
+input_error number (input.Device why) = Input
+input_error number input.Memory = Memory
+
 -- The errors of naming many lines.
 abbrev pub IsLineError : NamingError → Type 0
-IsLineError (NotHexadecimalAt line) = Unit {0}
-IsLineError error = IsPrintError error
+IsLineError NotHexadecimal = ⊥
+IsLineError _ = Unit {0}

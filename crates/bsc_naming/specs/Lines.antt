@@ -1,14 +1,18 @@
--- The output for the lines of the command's input.
-use Rattle.std.specs.Prelude.{◌≡◌, ℕ, ◌+◌, ◌==◌, ◌&&◌, not, Bool, false, List, [], ◌∷◌, ◌++◌, take}
-use Rattle.std.specs.Prelude.{position, Option, Some, None, is_none, if◌then◌else◌}
+-- The output for lines.
+use Rattle.std.specs.Prelude.{◌≡◌, ℕ, ◌+◌, ◌-◌, ◌==◌, ◌&&◌, not, Bool, true, false, List, [], ◌∷◌}
+use Rattle.std.specs.Prelude.{◌++◌, length, take, Option, is_none}
+use Rattle.std.specs.Prelude.{if◌then◌else◌}
 use Rattle.std.specs.List.{flat_map}
 use Rattle.std.specs.Option.{option_to_list}
 use Rattle.std.specs.Io.KnownBytes.{Appends}
 use Rattle.bsc_frame.specs.declared.message.Heard.{Heard}
 use Rattle.bsc_frame.specs.Spells.{IsHeardAs}
 use Rattle.bsc_input.specs.Hexadecimal.{octets_of}
-use Rattle.bsc_input.specs.Lines.{is_blank, lines_of}
+use Rattle.bsc_input.specs.Lines.{is_blank}
 use Rattle.bsc_input.specs.Parts.{parts_at}
+use Rattle.bsc_print.specs.Names.{shown, unit_line, units_of}
+use Rattle.bsc_print.specs.declared.printed.Detail.{Detail}
+use Rattle.bsc_print.specs.declared.printed.Detail.TheVariants.{Units}
 
 -- Whether a line is a line of a trace: it begins with `+`.
 abbrev pub is_traced : List ℕ → Bool
@@ -29,40 +33,46 @@ digits line = if is_traced line then last_part (parts_at 32 line) else line
 abbrev pub is_wrong : List ℕ → Bool
 is_wrong line = not (is_traced line) && (not (is_blank line) && is_none (octets_of line))
 
--- The transmission in hexadecimal text: none if the text is blank or not hexadecimal.
+-- The octets in hexadecimal text: none if the text is blank or not hexadecimal.
 abbrev pub given : List ℕ → List (List ℕ)
 given text = if is_blank text then [] else option_to_list (octets_of text)
 
--- The transmission on a line.
-abbrev pub transmission : List ℕ → List (List ℕ)
-transmission line = given (digits line)
+-- The text of a line before its last word, without the space between them.
+abbrev pub before_last : List ℕ → List ℕ
+before_last line = take (length line - length (last_part (parts_at 32 line)) - 1) line
 
--- The text is the output for these transmissions, each as it is heard, in order.
-abbrev pub AreShown : (Heard → List ℕ) → List (List ℕ) → List ℕ → Type 0
-AreShown show [] text = text ≡ []
-AreShown show (octets ∷ more) text =
-    (heard : Heard) × (rest : List ℕ) × IsHeardAs octets heard × (text ≡ show heard ++ rest)
-    × AreShown show more rest
+-- The output for a line without octets. `show` keeps a line of a trace as it stands.
+abbrev pub kept_line : Detail → Bool → List ℕ → List ℕ
+kept_line Units true line = line ++ 10 ∷ []
+kept_line _ _ line = []
 
--- The output for the transmissions on the lines was appended: the contents of the writer went from
--- `old` to `new`.
-pub record PrintsLines (show : Heard → List ℕ) (lines : List (List ℕ))
-    (old new : Option (List ℕ)) : Type 0 where
+-- The output for a line whose octets are heard as this. Of a line of a trace `show` keeps what is
+-- before the octets, the time, the speaker and the name, and adds the units.
+abbrev pub shown_line : Detail → Bool → List ℕ → Heard → List ℕ
+shown_line Units true line heard = before_last line ++ 10 ∷ flat_map unit_line (units_of heard)
+shown_line detail _ line heard = shown detail heard
+
+-- The text is the output for a line with these octets, if it has some, as they are heard.
+abbrev pub IsOutputFor : Detail → Bool → List ℕ → List (List ℕ) → List ℕ → Type 0
+IsOutputFor detail traced line [] text = text ≡ kept_line detail traced line
+IsOutputFor detail traced line (octets ∷ more) text =
+    (heard : Heard) × IsHeardAs octets heard × (text ≡ shown_line detail traced line heard)
+
+-- The text is the output for this line.
+abbrev pub IsOutputOf : Detail → List ℕ → List ℕ → Type 0
+IsOutputOf detail line text =
+    IsOutputFor detail (is_traced line) line (given (digits line)) text
+
+-- The text is the output for these lines, in order.
+abbrev pub AreShown : Detail → List (List ℕ) → List ℕ → Type 0
+AreShown detail [] text = text ≡ []
+AreShown detail (line ∷ lines) text =
+    (first rest : List ℕ) × IsOutputOf detail line first × (text ≡ first ++ rest)
+    × AreShown detail lines rest
+
+-- The output for these lines was appended: the contents of the writer went from `old` to `new`.
+pub record PrintsLines (detail : Detail) (lines : List (List ℕ)) (old new : Option (List ℕ))
+    : Type 0 where
   pub text : List ℕ
-  pub shown : AreShown show (flat_map transmission lines) text
+  pub shown : AreShown detail lines text
   pub appended : Appends old new text
-
--- No line of the input is wrong, and the output for all of them was printed.
-pub record PrintsInput (show : Heard → List ℕ) (input : List ℕ)
-    (old new : Option (List ℕ)) : Type 0 where
-  pub right : position is_wrong (lines_of input) ≡ None
-  pub printed : PrintsLines show (lines_of input) old new
-
--- The line with this number, counted from 1, is the first wrong line of the input. The output for
--- the lines before it was printed, and nothing else.
-pub record StopsAt (show : Heard → List ℕ) (number : ℕ) (input : List ℕ)
-    (old new : Option (List ℕ)) : Type 0 where
-  pub place : ℕ
-  pub counted : number ≡ place + 1
-  pub first : position is_wrong (lines_of input) ≡ Some place
-  pub before : PrintsLines show (take place (lines_of input)) old new

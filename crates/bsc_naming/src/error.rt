@@ -17,6 +17,17 @@ pub enum NamingError {
     #[error("line {line}: not hexadecimal")]
     NotHexadecimalAt { line: u64 },
 
+    /// The line with this number, counted from 1, has more than
+    /// [`MAX_INPUT`](bsc_input::MAX_INPUT) octets. A carriage return at its end counts, its line
+    /// feed does not.
+    #[error("line {line}: too long")]
+    TooLongAt { line: u64 },
+
+    /// The input could not be read: a read failed or was interrupted, or the lines are too many for
+    /// their numbers, 2^64 - 1 or more.
+    #[error("input fault")]
+    Input,
+
     /// The writer did not accept the text.
     #[error("output fault")]
     Output,

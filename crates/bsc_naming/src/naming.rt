@@ -1,19 +1,26 @@
 //! Prints the names of transmissions given in hexadecimal text or in the lines of a trace.
-ghost use Rattle.std.specs.Prelude.{◌≡◌, ◌+◌, ◌<◌, ◌^◌, ◌∷◌, [], length, true, false, None, OnOk};
-ghost use Rattle.std.specs.Prelude.{IfErr, IsErrOf, IsSomeAnd, ℕ};
+ghost use Rattle.std.specs.Prelude.{◌≡◌, ◌∷◌, [], true, false, None, OnOk, IfErr, IfSome};
+ghost use Rattle.std.specs.Prelude.{IsErrOf, IsSomeAnd, ℕ};
+ghost use Rattle.std.specs.Io.KnownBytes.{Appends};
+ghost use Rattle.bsc_frame.specs.Spells.{IsHeardAs};
+ghost use Rattle.bsc_frame.specs.declared.message.Heard.{Heard as HeardValue};
 ghost use Rattle.bsc_input.specs.Hexadecimal.{octets_of};
 ghost use Rattle.bsc_input.specs.Parts.{parts_at};
-ghost use Rattle.bsc_print.specs.Names.{Prints, name_line, unit_lines, shown};
-ghost use Rattle.bsc_naming.specs.Lines.{PrintsInput, PrintsLines, StopsAt, is_traced, is_wrong};
-ghost use Rattle.bsc_naming.specs.Lines.{last_part};
-ghost use Rattle.bsc_naming.specs.Errors.{IsLineError, IsNameError, IsPrintError};
+ghost use Rattle.bsc_print.specs.Names.{Prints, name_line, shown};
+ghost use Rattle.bsc_naming.specs.Inputs.{HasStopped, PrintsInput};
+ghost use Rattle.bsc_naming.specs.Lines.{PrintsLines, is_traced, is_wrong, kept_line, last_part};
+ghost use Rattle.bsc_naming.specs.Lines.{before_last as text_before_last, shown_line};
+ghost use Rattle.bsc_naming.specs.Errors.{IsLineError, IsNameError, IsPrintError, input_error};
+ghost use Rattle.bsc_naming.specs.Errors.{IsWrongOrPrintError};
 
 use crate::NamingError;
 use bsc_frame::{TextBuffer, decode};
-use bsc_input::{is_blank, read_octets, split_at_first, split_line, without_return};
-use bsc_print::{Detail, write_shown};
+use bsc_input::{
+    InputError, LineEnd, is_blank, read_line, read_octets, split_at_first, without_return,
+};
+use bsc_print::{Detail, put, write_shown, write_units};
 use std::alloc::Allocator;
-use std::io::Write;
+use std::io::{BufRead, BufReader, Read, Write};
 
 /// Prints the name of the transmission in hexadecimal text, and a line feed. If the text is not
 /// hexadecimal, nothing is printed.
@@ -38,60 +45,95 @@ pub fn name<A: Allocator + Copy, W: Write>(
 /// Prints the name of the transmission on each line, one name on each line. A line that begins with
 /// `+` is a line of a trace: its transmission is the hexadecimal text after its last space, and a
 /// line without one is skipped. Blank lines are skipped too. Skipped lines are counted. Stops at
-/// any other line that is not hexadecimal text; the names of the lines before it stay printed.
-pub fn names<A: Allocator + Copy, W: Write>(
+/// any other line that is not hexadecimal text, and at a line of more than `MAX_INPUT` octets; the
+/// names of the lines before it stay printed. The input may have any length: one line of it is kept
+/// at a time.
+pub fn names<A: Allocator + Copy, R: Read, W: Write>(
     alloc: A,
-    input: &[u8],
+    input: &mut R,
     out: &mut W,
 ) -> Result<(), NamingError>
-    ensures ok { OnOk result
-        (PrintsInput name_line input.now (W.contents out.old) (W.contents out.new)) }
-    ensures wrong { (n : ℕ) → result ≡ Err (NamingError.NotHexadecimalAt n) →
-        StopsAt name_line n input.now (W.contents out.old) (W.contents out.new) }
+    ensures ok { OnOk result (IfSome (R.remaining input.old) (λ octets.
+        PrintsInput Detail.Name octets (W.contents out.old) (W.contents out.new))) }
+    ensures stopped { IfErr result (λ error. IfSome (R.remaining input.old) (λ octets.
+        HasStopped Detail.Name error octets (W.contents out.old) (W.contents out.new))) }
     ensures faults { IfErr result IsLineError }
 {
-    write_lines(alloc, Detail::Name, input, out)
+    write_input(alloc, Detail::Name, input, out)
 }
 
 /// Prints the name of the transmission on each line, and under the name of a text a line for each
-/// unit. Otherwise the same as [`names`].
-pub fn show<A: Allocator + Copy, W: Write>(
+/// unit. A line of a trace is printed as it stands, without its hexadecimal text. Otherwise the
+/// same as [`names`].
+pub fn show<A: Allocator + Copy, R: Read, W: Write>(
     alloc: A,
-    input: &[u8],
+    input: &mut R,
     out: &mut W,
 ) -> Result<(), NamingError>
-    ensures ok { OnOk result
-        (PrintsInput unit_lines input.now (W.contents out.old) (W.contents out.new)) }
-    ensures wrong { (n : ℕ) → result ≡ Err (NamingError.NotHexadecimalAt n) →
-        StopsAt unit_lines n input.now (W.contents out.old) (W.contents out.new) }
+    ensures ok { OnOk result (IfSome (R.remaining input.old) (λ octets.
+        PrintsInput Detail.Units octets (W.contents out.old) (W.contents out.new))) }
+    ensures stopped { IfErr result (λ error. IfSome (R.remaining input.old) (λ octets.
+        HasStopped Detail.Units error octets (W.contents out.old) (W.contents out.new))) }
     ensures faults { IfErr result IsLineError }
 {
-    write_lines(alloc, Detail::Units, input, out)
+    write_input(alloc, Detail::Units, input, out)
 }
 
 /// Prints the output for the lines of the input.
-fn write_lines<A: Allocator + Copy, W: Write>(
+fn write_input<A: Allocator + Copy, R: Read, W: Write>(
     alloc: A,
     detail: Detail,
-    input: &[u8],
+    input: &mut R,
     out: &mut W,
 ) -> Result<(), NamingError>
-    ensures ok { OnOk result
-        (PrintsInput (shown detail) input.now (W.contents out.old) (W.contents out.new)) }
-    ensures wrong { (n : ℕ) → result ≡ Err (NamingError.NotHexadecimalAt n) →
-        StopsAt (shown detail) n input.now (W.contents out.old) (W.contents out.new) }
+    ensures ok { OnOk result (IfSome (R.remaining input.old) (λ octets.
+        PrintsInput detail octets (W.contents out.old) (W.contents out.new))) }
+    ensures stopped { IfErr result (λ error. IfSome (R.remaining input.old) (λ octets.
+        HasStopped detail error octets (W.contents out.old) (W.contents out.new))) }
     ensures faults { IfErr result IsLineError }
 {
-    let mut before = 0;
-    let mut text = input;
-    'lines: loop {
-        let (line, rest) = split_line(text);
-        write_line(alloc, detail, without_return(line), before, out)?;
-        match rest {
-            Some(rest) => text = rest,
-            None => return Ok(()),
+    match BufReader::new(alloc, input) {
+        Ok(mut reader) => write_lines(alloc, detail, &mut reader, out),
+        Err(_) => Err(NamingError::Memory),
+    }
+}
+
+/// Prints the output for the lines that the reader has left.
+fn write_lines<A: Allocator + Copy, B: BufRead, W: Write>(
+    alloc: A,
+    detail: Detail,
+    reader: &mut B,
+    out: &mut W,
+) -> Result<(), NamingError>
+    ensures ok { OnOk result (IfSome (B.remaining reader.old) (λ octets.
+        PrintsInput detail octets (W.contents out.old) (W.contents out.new))) }
+    ensures stopped { IfErr result (λ error. IfSome (B.remaining reader.old) (λ octets.
+        HasStopped detail error octets (W.contents out.old) (W.contents out.new))) }
+    ensures faults { IfErr result IsLineError }
+{
+    let mut line = Vec::new(alloc);
+    'lines: for number in 1..u64::MAX {
+        let end = match read_line(reader, &mut line) {
+            Ok(end) => end,
+            Err(error) => return Err(read_error(number, error)),
+        };
+        write_line(alloc, detail, without_return(&line), number, out)?;
+        match end {
+            LineEnd::InputEnd => return Ok(()),
+            LineEnd::LineFeed => {}
         }
-        before += 1;
+    }
+    Err(NamingError::Input)
+}
+
+/// Returns the error for a line with this number that could not be read.
+fn read_error(number: u64, error: InputError) -> NamingError
+    ensures { result ≡ input_error number error }
+{
+    match error {
+        InputError::TooLong => NamingError::TooLongAt { line: number },
+        InputError::Device { .. } => NamingError::Input,
+        InputError::Memory => NamingError::Memory,
     }
 }
 
@@ -116,6 +158,54 @@ fn last_word(line: &[u8]) -> &[u8]
     }
 }
 
+/// Returns the text of the line before its last word, without the space between them.
+fn before_last(line: &[u8]) -> &[u8]
+    ensures { result.now ≡ text_before_last line.now }
+{
+    let length = line.len().saturating_sub(last_word(line).len());
+    &line[..length.saturating_sub(1)]
+}
+
+/// Prints the output for a line of a trace without octets.
+fn write_kept<W: Write>(detail: Detail, line: &[u8], out: &mut W) -> Result<(), NamingError>
+    ensures ok { OnOk result (Appends (W.contents out.old) (W.contents out.new)
+        (kept_line detail true line.now)) }
+    ensures fault { IfErr result IsPrintError }
+{
+    match detail {
+        Detail::Name => Ok(()),
+        Detail::Units => {
+            put(line, out)?;
+            Ok(put(b"\n", out)?)
+        }
+    }
+}
+
+/// Prints the output for a line of a trace with these octets after its last space.
+fn write_spoken<A: Allocator + Copy, W: Write>(
+    alloc: A,
+    detail: Detail,
+    line: &[u8],
+    octets: &[u8],
+    out: &mut W,
+) -> Result<(), NamingError>
+    ensures ok { OnOk result ((heard : HeardValue) × IsHeardAs octets.now heard
+        × Appends (W.contents out.old) (W.contents out.new)
+        (shown_line detail true line.now heard)) }
+    ensures fault { IfErr result IsPrintError }
+{
+    let mut buffer = TextBuffer::new();
+    let heard = decode(octets, &mut buffer);
+    match detail {
+        Detail::Name => Ok(write_shown(alloc, detail, &heard, out)?),
+        Detail::Units => {
+            put(before_last(line), out)?;
+            put(b"\n", out)?;
+            Ok(write_units(alloc, &heard, out)?)
+        }
+    }
+}
+
 /// Prints the output for a line of a trace.
 fn write_traced<A: Allocator + Copy, W: Write>(
     alloc: A,
@@ -125,34 +215,33 @@ fn write_traced<A: Allocator + Copy, W: Write>(
 ) -> Result<(), NamingError>
     requires { is_traced line.now ≡ true }
     ensures ok { OnOk result
-        (PrintsLines (shown detail) (line.now ∷ []) (W.contents out.old) (W.contents out.new)) }
+        (PrintsLines detail (line.now ∷ []) (W.contents out.old) (W.contents out.new)) }
     ensures faults { IfErr result IsPrintError }
 {
     let word = last_word(line);
     if is_blank(word) {
-        return Ok(());
+        return write_kept(detail, line, out);
     }
     match read_octets(alloc, word)? {
-        Some(octets) => write_transmission(alloc, detail, &octets, out),
-        None => Ok(()),
+        Some(octets) => write_spoken(alloc, detail, line, &octets, out),
+        None => write_kept(detail, line, out),
     }
 }
 
-/// Prints the output for a line with `before` lines before it.
+/// Prints the output for the line with this number.
 fn write_line<A: Allocator + Copy, W: Write>(
     alloc: A,
     detail: Detail,
     line: &[u8],
-    before: u64,
+    number: u64,
     out: &mut W,
 ) -> Result<(), NamingError>
-    requires { before + length line.now < 2 ^ 64 }
     ensures right { OnOk result (is_wrong line.now ≡ false) }
     ensures ok { OnOk result
-        (PrintsLines (shown detail) (line.now ∷ []) (W.contents out.old) (W.contents out.new)) }
+        (PrintsLines detail (line.now ∷ []) (W.contents out.old) (W.contents out.new)) }
     ensures wrong { (n : ℕ) → result ≡ Err (NamingError.NotHexadecimalAt n) →
-        (n ≡ before + 1) × (is_wrong line.now ≡ true) × (out.new ≡ out.old) }
-    ensures faults { IfErr result IsLineError }
+        (n ≡ number) × (is_wrong line.now ≡ true) × (out.new ≡ out.old) }
+    ensures faults { IfErr result IsWrongOrPrintError }
 {
     if is_traced_line(line) {
         return write_traced(alloc, detail, line, out);
@@ -162,7 +251,7 @@ fn write_line<A: Allocator + Copy, W: Write>(
     }
     match read_octets(alloc, line)? {
         Some(octets) => write_transmission(alloc, detail, &octets, out),
-        None => Err(NamingError::NotHexadecimalAt { line: before + 1 }),
+        None => Err(NamingError::NotHexadecimalAt { line: number }),
     }
 }
 

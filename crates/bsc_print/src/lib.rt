@@ -12,4 +12,6 @@ mod printed;
 
 pub use error::PrintError;
 pub use form::{Form, write_in_form};
-pub use printed::{Detail, put, write_chars, write_heard_name, write_name, write_shown};
+pub use printed::{
+    Detail, put, write_chars, write_heard_name, write_name, write_shown, write_units,
+};

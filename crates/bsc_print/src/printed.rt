@@ -118,8 +118,9 @@ pub fn write_shown<A: Allocator + Copy, W: Write>(
     }
 }
 
-/// Writes a line for each unit of a text. Writes nothing for anything else.
-fn write_units<A: Allocator + Copy, W: Write>(
+/// Writes a line for each unit of a text. Writes nothing for anything else. After an error a part
+/// of the output may have been written.
+pub fn write_units<A: Allocator + Copy, W: Write>(
     alloc: A,
     heard: &Heard<'_>,
     out: &mut W,

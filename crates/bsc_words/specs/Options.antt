@@ -7,7 +7,7 @@ use Rattle.bsc_words.specs.declared.entries.Entry.{Entry}
 use Rattle.bsc_words.specs.declared.entries.Subcommand.{Subcommand}
 use Rattle.bsc_words.specs.declared.entries.Given.{Given}
 use Rattle.bsc_words.specs.declared.entries.Given.TheVariants as given
-use Rattle.clap.specs.declared.builder.ArgAction.TheVariants.{Append, Set, SetTrue}
+use Rattle.clap.specs.declared.builder.ArgAction.TheVariants.{Append, Count, Set, SetTrue}
 
 -- A required argument with a value.
 abbrev pub required : Text → Rule
@@ -16,6 +16,10 @@ required id = record (new_rule id) { required = true; action = Some Set }
 -- A flag with a long name.
 abbrev pub flag : Text → Rule
 flag id = record (new_rule id) { long = Some id; action = Some SetTrue }
+
+-- A flag with a long name that may be given any number of times.
+abbrev pub counted : Text → Rule
+counted id = record (new_rule id) { long = Some id; action = Some Count }
 
 -- An option with a long name and a value.
 abbrev pub option : Text → Rule
@@ -29,6 +33,7 @@ value_list id = record (new_rule id) { long = Some id; value_names = 1; action =
 abbrev pub given_rule : Given → Text → Rule
 given_rule given.Required id = required id
 given_rule given.Flag id = flag id
+given_rule given.Count id = counted id
 given_rule given.Value id = option id
 given_rule given.Values id = value_list id
 

@@ -1,11 +1,12 @@
 -- The arguments of `station`: those that `clap` reads, and their values.
-use Rattle.std.specs.Prelude.{List, [], ◌∷◌, Bool, Option, codes, option_map, string_bytes}
+use Rattle.std.specs.Prelude.{List, [], ◌∷◌, map, Bool, Option, codes, option_map, string_bytes}
 use Rattle.std.specs.Prelude.{unwrap_or}
-use Rattle.clap.specs.Words.{App, Row, Text, all_of, first_of, new_app}
-use Rattle.bsc_words.specs.Options.{flag, is_true_text, option, required, value_at, value_list}
-use Rattle.bsc_words.specs.Options.{with_rules}
+use Rattle.clap.specs.Words.{App, Row, Text, all_of, count_of, first_of, new_app}
+use Rattle.bsc_words.specs.Options.{counted, flag, is_true_text, option, required, value_at}
+use Rattle.bsc_words.specs.Options.{value_list, with_rules}
 use Rattle.bsc_asked.specs.StationWords.{AskedWords}
 use Rattle.bsc_words.specs.declared.station_words.Flags.{Flags}
+use Rattle.bsc_words.specs.declared.station_words.Lists.{Lists}
 use Rattle.bsc_words.specs.declared.station_words.Numbers.{Numbers}
 
 -- The command `station CONFIG`. Its options select the station, its connections, its times and
@@ -17,6 +18,8 @@ station_app =
     ∷ flag (codes "control")
     ∷ option (codes "terminal")
     ∷ option (codes "listen")
+    ∷ value_list (codes "allow")
+    ∷ value_list (codes "peer")
     ∷ option (codes "connect")
     ∷ flag (codes "shared")
     ∷ flag (codes "raw")
@@ -27,16 +30,22 @@ station_app =
     ∷ option (codes "pause")
     ∷ option (codes "rounds")
     ∷ option (codes "idle-rounds")
+    ∷ flag (codes "until-input-ends")
     ∷ value_list (codes "offer")
     ∷ flag (codes "text")
     ∷ flag (codes "bytes")
     ∷ flag (codes "report-records")
-    ∷ flag (codes "trace")
+    ∷ flag (codes "sync")
+    ∷ counted (codes "trace")
     ∷ [])
 
 -- Whether a flag was given.
 abbrev pub given : Text → List Row → Bool
 given id rows = is_true_text (value_at id rows)
+
+-- The values of an option that may be given any number of times.
+abbrev pub values_of : Text → List Row → List Text
+values_of id rows = unwrap_or (all_of id rows) []
 
 -- The arguments in the matches.
 abbrev pub words_in : List Row → AskedWords
@@ -45,6 +54,8 @@ words_in rows = record {
   control = given (codes "control") rows;
   terminal = first_of (codes "terminal") rows;
   listen = first_of (codes "listen") rows;
+  allowed = values_of (codes "allow") rows;
+  peers = values_of (codes "peer") rows;
   connect = first_of (codes "connect") rows;
   shared = given (codes "shared") rows;
   raw = given (codes "raw") rows;
@@ -55,11 +66,13 @@ words_in rows = record {
   pause = first_of (codes "pause") rows;
   rounds = first_of (codes "rounds") rows;
   idle_rounds = first_of (codes "idle-rounds") rows;
-  offers = unwrap_or (all_of (codes "offer") rows) [];
+  until_input_ends = given (codes "until-input-ends") rows;
+  offers = values_of (codes "offer") rows;
   text = given (codes "text") rows;
   bytes = given (codes "bytes") rows;
   report_records = given (codes "report-records") rows;
-  trace = given (codes "trace") rows;
+  sync = given (codes "sync") rows;
+  trace = count_of (codes "trace") rows;
 }
 
 -- The flags in the matches.
@@ -68,10 +81,33 @@ flags_in rows = record {
   control = given (codes "control") rows;
   shared = given (codes "shared") rows;
   raw = given (codes "raw") rows;
+  until_input_ends = given (codes "until-input-ends") rows;
   text = given (codes "text") rows;
   bytes = given (codes "bytes") rows;
   report_records = given (codes "report-records") rows;
-  trace = given (codes "trace") rows;
+  sync = given (codes "sync") rows;
+  trace = count_of (codes "trace") rows;
+}
+
+-- The values of the options that may be given any number of times, as texts.
+pub record ListTexts : Type 0 where
+  pub allowed : List Text
+  pub peers : List Text
+  pub offers : List Text
+
+abbrev pub list_texts : Lists → ListTexts
+list_texts l = record {
+  allowed = map string_bytes l.allowed.items;
+  peers = map string_bytes l.peers.items;
+  offers = map string_bytes l.offers.items;
+}
+
+-- These options in the matches.
+abbrev pub lists_in : List Row → ListTexts
+lists_in rows = record {
+  allowed = values_of (codes "allow") rows;
+  peers = values_of (codes "peer") rows;
+  offers = values_of (codes "offer") rows;
 }
 
 -- The times and limits, as texts.

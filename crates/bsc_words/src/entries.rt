@@ -16,6 +16,9 @@ pub(crate) enum Given {
     /// A name only.
     Flag,
 
+    /// A name only, counted: any number of times.
+    Count,
+
     /// A name and a value.
     Value,
 
@@ -64,6 +67,7 @@ fn argument<'a>(alloc: Global, entry: &'a Entry) -> Arg<'a>
     match entry.given {
         Given::Required => argument.required(true).action(ArgAction::Set),
         Given::Flag => argument.long(entry.id).action(ArgAction::SetTrue),
+        Given::Count => argument.long(entry.id).action(ArgAction::Count),
         Given::Value => with_value(argument, entry).action(ArgAction::Set),
         Given::Values => with_value(argument, entry).action(ArgAction::Append),
     }

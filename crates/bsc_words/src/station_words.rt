@@ -2,23 +2,34 @@
 ghost use Rattle.std.specs.Prelude.{◌≡◌, IfOk};
 ghost use Rattle.clap.specs.Words.{found_of, rows_of};
 ghost use Rattle.bsc_asked.specs.StationWords.{asked_words};
-ghost use Rattle.bsc_words.specs.StationWords.{flags_in, number_texts, numbers_in, words_in};
+ghost use Rattle.bsc_words.specs.StationWords.{flags_in, list_texts, lists_in, number_texts};
+ghost use Rattle.bsc_words.specs.StationWords.{numbers_in, words_in};
 
 use crate::values::{is_given, option_text, option_texts, required_text};
 use bsc_asked::StationWords;
 use clap::ArgMatches;
 use std::alloc::{AllocError, Global};
 
-/// The flags of `station`: whether each was given.
+/// The flags of `station`: whether each was given, or how often.
 #[derive(Clone, Copy)]
 struct Flags {
     control: bool,
     shared: bool,
     raw: bool,
+    until_input_ends: bool,
     text: bool,
     bytes: bool,
     report_records: bool,
-    trace: bool,
+    sync: bool,
+    trace: u8,
+}
+
+/// The options of `station` that may be given any number of times, as they were given.
+#[derive(Drop)]
+struct Lists {
+    allowed: Vec<String>,
+    peers: Vec<String>,
+    offers: Vec<String>,
 }
 
 /// The times and limits of `station`, as they were given.
@@ -41,11 +52,24 @@ fn flags_of(matches: &ArgMatches<'_>) -> Flags
         control: is_given(matches, "control"),
         shared: is_given(matches, "shared"),
         raw: is_given(matches, "raw"),
+        until_input_ends: is_given(matches, "until-input-ends"),
         text: is_given(matches, "text"),
         bytes: is_given(matches, "bytes"),
         report_records: is_given(matches, "report-records"),
-        trace: is_given(matches, "trace"),
+        sync: is_given(matches, "sync"),
+        trace: matches.get_count("trace"),
     }
+}
+
+/// Returns the options in these matches that may be given any number of times.
+fn lists_of(alloc: Global, matches: &ArgMatches<'_>) -> Result<Lists, AllocError>
+    ensures { IfOk result (λ l. list_texts l ≡ lists_in (rows_of (found_of matches.now))) }
+{
+    Ok(Lists {
+        allowed: option_texts(alloc, matches, "allow")?,
+        peers: option_texts(alloc, matches, "peer")?,
+        offers: option_texts(alloc, matches, "offer")?,
+    })
 }
 
 /// Returns the times and limits in these matches.
@@ -75,7 +99,12 @@ pub(crate) fn station_words(
     let terminal = option_text(alloc, matches, "terminal")?;
     let listen = option_text(alloc, matches, "listen")?;
     let connect = option_text(alloc, matches, "connect")?;
-    let offers = option_texts(alloc, matches, "offer")?;
+    let lists = lists_of(alloc, matches)?;
+    let Lists {
+        allowed,
+        peers,
+        offers,
+    } = lists;
     let numbers = numbers_of(alloc, matches)?;
     let Numbers {
         gap,
@@ -91,6 +120,8 @@ pub(crate) fn station_words(
         control: flags.control,
         terminal,
         listen,
+        allowed,
+        peers,
         connect,
         shared: flags.shared,
         raw: flags.raw,
@@ -101,10 +132,12 @@ pub(crate) fn station_words(
         pause,
         rounds,
         idle_rounds,
+        until_input_ends: flags.until_input_ends,
         offers,
         text: flags.text,
         bytes: flags.bytes,
         report_records: flags.report_records,
+        sync: flags.sync,
         trace: flags.trace,
     })
 }

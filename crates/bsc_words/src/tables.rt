@@ -1,6 +1,6 @@
 //! The commands of the program with their arguments and options, as tables.
 
-use crate::entries::Given::{Flag, Required, Value, Values};
+use crate::entries::Given::{Count, Flag, Required, Value, Values};
 use crate::entries::{Entry, Subcommand};
 
 /// Prints the name of one transmission.
@@ -83,6 +83,18 @@ pub(crate) const STATION: Subcommand = Subcommand {
             help: "Let peers connect at this address",
         },
         Entry {
+            id: "allow",
+            given: Values,
+            value: "NETWORK",
+            help: "Let only peers of this network, ADDRESS/BITS, connect; needs --listen",
+        },
+        Entry {
+            id: "peer",
+            given: Values,
+            value: "T=ADDRESS",
+            help: "Hear terminal T from this IP address only; needs --control and --listen",
+        },
+        Entry {
             id: "connect",
             given: Value,
             value: "ADDRESS",
@@ -143,6 +155,12 @@ pub(crate) const STATION: Subcommand = Subcommand {
             help: "End after N idle rounds in a row, 2 unless given",
         },
         Entry {
+            id: "until-input-ends",
+            given: Flag,
+            value: "",
+            help: "End when standard input ends",
+        },
+        Entry {
             id: "offer",
             given: Values,
             value: "OFFER",
@@ -167,10 +185,16 @@ pub(crate) const STATION: Subcommand = Subcommand {
             help: "Repeat the records that arrived in the report",
         },
         Entry {
-            id: "trace",
+            id: "sync",
             given: Flag,
             value: "",
-            help: "Print what is sent and heard on standard error",
+            help: "Sync standard output, if it is a file, before records are acknowledged",
+        },
+        Entry {
+            id: "trace",
+            given: Count,
+            value: "",
+            help: "Print what is sent and heard on standard error; given twice, idle polls too",
         },
     ],
 };

@@ -1,12 +1,12 @@
 //! Properties of inputs that no contract states: calls that succeed, streams that fail, and refused
 //! growths.
 use bsc_input::{
-    InputError, MAX_INPUT, is_blank, read_input, read_octets, split_at_first, split_line,
-    without_return,
+    InputError, LineEnd, MAX_INPUT, Unreadable, is_blank, read_input, read_line, read_octets,
+    split_at_first, split_line, without_return,
 };
 use std::alloc::{AllocError, Global};
 use std::io;
-use std::io::{Error, ErrorKind, Read};
+use std::io::{BufReader, Error, ErrorKind, Read};
 use std::test::Fail;
 use test_alloc::{Refusal, Refusing};
 
@@ -187,7 +187,38 @@ fn failing_read(rt: HostRuntime) {
         interrupted: false,
     };
     let answer = read_input(rt.alloc(), &mut broken);
-    assert!(rt; answer.err() == Some(InputError::Device));
+    let why = Unreadable::ReadFault;
+    assert!(rt; answer.err() == Some(InputError::Device { why }));
+}
+
+/// Fails each read with an error of this kind.
+#[derive(Drop)]
+struct Failing {
+    kind: ErrorKind,
+}
+
+impl Read for Failing {
+    fn read(&mut self, _buf: &mut [u8]) -> io::Result<usize> {
+        Err(Error::from(self.kind))
+    }
+}
+
+/// Kinds of errors, and why an input could not be read.
+const REASONS: &[(ErrorKind, Unreadable)] = &[
+    (ErrorKind::NotFound, Unreadable::NoSuchFile),
+    (ErrorKind::PermissionDenied, Unreadable::PermissionDenied),
+    (ErrorKind::IsADirectory, Unreadable::IsADirectory),
+    (ErrorKind::NotADirectory, Unreadable::NotInADirectory),
+    (ErrorKind::TimedOut, Unreadable::ReadFault),
+];
+
+/// The reason why a read failed is kept.
+#[test]
+fn why_a_read_failed(rt: HostRuntime) {
+    for (kind, why) in REASONS {
+        let answer = read_input(rt.alloc(), &mut Failing { kind: *kind });
+        assert!(rt; answer.err() == Some(InputError::Device { why: *why }));
+    }
 }
 
 // Whether the result is out of memory if this allocator refused something, and the whole input
@@ -231,6 +262,112 @@ fn each_growth_of_octets(rt: HostRuntime) -> Result<(), Fail> {
     for request in alloc.in_turn(Refusal::Nth, 2..19) {
         let number = request?;
         assert!(rt; are_octets_or_refused(&alloc), "{number}");
+    }
+    Ok(())
+}
+
+/// Texts and their lines. A line feed at the end is followed by an empty line.
+const LINES: &[(&[u8], &[&[u8]])] = &[
+    (b"ab\ncde\r\n\nf", &[b"ab", b"cde\r", b"", b"f"]),
+    (b"ab\n", &[b"ab", b""]),
+    (b"\n\n", &[b"", b"", b""]),
+    (b"abc", &[b"abc"]),
+    (b"", &[b""]),
+];
+
+// Whether exactly these lines are read from the text, in pieces of at most this many octets.
+fn are_lines(alloc: Global, size: usize, text: &[u8], lines: &[&[u8]]) -> bool {
+    let Ok(mut reader) = BufReader::with_capacity(alloc, size, text) else {
+        return false;
+    };
+    let mut line = Vec::new(alloc);
+    for (place, wanted) in lines.iter().enumerate() {
+        let end = if place == lines.len().saturating_sub(1) {
+            LineEnd::InputEnd
+        } else {
+            LineEnd::LineFeed
+        };
+        if read_line(&mut reader, &mut line) != Ok(end) || line.as_slice() != *wanted {
+            return false;
+        }
+    }
+    true
+}
+
+/// Lines are the same wherever pieces of the input end.
+#[test]
+fn lines_of_an_input(rt: HostRuntime) {
+    for (text, lines) in LINES {
+        for size in 1..12usize {
+            assert!(rt; are_lines(rt.alloc(), size, text, lines), "{size} {text:?}");
+        }
+    }
+}
+
+// The end of the first line of a stream of this many spaces, one in each read, or the error; and
+// the number of octets of the line.
+fn read_spaces(left: usize, alloc: Global) -> Option<(Result<LineEnd, InputError>, usize)> {
+    let mut reader = BufReader::new(alloc, Drip { left, reads: 0 }).ok()?;
+    let mut line = Vec::new(alloc);
+    let answer = read_line(&mut reader, &mut line);
+    Some((answer, line.len()))
+}
+
+/// A line of the greatest length with one octet in each read, and a longer one.
+#[test]
+fn a_line_of_the_greatest_length(rt: HostRuntime) {
+    let whole = read_spaces(MAX_INPUT, rt.alloc());
+    assert!(rt; whole == Some((Ok(LineEnd::InputEnd), 1_048_576)));
+    let longer = read_spaces(MAX_INPUT + 1, rt.alloc());
+    assert!(rt; longer == Some((Err(InputError::TooLong), 1_048_576)));
+}
+
+// What the first two lines of a stream that breaks end with, or the errors.
+fn read_broken(alloc: Global) -> Option<[Result<LineEnd, InputError>; 2]> {
+    let broken = Broken {
+        text: Some(b"16 04\n16"),
+        interrupted: false,
+    };
+    let mut reader = BufReader::new(alloc, broken).ok()?;
+    let mut line = Vec::new(alloc);
+    let first = read_line(&mut reader, &mut line);
+    let second = read_line(&mut reader, &mut line);
+    Some([first, second])
+}
+
+/// A read fails in a line after a good one; an interrupted read is not repeated.
+#[test]
+fn failing_read_of_a_line(rt: HostRuntime) {
+    let why = Unreadable::ReadFault;
+    let ends = [Ok(LineEnd::LineFeed), Err(InputError::Device { why })];
+    assert!(rt; read_broken(rt.alloc()) == Some(ends));
+}
+
+// Whether the result is out of memory if this allocator refused something, and a line otherwise.
+fn is_line_or_refused(global: Global, alloc: &Refusing) -> bool {
+    let Ok(mut reader) = BufReader::new(
+        global,
+        Drip {
+            left: 1000,
+            reads: 0,
+        },
+    ) else {
+        return false;
+    };
+    let mut line = Vec::new(alloc);
+    match read_line(&mut reader, &mut line) {
+        Ok(end) => alloc.refused() == 0 && end == LineEnd::InputEnd && line.len() == 1000,
+        Err(error) => alloc.refused() > 0 && error == InputError::Memory,
+    }
+}
+
+/// Each growth for a line is refused in turn, with one octet in each read.
+#[test]
+fn each_growth_of_a_line(rt: HostRuntime) -> Result<(), Fail> {
+    let alloc = Refusing::new(rt.alloc());
+    for request in alloc.in_turn(Refusal::Nth, 4..19) {
+        let number = request?;
+        assert!(rt; is_line_or_refused(rt.alloc(), &alloc), "{number}");
     }
     Ok(())
 }

@@ -1,6 +1,6 @@
-//! Tests of names and inputs with the public functions of their crates.
+//! Tests of names, inputs and networks with the public functions of their crates.
 //!
-//! The forms of names and inputs are this project's own; the messages are the standard's
+//! The forms of names, inputs and networks are this project's own; the messages are the standard's
 //! (GA27-3004).
 #![tactic(auto)]
 
@@ -8,3 +8,5 @@
 mod input;
 #[cfg(test)]
 mod names;
+#[cfg(test)]
+mod peers;

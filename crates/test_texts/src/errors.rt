@@ -7,7 +7,7 @@ use bsc_config::ConfigError;
 use bsc_connections::LiveError;
 use bsc_control::SetupError;
 use bsc_frame::AddressError;
-use bsc_input::InputError;
+use bsc_input::{InputError, Unreadable};
 use bsc_print::PrintError;
 use bsc_script::ScriptError;
 use std::test::Fail;
@@ -101,7 +101,9 @@ fn inputs_outputs_and_waits(rt: HostRuntime) -> Result<(), Fail> {
     let texts = format!(in rt.alloc();
         "{}\n{}\n{}\n{}\n{}\n{}\n{}\n{}\n{}\n{}\n{}\n{}\n",
         InputError::TooLong,
-        InputError::Device,
+        InputError::Device {
+            why: Unreadable::ReadFault,
+        },
         InputError::Memory,
         PrintError::Output,
         PrintError::Memory,

@@ -11,10 +11,10 @@ const DOCUMENTS: &[Documents<'static>] = &[
         before: "",
         after: "",
         rows: &[
-            ("version", "config: not toml"),
-            ("version = ", "config: not toml"),
-            ("version = 1\nversion = 1\n", "config: not toml"),
-            ("version = 1 poll_list = [0]\n", "config: not toml"),
+            ("version", "config: not toml: line 1"),
+            ("version = ", "config: not toml: line 1"),
+            ("version = 1\nversion = 1\n", "config: not toml: line 2"),
+            ("version = 1 poll_list = [0]\n", "config: not toml: line 1"),
         ],
     },
     // The least unknown key of the document is reported first, and then those of the terminals,
@@ -89,7 +89,7 @@ fn unknown_keys_come_before_missing_keys(rt: HostRuntime) -> Result<(), Fail> {
 #[test]
 fn octets_that_are_no_text_are_not_toml(rt: HostRuntime) -> Result<(), Fail> {
     let error = read_config(rt.alloc(), b"# \xff\n").err();
-    assert!(rt; matches!(error, Some(ConfigError::NotToml)));
+    assert!(rt; matches!(error, Some(ConfigError::NotToml { .. })));
     Ok(())
 }
 

@@ -47,7 +47,7 @@ const DOCUMENTS: &[Documents<'static>] = &[
             ("{}", "config: wrong value of full"),
             ("1979-05-27", "config: wrong value of full"),
             ("9223372036854775807", "config: wrong value of full"),
-            ("9223372036854775808", "config: not toml"),
+            ("9223372036854775808", "config: not toml: line 3"),
         ],
     },
     // The version is 1 or 2.

@@ -2,9 +2,8 @@
 use Rattle.std.proofs.Common.{◌≡◌, Some, true, false, sym, ap, ◌∙◌, option_map, rules}
 use Rattle.bsc_input.specs.Hexadecimal.{octets_of}
 use Rattle.bsc_input.specs.Lines.{is_blank}
-use Rattle.bsc_print.specs.Names.{shown}
 use Rattle.bsc_naming.specs.Lines.{is_traced}
-use Rattle.bsc_naming.proofs.Lines.{prints_lines_one, prints_lines_skip, digits_plain}
+use Rattle.bsc_naming.proofs.Lines.{prints_lines_plain, prints_lines_skip, digits_plain}
 use Rattle.bsc_naming.proofs.Lines.{given_blank}
 use Rattle.bsc_naming.proofs.Outcomes.{on_ok}
 use Rattle.bsc_naming.proofs.naming.write_line.Goals as goal
@@ -14,7 +13,7 @@ returns-then-is_blank-clause-ok g c =
     let line = c.args.line.now in
     let plain : is_traced line ≡ false = search rules in
     let blank : is_blank line ≡ true = search rules in
-    prints_lines_skip (shown c.args.detail) line line _ (digits_plain line plain)
+    prints_lines_skip c.args.detail line line _ plain (digits_plain line plain)
     (given_blank line blank)
 
 pub returns-in-Some-clause-ok : goal.returns-in-Some-clause-ok
@@ -25,5 +24,5 @@ returns-in-Some-clause-ok g c =
     ∙ ap (option_map (λ v. v.items)) c.in-Some.is ∙ ap Some (sym c.deref.ensures.value) in
     let plain : is_traced line ≡ false = search rules in
     let blank : is_blank line ≡ false = search rules in
-    on_ok c.write_transmission.result (prints_lines_one (shown c.args.detail) line line octets _ _
+    on_ok c.write_transmission.result (prints_lines_plain c.args.detail line octets _ _ plain
     (digits_plain line plain) blank read) c.write_transmission.ensures.ok

@@ -2,9 +2,8 @@
 use Rattle.std.proofs.Common.{◌≡◌, Some, None, true, false, sym, ap, ◌∙◌, option_map, rules}
 use Rattle.bsc_input.specs.Hexadecimal.{octets_of}
 use Rattle.bsc_input.specs.Lines.{is_blank}
-use Rattle.bsc_print.specs.Names.{shown}
 use Rattle.bsc_naming.specs.Lines.{digits}
-use Rattle.bsc_naming.proofs.Lines.{prints_lines_one, prints_lines_skip, digits_traced}
+use Rattle.bsc_naming.proofs.Lines.{prints_lines_one, prints_lines_kept, digits_traced}
 use Rattle.bsc_naming.proofs.Lines.{given_blank, given_wrong}
 use Rattle.bsc_naming.proofs.Outcomes.{on_ok}
 use Rattle.bsc_naming.proofs.naming.write_traced.Goals as goal
@@ -15,7 +14,8 @@ returns-then-is_blank-clause-ok g c =
     let word = c.last_word-word.result.now in
     let same : digits line ≡ word = digits_traced line c.requires ∙ sym c.last_word-word.ensures in
     let blank : is_blank word ≡ true = search rules in
-    prints_lines_skip (shown c.args.detail) line word _ same (given_blank word blank)
+    on_ok c.write_kept.result (prints_lines_kept c.args.detail true line word _ _ c.requires same
+    (given_blank word blank)) c.write_kept.ensures.ok
 
 pub returns-in-Some-clause-ok : goal.returns-in-Some-clause-ok
 returns-in-Some-clause-ok g c =
@@ -26,8 +26,8 @@ returns-in-Some-clause-ok g c =
     let read : octets_of word ≡ Some octets = sym c.in_ok-octets.ensures
     ∙ ap (option_map (λ v. v.items)) c.in-Some.is ∙ ap Some (sym c.deref.ensures.value) in
     let blank : is_blank word ≡ false = search rules in
-    on_ok c.write_transmission.result (prints_lines_one (shown c.args.detail) line word octets _ _
-    same blank read) c.write_transmission.ensures.ok
+    on_ok c.write_spoken.result (prints_lines_one c.args.detail true line word octets _ _ c.requires
+    same blank read) c.write_spoken.ensures.ok
 
 pub returns-in-None-clause-ok : goal.returns-in-None-clause-ok
 returns-in-None-clause-ok g c =
@@ -37,4 +37,5 @@ returns-in-None-clause-ok g c =
     let blank : is_blank word ≡ false = search rules in
     let read : octets_of word ≡ None = sym c.in_ok-octets.ensures
     ∙ ap (option_map (λ v. v.items)) c.in-None.is in
-    prints_lines_skip (shown c.args.detail) line word _ same (given_wrong word blank read)
+    on_ok c.write_kept-in-None.result (prints_lines_kept c.args.detail true line word _ _ c.requires
+    same (given_wrong word blank read)) c.write_kept-in-None.ensures.ok

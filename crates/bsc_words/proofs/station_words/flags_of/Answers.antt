@@ -15,16 +15,20 @@ returns c =
     let control = c.is_given.ensures ∙ flag_is (codes "control") in
     let shared = c.is_given-2.ensures ∙ flag_is (codes "shared") in
     let raw = c.is_given-3.ensures ∙ flag_is (codes "raw") in
-    let text = c.is_given-4.ensures ∙ flag_is (codes "text") in
-    let bytes = c.is_given-5.ensures ∙ flag_is (codes "bytes") in
-    let report_records = c.is_given-6.ensures ∙ flag_is (codes "report-records") in
-    let trace = c.is_given-7.ensures ∙ flag_is (codes "trace") in
+    let until_input_ends = c.is_given-4.ensures ∙ flag_is (codes "until-input-ends") in
+    let text = c.is_given-5.ensures ∙ flag_is (codes "text") in
+    let bytes = c.is_given-6.ensures ∙ flag_is (codes "bytes") in
+    let report_records = c.is_given-7.ensures ∙ flag_is (codes "report-records") in
+    let sync = c.is_given-8.ensures ∙ flag_is (codes "sync") in
+    let trace = c.get_count.ensures.value in
     λ i. record {
       control = control i;
       shared = shared i;
       raw = raw i;
+      until_input_ends = until_input_ends i;
       text = text i;
       bytes = bytes i;
       report_records = report_records i;
+      sync = sync i;
       trace = trace i;
     }
