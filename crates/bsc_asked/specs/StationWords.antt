@@ -8,6 +8,8 @@ pub record AskedWords : Type 0 where
   pub control : Bool
   pub terminal : Option (List ℕ)
   pub listen : Option (List ℕ)
+  pub allowed : List (List ℕ)
+  pub peers : List (List ℕ)
   pub connect : Option (List ℕ)
   pub shared : Bool
   pub raw : Bool
@@ -18,11 +20,13 @@ pub record AskedWords : Type 0 where
   pub pause : Option (List ℕ)
   pub rounds : Option (List ℕ)
   pub idle_rounds : Option (List ℕ)
+  pub until_input_ends : Bool
   pub offers : List (List ℕ)
   pub text : Bool
   pub bytes : Bool
   pub report_records : Bool
-  pub trace : Bool
+  pub sync : Bool
+  pub trace : ℕ
 
 -- The value of the arguments in the code.
 abbrev pub asked_words : StationWords → AskedWords
@@ -31,6 +35,8 @@ asked_words w = record {
   control = w.control;
   terminal = option_map string_bytes w.terminal;
   listen = option_map string_bytes w.listen;
+  allowed = map string_bytes w.allowed.items;
+  peers = map string_bytes w.peers.items;
   connect = option_map string_bytes w.connect;
   shared = w.shared;
   raw = w.raw;
@@ -41,9 +47,11 @@ asked_words w = record {
   pause = option_map string_bytes w.pause;
   rounds = option_map string_bytes w.rounds;
   idle_rounds = option_map string_bytes w.idle_rounds;
+  until_input_ends = w.until_input_ends;
   offers = map string_bytes w.offers.items;
   text = w.text;
   bytes = w.bytes;
   report_records = w.report_records;
+  sync = w.sync;
   trace = w.trace;
 }

@@ -16,6 +16,12 @@ pub struct StationWords {
     /// The address at which peers connect.
     pub listen: Option<String>,
 
+    /// The networks from which peers may connect; empty for all.
+    pub allowed: Vec<String>,
+
+    /// The addresses from which terminals connect, each with its terminal.
+    pub peers: Vec<String>,
+
     /// The address at which a peer listens.
     pub connect: Option<String>,
 
@@ -46,6 +52,9 @@ pub struct StationWords {
     /// The number of idle rounds in a row after which it ends.
     pub idle_rounds: Option<String>,
 
+    /// Whether the station ends when standard input does.
+    pub until_input_ends: bool,
+
     /// The records that are offered, as paths; at the control station each with its channel.
     pub offers: Vec<String>,
 
@@ -58,6 +67,9 @@ pub struct StationWords {
     /// Whether the report repeats the records that arrived.
     pub report_records: bool,
 
-    /// Whether a trace of the transmissions is printed.
-    pub trace: bool,
+    /// Whether standard output is synced before records are acknowledged.
+    pub sync: bool,
+
+    /// How often a trace of the transmissions is asked for.
+    pub trace: u8,
 }

@@ -1,5 +1,5 @@
 -- The errors of a station for those of its parts, and the errors of each part of its work.
-use Rattle.std.specs.Prelude.{Result, Ok, Err, if◌then◌else◌}
+use Rattle.std.specs.Prelude.{Result, Ok, Err, is_some, if◌then◌else◌}
 use Rattle.bsc_config.specs.declared.error.ConfigError.{ConfigError}
 use Rattle.bsc_config.specs.declared.error.ConfigError.TheVariants as config
 use Rattle.bsc_input.specs.declared.texts.TextError.{TextError}
@@ -10,6 +10,7 @@ use Rattle.bsc_print.specs.declared.error.PrintError.{PrintError}
 use Rattle.bsc_print.specs.declared.error.PrintError.TheVariants as print
 use Rattle.bsc_sockets.specs.declared.error.SocketsError.{SocketsError}
 use Rattle.bsc_sockets.specs.declared.error.SocketsError.TheVariants as sockets
+use Rattle.bsc_trust.specs.declared.trust.Trust.{Trust}
 use Rattle.bsc_monitor.specs.declared.standing.Standing.{Standing}
 use Rattle.bsc_attending.specs.declared.error.AttendingError.{AttendingError}
 use Rattle.bsc_attending.specs.declared.error.AttendingError.TheVariants as attending
@@ -64,11 +65,12 @@ IsEarly (attending.Config error) = Unit {0}
 IsEarly (attending.Offer path error) = Unit {0}
 IsEarly _ = ⊥
 
--- The errors that come from making connections on: those of connecting, attending and printing, and
--- those of records not delivered.
+-- The errors that come from making connections on: those of connecting, attending and printing,
+-- that of a line that is not trusted, and those of records not delivered.
 abbrev pub IsLate : AttendingError → Type 0
 IsLate (attending.Connections error) = Unit {0}
 IsLate (attending.Closed error) = Unit {0}
+IsLate attending.NotTrusted = Unit {0}
 IsLate attending.InDoubt = Unit {0}
 IsLate attending.Undelivered = Unit {0}
 IsLate attending.Output = Unit {0}
@@ -81,3 +83,9 @@ abbrev pub outcome_of : Standing → Result (Unit {0}) AttendingError
 outcome_of standing =
     if standing.doubt then Err attending.InDoubt
     else (if standing.waiting then Err attending.Undelivered else Ok tt)
+
+-- The result of a control station that ended in this state, with what it can tell of its line. A
+-- line that is not trusted comes before doubt.
+abbrev pub control_outcome_of : Trust → Standing → Result (Unit {0}) AttendingError
+control_outcome_of trust standing =
+    if is_some trust.distrust then Err attending.NotTrusted else outcome_of standing

@@ -1,16 +1,22 @@
 -- The connections that a station asks for.
-use Rattle.std.specs.Prelude.{ℕ, ◌*◌, ◌-◌, ◌^◌, min, Bool, true, false, if◌then◌else◌}
+use Rattle.std.specs.Prelude.{ℕ, ℤ, pos, ◌*◌, ◌-◌, ◌^◌, min, Bool, true, false, if◌then◌else◌}
+use Rattle.std.specs.Prelude.{Option, None, Some}
+use Rattle.bsc_monitor.specs.declared.tracing.Tracing.{Tracing}
+use Rattle.bsc_monitor.specs.declared.tracing.Tracing.TheVariants.{Off, Exchanges, All}
+use Rattle.bsc_peers.specs.declared.networks.Networks.{Networks}
 use Rattle.bsc_options.specs.Settings.{PlaceValue, SettingsValue, connects_to, listens_at}
 use Rattle.bsc_options.specs.Settings.{place_value}
 use Rattle.bsc_attending.specs.declared.wanted.Wanted.{Wanted}
 
--- The connections: their place and number, whether their octets are raw, whether other peers may
--- connect later, whether the station begins, its times in milliseconds, and whether what happens is
--- traced.
+-- The connections: their place and number, whether their octets are raw, from which networks peers
+-- may connect, whether the station ends with standard input, whether other peers may connect later,
+-- whether the station begins, its times in milliseconds, and whether what happens is traced.
 pub record WantedValue : Type 0 where
   pub place : PlaceValue
   pub connections : ℕ
   pub raw : Bool
+  pub allowed : Networks
+  pub stops : Bool
   pub stays : Bool
   pub begins : Bool
   pub time_out : ℕ
@@ -25,6 +31,8 @@ wanted_value w = record {
   place = place_value w.place;
   connections = w.connections;
   raw = w.raw;
+  allowed = w.allowed;
+  stops = w.stops;
   stays = w.stays;
   begins = w.begins;
   time_out = w.time_out;
@@ -34,6 +42,16 @@ wanted_value w = record {
   pause = w.pause;
   trace = w.trace;
 }
+
+-- Standard input, if the station is asked to end with it.
+abbrev pub input_if : Bool → Option ℤ
+input_if stops = if stops then Some (pos 0) else None
+
+-- Whether there is a trace.
+abbrev pub is_traced : Tracing → Bool
+is_traced Off = false
+is_traced Exchanges = true
+is_traced All = true
 
 -- Whether peers connect to the station.
 abbrev pub is_listening : PlaceValue → Bool
@@ -46,11 +64,13 @@ twice time = min (time * 2) (2 ^ 64 - 1)
 
 -- The control station begins, and asks for a connection for each terminal, or one for all. Its
 -- time-out is twice that of the terminals.
-abbrev pub control_wants : SettingsValue → ℕ → WantedValue
-control_wants s terminals = record {
+abbrev pub control_wants : SettingsValue → Networks → ℕ → WantedValue
+control_wants s allowed terminals = record {
   place = s.place;
   connections = if s.shared then 1 else terminals;
   raw = s.raw;
+  allowed = allowed;
+  stops = s.until_input_ends;
   stays = is_listening s.place;
   begins = true;
   time_out = twice s.times.time_out;
@@ -58,15 +78,17 @@ control_wants s terminals = record {
   patience = s.times.patience;
   replace_after = s.times.replace_after;
   pause = s.times.pause;
-  trace = s.printing.trace;
+  trace = is_traced s.printing.trace;
 }
 
 -- A terminal asks for one connection.
-abbrev pub terminal_wants : SettingsValue → WantedValue
-terminal_wants s = record {
+abbrev pub terminal_wants : SettingsValue → Networks → WantedValue
+terminal_wants s allowed = record {
   place = s.place;
   connections = 1;
   raw = s.raw;
+  allowed = allowed;
+  stops = s.until_input_ends;
   stays = false;
   begins = false;
   time_out = s.times.time_out;
@@ -74,5 +96,5 @@ terminal_wants s = record {
   patience = s.times.patience;
   replace_after = s.times.replace_after;
   pause = s.times.pause;
-  trace = s.printing.trace;
+  trace = is_traced s.printing.trace;
 }

@@ -11,6 +11,7 @@ use bsc_connections::{
 };
 use std::alloc::Global;
 use std::io::{Read, Write};
+use std::net::IpAddr;
 
 /// The connections of a station, in order, with the framing that its options select.
 #[derive(Drop)]
@@ -89,6 +90,12 @@ pub(crate) trait Attend {
         station: &mut S,
         monitor: &mut M,
     ) -> Result<(), LiveError>;
+
+    /// Returns the number of connections.
+    fn count(&self) -> usize;
+
+    /// Returns the address of the peer of the connection at this place, if it is known.
+    fn peer(&self, place: usize) -> Option<IpAddr>;
 }
 
 impl<R: Read + Drop, W: Write + Drop, Q: Waiter<R, W> + Drop> Attend for Connections<R, W, Q> {
@@ -104,6 +111,20 @@ impl<R: Read + Drop, W: Write + Drop, Q: Waiter<R, W> + Drop> Attend for Connect
             Framed::Raw { connections } => {
                 attend(station, connections, &mut self.waiter, monitor)
             }
+        }
+    }
+
+    fn count(&self) -> usize {
+        match &self.framed {
+            Framed::Records { connections } => connections.len(),
+            Framed::Raw { connections } => connections.len(),
+        }
+    }
+
+    fn peer(&self, place: usize) -> Option<IpAddr> {
+        match self.waiter.peer(place) {
+            Some(peer) => Some(peer.ip()),
+            None => None,
         }
     }
 }

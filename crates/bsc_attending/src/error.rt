@@ -39,6 +39,10 @@ pub enum AttendingError {
     #[error("connection closed: {error}")]
     Closed { error: CarrierError },
 
+    /// The control station ended, and could not trust the line.
+    #[error("the line is not trusted")]
+    NotTrusted,
+
     /// The station ended, and it is in doubt whether some records arrived.
     #[error("records in doubt")]
     InDoubt,

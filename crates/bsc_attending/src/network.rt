@@ -13,7 +13,8 @@ pub struct Opened<R: Drop, W: Drop, Q: Drop> {
     pub connections: Vec<(R, W)>,
 }
 
-/// Connections to other processes, a clock, and a writer for the trace.
+/// Connections to other processes, a clock, a writer for the trace, and the file that standard
+/// output may be.
 pub trait Network {
     /// The receiving side of a connection to another process.
     type Reader: Read + Drop;
@@ -41,4 +42,8 @@ pub trait Network {
 
     /// Returns the writer for the trace, which is standard error.
     fn trace(&mut self) -> Self::Trace;
+
+    /// From now on each flush of standard output also syncs it, if it is a regular file. The flush
+    /// fails if that does.
+    fn sync_output(&mut self);
 }

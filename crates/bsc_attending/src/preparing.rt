@@ -11,7 +11,7 @@ use bsc_config::{Config, read_config};
 use bsc_control::Control;
 use bsc_input::{Files, read_text};
 use bsc_monitor::{LineTerminal, new_control, new_terminal};
-use bsc_options::{OptionError, Role};
+use bsc_options::{GivenPeers, OptionError, Role};
 use std::alloc::Global;
 use std::io::Read;
 
@@ -30,6 +30,7 @@ pub(crate) fn prepare<R: Read, F: Files>(
     alloc: Global,
     words: &StationWords,
     role: Role,
+    peers: GivenPeers,
     input: &mut R,
     files: &mut F,
 ) -> Result<Prepared, AttendingError>
@@ -38,21 +39,27 @@ pub(crate) fn prepare<R: Read, F: Files>(
     let text = read_text(alloc, words.config.as_str(), input, files)?;
     let config = read_config(alloc, &text)?;
     match role {
-        Role::Control => control_station(alloc, words, &config, input, files),
+        Role::Control => control_station(alloc, words, &config, peers, input, files),
         Role::Terminal { number } => terminal(alloc, words, &config, number, input, files),
     }
 }
 
-/// Returns the control station with its records.
+/// Returns the control station with its records. Each terminal for which an address is given has to
+/// be one of the configuration.
 fn control_station<R: Read, F: Files>(
     alloc: Global,
     words: &StationWords,
     config: &Config,
+    peers: GivenPeers,
     input: &mut R,
     files: &mut F,
 ) -> Result<Prepared, AttendingError>
     ensures { IfErr result IsPreparingError }
 {
+    if peers.terminals > config.terminals() {
+        let error = OptionError::NoPeer;
+        return Err(AttendingError::Options { error });
+    }
     let mut control = new_control(alloc, config)?;
     offer_all_for_terminals(alloc, &words.offers, &mut control, input, files)?;
     Ok(Prepared::Control { control })

@@ -2,8 +2,9 @@
 
 ghost use Rattle.std.specs.Prelude.{◌≡◌, IfErr};
 ghost use Rattle.bsc_options.specs.Settings.{place_value};
-ghost use Rattle.bsc_attending.specs.Errors.{IsEarly, IsLate, outcome_of};
+ghost use Rattle.bsc_attending.specs.Errors.{IsEarly, IsLate, control_outcome_of, outcome_of};
 ghost use Rattle.bsc_attending.specs.Wanted.{is_listening};
+ghost use Rattle.bsc_trust.specs.Trust.{new_trust};
 
 use crate::connections::{Attend, connect};
 use crate::preparing::{Prepared, prepare};
@@ -16,14 +17,24 @@ use bsc_control::Control;
 use bsc_input::Files;
 use bsc_monitor::{
     ControlWatch, Ended, Limits, LineTerminal, Printing, Standing, TerminalWatch, Timer, Watch,
-    station_standing, write_report,
+    station_standing, write_report, write_trust,
 };
-use bsc_options::{StationSettings, read_settings};
+use bsc_options::{Admission, StationSettings, read_admission, read_settings};
 use bsc_print::Form;
+use bsc_trust::Trust;
 use std::alloc::Global;
 use std::io::{Read, Write};
 
-/// When the control station ends.
+/// The options of a station, as they were read.
+#[derive(Clone, Copy)]
+struct Options<'a> {
+    settings: StationSettings<'a>,
+
+    /// Its peers.
+    admission: Admission,
+}
+
+/// When the control station ends, and what it can tell of its line.
 #[derive(Clone, Copy)]
 struct Ending {
     /// Its limits.
@@ -31,6 +42,19 @@ struct Ending {
 
     /// Whether other peers may connect later.
     listens: bool,
+
+    /// What it can tell before there are connections.
+    trust: Trust,
+}
+
+/// What a station leaves when it ends.
+#[derive(Clone, Copy)]
+enum Left {
+    /// What the control station can tell of its line.
+    Control { trust: Trust },
+
+    /// The fault that closed the connection of a terminal, if any.
+    Terminal { closed: Option<CarrierError> },
 }
 
 /// What a station is watched with: the options for its output, the time, and what takes its records
@@ -45,9 +69,10 @@ struct Watching<'a, T: Drop, O, D> {
 
 /// Runs the station that the words ask for. The configuration and all records are read and checked
 /// before a connection is made. Records are printed when they arrive, and the report when the
-/// station ends. `InDoubt` and `Undelivered` are returned after the report is printed, and so is
-/// `Closed`, when a fault closed the connection of a terminal. `Unprinted` is returned when records
-/// that arrived could not be printed; they were not acknowledged, and the report is tried.
+/// station ends. `NotTrusted`, `InDoubt` and `Undelivered` are returned after the report is
+/// printed, and so is `Closed`, when a fault closed the connection of a terminal. `Unprinted` is
+/// returned when records that arrived could not be printed; they were not acknowledged, and the
+/// report is tried.
 pub fn station<R: Read, H: Files + Network, W: Write>(
     alloc: Global,
     words: &StationWords,
@@ -58,116 +83,137 @@ pub fn station<R: Read, H: Files + Network, W: Write>(
     ensures early { IfErr result (λ error. IsEarly error → out.new ≡ out.old) }
 {
     let settings = read_settings(words)?;
-    prepare_and_run(alloc, words, settings, input, machine, out)
+    let admission = read_admission(words)?;
+    let options = Options {
+        settings,
+        admission,
+    };
+    prepare_and_run(alloc, words, options, input, machine, out)
 }
 
-/// Runs the station of these settings.
+/// Runs the station of these options.
 fn prepare_and_run<R: Read, H: Files + Network, W: Write>(
     alloc: Global,
     words: &StationWords,
-    settings: StationSettings<'_>,
+    options: Options<'_>,
     input: &mut R,
     machine: &mut H,
     out: &mut W,
 ) -> Result<(), AttendingError>
     ensures early { IfErr result (λ error. IsEarly error → out.new ≡ out.old) }
 {
-    let mut prepared = prepare(alloc, words, settings.role, input, machine)?;
-    run(alloc, &settings, &mut prepared, machine, out)
+    let (role, peers) = (options.settings.role, options.admission.peers);
+    let mut prepared = prepare(alloc, words, role, peers, input, machine)?;
+    run(alloc, &options, &mut prepared, machine, out)
 }
 
 /// Attends a station over the connections that it makes, and then prints its report.
 fn run<H: Network, W: Write>(
     alloc: Global,
-    settings: &StationSettings<'_>,
+    options: &Options<'_>,
     prepared: &mut Prepared,
     machine: &mut H,
     out: &mut W,
 ) -> Result<(), AttendingError>
     ensures { IfErr result IsLate }
 {
-    match open(alloc, settings, prepared, machine, out) {
-        Ok(closed) => conclude(alloc, settings.reported, prepared, closed, out),
+    let reported = options.settings.reported;
+    match open(alloc, options, prepared, machine, out) {
+        Ok(left) => conclude(alloc, reported, prepared, left, out),
         Err(AttendingError::Unprinted) => {
             // The output has failed before; if it does not accept the report either, nothing is
             // lost by it.
-            let _ = report(alloc, settings.reported, prepared, out);
+            let _ = report(alloc, reported, prepared, out);
             Err(AttendingError::Unprinted)
         }
         Err(error) => Err(error),
     }
 }
 
-/// Makes the connections of a station, attends the station until it ends, and returns the fault
-/// that closed the connection of a terminal, if any.
+/// Makes the connections of a station, attends the station until it ends, and returns what it
+/// leaves.
 fn open<H: Network, W: Write>(
     alloc: Global,
-    settings: &StationSettings<'_>,
+    options: &Options<'_>,
     prepared: &mut Prepared,
     machine: &mut H,
     out: &mut W,
-) -> Result<Option<CarrierError>, AttendingError>
+) -> Result<Left, AttendingError>
     ensures { IfErr result IsLate }
 {
-    let wanted = wanted_by(settings, prepared);
+    let wanted = wanted_by(options, prepared);
     let mut connections = connect(alloc, &wanted, machine)?;
+    if options.settings.sync {
+        machine.sync_output();
+    }
     let (timer, mut trace) = (machine.timer(), machine.trace());
-    let ending = ending_of(settings);
     let watching = Watching {
-        printing: settings.printing,
+        printing: options.settings.printing,
         timer,
         out,
         trace: &mut trace,
     };
+    let ending = ending_of(options);
     attend(alloc, ending, prepared, &mut connections, watching)
 }
 
-/// Returns when the control station of these settings ends.
-fn ending_of(settings: &StationSettings<'_>) -> Ending
-    ensures limits { result.limits ≡ settings.now.limits }
-    ensures listens { result.listens ≡ is_listening (place_value settings.now.place) }
+/// Returns when the control station of these options ends, and what it can tell of its line before
+/// there are connections.
+fn ending_of(options: &Options<'_>) -> Ending
+    ensures limits { result.limits ≡ options.now.settings.limits }
+    ensures listens { result.listens ≡ is_listening (place_value options.now.settings.place) }
+    ensures trust { result.trust ≡ new_trust options.now.settings.shared
+        options.now.settings.times.time_out options.now.admission.peers.addresses }
 {
+    let settings = &options.settings;
+    let peers = options.admission.peers.addresses;
     Ending {
         limits: settings.limits,
         listens: listens(settings.place),
+        trust: Trust::new(settings.shared, settings.times.time_out, peers),
     }
 }
 
 /// Returns the connections that a station asks for.
-fn wanted_by<'a>(settings: &StationSettings<'a>, prepared: &Prepared) -> Wanted<'a> {
+fn wanted_by<'a>(options: &Options<'a>, prepared: &Prepared) -> Wanted<'a> {
+    let (settings, allowed) = (&options.settings, options.admission.allowed);
     match prepared {
-        Prepared::Control { control } => wanted_by_control(settings, control.terminals()),
-        Prepared::Terminal { .. } => wanted_by_terminal(settings),
+        Prepared::Control { control } => wanted_by_control(settings, allowed, control.terminals()),
+        Prepared::Terminal { .. } => wanted_by_terminal(settings, allowed),
     }
 }
 
-/// Attends a station over its connections until it ends, and returns the fault that closed the
-/// connection of a terminal, if any.
+/// Attends a station over its connections until it ends, and returns what it leaves.
 fn attend<C: Attend, T: Timer + Drop, O: Write, D: Write>(
     alloc: Global,
     ending: Ending,
     prepared: &mut Prepared,
     connections: &mut C,
     watching: Watching<'_, T, O, D>,
-) -> Result<Option<CarrierError>, AttendingError>
+) -> Result<Left, AttendingError>
     ensures { IfErr result IsLate }
 {
     match prepared {
         Prepared::Control { control } => {
-            attend_control(alloc, ending, control, connections, watching)
+            let trust = attend_control(alloc, ending, control, connections, watching)?;
+            Ok(Left::Control { trust })
         }
-        Prepared::Terminal { terminal } => attend_terminal(alloc, terminal, connections, watching),
+        Prepared::Terminal { terminal } => {
+            let closed = attend_terminal(alloc, terminal, connections, watching)?;
+            Ok(Left::Terminal { closed })
+        }
     }
 }
 
-/// Attends the control station until it ends. No fault of a connection ends it.
+/// Attends the control station until it ends, and returns what it can tell of its line. No fault of
+/// a connection ends it.
 fn attend_control<C: Attend, T: Timer + Drop, O: Write, D: Write>(
     alloc: Global,
     ending: Ending,
     control: &mut Control<Global>,
     connections: &mut C,
     watching: Watching<'_, T, O, D>,
-) -> Result<Option<CarrierError>, AttendingError>
+) -> Result<Trust, AttendingError>
     ensures { IfErr result IsLate }
 {
     let Watching {
@@ -177,23 +223,34 @@ fn attend_control<C: Attend, T: Timer + Drop, O: Write, D: Write>(
         trace,
     } = watching;
     let watch = Watch::new(alloc, control, printing, timer, out, trace)?;
-    let watch = ControlWatch::new(control, watch, ending.limits, ending.listens);
-    attend_until_answered(control, connections, watch)?;
-    Ok(None)
+    let trust = with_connections(ending.trust, connections);
+    let watch = ControlWatch::new(control, watch, ending.limits, ending.listens, trust);
+    Ok(attend_until_answered(control, connections, watch)?)
+}
+
+/// Records the peers of the connections with which the control station begins.
+fn with_connections<C: Attend>(trust: Trust, connections: &C) -> Trust {
+    let mut trust = trust;
+    for place in 0..connections.count() {
+        trust.joined(place, connections.peer(place));
+    }
+    trust
 }
 
 /// Attends the control station until it ends, and then its connections until its last call is
-/// answered.
+/// answered. Returns what the station can tell of its line.
 fn attend_until_answered<C: Attend, T: Timer + Drop, O: Write, D: Write>(
     control: &mut Control<Global>,
     connections: &mut C,
     mut watch: ControlWatch<'_, Global, T, O, D>,
-) -> Result<(), LiveError> {
+) -> Result<Trust, LiveError> {
     connections.attend(control, &mut watch)?;
     if watch.is_closed() {
-        return Ok(());
+        return Ok(watch.trust());
     }
-    connections.attend(&mut Ended, &mut watch.into_last())
+    let mut last = watch.into_last();
+    connections.attend(&mut Ended, &mut last)?;
+    Ok(last.trust())
 }
 
 /// Attends a terminal until its connection is closed, and returns the fault that closed it, if any.
@@ -218,20 +275,26 @@ fn attend_terminal<C: Attend, T: Timer + Drop, O: Write, D: Write>(
 }
 
 /// Prints the report of a station that has ended, and returns its result: a fault that closed its
-/// connection comes first.
+/// connection comes first, or that its line is not trusted.
 fn conclude<W: Write>(
     alloc: Global,
     reported: Option<Form>,
     prepared: &Prepared,
-    closed: Option<CarrierError>,
+    left: Left,
     out: &mut W,
 ) -> Result<(), AttendingError>
     ensures { IfErr result IsLate }
 {
     let standing = report(alloc, reported, prepared, out)?;
-    match closed {
-        Some(error) => Err(AttendingError::Closed { error }),
-        None => outcome(standing),
+    match left {
+        Left::Control { trust } => {
+            write_trust(&trust, out)?;
+            control_outcome(&trust, standing)
+        }
+        Left::Terminal {
+            closed: Some(error),
+        } => Err(AttendingError::Closed { error }),
+        Left::Terminal { closed: None } => outcome(standing),
     }
 }
 
@@ -253,6 +316,17 @@ fn report<W: Write>(
             write_report(alloc, reported, terminal, out)?;
             Ok(station_standing(terminal))
         }
+    }
+}
+
+/// Returns the result of a control station that ended in this state, with what it can tell of its
+/// line.
+fn control_outcome(trust: &Trust, standing: Standing) -> Result<(), AttendingError>
+    ensures { result ≡ control_outcome_of trust.now standing }
+{
+    match trust.distrust() {
+        Some(_) => Err(AttendingError::NotTrusted),
+        None => outcome(standing),
     }
 }
 

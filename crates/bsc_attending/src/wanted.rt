@@ -4,16 +4,22 @@ ghost use Rattle.std.specs.Prelude.{◌≡◌, ◌*◌, min};
 ghost use Rattle.std.specs.Duration.{as_nanos};
 ghost use Rattle.bsc_carrier.specs.declared.limits.TheConstants.{MAX_CONNECTIONS};
 ghost use Rattle.bsc_options.specs.Settings.{place_value, settings_value};
-ghost use Rattle.bsc_attending.specs.Wanted.{control_wants, is_listening, terminal_wants};
-ghost use Rattle.bsc_attending.specs.Wanted.{wanted_value};
+ghost use Rattle.bsc_attending.specs.Wanted.{control_wants, input_if, is_listening, is_traced};
+ghost use Rattle.bsc_attending.specs.Wanted.{terminal_wants, wanted_value};
 
 use bsc_carrier::limits::MAX_CONNECTIONS;
+use bsc_monitor::Tracing;
 use bsc_options::{Place, StationSettings};
+use bsc_peers::Networks;
 use bsc_sockets::{ConnectionSettings, Peers};
+use std::os::fd::RawFd;
 use std::time::Duration;
 
 /// The time that a station that listens waits for each peer, in milliseconds.
 const LISTENING_PATIENCE: u64 = 60_000;
+
+/// The descriptor of standard input.
+const STANDARD_INPUT: RawFd = 0;
 
 /// The connections that a station asks for.
 #[derive(Clone, Copy)]
@@ -26,6 +32,12 @@ pub struct Wanted<'a> {
 
     /// Whether transmissions are raw octets and end at gaps.
     pub raw: bool,
+
+    /// The networks from which peers may connect, if they connect to the station.
+    pub allowed: Networks,
+
+    /// Whether the station is asked to end when standard input ends.
+    pub stops: bool,
 
     /// Whether other peers may connect later in place of those that have gone.
     pub stays: bool,
@@ -61,6 +73,8 @@ impl Wanted<'_> {
         ensures replace_after { as_nanos result.replace_after ≡ self.now.replace_after * 1000000 }
         ensures pause { as_nanos result.pause ≡ self.now.pause * 1000000 }
         ensures begins { result.begins ≡ self.now.begins }
+        ensures allowed { result.allowed ≡ self.now.allowed }
+        ensures stops { result.stops_with ≡ input_if self.now.stops }
     {
         ConnectionSettings {
             time_out: Duration::from_millis(self.time_out),
@@ -68,6 +82,12 @@ impl Wanted<'_> {
             replace_after: Duration::from_millis(self.replace_after),
             pause: Duration::from_millis(self.pause),
             begins: self.begins,
+            allowed: self.allowed,
+            stops_with: if self.stops {
+                Some(STANDARD_INPUT)
+            } else {
+                None
+            },
         }
     }
 
@@ -88,13 +108,19 @@ impl Wanted<'_> {
 
 /// Returns the connections that the control station asks for: one for each terminal, or one for
 /// all. It waits for twice the time-out, so that a terminal that holds the line acts first.
-pub(crate) fn wanted_by_control<'a>(settings: &StationSettings<'a>, terminals: usize) -> Wanted<'a>
-    ensures { wanted_value result ≡ control_wants (settings_value settings.now) terminals }
+pub(crate) fn wanted_by_control<'a>(
+    settings: &StationSettings<'a>,
+    allowed: Networks,
+    terminals: usize,
+) -> Wanted<'a>
+    ensures { wanted_value result ≡ control_wants (settings_value settings.now) allowed terminals }
 {
     Wanted {
         place: settings.place,
         connections: if settings.shared { 1 } else { terminals },
         raw: settings.raw,
+        allowed,
+        stops: settings.until_input_ends,
         stays: listens(settings.place),
         begins: true,
         time_out: settings.times.time_out.saturating_mul(2),
@@ -102,18 +128,23 @@ pub(crate) fn wanted_by_control<'a>(settings: &StationSettings<'a>, terminals: u
         patience: settings.times.patience,
         replace_after: settings.times.replace_after,
         pause: settings.times.pause,
-        trace: settings.printing.trace,
+        trace: traces(settings.printing.trace),
     }
 }
 
 /// Returns the connection that a terminal asks for.
-pub(crate) fn wanted_by_terminal<'a>(settings: &StationSettings<'a>) -> Wanted<'a>
-    ensures { wanted_value result ≡ terminal_wants (settings_value settings.now) }
+pub(crate) fn wanted_by_terminal<'a>(
+    settings: &StationSettings<'a>,
+    allowed: Networks,
+) -> Wanted<'a>
+    ensures { wanted_value result ≡ terminal_wants (settings_value settings.now) allowed }
 {
     Wanted {
         place: settings.place,
         connections: 1,
         raw: settings.raw,
+        allowed,
+        stops: settings.until_input_ends,
         stays: false,
         begins: false,
         time_out: settings.times.time_out,
@@ -121,7 +152,17 @@ pub(crate) fn wanted_by_terminal<'a>(settings: &StationSettings<'a>) -> Wanted<'
         patience: settings.times.patience,
         replace_after: settings.times.replace_after,
         pause: settings.times.pause,
-        trace: settings.printing.trace,
+        trace: traces(settings.printing.trace),
+    }
+}
+
+/// Whether there is a trace.
+fn traces(tracing: Tracing) -> bool
+    ensures { result ≡ is_traced tracing }
+{
+    match tracing {
+        Tracing::Off => false,
+        Tracing::Exchanges | Tracing::All => true,
     }
 }
 

@@ -1,2 +1,3 @@
+pub mod EachText
 pub mod Numerals
 pub mod Uses

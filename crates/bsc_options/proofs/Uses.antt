@@ -1,26 +1,23 @@
 -- The uses of standard input, by the first texts that are offered.
-use Rattle.std.proofs.Common.{◌≡◌, ◌+◌, ◌≤◌, ◌<◌, ℕ, zero, suc, Bool, true, false, List, [], ◌∷◌}
-use Rattle.std.proofs.Common.{map, take, take_all, length, get_or, refl, ap, sym, ◌∙◌, arith}
+use Rattle.std.proofs.Common.{◌≡◌, ◌+◌, ◌≤◌, ◌<◌, ℕ, Bool, true, false, List, [], ◌∷◌}
+use Rattle.std.proofs.Common.{map, take, length, get_or, refl, ap, sym, ◌∙◌, arith}
 use Rattle.std.proofs.Common.{string_bytes}
-use Rattle.std.specs.Prelude.{String, count_by, if◌then◌else◌}
+use Rattle.std.specs.Prelude.{String, count_by}
 use Rattle.std.proofs.lemmas.List.Sums.{count_by_more_no, count_by_more_yes, sum_by-cons}
 use Rattle.std.proofs.lemmas.List.Sums.{sum_by-take-le}
 use Rattle.bsc_asked.specs.StationWords.{asked_words}
 use Rattle.bsc_asked.specs.declared.station_words.StationWords.{StationWords}
 use Rattle.bsc_options.specs.declared.settings.Role.{Role}
-use Rattle.bsc_options.specs.Inputs.{is_input, path_in, uses_of_input}
+use Rattle.bsc_options.specs.Inputs.{is_input, one_if, path_in, uses_of_input}
 
 -- whether a text that is offered names standard input
 abbrev pub names_input : {Z : Type 0} → Role → String Z → Bool
 names_input role offer = is_input (path_in role (string_bytes offer))
 
--- one for true
-abbrev pub one_if : Bool → ℕ
-one_if b = if b then 1 else 0
-
--- the use as the configuration
+-- the uses as the configuration and for the end of the station
 abbrev pub uses_before : StationWords → ℕ
-uses_before words = one_if (is_input (string_bytes words.config))
+uses_before words =
+    one_if (is_input (string_bytes words.config)) + one_if words.until_input_ends
 
 count_cons : {X : Type 0} (p : X → Bool) (x : X) (xs : List X)
     → count_by p (x ∷ xs) ≡ one_if (p x) + count_by p xs

@@ -7,11 +7,16 @@ use Rattle.bsc_options.specs.declared.error.OptionError.TheVariants.{NeedsContro
 use Rattle.bsc_options.specs.declared.error.OptionError.TheVariants.{PatienceNeedsConnect}
 use Rattle.bsc_options.specs.declared.error.OptionError.TheVariants.{ReplaceAfterNeedsListen}
 use Rattle.bsc_options.specs.declared.error.OptionError.TheVariants.{ReplaceAfter, Pause}
+use Rattle.bsc_options.specs.declared.error.OptionError.TheVariants.{PauseNotBelowTimeOut}
+use Rattle.bsc_options.specs.declared.error.OptionError.TheVariants.{AllowNeedsListen}
+use Rattle.bsc_options.specs.declared.error.OptionError.TheVariants.{PeerNeedsListen}
 use Rattle.bsc_options.specs.declared.error.OptionError.TheVariants.{GapNeedsRaw, TextAndBytes}
 use Rattle.bsc_options.specs.declared.error.OptionError.TheVariants.{RepeatedInput, Gap, TimeOut}
 use Rattle.bsc_options.specs.declared.error.OptionError.TheVariants.{GapNotBelowTimeOut, Patience}
 use Rattle.bsc_options.specs.declared.error.OptionError.TheVariants.{Rounds, IdleRounds, NoTerminal}
-use Rattle.bsc_options.specs.declared.error.OptionError.TheVariants.{OfferForm, NoChannel}
+use Rattle.bsc_options.specs.declared.error.OptionError.TheVariants.{OfferForm, NoChannel, NoPeer}
+use Rattle.bsc_options.specs.declared.error.OptionError.TheVariants.{AllowForm, TooManyNetworks}
+use Rattle.bsc_options.specs.declared.error.OptionError.TheVariants.{PeerForm, RepeatedPeer}
 
 -- Each reason names the options at fault.
 abbrev pub reason : OptionError → List ℕ
@@ -22,18 +27,27 @@ reason ConnectNeedsShared = codes "--control with --connect needs --shared"
 reason NeedsControl = codes "--shared, --pause, --rounds and --idle-rounds need --control"
 reason PatienceNeedsConnect = codes "--patience needs --connect"
 reason ReplaceAfterNeedsListen = codes "--replace-after needs --control and --listen"
+reason AllowNeedsListen = codes "--allow needs --listen"
+reason PeerNeedsListen = codes "--peer needs --control and --listen, and not --shared"
 reason GapNeedsRaw = codes "--gap needs --raw"
 reason TextAndBytes = codes "--text and --bytes cannot both be given"
-reason RepeatedInput = codes "CONFIG and --offer cannot name standard input more than once"
+reason RepeatedInput =
+    codes "CONFIG, --offer and --until-input-ends cannot use standard input more than once"
 reason Gap = codes "--gap takes milliseconds, 1 to 3600000"
 reason TimeOut = codes "--time-out takes milliseconds, 1 to 3600000"
 reason GapNotBelowTimeOut = codes "with --raw the gap must be less than the time-out"
 reason Patience = codes "--patience takes milliseconds, 1 to 3600000"
 reason ReplaceAfter = codes "--replace-after takes milliseconds, 1 to 3600000"
 reason Pause = codes "--pause takes milliseconds, 0 to 3600000"
+reason PauseNotBelowTimeOut = codes "--pause must be less than the time-out"
 reason Rounds = codes "--rounds takes a number from 1 up"
 reason IdleRounds = codes "--idle-rounds takes a number from 1 up"
+reason AllowForm = codes "--allow takes ADDRESS/BITS"
+reason TooManyNetworks = codes "--allow cannot be given more than 16 times"
+reason PeerForm = codes "--peer takes T=ADDRESS"
+reason RepeatedPeer = codes "--peer cannot name a terminal more than once"
 reason NoTerminal = codes "--terminal names a terminal that is not in CONFIG"
+reason NoPeer = codes "--peer names a terminal that is not in CONFIG"
 reason OfferForm = codes "--offer takes T.S=PATH at the control station"
 reason NoChannel = codes "--offer names a channel that is not in CONFIG"
 
@@ -46,6 +60,8 @@ is_conflict ConnectNeedsShared = true
 is_conflict NeedsControl = true
 is_conflict PatienceNeedsConnect = true
 is_conflict ReplaceAfterNeedsListen = true
+is_conflict AllowNeedsListen = true
+is_conflict PeerNeedsListen = true
 is_conflict GapNeedsRaw = true
 is_conflict TextAndBytes = true
 is_conflict RepeatedInput = true
@@ -55,8 +71,14 @@ is_conflict GapNotBelowTimeOut = true
 is_conflict Patience = false
 is_conflict ReplaceAfter = false
 is_conflict Pause = false
+is_conflict PauseNotBelowTimeOut = true
 is_conflict Rounds = false
 is_conflict IdleRounds = false
+is_conflict AllowForm = false
+is_conflict TooManyNetworks = false
+is_conflict PeerForm = false
+is_conflict RepeatedPeer = true
 is_conflict NoTerminal = false
+is_conflict NoPeer = false
 is_conflict OfferForm = false
 is_conflict NoChannel = false

@@ -1,5 +1,6 @@
 -- How often the options of a station name standard input.
-use Rattle.std.specs.Prelude.{ℕ, nat_lt, Bool, List, ◌∷◌, map, count_by, bytes_eq, codes, unwrap_or}
+use Rattle.std.specs.Prelude.{ℕ, ◌+◌, nat_lt, Bool, List, ◌∷◌, map, count_by, bytes_eq, codes}
+use Rattle.std.specs.Prelude.{unwrap_or, if◌then◌else◌}
 use Rattle.bsc_asked.specs.StationWords.{AskedWords}
 use Rattle.bsc_input.specs.Parts.{after_octet}
 use Rattle.bsc_options.specs.declared.settings.Role.{Role}
@@ -14,10 +15,15 @@ abbrev pub path_in : Role → List ℕ → List ℕ
 path_in Control text = unwrap_or (after_octet 61 text) text
 path_in (Terminal number) text = text
 
--- The number of times that standard input is used: as the configuration, and as each text that is
--- offered.
+-- One for true.
+abbrev pub one_if : Bool → ℕ
+one_if b = if b then 1 else 0
+
+-- The number of times that standard input is used: as the configuration, as each text that is
+-- offered, and if the station ends with it.
 abbrev pub uses_of_input : AskedWords → Role → ℕ
-uses_of_input w role = count_by is_input (w.config ∷ map (path_in role) w.offers)
+uses_of_input w role =
+    count_by is_input (w.config ∷ map (path_in role) w.offers) + one_if w.until_input_ends
 
 -- Whether standard input is used more than once.
 abbrev pub repeats_input : AskedWords → Role → Bool

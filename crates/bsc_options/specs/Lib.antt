@@ -3,4 +3,5 @@ pub mod Readings
 pub mod Numbers
 pub mod Inputs
 pub mod Offers
+pub mod Admission
 pub mod Settings

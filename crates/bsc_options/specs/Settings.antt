@@ -1,12 +1,15 @@
 -- The settings in the options of a station.
-use Rattle.std.specs.Prelude.{ℕ, ◌-◌, ◌*◌, ◌^◌, min, nat_le, ◌&&◌, ◌||◌, not, Bool, true, false}
-use Rattle.std.specs.Prelude.{List, Option, Some, None, is_some, ok_or, Result, Ok, Err}
+use Rattle.std.specs.Prelude.{ℕ, ◌-◌, ◌*◌, ◌^◌, ◌==◌, min, nat_le, ◌&&◌, ◌||◌, not, Bool, true}
+use Rattle.std.specs.Prelude.{false}
+use Rattle.std.specs.Prelude.{List, [], ◌∷◌, Option, Some, None, is_some, ok_or, Result, Ok, Err}
 use Rattle.std.specs.Prelude.{if◌then◌else◌}
 use Rattle.bsc_asked.specs.StationWords.{AskedWords}
 use Rattle.bsc_print.specs.declared.form.Form.{Form}
 use Rattle.bsc_print.specs.declared.form.Form.TheVariants.{Hexadecimal, Text, Bytes}
 use Rattle.bsc_monitor.specs.declared.rounds.Limits.{Limits}
 use Rattle.bsc_monitor.specs.declared.watch.Printing.{Printing}
+use Rattle.bsc_monitor.specs.declared.tracing.Tracing.{Tracing}
+use Rattle.bsc_monitor.specs.declared.tracing.Tracing.TheVariants.{Off, Exchanges, All}
 use Rattle.bsc_options.specs.declared.error.OptionError.{OptionError}
 use Rattle.bsc_options.specs.declared.error.OptionError.TheVariants as error
 use Rattle.bsc_options.specs.declared.settings.Role.{Role}
@@ -59,6 +62,11 @@ fits_role w (Terminal number) =
     unless (w.shared || (is_some w.pause || (is_some w.rounds || is_some w.idle_rounds)))
     error.NeedsControl
 
+-- Whether a list has any element.
+abbrev pub is_any : {X : Type 0} → List X → Bool
+is_any [] = false
+is_any (x ∷ xs) = true
+
 -- The options fit the station and one another.
 abbrev pub fits_together : AskedWords → Role → Result (Unit {0}) OptionError
 fits_together w role = do
@@ -66,6 +74,9 @@ fits_together w role = do
   patience ← unless (is_some w.patience && not (is_some w.connect)) error.PatienceNeedsConnect
   replace ← unless (is_some w.replace_after && not (w.control && is_some w.listen))
       error.ReplaceAfterNeedsListen
+  allow ← unless (is_any w.allowed && not (is_some w.listen)) error.AllowNeedsListen
+  peer ← unless (is_any w.peers && (not (w.control && is_some w.listen) || w.shared))
+      error.PeerNeedsListen
   gap ← unless (is_some w.gap && not w.raw) error.GapNeedsRaw
   form ← unless (w.text && w.bytes) error.TextAndBytes
   unless (repeats_input w role) error.RepeatedInput
@@ -86,7 +97,8 @@ three_times time = min (time * 3) (2 ^ 64 - 1)
 -- The times of a station in milliseconds. The gap is 50 and the time-out 3000 unless given, and the
 -- patience is the time-out, and a connection is replaced after three time-outs. The pause is 20.
 -- With raw octets the gap is less than the time-out: otherwise no transmission would end before a
--- silence.
+-- silence. A pause that is given is less than it too: otherwise a terminal that answers during the
+-- pause would act on its time-out before it is heard.
 abbrev pub times_in : AskedWords → Result Times OptionError
 times_in w = do
   gap ← number_in error.Gap 1 hour 50 w.gap
@@ -95,6 +107,7 @@ times_in w = do
   patience ← number_in error.Patience 1 hour time_out w.patience
   replace_after ← number_in error.ReplaceAfter 1 hour (three_times time_out) w.replace_after
   pause ← number_in error.Pause 0 hour 20 w.pause
+  short ← unless (is_some w.pause && nat_le time_out pause) error.PauseNotBelowTimeOut
   Ok (record {
     gap = gap;
     time_out = time_out;
@@ -121,9 +134,14 @@ limits_in w = do
 abbrev pub form_in : Bool → Bool → Form
 form_in text bytes = if text then Text else (if bytes then Bytes else Hexadecimal)
 
+-- How much is traced, for the number of times that a trace is asked for: twice for all.
+abbrev pub tracing_in : ℕ → Tracing
+tracing_in times =
+    if times == 0 then Off else (if times == 1 then Exchanges else All)
+
 -- The output of a station.
 abbrev pub printing_in : AskedWords → Printing
-printing_in w = record { form = form_in w.text w.bytes; trace = w.trace }
+printing_in w = record { form = form_in w.text w.bytes; trace = tracing_in w.trace }
 
 -- The settings of a station.
 pub record SettingsValue : Type 0 where
@@ -133,6 +151,8 @@ pub record SettingsValue : Type 0 where
   pub raw : Bool
   pub times : Times
   pub limits : Limits
+  pub until_input_ends : Bool
+  pub sync : Bool
   pub printing : Printing
   pub reported : Option Form
 
@@ -144,6 +164,8 @@ settings_value s = record {
   raw = s.raw;
   times = s.times;
   limits = s.limits;
+  until_input_ends = s.until_input_ends;
+  sync = s.sync;
   printing = s.printing;
   reported = s.reported;
 }
@@ -167,6 +189,8 @@ settings_in w = do
     raw = w.raw;
     times = times;
     limits = limits;
+    until_input_ends = w.until_input_ends;
+    sync = w.sync;
     printing = printing_in w;
     reported = reported_in w;
   })

@@ -1,8 +1,9 @@
 //! The rules by which options fit the station and one another.
 
-ghost use Rattle.std.specs.Prelude.{◌≡◌, is_some, option_map, string_bytes};
+ghost use Rattle.std.specs.Prelude.{◌≡◌, is_some, map, option_map, string_bytes};
 ghost use Rattle.bsc_asked.specs.StationWords.{asked_words};
-ghost use Rattle.bsc_options.specs.Settings.{fits_role, fits_together, unless as error_unless};
+ghost use Rattle.bsc_options.specs.Settings.{fits_role, fits_together, is_any};
+ghost use Rattle.bsc_options.specs.Settings.{unless as error_unless};
 
 use crate::inputs::repeats_input;
 use crate::{OptionError, Role};
@@ -20,6 +21,16 @@ fn is_given(option: &Option<String>) -> bool
     ensures { result ≡ is_some (option_map string_bytes option.now) }
 {
     match option {
+        Some(_) => true,
+        None => false,
+    }
+}
+
+/// Whether an option is given that may be given any number of times.
+fn has_any(texts: &Vec<String>) -> bool
+    ensures { result ≡ is_any (map string_bytes texts.now.items) }
+{
+    match texts.first() {
         Some(_) => true,
         None => false,
     }
@@ -49,9 +60,16 @@ pub(crate) fn check_together(words: &StationWords, role: Role) -> Result<(), Opt
     check_role(words, role)?;
     let is_broken = is_given(&words.patience) && !is_given(&words.connect);
     unless(is_broken, OptionError::PatienceNeedsConnect)?;
-    let is_listening = words.control && is_given(&words.listen);
+    let listens = is_given(&words.listen);
+    let is_listening = words.control && listens;
     let is_broken = is_given(&words.replace_after) && !is_listening;
     unless(is_broken, OptionError::ReplaceAfterNeedsListen)?;
+    unless(
+        has_any(&words.allowed) && !listens,
+        OptionError::AllowNeedsListen,
+    )?;
+    let is_broken = has_any(&words.peers) && (!is_listening || words.shared);
+    unless(is_broken, OptionError::PeerNeedsListen)?;
     unless(is_given(&words.gap) && !words.raw, OptionError::GapNeedsRaw)?;
     unless(words.text && words.bytes, OptionError::TextAndBytes)?;
     unless(repeats_input(words, role), OptionError::RepeatedInput)

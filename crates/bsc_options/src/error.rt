@@ -6,7 +6,7 @@ ghost use Rattle.bsc_options.specs.Errors.{is_conflict, reason};
 use std::fmt;
 
 /// The reason for refusing the options of a station: the first of these, in this order, that
-/// applies. The last three are found after the configuration is read, those of offers offer by
+/// applies. The last four are found after the configuration is read, those of offers offer by
 /// offer.
 #[derive(Clone, Copy, Debug, PartialEq, Eq)]
 pub enum OptionError {
@@ -31,13 +31,19 @@ pub enum OptionError {
     /// `--replace-after` is given without both `--control` and `--listen`.
     ReplaceAfterNeedsListen,
 
+    /// `--allow` is given without `--listen`.
+    AllowNeedsListen,
+
+    /// `--peer` is given without both `--control` and `--listen`, or with `--shared`.
+    PeerNeedsListen,
+
     /// `--gap` is given without `--raw`.
     GapNeedsRaw,
 
     /// `--text` and `--bytes` are both given.
     TextAndBytes,
 
-    /// Standard input is named more than once, by CONFIG and `--offer`.
+    /// Standard input is used more than once, by CONFIG, `--offer` and `--until-input-ends`.
     RepeatedInput,
 
     /// The value of `--gap` is not a number of milliseconds up to an hour.
@@ -58,14 +64,32 @@ pub enum OptionError {
     /// The value of `--pause` is not a number of milliseconds from 0 up to an hour.
     Pause,
 
+    /// The pause that `--pause` gives is not less than the time-out.
+    PauseNotBelowTimeOut,
+
     /// The value of `--rounds` is not a number from 1 up.
     Rounds,
 
     /// The value of `--idle-rounds` is not a number from 1 up.
     IdleRounds,
 
+    /// The value of an `--allow` is not an IP address, with or without a number of leading bits.
+    AllowForm,
+
+    /// `--allow` is given more than 16 times.
+    TooManyNetworks,
+
+    /// The value of a `--peer` is not `T=ADDRESS`.
+    PeerForm,
+
+    /// More than one `--peer` names the same terminal.
+    RepeatedPeer,
+
     /// `--terminal` names a terminal that is not in the configuration.
     NoTerminal,
+
+    /// A `--peer` names a terminal that is not in the configuration.
+    NoPeer,
 
     /// The value of an `--offer` of the control station is not `T.S=PATH`.
     OfferForm,
@@ -89,10 +113,14 @@ impl OptionError {
             }
             OptionError::PatienceNeedsConnect => "--patience needs --connect",
             OptionError::ReplaceAfterNeedsListen => "--replace-after needs --control and --listen",
+            OptionError::AllowNeedsListen => "--allow needs --listen",
+            OptionError::PeerNeedsListen => {
+                "--peer needs --control and --listen, and not --shared"
+            }
             OptionError::GapNeedsRaw => "--gap needs --raw",
             OptionError::TextAndBytes => "--text and --bytes cannot both be given",
             OptionError::RepeatedInput => {
-                "CONFIG and --offer cannot name standard input more than once"
+                "CONFIG, --offer and --until-input-ends cannot use standard input more than once"
             }
             OptionError::Gap => "--gap takes milliseconds, 1 to 3600000",
             OptionError::TimeOut => "--time-out takes milliseconds, 1 to 3600000",
@@ -100,9 +128,15 @@ impl OptionError {
             OptionError::Patience => "--patience takes milliseconds, 1 to 3600000",
             OptionError::ReplaceAfter => "--replace-after takes milliseconds, 1 to 3600000",
             OptionError::Pause => "--pause takes milliseconds, 0 to 3600000",
+            OptionError::PauseNotBelowTimeOut => "--pause must be less than the time-out",
             OptionError::Rounds => "--rounds takes a number from 1 up",
             OptionError::IdleRounds => "--idle-rounds takes a number from 1 up",
+            OptionError::AllowForm => "--allow takes ADDRESS/BITS",
+            OptionError::TooManyNetworks => "--allow cannot be given more than 16 times",
+            OptionError::PeerForm => "--peer takes T=ADDRESS",
+            OptionError::RepeatedPeer => "--peer cannot name a terminal more than once",
             OptionError::NoTerminal => "--terminal names a terminal that is not in CONFIG",
+            OptionError::NoPeer => "--peer names a terminal that is not in CONFIG",
             OptionError::OfferForm => "--offer takes T.S=PATH at the control station",
             OptionError::NoChannel => "--offer names a channel that is not in CONFIG",
         }
@@ -120,12 +154,20 @@ impl OptionError {
             | OptionError::NeedsControl
             | OptionError::PatienceNeedsConnect
             | OptionError::ReplaceAfterNeedsListen
+            | OptionError::AllowNeedsListen
+            | OptionError::PeerNeedsListen
             | OptionError::GapNeedsRaw
             | OptionError::TextAndBytes
             | OptionError::RepeatedInput
-            | OptionError::GapNotBelowTimeOut => true,
+            | OptionError::GapNotBelowTimeOut
+            | OptionError::PauseNotBelowTimeOut
+            | OptionError::RepeatedPeer => true,
             OptionError::TerminalNumber
+            | OptionError::AllowForm
+            | OptionError::TooManyNetworks
+            | OptionError::PeerForm
             | OptionError::NoTerminal
+            | OptionError::NoPeer
             | OptionError::OfferForm
             | OptionError::NoChannel
             | OptionError::Gap

@@ -33,7 +33,11 @@ fn path_of(text: &str, role: Role) -> &str
 pub(crate) fn repeats_input(words: &StationWords, role: Role) -> bool
     ensures { result ≡ is_repeated (asked_words words.now) role }
 {
-    let mut is_used = is_standard_input(words.config.as_str());
+    let is_config = is_standard_input(words.config.as_str());
+    if is_config && words.until_input_ends {
+        return true;
+    }
+    let mut is_used = is_config || words.until_input_ends;
     'offers: for offer in &words.offers {
         if is_standard_input(path_of(offer.as_str(), role)) {
             if is_used {

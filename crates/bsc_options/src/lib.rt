@@ -4,6 +4,7 @@
 //! The standard, GA27-3004, defines no options; all of this is this project's own.
 #![tactic(auto)]
 
+mod admission;
 mod checks;
 mod error;
 mod inputs;
@@ -12,6 +13,7 @@ mod offers;
 mod settings;
 mod splitting;
 
+pub use admission::{Admission, GivenPeers, read_admission};
 pub use error::OptionError;
 pub use offers::{Offer, offer_of};
 pub use settings::{Place, Role, StationSettings, Times, read_settings};

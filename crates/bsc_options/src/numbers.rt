@@ -1,6 +1,6 @@
 //! Numbers in decimal digits.
 
-ghost use Rattle.std.specs.Prelude.{◌≡◌};
+ghost use Rattle.std.specs.Prelude.{◌≡◌, ◌<◌, IfSome};
 ghost use Rattle.bsc_options.specs.Numbers.{number_within as number_in_text};
 
 /// Returns the number that a text spells, if it is from `least` to `most`: decimal digits, with or
@@ -16,7 +16,8 @@ pub(crate) fn number_within(text: &str, least: u64, most: u64) -> Option<u64>
 
 /// Returns the number from 0 to 255 that a text spells.
 pub(crate) fn octet_in(text: &str) -> Option<usize>
-    ensures { result ≡ number_in_text 0 255 text.now }
+    ensures number { result ≡ number_in_text 0 255 text.now }
+    ensures small { IfSome result (λ n. n < 256) }
 {
     match text.parse::<u8>() {
         Ok(number) => Some(usize::from(number)),

@@ -5,13 +5,13 @@ ghost use Rattle.bsc_asked.specs.StationWords.{asked_words};
 ghost use Rattle.bsc_options.specs.Readings.{Gives};
 ghost use Rattle.bsc_options.specs.Settings.{form_in, limits_in, number_in, place_in, place_value};
 ghost use Rattle.bsc_options.specs.Settings.{printing_in, reported_in, role_in, rounds_in};
-ghost use Rattle.bsc_options.specs.Settings.{settings_in, settings_value, times_in};
+ghost use Rattle.bsc_options.specs.Settings.{settings_in, settings_value, times_in, tracing_in};
 
 use crate::OptionError;
 use crate::checks::{check_together, unless};
 use crate::numbers::{number_within, octet_in};
 use bsc_asked::StationWords;
-use bsc_monitor::{Limits, Printing};
+use bsc_monitor::{Limits, Printing, Tracing};
 use bsc_print::Form;
 
 /// The gap in milliseconds, unless given.
@@ -89,6 +89,12 @@ pub struct StationSettings<'a> {
     /// The limits at which a control station ends.
     pub limits: Limits,
 
+    /// Whether it ends when standard input does.
+    pub until_input_ends: bool,
+
+    /// Whether standard output is synced before records are acknowledged.
+    pub sync: bool,
+
     /// Its output while it runs.
     pub printing: Printing,
 
@@ -151,7 +157,8 @@ fn number(
     }
 }
 
-/// Returns the times. With raw octets the gap has to be less than the time-out.
+/// Returns the times. With raw octets the gap has to be less than the time-out, and so has a pause
+/// that is given.
 fn read_times(words: &StationWords) -> Result<Times, OptionError>
     ensures { result ≡ times_in (asked_words words.now) }
 {
@@ -171,6 +178,10 @@ fn read_times(words: &StationWords) -> Result<Times, OptionError>
         OptionError::ReplaceAfter,
     )?;
     let pause = number(&words.pause, 0, HOUR, PAUSE, OptionError::Pause)?;
+    unless(
+        words.pause.is_some() && time_out <= pause,
+        OptionError::PauseNotBelowTimeOut,
+    )?;
     Ok(Times {
         gap,
         time_out,
@@ -219,13 +230,24 @@ fn form_of(words: &StationWords) -> Form
     }
 }
 
+/// Returns how much is traced, for the number of times that a trace is asked for.
+fn tracing_of(times: u8) -> Tracing
+    ensures { result ≡ tracing_in times }
+{
+    match times {
+        0 => Tracing::Off,
+        1 => Tracing::Exchanges,
+        _ => Tracing::All,
+    }
+}
+
 /// Returns the output of the station.
 fn printing_of(words: &StationWords) -> Printing
     ensures { result ≡ printing_in (asked_words words.now) }
 {
     Printing {
         form: form_of(words),
-        trace: words.trace,
+        trace: tracing_of(words.trace),
     }
 }
 
@@ -258,6 +280,8 @@ pub fn read_settings(words: &StationWords) -> Result<StationSettings<'_>, Option
         raw: words.raw,
         times,
         limits,
+        until_input_ends: words.until_input_ends,
+        sync: words.sync,
         printing: printing_of(words),
         reported: reported_of(words),
     })
