@@ -1,6 +1,6 @@
 -- Work that succeeded, or that failed, stays so while the writer keeps its contents.
 use Rattle.std.proofs.Common.{ℕ, List, ◌++◌, Bool, true, false, Option, None, Some, Result, Ok, Err}
-use Rattle.std.proofs.Common.{IsSomeAnd, inl, inr}
+use Rattle.std.proofs.Common.{IsSomeAnd, inl, inr, take}
 use Rattle.std.specs.Prelude.{IfSome}
 use Rattle.std.specs.Io.KnownBytes.{Keeps}
 use Rattle.std.proofs.KnownBytes.{Appends-kept, Keeps-trans}
@@ -8,10 +8,14 @@ use Rattle.clap.specs.Words.{Text}
 use Rattle.bsc_asked.specs.Asked.{AskedValue, names, name, show, run, station}
 use Rattle.bsc_frame.specs.declared.message.Heard.{Heard}
 use Rattle.bsc_input.specs.Hexadecimal.{octets_of}
-use Rattle.bsc_print.specs.Names.{Prints, name_line, unit_lines}
-use Rattle.bsc_input.specs.declared.texts.TextError.TheVariants as text
+use Rattle.bsc_input.specs.Lines.{lines_of}
+use Rattle.bsc_print.specs.Names.{Prints, name_line}
+use Rattle.bsc_print.specs.declared.printed.Detail.{Detail}
+use Rattle.bsc_print.specs.declared.printed.Detail.TheVariants.{Name, Units}
 use Rattle.bsc_run.specs.Printed.{report_of}
-use Rattle.bsc_naming.specs.Lines.{PrintsInput, StopsAt}
+use Rattle.bsc_naming.specs.Inputs.{HasStopped, PrintsInput, StopsAt, is_misspelt, is_too_long}
+use Rattle.bsc_naming.specs.Lines.{PrintsLines}
+use Rattle.bsc_naming.specs.declared.error.NamingError.{NamingError}
 use Rattle.bsc_naming.specs.declared.error.NamingError.TheVariants as naming
 use Rattle.bsc_run.specs.Crossing.{streams_of}
 use Rattle.bsc_run.specs.declared.error.RunError.{RunError}
@@ -33,15 +37,19 @@ prints_kept named octets a b c p k = record {
   appended = Appends-kept a b c (named p.heard) p.appended k;
 }
 
-input_kept : (named : Heard → List ℕ) (input : List ℕ) (a b c : Option (List ℕ))
-    → PrintsInput named input a b → Keeps b c → PrintsInput named input a c
-input_kept named input a b c p k = record {
+lines_printed_kept : (detail : Detail) (lines : List (List ℕ)) (a b c : Option (List ℕ))
+    → PrintsLines detail lines a b → Keeps b c → PrintsLines detail lines a c
+lines_printed_kept detail lines a b c p k = record {
+  text = p.text;
+  shown = p.shown;
+  appended = Appends-kept a b c p.text p.appended k;
+}
+
+input_kept : (detail : Detail) (input : List ℕ) (a b c : Option (List ℕ))
+    → PrintsInput detail input a b → Keeps b c → PrintsInput detail input a c
+input_kept detail input a b c p k = record {
   right = p.right;
-  printed = record {
-    text = p.printed.text;
-    shown = p.printed.shown;
-    appended = Appends-kept a b c p.printed.text p.printed.appended k;
-  };
+  printed = lines_printed_kept detail (lines_of input) a b c p.printed k;
 }
 
 name_kept : (read : Option (List ℕ)) (a b c : Option (List ℕ))
@@ -50,38 +58,41 @@ name_kept : (read : Option (List ℕ)) (a b c : Option (List ℕ))
 name_kept None a b c p k = absurd p
 name_kept (Some octets) a b c p k = prints_kept name_line octets a b c p k
 
-stop_kept : (text_of : Heard → List ℕ) (n : ℕ) (given a b c : Option (List ℕ))
-    → IfSome given (λ octets. StopsAt text_of n octets a b) → Keeps b c
-    → IfSome given (λ octets. StopsAt text_of n octets a c)
-stop_kept text_of n None a b c p k = p
-stop_kept text_of n (Some octets) a b c p k = record {
+stop_kept : (is_fault : List ℕ → Bool) (detail : Detail) (n : ℕ) (octets : List ℕ)
+    (a b c : Option (List ℕ)) → StopsAt is_fault detail n octets a b → Keeps b c
+    → StopsAt is_fault detail n octets a c
+stop_kept is_fault detail n octets a b c p k = record {
   place = p.place;
   counted = p.counted;
   first = p.first;
-  before = record {
-    text = p.before.text;
-    shown = p.before.shown;
-    appended = Appends-kept a b c p.before.text p.before.appended k;
-  };
+  reason = p.reason;
+  before = lines_printed_kept detail (take p.place (lines_of octets)) a b c p.before k;
 }
 
-lines_kept : (f : Fault) (text_of : Heard → List ℕ) (given a b c : Option (List ℕ))
-    → HasFailedLines f text_of given a b → Keeps b c → HasFailedLines f text_of given a c
-lines_kept (fault.Text text.InputTooLong) text_of given a b c p k = p
-lines_kept (fault.Text text.Input) text_of given a b c p k = tt
-lines_kept (fault.Text (text.CannotRead path)) text_of given a b c p k = tt
-lines_kept (fault.Text (text.FileTooLong path)) text_of given a b c p k = tt
-lines_kept (fault.Text text.Memory) text_of given a b c p k = tt
-lines_kept (fault.Naming naming.NotHexadecimal) text_of given a b c p k = tt
-lines_kept (fault.Naming (naming.NotHexadecimalAt n)) text_of given a b c p k =
-    stop_kept text_of n given a b c p k
-lines_kept (fault.Naming naming.Output) text_of given a b c p k = tt
-lines_kept (fault.Naming naming.Memory) text_of given a b c p k = tt
-lines_kept (fault.Running error) text_of given a b c p k = tt
-lines_kept (fault.Attending error) text_of given a b c p k = tt
-lines_kept fault.Output text_of given a b c p k = tt
-lines_kept fault.OutOfMemory text_of given a b c p k = tt
-lines_kept (fault.Usage error) text_of given a b c p k = tt
+stopped_kept : (e : NamingError) (detail : Detail) (octets : List ℕ) (a b c : Option (List ℕ))
+    → HasStopped detail e octets a b → Keeps b c → HasStopped detail e octets a c
+stopped_kept naming.NotHexadecimal detail octets a b c p k = tt
+stopped_kept (naming.NotHexadecimalAt n) detail octets a b c p k =
+    stop_kept is_misspelt detail n octets a b c p k
+stopped_kept (naming.TooLongAt n) detail octets a b c p k =
+    stop_kept is_too_long detail n octets a b c p k
+stopped_kept naming.Input detail octets a b c p k = record {
+  place = p.place;
+  before = lines_printed_kept detail (take p.place (lines_of octets)) a b c p.before k;
+}
+stopped_kept naming.Output detail octets a b c p k = tt
+stopped_kept naming.Memory detail octets a b c p k = tt
+
+lines_kept : (f : Fault) (detail : Detail) (given a b c : Option (List ℕ))
+    → HasFailedLines f detail given a b → Keeps b c → HasFailedLines f detail given a c
+lines_kept (fault.Naming error) detail None a b c p k = tt
+lines_kept (fault.Naming error) detail (Some octets) a b c p k =
+    stopped_kept error detail octets a b c p k
+lines_kept (fault.Running error) detail given a b c p k = tt
+lines_kept (fault.Attending error) detail given a b c p k = tt
+lines_kept fault.Output detail given a b c p k = tt
+lines_kept fault.OutOfMemory detail given a b c p k = tt
+lines_kept (fault.Usage error) detail given a b c p k = tt
 
 module _ {S : Type 0} (contents remaining : S → Option (List ℕ)) where
   has_run_kept : (paths : TextPaths) (result : Result (Unit {0}) RunError)
@@ -129,10 +140,10 @@ module _ {S : Type 0} (contents remaining : S → Option (List ℕ)) where
       → IsDone contents remaining asked input a b → Keeps b c
       → IsDone contents remaining asked input a c
   done_kept names None a b c p k = p
-  done_kept names (Some octets) a b c p k = input_kept name_line octets a b c p k
+  done_kept names (Some octets) a b c p k = input_kept Name octets a b c p k
   done_kept (name text) input a b c p k = name_kept (octets_of text) a b c p k
   done_kept show None a b c p k = p
-  done_kept show (Some octets) a b c p k = input_kept unit_lines octets a b c p k
+  done_kept show (Some octets) a b c p k = input_kept Units octets a b c p k
   done_kept (run config script check) input a b c p k =
       run_kept check (record { config = config; script = script; input = input }) a b c p k
   done_kept (station words) input a b c p k = p
@@ -162,7 +173,6 @@ module _ {S : Type 0} (contents remaining : S → Option (List ℕ)) where
   failed_run_kept : (f : Fault) (check : Bool) (paths : TextPaths) (a b c : Option (List ℕ))
       → HasFailedRun contents remaining f check paths a b → Keeps b c
       → HasFailedRun contents remaining f check paths a c
-  failed_run_kept (fault.Text error) check paths a b c p k = tt
   failed_run_kept (fault.Naming error) check paths a b c p k = tt
   failed_run_kept (fault.Running error) check paths a b c p k =
       failed_kept error check paths a b c p k
@@ -174,9 +184,9 @@ module _ {S : Type 0} (contents remaining : S → Option (List ℕ)) where
   work_failed_kept : (asked : AskedValue) (f : Fault) (given a b c : Option (List ℕ))
       → HasFailedAs contents remaining asked f given a b → Keeps b c
       → HasFailedAs contents remaining asked f given a c
-  work_failed_kept names f given a b c p k = lines_kept f name_line given a b c p k
+  work_failed_kept names f given a b c p k = lines_kept f Name given a b c p k
   work_failed_kept (name text) f given a b c p k = p
-  work_failed_kept show f given a b c p k = lines_kept f unit_lines given a b c p k
+  work_failed_kept show f given a b c p k = lines_kept f Units given a b c p k
   work_failed_kept (run config script check) f given a b c p k =
       failed_run_kept f check (record { config = config; script = script; input = given }) a b c p k
   work_failed_kept (station words) f given a b c p k = tt

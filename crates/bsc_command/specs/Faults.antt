@@ -7,9 +7,6 @@ use Rattle.clap.specs.declared.error.kind.ErrorKind.TheVariants as kind
 use Rattle.bsc_attending.specs.declared.error.AttendingError.{AttendingError}
 use Rattle.bsc_attending.specs.declared.error.AttendingError.TheVariants as attending
 use Rattle.bsc_attending.specs.Errors.{IsEarly as IsEarlyAttending}
-use Rattle.bsc_input.specs.declared.input.InputError.{InputError}
-use Rattle.bsc_input.specs.declared.texts.TextError.TheVariants as text
-use Rattle.bsc_input.specs.Texts.{input_error}
 use Rattle.bsc_naming.specs.Errors.{IsLineError, IsNameError}
 use Rattle.bsc_naming.specs.declared.error.NamingError.TheVariants as naming
 use Rattle.bsc_options.specs.Errors.{is_conflict}
@@ -20,7 +17,7 @@ use Rattle.bsc_running.specs.declared.error.RunningError.{RunningError}
 use Rattle.bsc_running.specs.declared.error.RunningError.TheVariants as running
 use Rattle.bsc_running.specs.Errors.{IsEarly as IsEarlyRunning}
 use Rattle.bsc_command.specs.declared.fault.Fault.{Fault}
-use Rattle.bsc_command.specs.declared.fault.Fault.TheVariants.{Text, Naming, Running, Attending}
+use Rattle.bsc_command.specs.declared.fault.Fault.TheVariants.{Naming, Running, Attending}
 use Rattle.bsc_command.specs.declared.fault.Fault.TheVariants.{Output, OutOfMemory, Usage}
 
 -- The exit status for an error of a run: 3 if the line refused an event, otherwise 1.
@@ -35,11 +32,12 @@ running_status_of (running.Run error) = run_status_of error
 running_status_of _ = 1
 
 -- The exit status of a failed station: 2 for wrong usage, 3 for records in doubt, 4 for undelivered
--- records, 6 for records that arrived and could not be printed.
+-- records, 5 for a line that is not trusted, 6 for records that arrived and could not be printed.
 abbrev pub attending_status_of : AttendingError → ℕ
 attending_status_of (attending.Options error) = 2
 attending_status_of attending.InDoubt = 3
 attending_status_of attending.Undelivered = 4
+attending_status_of attending.NotTrusted = 5
 attending_status_of attending.Unprinted = 6
 attending_status_of _ = 1
 
@@ -49,10 +47,6 @@ status_of (Usage text) = 2
 status_of (Running error) = running_status_of error
 status_of (Attending error) = attending_status_of error
 status_of _ = 1
-
--- The fault for an input that could not be read.
-abbrev pub input_fault : InputError → Fault
-input_fault error = Text (input_error error)
 
 -- The faults of printing the help or the version, of reading the arguments, and of flushing the
 -- output.
@@ -100,9 +94,6 @@ IsNameFault _ = ⊥
 
 -- The faults of naming the lines of standard input.
 abbrev pub IsNamesFault : Fault → Type 0
-IsNamesFault (Text text.InputTooLong) = Unit {0}
-IsNamesFault (Text text.Input) = Unit {0}
-IsNamesFault (Text text.Memory) = Unit {0}
 IsNamesFault (Naming error) = IsLineError error
 IsNamesFault _ = ⊥
 
@@ -118,7 +109,6 @@ IsStationFault fault = IsUsageOf kind.InvalidValue fault ⊎ IsUsageOf kind.Argu
 
 -- The faults that come before anything is printed.
 abbrev pub IsEarly : Fault → Type 0
-IsEarly (Text error) = Unit {0}
 IsEarly (Naming naming.NotHexadecimal) = Unit {0}
 IsEarly (Running error) = IsEarlyRunning error
 IsEarly (Attending error) = IsEarlyAttending error

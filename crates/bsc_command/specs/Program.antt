@@ -1,23 +1,20 @@
 -- The output of the program for its work.
-use Rattle.std.specs.Prelude.{◌≡◌, ◌⊎◌, ◌<◌, ℕ, Bool, List, [], length, Option, None, IfSome}
-use Rattle.std.specs.Prelude.{IsSomeAnd}
+use Rattle.std.specs.Prelude.{◌≡◌, ◌⊎◌, ℕ, Bool, List, [], Option, None, IfSome, IsSomeAnd}
 use Rattle.clap.specs.Words.{HasKind, Text as WordText, kind_of}
 use Rattle.clap.specs.declared.error.Error.{Error}
 use Rattle.bsc_asked.specs.Asked.{AskedValue, names, name, show, run, station}
-use Rattle.bsc_frame.specs.declared.message.Heard.{Heard}
 use Rattle.bsc_input.specs.Hexadecimal.{octets_of}
-use Rattle.bsc_input.specs.declared.input.TheConstants.{MAX_INPUT}
-use Rattle.bsc_input.specs.declared.texts.TextError.TheVariants.{InputTooLong}
-use Rattle.bsc_print.specs.Names.{Prints, name_line, unit_lines}
-use Rattle.bsc_naming.specs.Lines.{PrintsInput, StopsAt}
+use Rattle.bsc_print.specs.Names.{Prints, name_line}
+use Rattle.bsc_print.specs.declared.printed.Detail.{Detail}
+use Rattle.bsc_print.specs.declared.printed.Detail.TheVariants.{Name, Units}
+use Rattle.bsc_naming.specs.Inputs.{HasStopped, PrintsInput}
 use Rattle.bsc_naming.specs.declared.error.NamingError.TheVariants.{NotHexadecimal}
-use Rattle.bsc_naming.specs.declared.error.NamingError.TheVariants.{NotHexadecimalAt}
 use Rattle.bsc_run.specs.Crossing.{streams_of}
 use Rattle.bsc_running.specs.Running.{HasFailed, IsRunDone, TextPaths}
 use Rattle.bsc_running.specs.declared.error.RunningError.TheVariants.{BothStandardInput}
 use Rattle.bsc_words.specs.CommandLine.{IsHelp, asked_of, faults_at}
 use Rattle.bsc_command.specs.declared.fault.Fault.{Fault}
-use Rattle.bsc_command.specs.declared.fault.Fault.TheVariants.{Naming, Running, Text, Usage}
+use Rattle.bsc_command.specs.declared.fault.Fault.TheVariants.{Naming, Running, Usage}
 use Rattle.bsc_command.specs.Faults.{IsNameFault, IsNamesFault, IsPrintFault, IsRunFault}
 use Rattle.bsc_command.specs.Faults.{IsStationFault, IsUsage}
 
@@ -26,25 +23,24 @@ abbrev pub HasFailedName : Fault → List ℕ → Type 0
 HasFailedName (Naming NotHexadecimal) text = octets_of text ≡ None
 HasFailedName fault text = Unit {0}
 
--- What a fault of naming the lines of standard input says: it has too many octets, or the line with
--- this number is the first wrong one, and the output for the lines before it was printed.
-abbrev pub HasFailedLines : Fault → (Heard → List ℕ) → Option (List ℕ) → Option (List ℕ)
+-- What a fault of naming the lines of standard input says: the line with this number is the first
+-- that is wrong or too long, and the output for the lines before it was printed; or the input could
+-- not be read further, and the output for some first lines was printed.
+abbrev pub HasFailedLines : Fault → Detail → Option (List ℕ) → Option (List ℕ)
     → Option (List ℕ) → Type 0
-HasFailedLines (Text InputTooLong) text_of input old new =
-    IfSome input (λ octets. MAX_INPUT < length octets)
-HasFailedLines (Naming (NotHexadecimalAt number)) text_of input old new =
-    IfSome input (λ octets. StopsAt text_of number octets old new)
-HasFailedLines fault text_of input old new = Unit {0}
+HasFailedLines (Naming error) detail input old new =
+    IfSome input (λ octets. HasStopped detail error octets old new)
+HasFailedLines fault detail input old new = Unit {0}
 
 -- For the streams of a run's cable, `contents` is what was written to a stream, and `remaining` is
 -- what is left to read from it.
 module _ {S : Type 0} (contents remaining : S → Option (List ℕ)) where
   -- The work succeeded with this input, and the contents of the writer went from `old` to `new`.
   abbrev pub IsDone : AskedValue → Option (List ℕ) → Option (List ℕ) → Option (List ℕ) → Type 0
-  IsDone names input old new = IfSome input (λ octets. PrintsInput name_line octets old new)
+  IsDone names input old new = IfSome input (λ octets. PrintsInput Name octets old new)
   IsDone (name text) input old new =
       IsSomeAnd (octets_of text) (λ octets. Prints name_line octets old new)
-  IsDone show input old new = IfSome input (λ octets. PrintsInput unit_lines octets old new)
+  IsDone show input old new = IfSome input (λ octets. PrintsInput Units octets old new)
   IsDone (run config script check) input old new =
       IsRunDone (streams_of contents remaining) check
       (record { config = config; script = script; input = input }) old new
@@ -62,9 +58,9 @@ module _ {S : Type 0} (contents remaining : S → Option (List ℕ)) where
   -- What a fault of this work says of its input and of the output.
   abbrev pub HasFailedAs : AskedValue → Fault → Option (List ℕ) → Option (List ℕ)
       → Option (List ℕ) → Type 0
-  HasFailedAs names fault input old new = HasFailedLines fault name_line input old new
+  HasFailedAs names fault input old new = HasFailedLines fault Name input old new
   HasFailedAs (name text) fault input old new = HasFailedName fault text
-  HasFailedAs show fault input old new = HasFailedLines fault unit_lines input old new
+  HasFailedAs show fault input old new = HasFailedLines fault Units input old new
   HasFailedAs (run config script check) fault input old new =
       HasFailedRun fault check (record { config = config; script = script; input = input }) old new
   HasFailedAs (station words) fault input old new = Unit {0}

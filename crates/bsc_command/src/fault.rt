@@ -4,7 +4,6 @@ ghost use Rattle.bsc_command.specs.Faults.{IsAttendingFault, IsRunningFault, IsU
 ghost use Rattle.bsc_command.specs.Faults.{attending_status_of, options_kind, running_status_of};
 
 use bsc_attending::AttendingError;
-use bsc_input::{InputError, TextError};
 use bsc_naming::NamingError;
 use bsc_options::OptionError;
 use bsc_run::RunError;
@@ -18,10 +17,6 @@ use thiserror::Error;
 /// program.
 #[derive(Debug, Drop, Error)]
 pub enum Fault {
-    /// Standard input could not be read.
-    #[error(transparent)]
-    Text { error: TextError },
-
     /// Not all names were printed.
     #[error(transparent)]
     Naming { error: NamingError },
@@ -30,7 +25,8 @@ pub enum Fault {
     #[error(transparent)]
     Running { error: RunningError },
 
-    /// A station failed, or ended with records not delivered or in doubt.
+    /// A station failed, or ended with a line that is not trusted, or with records not delivered or
+    /// in doubt.
     #[error(transparent)]
     Attending { error: AttendingError },
 
@@ -55,18 +51,6 @@ impl From<AllocError> for Fault {
 
     fn from(_error: AllocError) -> Fault {
         Fault::OutOfMemory
-    }
-}
-
-impl From<InputError> for Fault {
-    ghost use Rattle.bsc_command.specs.Faults.{input_fault};
-
-    ghost from_gives = { λ error fault. fault ≡ input_fault error };
-
-    fn from(error: InputError) -> Fault {
-        Fault::Text {
-            error: TextError::from(error),
-        }
     }
 }
 
@@ -147,8 +131,9 @@ pub fn not_text(alloc: Global) -> Fault
 }
 
 /// Returns the exit status of the program: 2 for wrong usage; 3 if the line refused an event of a
-/// script, or a station ended in doubt; 4 if a station ended with undelivered records; 6 if a
-/// station could not print records that arrived; 1 for every other fault.
+/// script, or a station ended in doubt; 4 if a station ended with undelivered records; 5 if a
+/// control station ended and could not trust its line; 6 if a station could not print records that
+/// arrived; 1 for every other fault.
 pub fn status(fault: &Fault) -> u8
     ensures { result ≡ status_of fault.now }
 {
@@ -181,6 +166,7 @@ fn attending_status(error: &AttendingError) -> u8
         AttendingError::Options { .. } => 2,
         AttendingError::InDoubt => 3,
         AttendingError::Undelivered => 4,
+        AttendingError::NotTrusted => 5,
         AttendingError::Unprinted => 6,
         _ => 1,
     }

@@ -8,17 +8,17 @@ use crate::Fault;
 use crate::fault::{attending_fault, running_fault};
 use bsc_asked::Asked;
 use bsc_attending::{Network, station};
-use bsc_input::{Files, read_input};
+use bsc_input::Files;
 use bsc_naming::{name, names, show};
 use bsc_running::{Cables, RunWords, run};
 use std::alloc::Global;
 use std::io::{Read, Write};
 
-/// Does the requested work. If the work needs the input, all of it is read before anything is
-/// printed. A run reads its files and makes its connections through the machine. When it succeeds
-/// it has printed the output of `bsc_run::run_line` for its texts, or nothing if it only checks
-/// them; if an event is refused, it has printed the output up to that event, and the report. A
-/// station is attended until it ends; `bsc_monitor` defines its output.
+/// Does the requested work. The names of the lines of an input are printed as the lines are read.
+/// A run reads its files and makes its connections through the machine. When it succeeds it has
+/// printed the output of `bsc_run::run_line` for its texts, or nothing if it only checks them; if
+/// an event is refused, it has printed the output up to that event, and the report. A station is
+/// attended until it ends; `bsc_monitor` defines its output.
 pub fn perform<R: Read, H: Files + Cables + Network, W: Write>(
     alloc: Global,
     asked: &Asked,
@@ -40,9 +40,9 @@ pub fn perform<R: Read, H: Files + Cables + Network, W: Write>(
         → out.new ≡ out.old }
 {
     match asked {
-        Asked::Names => Ok(names(alloc, &read_input(alloc, input)?, out)?),
+        Asked::Names => Ok(names(alloc, input, out)?),
         Asked::Name(text) => Ok(name(alloc, text.as_str(), out)?),
-        Asked::Show => Ok(show(alloc, &read_input(alloc, input)?, out)?),
+        Asked::Show => Ok(show(alloc, input, out)?),
         Asked::Run {
             config,
             script,

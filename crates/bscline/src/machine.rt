@@ -1,9 +1,9 @@
-//! The machine on which the program runs: its files, its loopback address, its network, its clock
-//! and standard error.
+//! The machine on which the program runs: its files, its loopback address, its network, its clock,
+//! standard output and standard error.
 
 use bsc_attending::{Network, Opened, Wanted};
 use bsc_carrier::Cable;
-use bsc_input::{Files, InputError, read_input};
+use bsc_input::{Files, InputError, Unreadable, read_input};
 use bsc_loopback::{LoopbackError, connect};
 use bsc_monitor::{Beginning, Timer};
 use bsc_options::Place;
@@ -13,9 +13,10 @@ use bsc_sockets::{
     connect as connect_to, listen,
 };
 use std::alloc::Global;
-use std::fs::File;
+use std::cell::Cell;
+use std::fs::{File, OpenFile, metadata};
 use std::io;
-use std::io::{Error, ErrorKind, Write};
+use std::io::{Error, ErrorKind, Printer, Write};
 use std::net::{Net, SocketAddr};
 use std::rt::Files as Filing;
 use std::thread::sleep;
@@ -28,6 +29,9 @@ const BETWEEN_ATTEMPTS: u64 = 100;
 #[derive(Drop)]
 pub struct Machine<'a, R> {
     pub runtime: &'a R,
+
+    /// Whether a flush of standard output also syncs it.
+    pub syncs: &'a Cell<bool>,
 }
 
 /// A clock that counts from its start on this machine.
@@ -71,6 +75,41 @@ impl<R: Eprint> Write for Errors<'_, R> {
     }
 }
 
+/// The path of standard output.
+const STANDARD_OUTPUT: &str = "/dev/stdout";
+
+/// Standard output, which may be asked to sync the file that it is.
+#[derive(Drop)]
+pub struct Output<'a, R> {
+    pub runtime: &'a R,
+    pub writer: Printer<'a, R>,
+
+    /// Whether a flush also syncs.
+    pub syncs: &'a Cell<bool>,
+}
+
+impl<R: Filing + Print> Write for Output<'_, R> {
+    fn write(&mut self, octets: &[u8]) -> io::Result<usize> {
+        self.writer.write(octets)
+    }
+
+    fn flush(&mut self) -> io::Result<()> {
+        self.writer.flush()?;
+        if self.syncs.get() {
+            return sync_output(self.runtime);
+        }
+        Ok(())
+    }
+}
+
+/// Syncs standard output, if it is a regular file.
+fn sync_output<R: Filing>(runtime: &R) -> io::Result<()> {
+    if !metadata(runtime, STANDARD_OUTPUT)?.is_file() {
+        return Ok(());
+    }
+    File::open(runtime, STANDARD_OUTPUT)?.sync_data()
+}
+
 /// Tells on standard error how a station waits for its peers. What standard error does not take is
 /// lost.
 #[derive(Drop)]
@@ -99,13 +138,20 @@ impl<R: Eprint> Reception for Receiving<'_, R> {
     fn joined(&mut self, place: usize, peer: SocketAddr) {
         let _ = self.lines.write_joined(place, peer, &mut self.errors);
     }
+
+    fn refused(&mut self, peer: SocketAddr) {
+        let _ = self.lines.write_refused(peer, &mut self.errors);
+    }
 }
 
 impl<R: AllocGlobal + Filing> Files for Machine<'_, R> {
     fn read_file(&mut self, path: &str) -> Result<Vec<u8>, InputError> {
         match File::open(self.runtime, path) {
             Ok(mut file) => read_input(self.runtime.alloc(), &mut file),
-            Err(_) => Err(InputError::Device),
+            Err(error) => {
+                let why = Unreadable::of(error.kind());
+                Err(InputError::Device { why })
+            }
         }
     }
 }
@@ -216,5 +262,9 @@ impl<'a, R: AllocGlobal + Clock + Eprint + Net> Network for Machine<'a, R> {
         Errors {
             runtime: self.runtime,
         }
+    }
+
+    fn sync_output(&mut self) {
+        self.syncs.set(true);
     }
 }

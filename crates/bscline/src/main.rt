@@ -7,8 +7,9 @@
 mod machine;
 
 use bsc_command::{Fault, command, fail, not_text};
-use machine::{Errors, Machine};
+use machine::{Errors, Machine, Output};
 use std::alloc::Global;
+use std::cell::Cell;
 use std::fs::File;
 use std::io::{BufWriter, ErrorKind};
 use std::process::ExitCode;
@@ -27,10 +28,19 @@ fn main(rt: HostRuntime) -> ExitCode {
         File::open(&rt, NULL_DEVICE),
     );
     let mut errors = Errors { runtime: &rt };
-    ExitCode::from(match BufWriter::new(rt.alloc(), io::writer(&rt)) {
+    let syncs = Cell::new(false);
+    let output = Output {
+        runtime: &rt,
+        writer: io::writer(&rt),
+        syncs: &syncs,
+    };
+    ExitCode::from(match BufWriter::new(rt.alloc(), output) {
         Ok(mut out) => {
             let mut input = rt.reader();
-            let mut machine = Machine { runtime: &rt };
+            let mut machine = Machine {
+                runtime: &rt,
+                syncs: &syncs,
+            };
             command(
                 rt.alloc(),
                 words(&rt),

@@ -72,7 +72,7 @@ const CASES: &[Case] = &[
         scene: SILENT,
         due: Due {
             out: "",
-            errors: "bscline: cannot read none.toml\n",
+            errors: "bscline: cannot read none.toml: no such file\n",
             status: 1,
             asking: None,
         },
@@ -129,8 +129,9 @@ const CASES: &[Case] = &[
         scene: SILENT,
         due: Due {
             out: "",
-            errors: "error: CONFIG and --offer cannot name standard input more than once\n\n\
-            Usage: bscline station [OPTIONS] <CONFIG>\n\nFor more information, try '--help'.\n",
+            errors: "error: CONFIG, --offer and --until-input-ends cannot use standard input more \
+            than once\n\nUsage: bscline station [OPTIONS] <CONFIG>\n\n\
+            For more information, try '--help'.\n",
             status: 2,
             asking: None,
         },

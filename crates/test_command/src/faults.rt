@@ -6,7 +6,7 @@ use bsc_carrier::CarrierError;
 use bsc_command::{Fault, not_text, status};
 use bsc_config::ConfigError;
 use bsc_connections::LiveError;
-use bsc_input::{InputError, TextError};
+use bsc_input::{TextError, Unreadable};
 use bsc_line::LineError;
 use bsc_loopback::LoopbackError;
 use bsc_monitor::OfferError;
@@ -24,7 +24,6 @@ use std::test::Fail;
 enum Cause {
     /// A word that is not UTF-8.
     Words,
-    Input(InputError),
     Naming(NamingError),
     Output,
     OutOfMemory,
@@ -35,8 +34,11 @@ enum Cause {
 /// An error that ends a run.
 #[derive(Clone, Copy)]
 enum Ends {
-    /// A file that cannot be read.
-    File(&'static str),
+    /// A file that cannot be read, for this reason.
+    File(&'static str, Unreadable),
+
+    /// Standard input that is too long.
+    Input,
     NotToml,
     ConfigMemory,
     Script(ScriptError),
@@ -55,6 +57,7 @@ enum Stops {
     Sockets(SocketsError),
     Live(LiveError),
     Closed(CarrierError),
+    NotTrusted,
     InDoubt,
     Undelivered,
 }
@@ -62,10 +65,12 @@ enum Stops {
 /// The error of a run.
 fn running(alloc: Global, error: Ends) -> Result<RunningError, AllocError> {
     Ok(match error {
-        Ends::File(path) => RunningError::from(TextError::CannotRead {
+        Ends::File(path, why) => RunningError::from(TextError::CannotRead {
             path: String::from_str(alloc, path)?,
+            why,
         }),
-        Ends::NotToml => RunningError::from(ConfigError::NotToml),
+        Ends::Input => RunningError::from(TextError::InputTooLong),
+        Ends::NotToml => RunningError::from(ConfigError::NotToml { line: 4 }),
         Ends::ConfigMemory => RunningError::from(ConfigError::Memory),
         Ends::Script(error) => RunningError::from(error),
         Ends::Loopback(error) => RunningError::from(error),
@@ -84,6 +89,7 @@ fn attending(alloc: Global, error: Stops) -> Result<AttendingError, AllocError> 
         Stops::Sockets(error) => AttendingError::from(error),
         Stops::Live(error) => AttendingError::from(error),
         Stops::Closed(error) => AttendingError::Closed { error },
+        Stops::NotTrusted => AttendingError::NotTrusted,
         Stops::InDoubt => AttendingError::InDoubt,
         Stops::Undelivered => AttendingError::Undelivered,
     })
@@ -93,7 +99,6 @@ fn attending(alloc: Global, error: Stops) -> Result<AttendingError, AllocError> 
 fn fault(alloc: Global, cause: Cause) -> Result<Fault, AllocError> {
     Ok(match cause {
         Cause::Words => not_text(alloc),
-        Cause::Input(error) => Fault::from(error),
         Cause::Naming(error) => Fault::from(error),
         Cause::Output => Fault::Output,
         Cause::OutOfMemory => Fault::OutOfMemory,
@@ -135,7 +140,7 @@ fn first_wrong(alloc: Global, rows: &[Row]) -> Option<usize> {
     None
 }
 
-/// Faults of words, standard input, naming and standard output.
+/// Faults of words, naming and standard output.
 const STREAMS: &[Row] = &[
     (
         Cause::Words,
@@ -145,9 +150,6 @@ const STREAMS: &[Row] = &[
     ),
     (Cause::Output, "output fault", 1),
     (Cause::OutOfMemory, "out of memory", 1),
-    (Cause::Input(InputError::TooLong), "input too long", 1),
-    (Cause::Input(InputError::Device), "input fault", 1),
-    (Cause::Input(InputError::Memory), "out of memory", 1),
     (
         Cause::Naming(NamingError::NotHexadecimal),
         "not hexadecimal",
@@ -158,6 +160,12 @@ const STREAMS: &[Row] = &[
         "line 7: not hexadecimal",
         1,
     ),
+    (
+        Cause::Naming(NamingError::TooLongAt { line: 7 }),
+        "line 7: too long",
+        1,
+    ),
+    (Cause::Naming(NamingError::Input), "input fault", 1),
     (Cause::Naming(NamingError::Output), "output fault", 1),
     (Cause::Naming(NamingError::Memory), "out of memory", 1),
 ];
@@ -171,11 +179,32 @@ fn faults_of_words_and_streams(rt: HostRuntime) -> Result<(), Fail> {
 /// Faults of a run, before its events and during them.
 const RUNS: &[Row] = &[
     (
-        Cause::Running(Ends::File("line.toml")),
-        "cannot read line.toml",
+        Cause::Running(Ends::File("line.toml", Unreadable::NoSuchFile)),
+        "cannot read line.toml: no such file",
         1,
     ),
-    (Cause::Running(Ends::NotToml), "config: not toml", 1),
+    (
+        Cause::Running(Ends::File("line.toml", Unreadable::PermissionDenied)),
+        "cannot read line.toml: permission denied",
+        1,
+    ),
+    (
+        Cause::Running(Ends::File("line.toml", Unreadable::IsADirectory)),
+        "cannot read line.toml: is a directory",
+        1,
+    ),
+    (
+        Cause::Running(Ends::File("line.toml", Unreadable::NotInADirectory)),
+        "cannot read line.toml: not in a directory",
+        1,
+    ),
+    (
+        Cause::Running(Ends::File("line.toml", Unreadable::ReadFault)),
+        "cannot read line.toml: read fault",
+        1,
+    ),
+    (Cause::Running(Ends::Input), "input too long", 1),
+    (Cause::Running(Ends::NotToml), "config: not toml: line 4", 1),
     (Cause::Running(Ends::ConfigMemory), "out of memory", 1),
     (
         Cause::Running(Ends::Script(ScriptError::NotAnEvent { line: 3 })),
@@ -332,6 +361,11 @@ const STATIONS: &[Row] = &[
         Cause::Attending(Stops::Closed(CarrierError::Short)),
         "connection closed: the input ended within a record",
         1,
+    ),
+    (
+        Cause::Attending(Stops::NotTrusted),
+        "the line is not trusted",
+        5,
     ),
     (Cause::Attending(Stops::InDoubt), "records in doubt", 3),
     (

@@ -6,20 +6,23 @@ use std::alloc::Global;
 use std::test::Fail;
 use test_alloc::{Refusal, Refusing, TurnError};
 
-/// A call, its input and its output.
-type Row = (Call, &'static str, &'static str);
+/// A call, the step of the sizes above which growths are refused, the input and the output. One
+/// request for an input is for 8,192 octets.
+type Row = (Call, usize, &'static str, &'static str);
 
 const GROWING: &[Row] = &[
-    (Call::Name, "16 16 02 C8 49 19 83 9B FF", "TEXT ETX 1\n"),
+    (Call::Name, 1, "16 16 02 C8 49 19 83 9B FF", "TEXT ETX 1\n"),
     // One of these four transmissions is noise.
     (
         Call::Names,
+        512,
         "16 16 10 B0 FF\n16 16 10 30 FF\n16 16 04 FF 16 16 C1 85 FF\n16 04\n",
         "ACK0\nNOISE\nCALL A\nEOT\n",
     ),
     // Two transmissions without a text, and between them a text of two units.
     (
         Call::Show,
+        512,
         "16 04\n16 16 02 C8 49 19 1F 07 19 83 1A FF\n16 04",
         "EOT\nTEXT ETX 2\nunit 4849 EM\nunit - EM\nEOT\n",
     ),
@@ -38,7 +41,7 @@ fn is_front(call: Call, printed: &[u8], text: &[u8]) -> bool {
 /// Whether the result is right: out of memory after a beginning of the text if a growth was
 /// refused, and the whole text otherwise.
 fn is_due(alloc: Global, refusing: &Refusing<Global>, row: &Row) -> bool {
-    let (call, input, text) = *row;
+    let (call, _, input, text) = *row;
     let mut out = Vec::new(alloc);
     let answer = print(refusing, call, input, &mut out);
     let is_refused = refusing.refused() > 0;
@@ -65,17 +68,16 @@ fn first_number(
     Ok(None)
 }
 
-const REFUSALS: &[Refusal] = &[Refusal::Nth, Refusal::From, Refusal::Above { octets: 1 }];
-
 /// The first kind of refusal with another result of a call, with the number and the input.
 fn first_wrong(
     alloc: Global,
     refusing: &Refusing<Global>,
 ) -> Result<Option<(Refusal, usize, &'static str)>, TurnError> {
     for row in GROWING {
-        for refusal in REFUSALS {
-            if let Some(number) = first_number(alloc, refusing, *refusal, row)? {
-                return Ok(Some((*refusal, number, row.1)));
+        let above = Refusal::Above { octets: row.1 };
+        for refusal in [Refusal::Nth, Refusal::From, above] {
+            if let Some(number) = first_number(alloc, refusing, refusal, row)? {
+                return Ok(Some((refusal, number, row.2)));
             }
         }
     }

@@ -18,9 +18,15 @@ mod naming;
 #[cfg(test)]
 mod options;
 #[cfg(test)]
+mod record;
+#[cfg(test)]
 mod runs;
 #[cfg(test)]
 mod sizes;
+#[cfg(test)]
+mod station_options;
+#[cfg(test)]
+mod station_output;
 #[cfg(test)]
 mod stations;
 #[cfg(test)]

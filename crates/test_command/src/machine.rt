@@ -1,11 +1,12 @@
-//! A machine for tests, with one file, one scripted connection and no sockets, and commands that
-//! run on it.
+//! A machine for tests, with two files, one scripted connection and no sockets, and commands
+//! that run on it.
 
+use crate::record::{Record, Sending, Tracer};
 use bsc_attending::{Network, Opened, Wanted};
 use bsc_carrier::Cable;
 use bsc_command::{Fault, command};
 use bsc_connections::{Awaited, Handled, LiveError, Pace, Waiter};
-use bsc_input::{Files, InputError};
+use bsc_input::{Files, InputError, Unreadable};
 use bsc_loopback::LoopbackError;
 use bsc_monitor::Timer;
 use bsc_options::Place;
@@ -14,8 +15,8 @@ use bsc_sockets::SocketsError;
 use std::alloc::{AllocError, Global};
 use std::io;
 use std::io::{BufWriter, Error, ErrorKind, Read, Write};
-use std::net::SocketAddr;
-use test_fixtures::configurations::TWO_TERMINALS;
+use std::net::{IpAddr, Ipv4Addr, SocketAddr};
+use test_fixtures::configurations::{THREE_ADDRESSES, TWO_TERMINALS};
 
 /// An unused end of a connection.
 #[derive(Drop)]
@@ -76,19 +77,31 @@ impl Read for Pieces {
     }
 }
 
+/// Returns the address of the peer with this number; `None` for 0.
+fn peer_by(number: u8) -> Option<IpAddr> {
+    match number {
+        0 => None,
+        number => Some(IpAddr::V4(Ipv4Addr::new(10, 0, 0, number))),
+    }
+}
+
 /// Reports octets to read for each `r` of the steps, a gap for each `g`, another peer for each `j`,
-/// and a time-out for each `t`; after the last step there are always octets to read.
+/// a time-out for each `t`, and that the station is asked to end for each `s`; after the last step
+/// there are always octets to read.
 #[derive(Drop)]
-pub(crate) struct Scripted {
+pub(crate) struct Scripted<'a> {
     steps: &'static [u8],
 
     /// What another peer sends.
     later: &'static [&'static [u8]],
 
-    alloc: Global,
+    /// The number of the peer.
+    peer: u8,
+
+    record: &'a Record,
 }
 
-impl Waiter<Pieces, Vec<u8>> for Scripted {
+impl<'a> Waiter<Pieces, Sending<'a>> for Scripted<'a> {
     ghost waits = { λ _ _ _. Unit {0} };
 
     ghost handles = { λ _ _ _ _. Unit {0} };
@@ -117,6 +130,9 @@ impl Waiter<Pieces, Vec<u8>> for Scripted {
         if step == b'j' {
             return Ok(Awaited::Newcomer);
         }
+        if step == b's' {
+            return Ok(Awaited::Stopped);
+        }
         Ok(Awaited::Octets { connection: 0 })
     }
 
@@ -127,7 +143,7 @@ impl Waiter<Pieces, Vec<u8>> for Scripted {
     }
 
     fn peer(&self, _connection: usize) -> Option<SocketAddr> {
-        None
+        Some(SocketAddr::new(peer_by(self.peer)?, 2780))
     }
 
     fn newcomer(&self) -> Option<SocketAddr> {
@@ -138,13 +154,14 @@ impl Waiter<Pieces, Vec<u8>> for Scripted {
 
     fn nothing_left(&mut self, _connection: usize) {}
 
-    fn join(&mut self, _connection: usize) -> Option<(Pieces, Vec<u8>)> {
+    fn join(&mut self, _connection: usize) -> Option<(Pieces, Sending<'a>)> {
         let reader = Pieces {
             left: self.later,
             piece: b"",
             fails: false,
         };
-        Some((reader, Vec::new(self.alloc)))
+        let record = self.record;
+        Some((reader, Sending { record }))
     }
 
     fn turn_away(&mut self) {}
@@ -164,6 +181,13 @@ pub(crate) struct Asking {
     pub(crate) replace_after: u64,
     pub(crate) pause: u64,
     pub(crate) trace: bool,
+
+    /// Whether peer 1 may connect, whose address is 10.0.0.1.
+    pub(crate) allows_one: bool,
+
+    /// Whether peer 2 may connect, whose address is 10.0.0.2.
+    pub(crate) allows_two: bool,
+    pub(crate) stops: bool,
 }
 
 /// The octets of a connection and of that of another peer, at most one piece in each read, and the
@@ -173,6 +197,12 @@ pub(crate) struct Scene {
     pub(crate) pieces: &'static [&'static [u8]],
     pub(crate) later: &'static [&'static [u8]],
     pub(crate) steps: &'static [u8],
+
+    /// The number of the peer; 0 if its address is not known.
+    pub(crate) peer: u8,
+
+    /// Whether the disk of standard output fails.
+    pub(crate) disk_fails: bool,
 }
 
 /// A connection on which nothing arrives.
@@ -180,29 +210,50 @@ pub(crate) const SILENT: Scene = Scene {
     pieces: &[],
     later: &[],
     steps: b"",
+    peer: 0,
+    disk_fails: false,
 };
 
-/// A machine with one configuration and one connection.
+/// A machine with two configurations and one connection.
 #[derive(Drop)]
-struct Machine {
+struct Machine<'a> {
     alloc: Global,
     scene: Scene,
     asking: Option<Asking>,
+    record: &'a Record,
 }
 
-impl Files for Machine {
+/// Returns the text of the file at this path.
+fn file_at(path: &str) -> Option<&'static str> {
+    match path {
+        "line.toml" => Some(TWO_TERMINALS),
+        "three.toml" => Some(THREE_ADDRESSES),
+        _ => None,
+    }
+}
+
+impl Files for Machine<'_> {
     fn read_file(&mut self, path: &str) -> Result<Vec<u8>, InputError> {
-        if path != "line.toml" {
-            return Err(InputError::Device);
-        }
-        match Vec::from_slice(self.alloc, TWO_TERMINALS.as_bytes()) {
+        let Some(text) = file_at(path) else {
+            let why = Unreadable::NoSuchFile;
+            return Err(InputError::Device { why });
+        };
+        match Vec::from_slice(self.alloc, text.as_bytes()) {
             Ok(text) => Ok(text),
             Err(_) => Err(InputError::Memory),
         }
     }
 }
 
-impl Cables for Machine {
+/// Whether the peer with this number may connect.
+fn allows(wanted: &Wanted<'_>, number: u8) -> bool {
+    match peer_by(number) {
+        Some(peer) => wanted.allowed.allows(peer),
+        None => false,
+    }
+}
+
+impl Cables for Machine<'_> {
     type Stream = Nothing;
 
     fn connect(&mut self, _count: usize) -> Result<Cable<Nothing>, LoopbackError> {
@@ -210,21 +261,21 @@ impl Cables for Machine {
     }
 }
 
-impl Network for Machine {
+impl<'a> Network for Machine<'a> {
     type Reader = Pieces;
 
-    type Writer = Vec<u8>;
+    type Writer = Sending<'a>;
 
-    type Waiter = Scripted;
+    type Waiter = Scripted<'a>;
 
     type Timer = NoTimer;
 
-    type Trace = Vec<u8>;
+    type Trace = Tracer<'a>;
 
     fn open(
         &mut self,
         wanted: &Wanted<'_>,
-    ) -> Result<Opened<Pieces, Vec<u8>, Scripted>, SocketsError> {
+    ) -> Result<Opened<Pieces, Sending<'a>, Scripted<'a>>, SocketsError> {
         let listens = match wanted.place {
             Place::Listen { .. } => true,
             Place::Connect { .. } => false,
@@ -241,21 +292,26 @@ impl Network for Machine {
             replace_after: wanted.replace_after,
             pause: wanted.pause,
             trace: wanted.trace,
+            allows_one: allows(wanted, 1),
+            allows_two: allows(wanted, 2),
+            stops: wanted.stops,
         });
         let reader = Pieces {
             left: self.scene.pieces,
             piece: b"",
             fails: false,
         };
+        let record = self.record;
         let mut connections = Vec::new(self.alloc);
-        if connections.push((reader, Vec::new(self.alloc))).is_err() {
+        if connections.push((reader, Sending { record })).is_err() {
             return Err(SocketsError::Memory);
         }
         Ok(Opened {
             waiter: Scripted {
                 steps: self.scene.steps,
                 later: self.scene.later,
-                alloc: self.alloc,
+                peer: self.scene.peer,
+                record,
             },
             connections,
         })
@@ -265,21 +321,30 @@ impl Network for Machine {
         NoTimer
     }
 
-    fn trace(&mut self) -> Vec<u8> {
-        Vec::new(self.alloc)
+    fn trace(&mut self) -> Tracer<'a> {
+        let record = self.record;
+        Tracer { record }
+    }
+
+    fn sync_output(&mut self) {
+        self.record.syncs.set(true);
     }
 }
 
 /// Standard output.
 #[derive(Drop)]
-struct Output {
+struct Output<'a> {
     octets: Vec<u8>,
 
     /// Whether it accepts what is printed.
     takes: bool,
+
+    /// Whether its disk fails.
+    disk_fails: bool,
+    record: &'a Record,
 }
 
-impl Write for Output {
+impl Write for Output<'_> {
     fn write(&mut self, octets: &[u8]) -> io::Result<usize> {
         if !self.takes {
             return Err(Error::from(ErrorKind::StorageFull));
@@ -288,6 +353,9 @@ impl Write for Output {
     }
 
     fn flush(&mut self) -> io::Result<()> {
+        if self.disk_fails && self.record.syncs.get() {
+            return Err(Error::from(ErrorKind::StorageFull));
+        }
         Ok(())
     }
 }
@@ -344,6 +412,13 @@ pub(crate) struct Case {
     pub(crate) due: Due,
 }
 
+/// A command, its expected results, the number of octets that it sends, and its trace.
+pub(crate) struct Watched {
+    pub(crate) case: Case,
+    pub(crate) sent: usize,
+    pub(crate) trace: &'static str,
+}
+
 /// The words of the command, with the program's name first.
 fn owned(alloc: Global, words: &[&str]) -> Result<Vec<String>, AllocError> {
     let mut owned = Vec::new(alloc);
@@ -372,15 +447,18 @@ fn input(case: &Case) -> Pieces {
 }
 
 /// The first result of the command that differs from what is expected.
-fn difference(alloc: Global, case: &Case) -> Option<&'static str> {
+fn difference(alloc: Global, case: &Case, record: &Record) -> Option<&'static str> {
     let mut machine = Machine {
         alloc,
         scene: case.scene,
         asking: None,
+        record,
     };
     let output = Output {
         octets: Vec::new(alloc),
         takes: case.takes,
+        disk_fails: case.scene.disk_fails,
+        record,
     };
     let Ok(mut out) = BufWriter::new(alloc, output) else {
         return Some("the buffer of standard output");
@@ -402,7 +480,22 @@ fn difference(alloc: Global, case: &Case) -> Option<&'static str> {
 /// The first command with another result than expected, and which result that is.
 pub(crate) fn first_wrong(alloc: Global, cases: &[Case]) -> Option<(usize, &'static str)> {
     for (place, case) in cases.iter().enumerate() {
-        if let Some(what) = difference(alloc, case) {
+        if let Some(what) = difference(alloc, case, &Record::new(alloc)) {
+            return Some((place, what));
+        }
+    }
+    None
+}
+
+/// The first command with another result, trace or number of octets than expected, and which that
+/// is.
+pub(crate) fn first_unlike(alloc: Global, cases: &[Watched]) -> Option<(usize, &'static str)> {
+    for (place, watched) in cases.iter().enumerate() {
+        let record = Record::new(alloc);
+        if let Some(what) = difference(alloc, &watched.case, &record) {
+            return Some((place, what));
+        }
+        if let Some(what) = record.difference(watched.sent, watched.trace) {
             return Some((place, what));
         }
     }

@@ -2,7 +2,8 @@
 
 use bsc_naming::{NamingError, name, names, show};
 use std::alloc::{Allocator, Global};
-use std::io::Write;
+use std::io;
+use std::io::{Error, ErrorKind, Read, Write};
 use std::ops::Range;
 use std::test::Fail;
 use test_fixtures::Full;
@@ -24,8 +25,8 @@ pub(crate) fn print<A: Allocator + Copy, W: Write>(
 ) -> Result<(), NamingError> {
     match call {
         Call::Name => name(alloc, input, out),
-        Call::Names => names(alloc, input.as_bytes(), out),
-        Call::Show => show(alloc, input.as_bytes(), out),
+        Call::Names => names(alloc, &mut input.as_bytes(), out),
+        Call::Show => show(alloc, &mut input.as_bytes(), out),
     }
 }
 
@@ -125,8 +126,7 @@ fn names_of_standard_input(rt: HostRuntime) -> Result<(), Fail> {
     Ok(())
 }
 
-/// A trace that `station` wrote. Time-outs and connections print nothing, and a line of hexadecimal
-/// text in between is read as such.
+/// A trace that `station` wrote, and a line of hexadecimal text in between, which is read as such.
 const TRACE: &str = "+1 control heard CALL A 161604ff1616c185ff
 +3 terminal 0 sent TEXT ETX 1 161602c84919839bff
 +3000 silence
@@ -137,6 +137,21 @@ const TRACE: &str = "+1 control heard CALL A 161604ff1616c185ff
 +3200 connection 0 closed
 +
 + \n";
+
+/// The same as `show` prints it: the lines without their octets, and the units.
+const SHOWN_TRACE: &str = "+1 control heard CALL A
++3 terminal 0 sent TEXT ETX 1
+unit 4849 EM
++3000 silence
++3050 connection 0 joined
+ACK0
++3100 connection 0 closed: the input ended within a record
++3200 connection 0 closed
++
++ \n";
+
+/// The names in it.
+const NAMED_TRACE: &[Row] = &[(TRACE, "CALL A\nTEXT ETX 1\nACK0\n", None)];
 
 /// The units of texts, some without characters and some without EM. In traces, a line without the
 /// sign is still read as hexadecimal text.
@@ -151,10 +166,10 @@ const SHOWN: &[Row] = &[
         "EOT\nTEXT ETX 1\nunit 4849\nTEXT ETX 1\nunit -\nFAILED\n",
         None,
     ),
-    (TRACE, "CALL A\nTEXT ETX 1\nunit 4849 EM\nACK0\n", None),
+    (TRACE, SHOWN_TRACE, None),
     (
         "+2 silence\n3000 silence\n",
-        "",
+        "+2 silence\n",
         Some(NamingError::NotHexadecimalAt { line: 2 }),
     ),
 ];
@@ -162,6 +177,7 @@ const SHOWN: &[Row] = &[
 #[test]
 fn units_of_texts_and_traces(rt: HostRuntime) -> Result<(), Fail> {
     assert_eq!(rt; first_wrong(rt.alloc(), Call::Show, SHOWN), None);
+    assert_eq!(rt; first_wrong(rt.alloc(), Call::Names, NAMED_TRACE), None);
     Ok(())
 }
 
@@ -181,5 +197,39 @@ fn failing_write(rt: HostRuntime) -> Result<(), Fail> {
     let input = "16 04\n16 16 02 C8 49 19 83 9B FF\nzz";
     assert_eq!(rt; first_untold(rt.alloc(), Call::Show, input, 0..8), None);
     assert_eq!(rt; first_untold(rt.alloc(), Call::Name, "16 04", 1..2), None);
+    Ok(())
+}
+
+/// Gives this text, and then fails.
+#[derive(Drop)]
+struct Broken {
+    text: &'static [u8],
+}
+
+impl Read for Broken {
+    fn read(&mut self, buffer: &mut [u8]) -> io::Result<usize> {
+        if self.text.is_empty() {
+            return Err(Error::from(ErrorKind::Interrupted));
+        }
+        self.text.read(buffer)
+    }
+}
+
+/// Two lines, and a part of a third. One of these parts is a line by itself.
+const BROKEN: &[&[u8]] = &[
+    b"16 04\n16 16 10 30 FF\n",
+    b"16 04\n16 16 10 30 FF\n16 0",
+    b"16 04\n16 16 10 30 FF\n16 04",
+];
+
+/// The lines before a read that fails are printed, and the part of a line is not.
+#[test]
+fn failing_read(rt: HostRuntime) -> Result<(), Fail> {
+    for text in BROKEN {
+        let mut out = Vec::new(rt.alloc());
+        let answer = names(rt.alloc(), &mut Broken { text: *text }, &mut out);
+        assert!(rt; answer == Err(NamingError::Input));
+        assert!(rt; out.as_slice() == b"EOT\nNOISE\n".as_slice());
+    }
     Ok(())
 }

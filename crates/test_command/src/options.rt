@@ -1,7 +1,8 @@
 //! The options of a station, and the reasons for refusing them.
 
+use crate::faults::has_text;
 use bsc_asked::{Asked, StationWords};
-use bsc_options::{OptionError, read_settings};
+use bsc_options::{OptionError, read_admission, read_settings};
 use bsc_words::read_words;
 use std::alloc::{AllocError, Global};
 use std::test::Fail;
@@ -52,8 +53,11 @@ fn joined(
 
 /// Returns the reason for which these words of a station are refused; `None` if they are not.
 fn refusal_of(words: &StationWords) -> Option<OptionError> {
-    match read_settings(words) {
-        Ok(_settings) => None,
+    if let Err(error) = read_settings(words) {
+        return Some(error);
+    }
+    match read_admission(words) {
+        Ok(_admission) => None,
         Err(error) => Some(error),
     }
 }
@@ -133,6 +137,12 @@ const TERMINALS: &[Row] = &[
         OptionError::ReplaceAfterNeedsListen,
     ),
     (&["--pause", "9"], OptionError::NeedsControl),
+    (&["--allow", "10.0.0.0/8"], OptionError::AllowNeedsListen),
+    (&["--peer", "0=10.0.0.1"], OptionError::PeerNeedsListen),
+    (
+        &["--until-input-ends", "--offer", "-"],
+        OptionError::RepeatedInput,
+    ),
 ];
 
 /// Options that do not fit a control station that listens.
@@ -140,6 +150,10 @@ const CONTROLS: &[Row] = &[
     (&["--patience", "9"], OptionError::PatienceNeedsConnect),
     (&["--replace-after", "0"], OptionError::ReplaceAfter),
     (&["--pause", "3600001"], OptionError::Pause),
+    (
+        &["--pause", "100", "--time-out", "100"],
+        OptionError::PauseNotBelowTimeOut,
+    ),
     (&["--replace-after", "3600001"], OptionError::ReplaceAfter),
     (&["--rounds", "0"], OptionError::Rounds),
     (&["--rounds", "18446744073709551616"], OptionError::Rounds),
@@ -148,6 +162,37 @@ const CONTROLS: &[Row] = &[
     (
         &["--offer", "0=-", "--offer", "1.0=-"],
         OptionError::RepeatedInput,
+    ),
+    (
+        &["--until-input-ends", "--offer", "0=-"],
+        OptionError::RepeatedInput,
+    ),
+    (
+        &["--shared", "--peer", "0=10.0.0.1"],
+        OptionError::PeerNeedsListen,
+    ),
+    (&["--peer", "10.0.0.1"], OptionError::PeerForm),
+    (&["--peer", "0=10.0.0.1:2780"], OptionError::PeerForm),
+    (&["--peer", "x=10.0.0.1"], OptionError::PeerForm),
+    (&["--peer", "256=::1"], OptionError::PeerForm),
+    (
+        &["--peer", "0=10.0.0.1", "--peer", "0=10.0.0.2"],
+        OptionError::RepeatedPeer,
+    ),
+    (&["--allow", "host"], OptionError::AllowForm),
+    (&["--allow", "10.0.0.0/33"], OptionError::AllowForm),
+    (
+        &["--peer", "x", "--allow", "10.0.0.0/"],
+        OptionError::AllowForm,
+    ),
+    (
+        &[
+            "--allow", "::1", "--allow", "::2", "--allow", "::3", "--allow", "::4", "--allow",
+            "::5", "--allow", "::6", "--allow", "::7", "--allow", "::8", "--allow", "::9",
+            "--allow", "::a", "--allow", "::b", "--allow", "::c", "--allow", "::d", "--allow",
+            "::e", "--allow", "::f", "--allow", "::10", "--allow", "::11",
+        ],
+        OptionError::TooManyNetworks,
     ),
 ];
 
@@ -159,6 +204,116 @@ fn contradicting_options_are_refused(rt: HostRuntime) -> Result<(), Fail> {
     Ok(())
 }
 
+/// Each reason in words.
+const REASONS: &[(OptionError, &str)] = &[
+    (
+        OptionError::Station,
+        "either --control or --terminal must say which station it is",
+    ),
+    (
+        OptionError::TerminalNumber,
+        "--terminal takes the number of a terminal",
+    ),
+    (
+        OptionError::Place,
+        "either --listen or --connect must say where its connections are",
+    ),
+    (
+        OptionError::ConnectNeedsShared,
+        "--control with --connect needs --shared",
+    ),
+    (
+        OptionError::NeedsControl,
+        "--shared, --pause, --rounds and --idle-rounds need --control",
+    ),
+    (
+        OptionError::PatienceNeedsConnect,
+        "--patience needs --connect",
+    ),
+    (
+        OptionError::ReplaceAfterNeedsListen,
+        "--replace-after needs --control and --listen",
+    ),
+    (OptionError::AllowNeedsListen, "--allow needs --listen"),
+    (
+        OptionError::PeerNeedsListen,
+        "--peer needs --control and --listen, and not --shared",
+    ),
+    (OptionError::GapNeedsRaw, "--gap needs --raw"),
+    (
+        OptionError::TextAndBytes,
+        "--text and --bytes cannot both be given",
+    ),
+    (
+        OptionError::RepeatedInput,
+        "CONFIG, --offer and --until-input-ends cannot use standard input more than once",
+    ),
+    (OptionError::Gap, "--gap takes milliseconds, 1 to 3600000"),
+    (
+        OptionError::TimeOut,
+        "--time-out takes milliseconds, 1 to 3600000",
+    ),
+    (
+        OptionError::GapNotBelowTimeOut,
+        "with --raw the gap must be less than the time-out",
+    ),
+    (
+        OptionError::PauseNotBelowTimeOut,
+        "--pause must be less than the time-out",
+    ),
+    (
+        OptionError::Patience,
+        "--patience takes milliseconds, 1 to 3600000",
+    ),
+    (
+        OptionError::ReplaceAfter,
+        "--replace-after takes milliseconds, 1 to 3600000",
+    ),
+    (
+        OptionError::Pause,
+        "--pause takes milliseconds, 0 to 3600000",
+    ),
+    (OptionError::Rounds, "--rounds takes a number from 1 up"),
+    (
+        OptionError::IdleRounds,
+        "--idle-rounds takes a number from 1 up",
+    ),
+    (OptionError::AllowForm, "--allow takes ADDRESS/BITS"),
+    (
+        OptionError::TooManyNetworks,
+        "--allow cannot be given more than 16 times",
+    ),
+    (OptionError::PeerForm, "--peer takes T=ADDRESS"),
+    (
+        OptionError::RepeatedPeer,
+        "--peer cannot name a terminal more than once",
+    ),
+    (
+        OptionError::NoTerminal,
+        "--terminal names a terminal that is not in CONFIG",
+    ),
+    (
+        OptionError::NoPeer,
+        "--peer names a terminal that is not in CONFIG",
+    ),
+    (
+        OptionError::OfferForm,
+        "--offer takes T.S=PATH at the control station",
+    ),
+    (
+        OptionError::NoChannel,
+        "--offer names a channel that is not in CONFIG",
+    ),
+];
+
+#[test]
+fn each_reason_names_its_options(rt: HostRuntime) -> Result<(), Fail> {
+    for (reason, text) in REASONS {
+        assert!(rt; has_text(rt.alloc(), reason, text));
+    }
+    Ok(())
+}
+
 /// The options of each front are accepted without others.
 #[test]
 fn fitting_options_are_accepted(rt: HostRuntime) -> Result<(), Fail> {
@@ -166,6 +321,19 @@ fn fitting_options_are_accepted(rt: HostRuntime) -> Result<(), Fail> {
     assert_eq!(rt; refusal(rt.alloc(), TERMINAL, RAW)?, None);
     assert_eq!(rt;
         refusal(rt.alloc(), CONTROL, &["--gap", "9", "--raw"])?,
+        None
+    );
+    const PEERS: &[&str] = &[
+        "--allow",
+        "10.0.0.0/8",
+        "--peer",
+        "0=10.0.0.1",
+        "--peer",
+        "1=::1",
+    ];
+    assert_eq!(rt; refusal(rt.alloc(), CONTROL, PEERS)?, None);
+    assert_eq!(rt;
+        refusal(rt.alloc(), TERMINAL, &["--until-input-ends", "--sync"])?,
         None
     );
     Ok(())

@@ -2,7 +2,7 @@
 
 use crate::faults::has_text;
 use bsc_carrier::Cable;
-use bsc_input::{Files, InputError};
+use bsc_input::{Files, InputError, Unreadable};
 use bsc_loopback::{LoopbackError, connect};
 use bsc_running::{Cables, RunWords, run};
 use std::alloc::Global;
@@ -211,7 +211,10 @@ impl<R: Net> Files for Machine<'_, R> {
             "line.toml" => self.line,
             "script.txt" => self.script,
             "long.txt" => return Err(InputError::TooLong),
-            _ => return Err(InputError::Device),
+            _ => {
+                let why = Unreadable::NoSuchFile;
+                return Err(InputError::Device { why });
+            }
         };
         match Vec::from_slice(self.alloc, text.as_bytes()) {
             Ok(octets) => Ok(octets),
@@ -360,7 +363,7 @@ const FAULTS: &[Case] = &[
         check: false,
         input: "",
         printed: "",
-        error: "cannot read none.toml",
+        error: "cannot read none.toml: no such file",
     },
     Case {
         line: "?",
@@ -378,7 +381,7 @@ const FAULTS: &[Case] = &[
         check: false,
         input: "",
         printed: "",
-        error: "cannot read none.txt",
+        error: "cannot read none.txt: no such file",
     },
     Case {
         line: "?",
@@ -396,7 +399,7 @@ const FAULTS: &[Case] = &[
         check: false,
         input: "",
         printed: "",
-        error: "config: not toml",
+        error: "config: not toml: line 1",
     },
     Case {
         line: "version = 1",

@@ -1,7 +1,9 @@
-//! Large sizes, with enough memory: scripts and inputs of a mebibyte, and the longest text.
+//! Large sizes, with enough memory: scripts of a mebibyte, inputs of more, lines of the greatest
+//! length, and the longest text.
 
 use crate::naming::{Call, is_due};
 use bsc_input::MAX_INPUT;
+use bsc_naming::NamingError;
 use bsc_script::read_script;
 use std::alloc::{AllocError, Global};
 use std::test::Fail;
@@ -60,16 +62,46 @@ fn a_script_of_the_longest_hearings_has_each(rt: HostRuntime) -> Result<(), Fail
     Ok(())
 }
 
-/// Whether each line of an input of a mebibyte has its name printed.
+/// Whether each line of an input of 5,500,000 octets has its name printed.
 fn has_each_name(alloc: Global) -> Result<bool, AllocError> {
-    let input = mebibyte_of(alloc, "161610B0FF\n")?;
-    let names = "ACK0\n".repeat(alloc, 95_325)?;
+    let input = "161610B0FF\n".repeat(alloc, 500_000)?;
+    let names = "ACK0\n".repeat(alloc, 500_000)?;
     Ok(is_due(alloc, Call::Names, &input, &names, None))
 }
 
 #[test]
-fn an_input_of_a_mebibyte_has_each_name(rt: HostRuntime) -> Result<(), Fail> {
+fn an_input_of_five_mebibytes_has_each_name(rt: HostRuntime) -> Result<(), Fail> {
     assert!(rt; has_each_name(rt.alloc())?);
+    Ok(())
+}
+
+/// What follows half of the greatest length in pairs of digits, the output, and the error.
+const LENGTHS: &[(&str, &str, Option<NamingError>)] = &[
+    ("", "EOT\nNOISE\n", None),
+    ("\n16 04", "EOT\nNOISE\nEOT\n", None),
+    (" ", "EOT\n", TOO_LONG),
+    ("\r\n16 04", "EOT\n", TOO_LONG),
+    ("zz\n16 04", "EOT\n", TOO_LONG),
+];
+
+/// The error of the second line.
+const TOO_LONG: Option<NamingError> = Some(NamingError::TooLongAt { line: 2 });
+
+/// The place of the first of these lengths with another output or another error.
+fn first_wrong_length(alloc: Global) -> Result<Option<usize>, AllocError> {
+    for (place, (after, printed, error)) in LENGTHS.iter().enumerate() {
+        let input = around(alloc, "16 04\n", "16", MAX_INPUT / 2, after)?;
+        if !is_due(alloc, Call::Names, &input, printed, *error) {
+            return Ok(Some(place));
+        }
+    }
+    Ok(None)
+}
+
+/// A line of the greatest length is named, and a longer one is refused after the line before it.
+#[test]
+fn a_line_may_have_a_mebibyte(rt: HostRuntime) -> Result<(), Fail> {
+    assert_eq!(rt; first_wrong_length(rt.alloc())?, None);
     Ok(())
 }
 

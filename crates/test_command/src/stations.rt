@@ -1,11 +1,11 @@
 //! Whole stations run by their words, over a scripted connection. The octets are those of
 //! docs/PROTOCOL.md.
 
-use crate::machine::{Asking, Case, Due, Scene, first_wrong};
+use crate::machine::{Asking, Case, Due, SILENT, Scene, first_wrong};
 use std::test::Fail;
 
 /// What terminal 0 hears: a poll, which it answers with a text; ACK1; a selection; a text; EOT.
-const HEARD: &[&[u8]] = &[
+pub(crate) const HEARD: &[&[u8]] = &[
     b"\x16\x16\x04\xFF\x16\x16\xC1\x85\xFF",
     b"\x16\x16\x10\x31\xFF",
     b"\x16\x16\x04\xFF\x16\x16\x61\x85\xFF",
@@ -14,7 +14,7 @@ const HEARD: &[&[u8]] = &[
 ];
 
 /// The same transmissions as socket records.
-const RECORDS: &[&[u8]] = &[
+pub(crate) const RECORDS: &[&[u8]] = &[
     b"\x00\x09\x16\x16\x04\xFF\x16\x16\xC1\x85\xFF",
     b"\x00\x05\x16\x16\x10\x31\xFF",
     b"\x00\x09\x16\x16\x04\xFF\x16\x16\x61\x85\xFF",
@@ -30,7 +30,7 @@ const WRONG: &[&[u8]] = &[b"\xFF\xFF", &[0x55; 2048], &[0x55; 2048]];
 
 /// What a control station with a record for terminal 0 hears: ACK0, ACK1, and EOT to each poll of
 /// two rounds.
-const ANSWERS: &[&[u8]] = &[
+pub(crate) const ANSWERS: &[&[u8]] = &[
     b"\x00\x05\x16\x16\x10\xB0\xFF",
     b"\x00\x05\x16\x16\x10\x31\xFF",
     b"\x00\x04\x16\x16\x04\xFF",
@@ -42,8 +42,12 @@ const ANSWERS: &[&[u8]] = &[
 /// The output of terminal 0 with a record to send, if it hears this.
 const TERMINAL: &str = "to 0: HI\nfrom 0: offered 1, known 1\nto 0: spooled 1\n";
 
+/// The output of a control station with a record for terminal 0, if it hears the answers.
+const CONTROL: &str = "from 0: spooled 0\nto 0: offered 1, known 1\nfrom 1: spooled 0\n\
+to 1: offered 0, known 0\nslowest answer: 0% of the time-out\ntrusted\n";
+
 /// What a terminal that connects requests, without further options.
-const CONNECTING: Asking = Asking {
+pub(crate) const CONNECTING: Asking = Asking {
     listens: false,
     connections: 1,
     raw: false,
@@ -55,10 +59,13 @@ const CONNECTING: Asking = Asking {
     replace_after: 9_000,
     pause: 20,
     trace: false,
+    allows_one: true,
+    allows_two: true,
+    stops: false,
 };
 
 /// What a control station that listens requests, without further options.
-const CONTROLLING: Asking = Asking {
+pub(crate) const CONTROLLING: Asking = Asking {
     listens: true,
     connections: 2,
     raw: false,
@@ -70,6 +77,15 @@ const CONTROLLING: Asking = Asking {
     replace_after: 9_000,
     pause: 20,
     trace: false,
+    allows_one: true,
+    allows_two: true,
+    stops: false,
+};
+
+/// The connections of a control station that reaches all terminals by one connection.
+pub(crate) const SHARING: Asking = Asking {
+    connections: 1,
+    ..CONTROLLING
 };
 
 const CASES: &[Case] = &[
@@ -89,8 +105,8 @@ const CASES: &[Case] = &[
         takes: true,
         scene: Scene {
             pieces: RECORDS,
-            later: &[],
             steps: b"",
+            ..SILENT
         },
         due: Due {
             asking: Some(CONNECTING),
@@ -120,8 +136,8 @@ const CASES: &[Case] = &[
         takes: true,
         scene: Scene {
             pieces: HEARD,
-            later: &[],
             steps: b"rgrgrgrgrg",
+            ..SILENT
         },
         due: Due {
             asking: Some(Asking {
@@ -151,8 +167,8 @@ const CASES: &[Case] = &[
         takes: true,
         scene: Scene {
             pieces: CUT,
-            later: &[],
             steps: b"",
+            ..SILENT
         },
         due: Due {
             asking: Some(CONNECTING),
@@ -174,8 +190,8 @@ const CASES: &[Case] = &[
         takes: true,
         scene: Scene {
             pieces: WRONG,
-            later: &[],
             steps: b"",
+            ..SILENT
         },
         due: Due {
             asking: Some(CONNECTING),
@@ -191,6 +207,7 @@ const CASES: &[Case] = &[
             "--control",
             "--listen",
             "h:1",
+            "--shared",
             "--offer",
             "0=-",
             "--idle-rounds",
@@ -204,44 +221,17 @@ const CASES: &[Case] = &[
         takes: true,
         scene: Scene {
             pieces: ANSWERS,
-            later: &[],
             steps: b"trrrrrr",
+            ..SILENT
         },
         due: Due {
             asking: Some(Asking {
+                connections: 1,
                 replace_after: 70,
                 pause: 0,
                 ..CONTROLLING
             }),
-            out: "from 0: spooled 0\nto 0: offered 1, known 1\nfrom 1: spooled 0\n\
-            to 1: offered 0, known 0\n",
-            errors: "",
-            status: 0,
-        },
-    },
-    Case {
-        words: Some(&[
-            "station",
-            "line.toml",
-            "--control",
-            "--listen",
-            "h:1",
-            "--offer",
-            "0=-",
-            "--idle-rounds",
-            "1",
-        ]),
-        input: Some("HI\n"),
-        takes: true,
-        scene: Scene {
-            pieces: &[],
-            later: ANSWERS,
-            steps: b"trjtrrrrrr",
-        },
-        due: Due {
-            asking: Some(CONTROLLING),
-            out: "from 0: spooled 0\nto 0: offered 1, known 1\nfrom 1: spooled 0\n\
-            to 1: offered 0, known 0\n",
+            out: CONTROL,
             errors: "",
             status: 0,
         },
@@ -265,9 +255,8 @@ const CASES: &[Case] = &[
         input: Some("HI\n"),
         takes: true,
         scene: Scene {
-            pieces: &[],
-            later: &[],
             steps: b"t",
+            ..SILENT
         },
         due: Due {
             asking: Some(Asking {
@@ -280,7 +269,7 @@ const CASES: &[Case] = &[
                 ..CONNECTING
             }),
             out: "from 0: spooled 0\nto 0: offered 1, known 0\nfrom 1: spooled 0\n\
-            to 1: offered 0, known 0\n",
+            to 1: offered 0, known 0\nslowest answer: none\ntrusted\n",
             errors: "bscline: records not delivered\n",
             status: 4,
         },
@@ -288,10 +277,49 @@ const CASES: &[Case] = &[
 ];
 
 /// Tests what each station requests of its machine, its output, its standard error and its exit
-/// status. The peer of the second control station closes its connection, and another one takes its
-/// place: a control station that listens goes on.
+/// status.
 #[test]
 fn stations_end_as_their_connections_do(rt: HostRuntime) -> Result<(), Fail> {
     assert_eq!(rt; first_wrong(rt.alloc(), CASES), None);
+    Ok(())
+}
+
+/// The peer closes its connection, and another one takes its place.
+const LISTENING: &[Case] = &[Case {
+    words: Some(&[
+        "station",
+        "line.toml",
+        "--control",
+        "--listen",
+        "h:1",
+        "--shared",
+        "--offer",
+        "0=-",
+        "--idle-rounds",
+        "1",
+    ]),
+    input: Some("HI\n"),
+    takes: true,
+    scene: Scene {
+        later: ANSWERS,
+        steps: b"trjtrrrrrr",
+        ..SILENT
+    },
+    due: Due {
+        asking: Some(Asking {
+            connections: 1,
+            ..CONTROLLING
+        }),
+        out: CONTROL,
+        errors: "",
+        status: 0,
+    },
+}];
+
+#[test]
+fn a_control_station_that_listens_goes_on_when_its_peer_closes(
+    rt: HostRuntime,
+) -> Result<(), Fail> {
+    assert_eq!(rt; first_wrong(rt.alloc(), LISTENING), None);
     Ok(())
 }

@@ -42,10 +42,10 @@ const ASKED: &[Row] = &[
             "--trace",
         ],
         "Station(StationWords { config: \"c\", control: true, terminal: None, \
-listen: Some(\"h:1\"), connect: None, shared: false, raw: false, gap: None, time_out: None, \
-patience: None, replace_after: None, pause: None, rounds: None, idle_rounds: None, offers: [], \
-text: false, bytes: false, \
-report_records: false, trace: true })",
+listen: Some(\"h:1\"), allowed: [], peers: [], connect: None, shared: false, raw: false, gap: None, \
+time_out: None, patience: None, replace_after: None, pause: None, rounds: None, \
+idle_rounds: None, until_input_ends: false, offers: [], text: false, bytes: false, \
+report_records: false, sync: false, trace: 1 })",
     ),
     (
         &[
@@ -72,12 +72,22 @@ report_records: false, trace: true })",
             "--pause=3",
             "--bytes",
             "--report-records",
+            "--allow=d",
+            "--allow",
+            "e",
+            "--peer=f",
+            "--until-input-ends",
+            "--sync",
+            "--trace",
+            "--trace",
+            "--trace",
         ],
         "Station(StationWords { config: \"c\", control: false, terminal: Some(\"1\"), \
-listen: None, connect: Some(\"h:1\"), shared: true, raw: true, gap: Some(\"9\"), \
+listen: None, allowed: [\"d\", \"e\"], peers: [\"f\"], connect: Some(\"h:1\"), shared: true, raw: true, gap: Some(\"9\"), \
 time_out: Some(\"8\"), patience: Some(\"5\"), \
 replace_after: Some(\"4\"), pause: Some(\"3\"), rounds: Some(\"7\"), idle_rounds: Some(\"6\"), \
-offers: [\"a\", \"b\"], text: true, bytes: true, report_records: true, trace: false })",
+until_input_ends: true, offers: [\"a\", \"b\"], text: true, bytes: true, report_records: true, \
+sync: true, trace: 3 })",
     ),
     (&["bscline"], "Names"),
     (&["bscline", "show"], "Show"),
@@ -168,6 +178,8 @@ Options:
       --control             Be the control station
       --terminal <T>        Be terminal T, counted from 0
       --listen <ADDRESS>    Let peers connect at this address
+      --allow <NETWORK>     Let only peers of this network, ADDRESS/BITS, connect; needs --listen
+      --peer <T=ADDRESS>    Hear terminal T from this IP address only; needs --control and --listen
       --connect <ADDRESS>   Connect to a peer at this address
       --shared              Reach all terminals by one connection
       --raw                 Send octets as they stand; a gap ends a transmission
@@ -181,12 +193,15 @@ unless given
 given
       --rounds <N>          End after N rounds of the poll list
       --idle-rounds <N>     End after N idle rounds in a row, 2 unless given
+      --until-input-ends    End when standard input ends
       --offer <OFFER>       Offer the lines of PATH: at a terminal PATH, at the control station \
 T.S=PATH
       --text                Print records as text on one line, with escapes
       --bytes               Print records as they stand
       --report-records      Repeat the records that arrived in the report
-      --trace               Print what is sent and heard on standard error
+      --sync                Sync standard output, if it is a file, before records are acknowledged
+      --trace...            Print what is sent and heard on standard error; given twice, idle \
+polls too
   -h, --help                Print help
 
 Example: bscline station examples/lossy_line/line.toml --control --listen 127.0.0.1:2780 --text

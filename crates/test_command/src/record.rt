@@ -1,0 +1,73 @@
+//! What a command sends and prints as a trace on a machine made for tests.
+
+use std::alloc::Global;
+use std::cell::{Cell, RefCell};
+use std::io;
+use std::io::Write;
+
+/// What a command sent and what it printed as a trace.
+#[derive(Drop)]
+pub(crate) struct Record {
+    /// The number of octets that were sent.
+    pub(crate) sent: Cell<usize>,
+
+    /// Whether a flush of standard output also syncs it.
+    pub(crate) syncs: Cell<bool>,
+
+    pub(crate) trace: RefCell<Vec<u8>>,
+}
+
+impl Record {
+    pub(crate) fn new(alloc: Global) -> Record {
+        Record {
+            sent: Cell::new(0),
+            syncs: Cell::new(false),
+            trace: RefCell::new(Vec::new(alloc)),
+        }
+    }
+
+    /// The first of these that differs from what is expected.
+    pub(crate) fn difference(&self, sent: usize, trace: &str) -> Option<&'static str> {
+        if self.sent.get() != sent {
+            return Some("the number of octets that were sent");
+        }
+        match self.trace.try_borrow() {
+            Ok(octets) if octets.as_slice() == trace.as_bytes() => None,
+            _ => Some("the trace"),
+        }
+    }
+}
+
+/// The sending side of the connection.
+#[derive(Drop)]
+pub(crate) struct Sending<'a> {
+    pub(crate) record: &'a Record,
+}
+
+impl Write for Sending<'_> {
+    fn write(&mut self, octets: &[u8]) -> io::Result<usize> {
+        let sent = self.record.sent.get();
+        self.record.sent.set(sent.saturating_add(octets.len()));
+        Ok(octets.len())
+    }
+
+    fn flush(&mut self) -> io::Result<()> {
+        Ok(())
+    }
+}
+
+/// The writer for the trace.
+#[derive(Drop)]
+pub(crate) struct Tracer<'a> {
+    pub(crate) record: &'a Record,
+}
+
+impl Write for Tracer<'_> {
+    fn write(&mut self, octets: &[u8]) -> io::Result<usize> {
+        self.record.trace.try_borrow_mut()?.write(octets)
+    }
+
+    fn flush(&mut self) -> io::Result<()> {
+        Ok(())
+    }
+}
