@@ -76,12 +76,13 @@ fn ended(rt: &HostRuntime, address: SocketAddr, ending: &Ending) -> io::Result<T
     Ok(peer)
 }
 
-/// Attends a station over the connection of one peer of this listener. Returns whether it was told
-/// exactly these notes.
+/// Attends a station over the connection of one peer of this listener, which has this address.
+/// Returns whether it was told exactly these notes.
 fn is_told(
     rt: &HostRuntime,
     alloc: Global,
     listening: Listening,
+    peer: SocketAddr,
     notes: &'static [Note<'static>],
 ) -> Result<bool, Fail> {
     let wanted = Peers {
@@ -104,7 +105,7 @@ fn is_told(
     for (reader, writer) in connections {
         raw.push(Connection::<_, _, Gaps>::new(reader, writer))?;
     }
-    let mut monitor = Expects::new(notes, true);
+    let mut monitor = Expects::of_peer(notes, true, peer);
     let result = attend(&mut Answers, &mut raw, &mut sockets, &mut monitor);
     Ok(result == Ok(()) && monitor.is_done())
 }
@@ -113,8 +114,8 @@ fn is_told(
 fn what_a_raw_peer_sent_before_it_ended_is_heard(rt: HostRuntime) -> Result<(), Fail> {
     for ending in ENDINGS {
         let (listening, address) = bound(&rt)?;
-        let _peer = ended(&rt, address, ending)?;
-        if !is_told(&rt, rt.alloc(), listening, ending.notes)? {
+        let peer = ended(&rt, address, ending)?;
+        if !is_told(&rt, rt.alloc(), listening, peer.local_addr()?, ending.notes)? {
             return Err(Fail::new(format_args!("{:?}", ending.octets)));
         }
     }

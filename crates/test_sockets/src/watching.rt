@@ -8,6 +8,7 @@ use bsc_bid::Station;
 use bsc_carrier::CarrierError;
 use bsc_connections::{LiveError, Monitor, Note, Pace, Refusal};
 use bsc_frame::{Heard, MessageBuffer, Reply};
+use std::net::SocketAddr;
 
 /// Answers a message with ACK0 and a failed text with NAK, and sends EOT after a silence.
 #[derive(Drop)]
@@ -55,6 +56,9 @@ pub(crate) struct Expects {
     has_ended: bool,
     /// A pause after a note of what was sent.
     pace: Pace,
+    /// The only peer, if it has an address of this machine; else the peer of a connection has the
+    /// address of its place.
+    peer: Option<SocketAddr>,
 }
 
 /// The octets of a note, the number of its connection, and the reason for closing it. Notes of
@@ -95,29 +99,6 @@ fn parts<'a>(
     }
 }
 
-/// Whether a note of a peer has its address: that of its connection, that of the newcomer that is
-/// turned away, or none if the system could not accept the peer.
-fn names_peer(note: &Note<'_>) -> bool {
-    match *note {
-        Note::Joined {
-            connection,
-            peer,
-            ..
-        } => peer == peer_at(connection),
-        Note::Closed {
-            connection,
-            peer,
-            ..
-        } => peer == peer_at(connection),
-        Note::Refused {
-            peer,
-            why: Refusal::NotAccepted,
-        } => peer.is_none(),
-        Note::Refused { peer, .. } => peer == Some(newcomer()),
-        _ => true,
-    }
-}
-
 impl Expects {
     /// Expects these notes, and ends the station at the last of them if `ends` is true.
     pub(crate) fn new(notes: &'static [Note<'static>], ends: bool) -> Expects {
@@ -127,7 +108,44 @@ impl Expects {
             ends,
             has_ended: false,
             pace: Pace::AtOnce,
+            peer: None,
         }
+    }
+
+    /// The same of the connection of this peer.
+    pub(crate) fn of_peer(notes: &'static [Note<'static>], ends: bool, peer: SocketAddr) -> Expects {
+        Expects {
+            peer: Some(peer),
+            ..Expects::new(notes, ends)
+        }
+    }
+
+    /// Whether a note of a peer has its address: that of its connection, that of the newcomer that
+    /// is turned away, or none if the system could not accept the peer.
+    fn names_peer(&self, note: &Note<'_>) -> bool {
+        match *note {
+            Note::Joined {
+                connection,
+                peer,
+                ..
+            } => peer == self.peer_of(connection),
+            Note::Closed {
+                connection,
+                peer,
+                ..
+            } => peer == self.peer_of(connection),
+            Note::Refused {
+                peer,
+                why: Refusal::NotAccepted,
+            } => peer.is_none(),
+            Note::Refused { peer, .. } => peer == Some(newcomer()),
+            _ => true,
+        }
+    }
+
+    /// The address of the peer of this connection.
+    fn peer_of(&self, connection: usize) -> Option<SocketAddr> {
+        self.peer.or(peer_at(connection))
     }
 
     /// Whether this is the next expected note, and names the peer that the waiter names. The one
@@ -138,7 +156,7 @@ impl Expects {
         let place = self.taken;
         self.taken = place.saturating_add(1);
         match self.notes.get(place) {
-            Some(expected) => parts(expected) == parts(note) && names_peer(note),
+            Some(expected) => parts(expected) == parts(note) && self.names_peer(note),
             None => false,
         }
     }
