@@ -35,10 +35,12 @@ module _ {S R W F M T : Type 0} (parts : SessionParts S R W F M T) where
   due_if_equal old new happened other is due = subst (λ (hs : List Happening). AllDue old hs new)
       (sym is) due
 
-  due_of_sent : (old new : Now) (happened : List Happening) (sent : Option Message)
-      → AllByRecursion (IsDue parts old happened new) (sent_where_some sent)
-  due_of_sent old new happened None = tt
-  due_of_sent old new happened (Some m) = (tt, tt)
+  due_of_sent : (old new : Now) (happened : List Happening) (in_time : Bool)
+      (due : Option Message)
+      → AllByRecursion (IsDue parts old happened new) (sent_where_some in_time due)
+  due_of_sent old new happened in_time None = tt
+  due_of_sent old new happened true (Some m) = (tt, tt)
+  due_of_sent old new happened false (Some m) = (tt, tt)
 
   due_of_admitted : (admitted : Bool) (place : ℕ) (octets : List ℕ) (old : Now)
       (between : List C) (happened : List Happening) (result : Result Bool LiveError) (new : Now)
@@ -48,9 +50,13 @@ module _ {S R W F M T : Type 0} (parts : SessionParts S R W F M T) where
       → AllDue old happened new
   due_of_admitted true place octets old between happened result new is h =
       let r = h.answers.replies in
-      due_if_equal old new happened (WasHeard place octets ∷ sent_where_some r.sent)
+      due_if_equal old new happened (WasHeard place octets ∷ sent_where_some r.in_time r.due)
       (h.answers.happens ∙ ap (λ (more : List Happening). WasHeard place octets ∷ more) r.happens)
-      (is, due_of_sent old new (WasHeard place octets ∷ sent_where_some r.sent) r.sent)
+      (
+        is,
+        due_of_sent old new (WasHeard place octets ∷ sent_where_some r.in_time r.due) r.in_time
+            r.due,
+      )
   due_of_admitted false place octets old between happened result new is
       (station, same, told, waits) =
       due_if_equal old new happened (WasIgnored place octets ∷ []) told.0
@@ -122,9 +128,9 @@ module _ {S R W F M T : Type 0} (parts : SessionParts S R W F M T) where
       place old happened result new passes
   due_of_event TimeOut old happened result new silent =
       let r = silent.answers.replies in
-      due_if_equal old new happened (WasSilent ∷ sent_where_some r.sent)
+      due_if_equal old new happened (WasSilent ∷ sent_where_some r.in_time r.due)
       (silent.answers.happens ∙ ap (λ (more : List Happening). WasSilent ∷ more) r.happens)
-      (tt, due_of_sent old new (WasSilent ∷ sent_where_some r.sent) r.sent)
+      (tt, due_of_sent old new (WasSilent ∷ sent_where_some r.in_time r.due) r.in_time r.due)
   due_of_event Stopped old happened result new (same, kept, stopped, waits) =
       due_if_equal old new happened _ stopped.0 (tt, tt)
 

@@ -286,13 +286,15 @@ module _ {R W F : Type 0} (parts : ConnectionParts R W F)
         )
       ]
 
-  came_sent : (sent : Option Message) (place : ℕ) (before after : List C) (b : C)
-      → SendsAll parts sent before after → slice_get after place ≡ Some b → b.ends ≢ None
-      → Came place (arrived_at place (sent_where_some sent)) (all_sent (sent_where_some sent)) before
-      b
-  came_sent None place before after b same is is_up = came_nothing_if_unchanged place before after b
-      same is is_up
-  came_sent (Some m) place before after b all is is_up =
+  came_sent : (in_time : Bool) (due : Option Message) (place : ℕ) (before after : List C) (b : C)
+      → SendsAll parts in_time due before after → slice_get after place ≡ Some b → b.ends ≢ None
+      → Came place (arrived_at place (sent_where_some in_time due))
+      (all_sent (sent_where_some in_time due)) before b
+  came_sent in_time None place before after b same is is_up =
+      came_nothing_if_unchanged place before after b same is is_up
+  came_sent false (Some m) place before after b same is is_up =
+      came_nothing_if_unchanged place before after b same is is_up
+  came_sent true (Some m) place before after b all is is_up =
       let (a, was, sends) =
       related_at_place (Sends parts (wire m)) before after place b all is in
       (a, was, carries_sent (wire m) a b is_up sends)
@@ -407,12 +409,13 @@ module _ {R W F : Type 0} (parts : ConnectionParts R W F)
               [] none came,
         )
 
-    nobody_joins_by_sending : (place : ℕ) (sent : Option Message)
-        → NobodyJoins place (sent_where_some sent)
-    nobody_joins_by_sending place None = tt
-    nobody_joins_by_sending place (Some m) = (tt, tt)
+    nobody_joins_by_sending : (place : ℕ) (in_time : Bool) (due : Option Message)
+        → NobodyJoins place (sent_where_some in_time due)
+    nobody_joins_by_sending place in_time None = tt
+    nobody_joins_by_sending place true (Some m) = (tt, tt)
+    nobody_joins_by_sending place false (Some m) = (tt, tt)
 
-    -- What is sent, or nothing, after something that happened.
+    -- What is sent or withheld, or nothing, after something that happened.
     went_by_answer : (place : ℕ) (happening : Happening) (answer : Option Message)
         (old between : Now) (happened : List Happening) (result : Result Bool LiveError) (new : Now)
         (b : C) → IsNoJoining place happening
@@ -423,16 +426,17 @@ module _ {R W F : Type 0} (parts : ConnectionParts R W F)
         → Went place old.connections happened b
     went_by_answer place happening answer old between happened result new b none first a is is_up =
         let r = a.replies in
-        let happens : happened ≡ happening ∷ sent_where_some r.sent = a.happens
+        let later : List Happening = sent_where_some r.in_time r.due in
+        let happens : happened ≡ happening ∷ later = a.happens
         ∙ ap (λ (more : List Happening). happening ∷ more) r.happens in
         inl (
-          subst (NobodyJoins place) (sym happens) (none, nobody_joins_by_sending place r.sent),
-          came_for_equal_history place old.connections b happened
-              (happening ∷ sent_where_some r.sent) happens
+          subst (NobodyJoins place) (sym happens)
+              (none, nobody_joins_by_sending place r.in_time r.due),
+          came_for_equal_history place old.connections b happened (happening ∷ later) happens
               (came_in_turn place (arrived_in place happening) (sent_in happening)
-              (arrived_at place (sent_where_some r.sent)) (all_sent (sent_where_some r.sent))
-              old.connections between.connections b first
-              (came_sent r.sent place between.connections new.connections b r.sends is is_up)),
+              (arrived_at place later) (all_sent later) old.connections between.connections b first
+              (came_sent r.in_time r.due place between.connections new.connections b r.sends is
+              is_up)),
         )
 
     -- A transmission that was heard or ignored, after what brought it.

@@ -17,9 +17,11 @@ use Rattle.bsc_connections.specs.Attending.{Arrives, HearsIfAdmitted, ReadsAt, G
 use Rattle.bsc_connections.specs.Attending.{Around, Session, awaits_gap}
 use Rattle.bsc_connections.specs.Silences.{silences, silences_due, TellsEachSilence}
 
-silences_of_sent : (sent : Option Message) → silences (sent_where_some sent) ≡ 0
-silences_of_sent None = refl
-silences_of_sent (Some m) = refl
+silences_of_sent : (in_time : Bool) (due : Option Message)
+    → silences (sent_where_some in_time due) ≡ 0
+silences_of_sent in_time None = refl
+silences_of_sent true (Some m) = refl
+silences_of_sent false (Some m) = refl
 
 module _ {S R W F M T : Type 0} (parts : SessionParts S R W F M T) where
   abbrev Now : Type 0
@@ -31,7 +33,7 @@ module _ {S R W F M T : Type 0} (parts : SessionParts S R W F M T) where
       → silences happened ≡ 0
   no_silence_in_arrival true place octets old happened result new h =
       ap silences h.answers.happens ∙ ap silences h.answers.replies.happens
-      ∙ silences_of_sent h.answers.replies.sent
+      ∙ silences_of_sent h.answers.replies.in_time h.answers.replies.due
   no_silence_in_arrival false place octets old happened result new (station, same, told, waits) =
       ap silences told.0
 
@@ -97,7 +99,7 @@ module _ {S R W F M T : Type 0} (parts : SessionParts S R W F M T) where
       happened result new passes
   silences_are_due TimeOut old happened result new silent = ap silences silent.answers.happens
       ∙ ap (λ (n : ℕ). 1 + n) (ap silences silent.answers.replies.happens
-      ∙ silences_of_sent silent.answers.replies.sent)
+      ∙ silences_of_sent silent.answers.replies.in_time silent.answers.replies.due)
   silences_are_due Stopped old happened result new (same, unchanged, stopped, waits) =
       ap silences stopped.0
 

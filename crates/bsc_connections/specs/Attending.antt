@@ -20,9 +20,9 @@ use Rattle.bsc_connections.specs.declared.connection.Taken.TheVariants.{Nothing,
 use Rattle.bsc_connections.specs.declared.connection.Taken.TheVariants.{Closed}
 use Rattle.bsc_connections.specs.Parts.{ConnectionParts, SessionParts}
 use Rattle.bsc_connections.specs.Connections.{ConnectionValue, Takes, Sends}
-use Rattle.bsc_connections.specs.Histories.{Happening, WasHeard, WasSilent, WasSent, HasJoined}
+use Rattle.bsc_connections.specs.Histories.{Happening, WasHeard, WasSilent, HasJoined}
 use Rattle.bsc_connections.specs.Histories.{HasClosed, WasIgnored, WasRefused, WasStopped}
-use Rattle.bsc_connections.specs.Histories.{sent_where_some}
+use Rattle.bsc_connections.specs.Histories.{sent_if_in_time, sent_where_some}
 use Rattle.bsc_carrier.specs.Cable.{ChangesAt}
 
 -- A station, its connections, the monitor that is told what happens, and the waiter.
@@ -75,11 +75,11 @@ PlaceFor may_replace (Some closed) places waiter place = place ≡ Some closed
 PlaceFor may_replace None places waiter place =
     (named : Option ℕ) × may_replace waiter named × (place ≡ place_below places named)
 
--- What is sent of an answer, by what the monitor returned when it was told of the event: all if it
--- accepted that, and nothing if it refused.
-abbrev pub sent_if_accepted : Result Bool LiveError → Option Message → Option Message
-sent_if_accepted (Ok goes_on) answer = answer
-sent_if_accepted (Err error) answer = None
+-- What is to be sent of an answer, by what the monitor returned when it was told of the event: all
+-- if it accepted that, and nothing if it refused.
+abbrev pub due_if_accepted : Result Bool LiveError → Option Message → Option Message
+due_if_accepted (Ok goes_on) answer = answer
+due_if_accepted (Err error) answer = None
 
 -- The result of telling a monitor of two things: the first error, or whether it goes on after both.
 abbrev pub both_go_on : Result Bool LiveError → Result Bool LiveError → Result Bool LiveError
@@ -88,11 +88,18 @@ both_go_on (Ok goes_on) (Err error) = Err error
 both_go_on (Err error) later = Err error
 
 module _ {R W F : Type 0} (parts : ConnectionParts R W F) where
-  -- What is sent is written to every open connection.
-  abbrev pub SendsAll : Option Message → List (ConnectionValue R W F) → List (ConnectionValue R W F)
-      → Type 0
-  SendsAll None old new = new ≡ old
-  SendsAll (Some m) old new = AllZip (Sends parts (wire m)) old new
+  -- These octets are written to every open connection if they are in time, as the flag says; else
+  -- nothing is written.
+  abbrev pub WritesIfInTime : Bool → List ℕ → List (ConnectionValue R W F)
+      → List (ConnectionValue R W F) → Type 0
+  WritesIfInTime true octets old new = AllZip (Sends parts octets) old new
+  WritesIfInTime false octets old new = new ≡ old
+
+  -- What is due is written to every open connection if it is in time.
+  abbrev pub SendsAll : Bool → Option Message → List (ConnectionValue R W F)
+      → List (ConnectionValue R W F) → Type 0
+  SendsAll in_time None old new = new ≡ old
+  SendsAll in_time (Some m) old new = WritesIfInTime in_time (wire m) old new
 
   -- The result of a read at this place; `Nothing` if there is no such connection.
   abbrev pub IsTakenAt : ℕ → List (ConnectionValue R W F) → Taken → List (ConnectionValue R W F)
@@ -101,31 +108,42 @@ module _ {R W F : Type 0} (parts : ConnectionParts R W F) where
       ChangesAt place (λ b a. Takes parts b taken a) before after
       ⊎ ((slice_get before place ≡ None) × (taken ≡ Nothing) × (after ≡ before))
 
--- What is known of the connections, and what the monitor does when it is told of something.
-module _ {S R W F M : Type 0} (parts : ConnectionParts R W F)
-    (is_told : M → S → Happening → Result Bool LiveError → M → Type 0) where
+-- What is known of the connections, what the monitor does when it is told of something, and what the
+-- waiter says of whether something is in time.
+module _ {S R W F M T : Type 0} (parts : ConnectionParts R W F)
+    (is_told : M → S → Happening → Result Bool LiveError → M → Type 0)
+    (permits : T → Bool → T → Type 0) where
   abbrev AroundIt : Type 0
   AroundIt = Around (ConnectionValue R W F) M
 
-  -- After this message was sent the monitor is told of it. If none was sent it is told of nothing.
-  abbrev pub TellsSent : Option Message → S → M → Result Bool LiveError → M → Type 0
-  TellsSent None station before result after = (result ≡ Ok true) × (after ≡ before)
-  TellsSent (Some m) station before result after =
-      is_told before station (WasSent (wire m)) result after
+  -- If this message is due, the waiter says whether it is in time. If none is, it is not asked.
+  abbrev pub AsksWaiter : Option Message → T → Bool → T → Type 0
+  AsksWaiter None before in_time after = after ≡ before
+  AsksWaiter (Some m) before in_time after = permits before in_time after
+
+  -- If this message was due, the monitor is told whether it was sent or withheld. If none was, it is
+  -- told of nothing.
+  abbrev pub TellsSent : Bool → Option Message → S → M → Result Bool LiveError → M → Type 0
+  TellsSent in_time None station before result after = (result ≡ Ok true) × (after ≡ before)
+  TellsSent in_time (Some m) station before result after =
+      is_told before station (sent_if_in_time in_time (wire m)) result after
 
   -- The station has an answer, and the monitor has returned this when it was told what happened. If
-  -- it accepted that, the answer is sent, and then the monitor is told what was sent. If it
-  -- refused, nothing is sent, and its error is the result.
+  -- it accepted that, the waiter says whether the answer is in time: if it is, it is sent, and then
+  -- the monitor is told what was sent; if it is late, nothing is sent, and the monitor is told what
+  -- was withheld. If the monitor refused, nothing is sent, and its error is the result.
   pub record Replies (told : Result Bool LiveError) (answer : Option Message) (station : S)
-      (old : AroundIt) (happened : List Happening) (result : Result Bool LiveError)
-      (new : AroundIt) : Type 0 where
-    pub sent : Option Message
-    pub accepted : sent ≡ sent_if_accepted told answer
-    pub sends : SendsAll parts sent old.connections new.connections
+      (old : AroundIt) (before : T) (happened : List Happening) (result : Result Bool LiveError)
+      (new : AroundIt) (after : T) : Type 0 where
+    pub due : Option Message
+    pub accepted : due ≡ due_if_accepted told answer
+    pub in_time : Bool
+    pub asks : AsksWaiter due before in_time after
+    pub sends : SendsAll parts in_time due old.connections new.connections
     pub told_later : Result Bool LiveError
-    pub tells_sent : TellsSent sent station old.monitor told_later new.monitor
+    pub tells_sent : TellsSent in_time due station old.monitor told_later new.monitor
     pub result_is : result ≡ both_go_on told told_later
-    pub happens : happened ≡ sent_where_some sent
+    pub happens : happened ≡ sent_where_some in_time due
 
 module _ {S R W F M T : Type 0} (parts : SessionParts S R W F M T) where
   abbrev Now : Type 0
@@ -145,20 +163,21 @@ module _ {S R W F M T : Type 0} (parts : SessionParts S R W F M T) where
       (happened ≡ happening ∷ []) × parts.is_told before station happening result after
 
   -- The station has this answer to what happened. The monitor is told what happened, and then the
-  -- answer is sent if it accepted that. Then the waiter is told what was handled, and with which
-  -- pace of the monitor it goes on.
+  -- answer is sent if it accepted that, unless it is late. Then the waiter is told what was handled,
+  -- late or not, and with which pace of the monitor it goes on.
   pub record Answers (happening : Happening) (answer : Option Message) (old : Now)
       (happened : List Happening) (result : Result Bool LiveError) (new : Now) : Type 0 where
     pub told : Result Bool LiveError
     pub monitor : M
     pub tells : parts.is_told old.monitor new.station happening told monitor
     pub later : List Happening
-    pub replies : Replies parts.connection parts.is_told told answer new.station
-        (record { connections = old.connections; monitor = monitor }) later result
-        (record { connections = new.connections; monitor = new.monitor })
+    pub waiter : T
+    pub replies : Replies parts.connection parts.is_told parts.waiter.permits told answer
+        new.station (record { connections = old.connections; monitor = monitor }) old.waiter later
+        result (record { connections = new.connections; monitor = new.monitor }) waiter
     pub happens : happened ≡ happening ∷ later
     pub handles :
-        parts.waiter.handles old.waiter (handled_by happening answer) (parts.paces new.monitor)
+        parts.waiter.handles waiter (handled_by happening answer) (parts.paces new.monitor)
         new.waiter
 
   -- The station is told of a silence, and answers.

@@ -1,5 +1,6 @@
 -- What happened to a station while it was attended, in order.
-use Rattle.std.specs.Prelude.{⊤, ◌≢◌, ℕ, List, [], ◌∷◌, nat_eq, if◌then◌else◌, Option, None, Some}
+use Rattle.std.specs.Prelude.{⊤, ◌≢◌, ℕ, Bool, true, false, List, [], ◌∷◌, nat_eq, if◌then◌else◌}
+use Rattle.std.specs.Prelude.{Option, None, Some}
 use Rattle.std.specs.List.{AllByRecursion, flat_map}
 use Rattle.bsc_frame.specs.declared.message.Message.{Message}
 use Rattle.bsc_frame.specs.Wire.{wire}
@@ -15,6 +16,8 @@ pub data Happening : Type 0 where
   WasSilent : Happening
   -- A transmission of these octets was sent on every open connection.
   WasSent : (octets : List ℕ) → Happening
+  -- A transmission of these octets was not sent, because it would have been late.
+  WasWithheld : (octets : List ℕ) → Happening
   -- A peer took the connection at this place, which was closed or is replaced.
   HasJoined : (place : ℕ) → Happening
   -- A peer was refused a connection.
@@ -24,10 +27,16 @@ pub data Happening : Type 0 where
   -- The station was asked to end.
   WasStopped : Happening
 
--- The history of what was sent: one entry, or none if nothing was sent.
-abbrev pub sent_where_some : Option Message → List Happening
-sent_where_some None = []
-sent_where_some (Some m) = WasSent (wire m) ∷ []
+-- What becomes of these octets, which the station sends: they are sent if they are in time, as the
+-- flag says, and else withheld.
+abbrev pub sent_if_in_time : Bool → List ℕ → Happening
+sent_if_in_time true octets = WasSent octets
+sent_if_in_time false octets = WasWithheld octets
+
+-- The history of what a station sends, in time or not: one entry, or none if it sends nothing.
+abbrev pub sent_where_some : Bool → Option Message → List Happening
+sent_where_some in_time None = []
+sent_where_some in_time (Some m) = sent_if_in_time in_time (wire m) ∷ []
 
 -- The transmission of these octets, if both places are the same.
 abbrev pub if_same_place : ℕ → ℕ → List ℕ → List (List ℕ)

@@ -2,9 +2,9 @@
 use Rattle.bsc_connections.specs.declared.monitor.Note.{Note}
 use Rattle.bsc_connections.specs.declared.monitor.Note.TheVariants.{Heard, Silence, Sent, Joined}
 use Rattle.bsc_connections.specs.declared.monitor.Note.TheVariants.{Closed, Refused, Ignored}
-use Rattle.bsc_connections.specs.declared.monitor.Note.TheVariants.{Stopped}
+use Rattle.bsc_connections.specs.declared.monitor.Note.TheVariants.{Stopped, Withheld}
 use Rattle.bsc_connections.specs.Histories.{Happening, WasHeard, WasSilent, WasSent, HasJoined}
-use Rattle.bsc_connections.specs.Histories.{HasClosed, WasRefused, WasIgnored, WasStopped}
+use Rattle.bsc_connections.specs.Histories.{HasClosed, WasRefused, WasIgnored, WasStopped, WasWithheld}
 
 -- What a note tells.
 abbrev pub told_by : Note → Happening
@@ -12,6 +12,7 @@ told_by (Heard connection octets) = WasHeard connection octets.now
 told_by (Ignored connection octets) = WasIgnored connection octets.now
 told_by Silence = WasSilent
 told_by (Sent octets) = WasSent octets.now
+told_by (Withheld octets) = WasWithheld octets.now
 told_by (Joined connection peer replaces) = HasJoined connection
 told_by (Refused peer why) = WasRefused
 told_by (Closed connection peer why) = HasClosed connection why

@@ -1,17 +1,14 @@
 //! Runs a station: what happens on its connections is handled one event at a time.
 
 ghost use Rattle.std.specs.Prelude.{◌≡◌, ◌<◌, length, List, true, false, is_none, slice_get};
-ghost use Rattle.std.specs.Prelude.{IfOk, IfSome, OnOk, Option};
-ghost use Rattle.std.specs.List.{AllZip};
-ghost use Rattle.bsc_bid.specs.Station.{IsSent};
-ghost use Rattle.bsc_frame.specs.declared.message.Message.{Message};
+ghost use Rattle.std.specs.Prelude.{IfOk, IfSome, OnOk};
 ghost use Rattle.bsc_connections.specs.Parts.{connection_parts, session_parts};
-ghost use Rattle.bsc_connections.specs.Connections.{Sends};
 ghost use Rattle.bsc_connections.specs.Histories.{Happening};
 ghost use Rattle.bsc_connections.specs.Attending.{Attends, StepsOrFails, Does, Arrives, IsSilent};
-ghost use Rattle.bsc_connections.specs.Attending.{IsTakenAt, PlaceFor, Replies, awaits_gap};
+ghost use Rattle.bsc_connections.specs.Attending.{IsTakenAt, PlaceFor, awaits_gap};
 ghost use Rattle.bsc_connections.specs.Attending.{first_closed, handled_if, is_closed_at};
 
+use crate::replying::reply;
 use crate::{
     Awaited, Connection, Framing, Handled, LiveError, Monitor, Note, Refusal, Taken, Waiter,
 };
@@ -23,10 +20,12 @@ use std::io::{Read, Write};
 /// transmission that the monitor admits; of one that it does not admit the monitor is only told.
 /// The monitor is told what the station heard, or that a time-out passed, before the station's
 /// answer is written. If it accepts that, the answer is written to every open connection before
-/// anything else is heard; if it refuses, nothing is written. A connection that fails or ends is
-/// closed for good, and a peer that connects later takes its place; if none is closed, that of a
-/// connection that the waiter says may be replaced. Returns at once with any error of the waiter or
-/// of the monitor, and with `Count` after 2^64 - 1 steps.
+/// anything else is heard, or withheld where the waiter says that it is late, so that it is lost to
+/// the peers and none of them hears it after a time-out; if the monitor refuses, nothing is written.
+/// It makes no difference to the station whether its answer is withheld. A connection that fails or
+/// ends is closed for good, and a peer that connects later takes its place; if none is closed, that
+/// of a connection that the waiter says may be replaced. Returns at once with any error of the
+/// waiter or of the monitor, and with `Count` after 2^64 - 1 steps.
 pub fn attend<
     S: Station,
     R: Read + Drop,
@@ -154,52 +153,6 @@ fn awaits_gap_at<R: Read + Drop, W: Write + Drop, F: Framing + Drop>(
     }
 }
 
-/// Writes a transmission to every open connection.
-fn send_all<R: Read + Drop, W: Write + Drop, F: Framing + Drop>(
-    connections: &mut [Connection<R, W, F>],
-    octets: &[u8],
-)
-    ensures { AllZip (Sends (connection_parts R.Read W.Write F.Framing) octets.now)
-        connections.old connections.new }
-{
-    'connections: for connection in connections.iter_mut() {
-        connection.send(octets);
-    }
-}
-
-/// Sends the answer of the station, if there is one and the monitor has accepted what happened, and
-/// then tells the monitor what was sent. `told` is what the monitor returned before. Returns the
-/// first error of the monitor, or whether the station is attended further.
-fn reply<S: Station, R: Read + Drop, W: Write + Drop, F: Framing + Drop, M: Monitor<S>>(
-    station: &S,
-    connections: &mut [Connection<R, W, F>],
-    told: Result<bool, LiveError>,
-    is_sent: bool,
-    octets: &[u8],
-    monitor: &mut M,
-) -> Result<bool, LiveError>
-    requires { IfOk told (λ goes_on. goes_on ≡ false → M.has_ended monitor.old ≡ true) }
-    ensures replies { (answer : Option Message) → IsSent answer is_sent octets.now
-        → (happened : List Happening)
-        × Replies (connection_parts R.Read W.Write F.Framing) M.is_told told answer station.now
-        (record { connections = connections.old; monitor = monitor.old }) happened result
-        (record { connections = connections.new; monitor = monitor.new }) }
-    ensures ended { IfOk result (λ goes_on. goes_on ≡ false → M.has_ended monitor.new ≡ true) }
-{
-    let goes_on = match told {
-        Ok(goes_on) => goes_on,
-        Err(error) => return Err(error),
-    };
-    if !is_sent {
-        return Ok(goes_on);
-    }
-    send_all(connections, octets);
-    match monitor.note(station, Note::Sent { octets }) {
-        Ok(goes_on_later) => Ok(goes_on_later && goes_on),
-        Err(error) => Err(error),
-    }
-}
-
 /// Reads once at this place. If the read completes a transmission, the station hears it if the
 /// monitor admits it.
 fn read_at<
@@ -280,7 +233,7 @@ fn take_at<R: Read + Drop, W: Write + Drop, F: Framing + Drop>(
 
 /// Lets the station hear the last transmission of the connection at this place if the monitor
 /// admits it, tells the monitor what was heard, and sends the station's answer if the monitor
-/// accepts. The waiter is then told whether the station had an answer. If the monitor does not
+/// accepts and it is in time. The waiter is then told whether the station had an answer. If the monitor does not
 /// admit the transmission, it is told of it, and nothing else is done.
 fn arrive_at<
     S: Station,
@@ -324,7 +277,7 @@ fn arrive_at<
     let mut wire = Wire::new();
     let is_sent = station.hear(octets, &mut wire);
     let told = monitor.note(station, Note::Heard { connection, octets });
-    let result = reply(station, connections, told, is_sent, &wire, monitor);
+    let result = reply(station, connections, told, is_sent, &wire, waiter, monitor);
     waiter.handled(handled_at(connection, is_sent), monitor.pace());
     result
 }
@@ -384,7 +337,7 @@ fn gap_at<
 }
 
 /// Tells the station of a silence, tells the monitor of it, and sends the station's answer if the
-/// monitor accepts. The waiter is then told of the silence.
+/// monitor accepts and it is in time. The waiter is then told of the silence.
 fn silence<
     S: Station,
     R: Read + Drop,
@@ -420,7 +373,7 @@ fn silence<
     let mut wire = Wire::new();
     let is_sent = station.silence(&mut wire);
     let told = monitor.note(station, Note::Silence);
-    let result = reply(station, connections, told, is_sent, &wire, monitor);
+    let result = reply(station, connections, told, is_sent, &wire, waiter, monitor);
     waiter.handled(Handled::Silence, monitor.pace());
     result
 }

@@ -1,6 +1,6 @@
 //! What a station waits for, and the waiter that tells it what happened.
 
-ghost use Rattle.std.specs.Prelude.{ℕ, Option, Result};
+ghost use Rattle.std.specs.Prelude.{ℕ, Bool, Option, Result};
 ghost use Rattle.bsc_connections.specs.declared.awaited.Awaited.{Awaited as AwaitedValue};
 ghost use Rattle.bsc_connections.specs.declared.awaited.Handled.{Handled as HandledValue};
 ghost use Rattle.bsc_connections.specs.declared.awaited.LiveError.{LiveError as LiveErrorValue};
@@ -95,6 +95,10 @@ pub trait Waiter<R, W> {
     /// handled, how the next wait begins, the waiter after.
     ghost handles: { Self → HandledValue → PaceValue → Self → Type 0 };
 
+    /// Whether something that is sent now is in time: the waiter before, the result, the waiter
+    /// after.
+    ghost permits: { Self → Bool → Self → Type 0 };
+
     /// The gap of the connection at this place begins anew.
     ghost begins_gap: { Self → ℕ → Self → Type 0 };
 
@@ -124,6 +128,12 @@ pub trait Waiter<R, W> {
     /// else moves it.
     fn handled(&mut self, what: Handled, pace: Pace)
         ensures { handles self.old what pace self.new };
+
+    /// Returns whether something that the station sends now is in time. It is late if so much time
+    /// has passed since what it answers may have arrived, or since the time-out, that it could be
+    /// heard after the time-out of a peer. What is late is not sent.
+    fn may_send(&mut self) -> bool
+        ensures { permits self.old result self.new };
 
     /// Begins the gap of the connection at this place anew, with the next wait.
     fn begin_gap(&mut self, connection: usize)

@@ -17,6 +17,7 @@ mod gaps;
 pub mod laws;
 mod limits;
 mod monitor;
+mod replying;
 mod socket_records;
 
 pub use attending::attend;

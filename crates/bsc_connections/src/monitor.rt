@@ -53,6 +53,12 @@ pub enum Note<'a> {
         octets: &'a [u8],
     },
 
+    /// These octets were not sent, since the waiter says that they would be late. To the peers that
+    /// is as if they had been lost on the way. The monitor is told in place of `Sent`.
+    Withheld {
+        octets: &'a [u8],
+    },
+
     /// This peer took the connection at this place. `replaces` tells whether the connection was
     /// open, and so is closed now.
     Joined {

@@ -15,7 +15,7 @@ use Rattle.bsc_connections.specs.Connections.{ConnectionValue}
 use Rattle.bsc_connections.specs.Histories.{Happening, WasHeard, WasSilent, sent_where_some}
 use Rattle.bsc_connections.specs.Histories.{all_sent}
 use Rattle.bsc_connections.specs.Attending.{Session, Around, Answers, TellsSent}
-use Rattle.bsc_connections.specs.Attending.{sent_if_accepted, ReadsAt, GapPasses, Joins, JoinsAs}
+use Rattle.bsc_connections.specs.Attending.{due_if_accepted, ReadsAt, GapPasses, Joins, JoinsAs}
 use Rattle.bsc_connections.specs.Attending.{Does, awaits_gap, Arrives, HearsIfAdmitted}
 use Rattle.bsc_monitor.specs.Arrivals.{arrived_on}
 use Rattle.bsc_monitor.specs.Watching.{Output, PrintsArrivals, Sees, ArePrinted}
@@ -39,18 +39,22 @@ module _ {S R W F M T Z : Type 0} (parts : SessionParts S R W F M T) (party : pa
   Prints station before after = PrintsArrivals party station (output before) (output after)
 
   -- If something is sent it was printed before.
-  printed_if_sent : (sent : Option Message) (told : Result Bool LiveError) (answer : Option Message)
-      (station : S) (first before after : M) (later : Result Bool LiveError)
-      → sent ≡ sent_if_accepted told answer → all_sent (sent_where_some sent) ≢ []
+  printed_if_sent : (in_time : Bool) (due : Option Message) (told : Result Bool LiveError)
+      (answer : Option Message) (station : S) (first before after : M)
+      (later : Result Bool LiveError) → due ≡ due_if_accepted told answer
+      → all_sent (sent_where_some in_time due) ≢ []
       → ((goes_on : Bool) → told ≡ Ok goes_on → Prints station first before)
-      → TellsSent parts.connection parts.is_told sent station before later after → Prints station first after
-  printed_if_sent None told answer station first before after later accepted some prints tells =
-      absurd (some refl)
-  printed_if_sent (Some m) (Err error) answer station first before after later accepted some prints
-      tells =
+      → TellsSent parts.connection parts.is_told parts.waiter.permits in_time due station before
+      later after → Prints station first after
+  printed_if_sent in_time None told answer station first before after later accepted some prints
+      tells = absurd (some refl)
+  printed_if_sent false (Some m) told answer station first before after later accepted some prints
+      tells = absurd (some refl)
+  printed_if_sent true (Some m) (Err error) answer station first before after later accepted some
+      prints tells =
       let clash : Some m ≡ None = accepted in absurd cc
-  printed_if_sent (Some m) (Ok goes_on) answer station first before after later accepted some prints
-      tells =
+  printed_if_sent true (Some m) (Ok goes_on) answer station first before after later accepted some
+      prints tells =
       subst (λ (o : Output). PrintsArrivals party station (output first) o)
       (sym (sees before station _ later after tells)) (prints goes_on refl)
 
@@ -64,7 +68,7 @@ module _ {S R W F M T Z : Type 0} (parts : SessionParts S R W F M T) (party : pa
       → Prints new.station old.monitor new.monitor
   printed_by_answer happening answer old happened result new prints unsent a some =
       let r = a.replies in
-      printed_if_sent r.sent a.told answer new.station old.monitor a.monitor new.monitor
+      printed_if_sent r.in_time r.due a.told answer new.station old.monitor a.monitor new.monitor
       r.told_later r.accepted
       (λ none. some (ap all_sent a.happens ∙ unsent a.later ∙ ap all_sent r.happens ∙ none))
       (λ goes_on is. prints a.told goes_on a.monitor is a.tells) r.tells_sent

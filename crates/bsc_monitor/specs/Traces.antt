@@ -6,9 +6,9 @@ use Rattle.std.specs.Io.KnownBytes.{Appends}
 use Rattle.std.specs.Net.Text.{socket_text}
 use Rattle.std.specs.declared.net.socket_addr.SocketAddr.{SocketAddr}
 use Rattle.bsc_connections.specs.Histories.{Happening, WasHeard, WasIgnored, WasSilent, WasSent}
-use Rattle.bsc_connections.specs.Histories.{WasStopped}
+use Rattle.bsc_connections.specs.Histories.{WasStopped, WasWithheld}
 use Rattle.bsc_connections.specs.declared.monitor.Note.{Note}
-use Rattle.bsc_connections.specs.declared.monitor.Note.TheVariants.{Joined}
+use Rattle.bsc_connections.specs.declared.monitor.Note.TheVariants.{Joined, Withheld}
 use Rattle.bsc_frame.specs.declared.message.Heard.{Heard}
 use Rattle.bsc_frame.specs.Reading.{heard}
 use Rattle.bsc_print.specs.Names.{chars_shown, name_of}
@@ -30,6 +30,7 @@ abbrev pub deed_shown : Deed → List ℕ
 deed_shown deed.Sent = codes " sent "
 deed_shown deed.Heard = codes " heard "
 deed_shown deed.Ignored = codes " ignored "
+deed_shown deed.Withheld = codes " withheld "
 
 -- The end of a line: the octets in hexadecimal text.
 abbrev pub octets_shown : List ℕ → List ℕ
@@ -67,6 +68,8 @@ IsTraced (WasIgnored place octets) time me old new =
     (transmission_line time (heard_from me place) deed.Ignored (heard octets) octets)
 IsTraced (WasSent octets) time me old new =
     Appends old new (transmission_line time me deed.Sent (heard octets) octets)
+IsTraced (WasWithheld octets) time me old new =
+    Appends old new (transmission_line time me deed.Withheld (heard octets) octets)
 IsTraced WasSilent time me old new = Appends old new (silence_line time)
 IsTraced WasStopped time me old new = Appends old new (stopped_line time)
 IsTraced _ time me old new = ⊤
@@ -89,10 +92,16 @@ joined_shown false = codes " joined\n"
 abbrev pub joined_line : ℕ → Option SocketAddr → Bool → List ℕ
 joined_line place peer replaces = connection_shown place peer ++ joined_shown replaces
 
--- The line for a peer that took a connection is written; of other lines nothing is said.
+-- The line without a trace for something that was withheld.
+abbrev pub withheld_line : List ℕ
+withheld_line = codes "a transmission was withheld: it would have been late\n"
+
+-- The line for a peer that took a connection is written, or the one for something that was withheld;
+-- of other lines nothing is said.
 abbrev pub ShowsChange : Note → Option (List ℕ) → Option (List ℕ) → Type 0
 ShowsChange (Joined place peer replaces) old new =
     Appends old new (joined_line place peer replaces)
+ShowsChange (Withheld octets) old new = Appends old new withheld_line
 ShowsChange note old new = ⊤
 
 -- The start of a line that is printed while a station waits for its peers: a trace has the time 0.

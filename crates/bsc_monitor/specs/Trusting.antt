@@ -4,7 +4,7 @@ use Rattle.std.specs.Net.Socket.{socket_ip}
 use Rattle.std.specs.declared.net.ip_addr.IpAddr.{IpAddr}
 use Rattle.std.specs.declared.net.socket_addr.SocketAddr.{SocketAddr}
 use Rattle.bsc_connections.specs.Histories.{Happening, WasHeard, WasSent, HasJoined, HasClosed}
-use Rattle.bsc_connections.specs.Histories.{WasIgnored}
+use Rattle.bsc_connections.specs.Histories.{WasIgnored, WasWithheld}
 use Rattle.bsc_connections.specs.declared.monitor.Note.{Note}
 use Rattle.bsc_connections.specs.declared.monitor.Note.TheVariants.{Joined}
 use Rattle.bsc_control.specs.Control.{ControlValue, current}
@@ -12,7 +12,8 @@ use Rattle.bsc_control.specs.declared.task.Task.{Task}
 use Rattle.bsc_control.specs.declared.task.Task.TheVariants.{AtRest}
 use Rattle.bsc_frame.specs.Reading.{heard}
 use Rattle.bsc_trust.specs.Trust.{admits, after_closed, after_heard, after_ignored, after_joined}
-use Rattle.bsc_trust.specs.Trust.{after_sent, reason_told, told_of, told_of_sending}
+use Rattle.bsc_trust.specs.Trust.{after_sent, after_withheld, reason_told, told_of}
+use Rattle.bsc_trust.specs.Trust.{told_of_sending}
 use Rattle.bsc_trust.specs.declared.distrust.Distrust.{Distrust}
 use Rattle.bsc_trust.specs.declared.trust.Trust.{Trust}
 use Rattle.bsc_monitor.specs.declared.trusting.Trusting.{Trusting}
@@ -50,6 +51,7 @@ trust_after t called (WasHeard place octets) now peer =
     after_heard t called place (heard octets) now
 trust_after t called (WasIgnored place octets) now peer = after_ignored t called place
 trust_after t called (WasSent octets) now peer = after_sent t now
+trust_after t called (WasWithheld octets) now peer = after_withheld t now
 trust_after t called (HasJoined place) now peer = after_joined t place peer
 trust_after t called (HasClosed place why) now peer = after_closed t place
 trust_after t called _ now peer = t

@@ -109,7 +109,7 @@ impl<'a, A: Allocator + Copy, T: Timer + Drop, W: Write, D: Write> Monitor<Ended
                 self.ended = self.ended || self.stopped;
                 self.stopped = true;
             }
-            Note::Ignored { .. } | Note::Sent { .. } => {}
+            Note::Ignored { .. } | Note::Sent { .. } | Note::Withheld { .. } => {}
             Note::Joined { .. } | Note::Refused { .. } => {}
         }
         Ok(!self.ended)

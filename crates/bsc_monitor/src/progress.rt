@@ -130,7 +130,7 @@ impl Progress {
                 self.stopped = true;
                 was_stopped
             }
-            Note::Heard { .. } | Note::Ignored { .. } => false,
+            Note::Heard { .. } | Note::Ignored { .. } | Note::Withheld { .. } => false,
             Note::Joined { .. } | Note::Refused { .. } => false,
         }
     }

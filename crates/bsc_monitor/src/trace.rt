@@ -10,7 +10,7 @@ ghost use Rattle.bsc_monitor.specs.Traces.{IsTraced, ShowsChange, connection_sho
 ghost use Rattle.bsc_monitor.specs.Traces.{distrust_line, joined_shown, octets_shown, origin_shown};
 ghost use Rattle.bsc_monitor.specs.Traces.{silence_line, stopped_line};
 ghost use Rattle.bsc_monitor.specs.Traces.{heard_from as sender_heard, time_shown};
-ghost use Rattle.bsc_monitor.specs.Traces.{transmission_line, who_shown};
+ghost use Rattle.bsc_monitor.specs.Traces.{transmission_line, who_shown, withheld_line};
 
 use bsc_carrier::CarrierError;
 use bsc_connections::{Note, Refusal};
@@ -46,6 +46,9 @@ pub(crate) enum Deed {
 
     /// The station did not hear it, since it was not admitted.
     Ignored,
+
+    /// The station did not send it, since it would have been late.
+    Withheld,
 }
 
 /// Writes the time at the start of a line, in milliseconds.
@@ -82,6 +85,7 @@ fn deed_text(deed: Deed) -> &'static [u8]
         Deed::Sent => b" sent ",
         Deed::Heard => b" heard ",
         Deed::Ignored => b" ignored ",
+        Deed::Withheld => b" withheld ",
     }
 }
 
@@ -135,8 +139,8 @@ fn write_octets<A: Allocator, W: Write>(
 }
 
 /// Writes the line for an event of the station `me`: the time in milliseconds, and then the
-/// transmission that it sent, heard or ignored, the time-out, that it is asked to end, or the change
-/// of a connection.
+/// transmission that it sent, heard, ignored or withheld, the time-out, that it is asked to end, or
+/// the change of a connection.
 pub(crate) fn write_note<A: Allocator, W: Write>(
     alloc: A,
     time: u64,
@@ -157,6 +161,9 @@ pub(crate) fn write_note<A: Allocator, W: Write>(
             write_transmission(alloc, time, who, Deed::Ignored, octets, out)
         }
         Note::Sent { octets } => write_transmission(alloc, time, me, Deed::Sent, octets, out),
+        Note::Withheld { octets } => {
+            write_transmission(alloc, time, me, Deed::Withheld, octets, out)
+        }
         Note::Silence => write_silence(time, out),
         Note::Stopped => write_stopped(time, out),
         Note::Joined { .. } | Note::Refused { .. } | Note::Closed { .. } => {
@@ -176,8 +183,8 @@ pub(crate) fn heard_from(me: Who, connection: usize) -> Who
     }
 }
 
-/// Writes the line for a peer that joined or was refused, or for a connection that is closed,
-/// without a time. Writes nothing for any other event.
+/// Writes the line for a peer that joined or was refused, for a connection that is closed, or for
+/// something that was withheld, without a time. Writes nothing for any other event.
 pub(crate) fn write_change<W: Write>(note: &Note<'_>, out: &mut W) -> Result<(), PrintError>
     ensures { OnOk result (ShowsChange note.now (W.contents out.old) (W.contents out.new)) }
 {
@@ -192,6 +199,7 @@ pub(crate) fn write_change<W: Write>(note: &Note<'_>, out: &mut W) -> Result<(),
             Ok(())
         }
         Note::Refused { peer, why } => write_refused(*peer, *why, out),
+        Note::Withheld { .. } => write_withheld(out),
         Note::Closed {
             connection,
             peer,
@@ -234,6 +242,14 @@ fn write_stopped<W: Write>(time: u64, out: &mut W) -> Result<(), PrintError>
         Ok(()) => Ok(()),
         Err(_) => Err(PrintError::Output),
     }
+}
+
+/// Writes the line for something that was withheld, without a time.
+fn write_withheld<W: Write>(out: &mut W) -> Result<(), PrintError>
+    ensures { OnOk result (Appends (W.contents out.old) (W.contents out.new) withheld_line) }
+{
+    put(b"a transmission was withheld: it would have been late\n", out)?;
+    Ok(())
 }
 
 /// Writes why the line is not trusted, without a time.

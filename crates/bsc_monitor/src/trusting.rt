@@ -73,6 +73,10 @@ impl Trusting {
             Note::Heard { connection, octets } => self.hear(*connection, octets, now),
             Note::Ignored { connection, .. } => Some(self.trust.ignored(self.called, *connection)),
             Note::Sent { .. } => self.trust.sent(now),
+            Note::Withheld { .. } => {
+                self.trust.withheld(now);
+                None
+            }
             Note::Joined {
                 connection,
                 peer,

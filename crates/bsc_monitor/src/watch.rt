@@ -26,7 +26,8 @@ pub struct Printing {
 }
 
 /// Prints what happens to a station: the records that arrive to one writer, and the trace to
-/// another. Which peers join, leave and are refused is always reported to the second.
+/// another. Which peers join, leave and are refused, and that something was withheld, is always
+/// reported to the second.
 #[derive(Drop)]
 pub struct Watch<'a, A: Allocator, T: Drop, W, D> {
     alloc: A,
@@ -106,7 +107,8 @@ impl<'a, A: Allocator + Copy, T: Timer + Drop, W: Write, D: Write> Watch<'a, A, 
         live(self.tell(seen, note))?;
         match note {
             Note::Heard { .. } | Note::Silence => self.print_records(station),
-            Note::Sent { .. } | Note::Ignored { .. } | Note::Stopped => Ok(false),
+            Note::Sent { .. } | Note::Withheld { .. } => Ok(false),
+            Note::Ignored { .. } | Note::Stopped => Ok(false),
             Note::Joined { .. } | Note::Refused { .. } | Note::Closed { .. } => Ok(false),
         }
     }
@@ -190,7 +192,7 @@ impl<'a, A: Allocator + Copy, T: Timer + Drop, W: Write, D: Write> Watch<'a, A, 
     }
 
     /// Prints the line for an event: a line of the trace, or without a trace only that of a peer
-    /// that joined, left or was refused.
+    /// that joined, left or was refused, or of something that was withheld.
     pub(crate) fn tell(&mut self, seen: Seen, note: &Note<'_>) -> Result<(), PrintError>
         ensures { output_of W.contents self.new ≡ output_of W.contents self.old }
     {

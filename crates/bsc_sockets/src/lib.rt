@@ -26,6 +26,7 @@ mod standings;
 mod stopping;
 mod time_limit;
 mod times;
+mod unread;
 mod waiting;
 mod writable;
 

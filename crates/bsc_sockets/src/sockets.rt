@@ -10,6 +10,7 @@ use crate::ready::Ready;
 use crate::standings::Standings;
 use crate::stopping::{Stopping, watch};
 use crate::times::Times;
+use crate::unread::{LATE_SHARE, Unread};
 use crate::{ConnectionSettings, Listening, SocketsError};
 use bsc_connections::{Awaited, Handled, LiveError, Pace, Waiter};
 use mio::net::{TcpListener, TcpStream};
@@ -41,6 +42,8 @@ pub struct Sockets<'a, N: Net + Clock, A: Allocator> {
     pub(crate) standings: Standings<A>,
     /// The times of the time-out and of the gaps.
     pub(crate) times: Times<A>,
+    /// The time for which what is read next may have lain unread.
+    pub(crate) unread: Unread,
     /// The number of places served since the system was last asked.
     pub(crate) unasked: usize,
     /// The number of events served since a time has passed whose end is not told yet.
@@ -84,6 +87,7 @@ impl<'a, N: Net + Clock, A: Allocator + Copy> Sockets<'a, N, A> {
             stopping: Stopping::NotAsked,
             standings: Standings::new(alloc, places)?,
             times: Times::new(alloc, places)?,
+            unread: Unread::new(),
             unasked: 0,
             overdue: 0,
         })
@@ -193,7 +197,8 @@ impl<'a, N: Net + Clock, A: Allocator + Copy> Sockets<'a, N, A> {
 impl<'a, N: Net + Clock, A: Allocator + Copy> Waiter<Reading, Writing<'a, N, A>>
     for Sockets<'a, N, A> {
     ghost use Rattle.std.specs.Duration.{as_nanos};
-    ghost use Rattle.std.specs.Prelude.{◌≡◌, ◌+◌, IfOk, IfSome, IsNone, IsSome, OnOk, Some, true};
+    ghost use Rattle.std.specs.Prelude.{◌≡◌, ◌+◌, ◌/◌, IfOk, IfSome, IsNone, IsSome, OnOk, Some};
+    ghost use Rattle.std.specs.Prelude.{true};
     ghost use Rattle.std.specs.Prelude.{false, is_some, length, slice_set};
     ghost use Rattle.bsc_connections.specs.declared.awaited.Pace.TheVariants.{AtOnce};
     ghost use Rattle.bsc_sockets.specs.Answers.{IsAnswer, newcomer_may};
@@ -219,6 +224,13 @@ impl<'a, N: Net + Clock, A: Allocator + Copy> Waiter<Reading, Writing<'a, N, A>>
         (moves_time_out (is_some before.listener) standings what) before.times.time_out)
         × (after.times.pace ≡ pace)
         × (standings_value after.standings ≡ standings_after standings what) };
+
+    ghost permits = { λ before in_time after.
+        (after ≡ record before { unread = after.unread })
+        × (in_time ≡ false → after.unread ≡ before.unread)
+        × (in_time ≡ true → IsSome before.unread.limit
+        × IfSome after.unread.limit
+        (λ limit. as_nanos limit.time ≡ as_nanos before.settings.time_out / LATE_SHARE)) };
 
     ghost begins_gap = { λ before place after.
         (after.times.time_out ≡ before.times.time_out)
@@ -273,6 +285,14 @@ impl<'a, N: Net + Clock, A: Allocator + Copy> Waiter<Reading, Writing<'a, N, A>>
         if let Handled::Answered { connection } = what {
             self.standings.answered(connection);
         }
+    }
+
+    fn may_send(&mut self) -> bool {
+        if self.unread.is_late(self.runtime) {
+            return false;
+        }
+        self.begin_unread();
+        true
     }
 
     fn begin_gap(&mut self, connection: usize) {

@@ -1,5 +1,7 @@
 //! A limit on the time of a wait.
 
+ghost use Rattle.std.specs.Prelude.{◌≡◌, IfOk};
+
 use std::io;
 use std::time::{Clock, Duration, Instant};
 
@@ -12,7 +14,9 @@ pub(crate) struct TimeLimit {
 
 impl TimeLimit {
     /// Starts a limit of this time.
-    pub(crate) fn begin<C: Clock>(clock: &C, time: Duration) -> io::Result<TimeLimit> {
+    pub(crate) fn begin<C: Clock>(clock: &C, time: Duration) -> io::Result<TimeLimit>
+        ensures { IfOk result (λ limit. limit.time ≡ time) }
+    {
         let begun = Instant::now(clock)?;
         Ok(TimeLimit { begun, time })
     }

@@ -1,6 +1,7 @@
 //! Waits for what is ready.
 
-ghost use Rattle.std.specs.Prelude.{◌≡◌, ◌+◌, ◌↔◌, IfOk, IfSome, IsSome, IsTrue, OnOk, true};
+ghost use Rattle.std.specs.Prelude.{◌≡◌, ◌+◌, ◌/◌, ◌↔◌, IfOk, IfSome, IsSome, IsTrue, OnOk, true};
+ghost use Rattle.std.specs.Duration.{as_nanos};
 ghost use Rattle.std.specs.Option.{option_map_or};
 ghost use Rattle.bsc_sockets.specs.Answers.{IsAnswer, may_connect};
 ghost use Rattle.bsc_sockets.specs.Stopping.{asked_if, is_closed_in, stops_in, times_told};
@@ -11,6 +12,7 @@ use crate::sockets::Peer;
 use crate::stopping::{INPUT, is_closed};
 use crate::time_limit::TimeLimit;
 use crate::times::End;
+use crate::unread::LATE_SHARE;
 use crate::{Reception, Sockets, SocketsError};
 use bsc_connections::{Awaited, LiveError, Pace};
 use mio::Events;
@@ -70,6 +72,7 @@ impl<'a, N: Net + Clock, A: Allocator + Copy> Sockets<'a, N, A> {
         ensures standings { self.new.standings ≡ self.old.standings }
     {
         if self.is_overdue(left) {
+            self.begin_unread();
             return Ok(Awaited::TimeOut);
         }
         self.within(left, Sought::Anything)
@@ -95,8 +98,37 @@ impl<'a, N: Net + Clock, A: Allocator + Copy> Sockets<'a, N, A> {
         is_overdue
     }
 
-    /// As `within`, but asks the system first.
+    /// As `within`, but asks the system first. If nothing has arrived by then, whatever ends the wait
+    /// has not lain unread.
     fn asked_within(&mut self, time: Duration, sought: Sought) -> Result<Awaited, LiveError>
+        ensures answer { IfOk result
+            (IsAnswer self.new.settings.allowed self.new.places self.new.newcomer) }
+        ensures settings { self.new.settings ≡ self.old.settings }
+        ensures stops { IfOk result (λ awaited. times_told self.new.stopping
+            ≡ times_told self.old.stopping + stops_in awaited) }
+        ensures times { self.new.times ≡ self.old.times }
+        ensures standings { self.new.standings ≡ self.old.standings }
+    {
+        self.ask(Duration::ZERO)?;
+        if let Some(awaited) = self.found(sought) {
+            return Ok(awaited);
+        }
+        let awaited = self.arriving_within(time, sought)?;
+        self.begin_unread();
+        Ok(awaited)
+    }
+
+    /// Begins the time anew for which what is read next may have lain unread.
+    pub(crate) fn begin_unread(&mut self)
+        ensures { self.new ≡ record self.old { unread = self.new.unread } }
+        ensures late { IfSome self.new.unread.limit
+            (λ limit. as_nanos limit.time ≡ as_nanos self.old.settings.time_out / LATE_SHARE) }
+    {
+        self.unread.begin(self.runtime, self.settings.time_out);
+    }
+
+    /// As `within`, but looks only at what arrives from now on.
+    fn arriving_within(&mut self, time: Duration, sought: Sought) -> Result<Awaited, LiveError>
         ensures answer { IfOk result
             (IsAnswer self.new.settings.allowed self.new.places self.new.newcomer) }
         ensures settings { self.new.settings ≡ self.old.settings }

@@ -19,7 +19,8 @@ use Rattle.bsc_trust.specs.Connections.{nobody, newcomer, connected_at, owned_by
 use Rattle.bsc_trust.specs.Connections.{barred_if_nobodys}
 use Rattle.bsc_trust.specs.Trust.{new_trust, admits, reason, reason_for, reason_by_owner}
 use Rattle.bsc_trust.specs.Trust.{reason_beside, reason_where_called, given_to, with_connected}
-use Rattle.bsc_trust.specs.Histories.{Event, Sends, Arrives, Joins, Closes, after, after_all}
+use Rattle.bsc_trust.specs.Histories.{Event, Sends, Withholds, Arrives, Joins, Closes}
+use Rattle.bsc_trust.specs.Histories.{after, after_all}
 use Rattle.bsc_trust.specs.Histories.{AnswersFor, ends, TwoAnswers}
 use Rattle.bsc_trust.proofs.Steps.{given_by, chosen_second}
 use Rattle.bsc_trust.proofs.Steps.{heard_noise, part_after_answer, after_admitted, after_refused}
@@ -183,6 +184,7 @@ pub owner_from : (t : Trust) (event : Event) (p owner : ℕ)
     → owner_at (after t event).connections p ≡ Some owner
     → (owner_at t.connections p ≡ Some owner) ⊎ AnswersFor t event owner p
 owner_from t (Sends now) p owner h = inl h
+owner_from t (Withholds now) p owner h = inl h
 owner_from t (Arrives called place heard now) p owner h =
     owner_from_changes t called place heard now _ p owner (changes t called place heard now) h
 owner_from t (Joins place peer) p owner h =
@@ -248,6 +250,7 @@ pub owner_stays : (t : Trust) (event : Event) (p owner : ℕ) → t.shared ≡ f
     → ends p event ≡ false → owner_at t.connections p ≡ Some owner
     → owner_at (after t event).connections p ≡ Some owner
 owner_stays t (Sends now) p owner several stays h = h
+owner_stays t (Withholds now) p owner several stays h = h
 owner_stays t (Arrives called place heard now) p owner several stays h =
     owner_stays_changes t called place heard _ p owner (changes t called place heard now) several h
 owner_stays t (Joins place peer) p owner several stays h =
@@ -260,6 +263,7 @@ owner_stays t (Closes place) p owner several stays h =
 
 pub shared_stays : (t : Trust) (event : Event) → (after t event).shared ≡ t.shared
 shared_stays t (Sends now) = refl
+shared_stays t (Withholds now) = refl
 shared_stays t (Arrives called place heard now) =
     let given : (given_to t called place).shared ≡ t.shared =
     part_of_given (λ (v : Trust). v.shared) t called place (λ c. refl) in
@@ -270,6 +274,7 @@ shared_stays t (Closes place) = refl
 count_stays : (t : Trust) (event : Event)
     → length (after t event).connections ≡ length t.connections
 count_stays t (Sends now) = refl
+count_stays t (Withholds now) = refl
 count_stays t (Arrives called place heard now) =
     let given : length (given_to t called place).connections ≡ length t.connections =
     part_of_given (λ (v : Trust). length v.connections) t called place
@@ -295,6 +300,7 @@ pub record IsSound (t : Trust) : Type 0 where
 own_where_answers : (t : Trust) (event : Event) (terminal place : ℕ) → t.shared ≡ false
     → AnswersFor t event terminal place → IsOrMayBeOf t.connections place terminal
 own_where_answers t (Sends now) terminal place several h = absurd h
+own_where_answers t (Withholds now) terminal place several h = absurd h
 own_where_answers t (Arrives called from heard now) terminal place several h =
     let admitted : admits t (Some terminal) place heard ≡ true =
     subst (λ (o : Option ℕ). admits t o place heard ≡ true) h.0
@@ -307,6 +313,7 @@ own_where_answers t (Closes from) terminal place several h = absurd h
 same_place : (t : Trust) (event : Event) (p q terminal later : ℕ) → AnswersFor t event terminal p
     → AnswersFor t event later q → p ≡ q
 same_place t (Sends now) p q terminal later h k = absurd h
+same_place t (Withholds now) p q terminal later h k = absurd h
 same_place t (Arrives called from heard now) p q terminal later h k = sym h.1 ∙ k.1
 same_place t (Joins from peer) p q terminal later h k = absurd h
 same_place t (Closes from) p q terminal later h k = absurd h
@@ -379,6 +386,7 @@ owner_after_answer : (t : Trust) (event : Event) (terminal place : ℕ) → IsSo
     → place < MAX_CONNECTIONS → AnswersFor t event terminal place
     → owner_at (after t event).connections place ≡ Some terminal
 owner_after_answer t (Sends now) terminal place sound within h = absurd h
+owner_after_answer t (Withholds now) terminal place sound within h = absurd h
 owner_after_answer t (Arrives called from heard now) terminal place sound within h =
     let given : (given_to t called from).connections
     ≡ slice_set t.connections place (given_by t terminal place) =

@@ -11,7 +11,8 @@ use Rattle.bsc_trust.specs.declared.trust.Trust.{Trust}
 use Rattle.bsc_trust.specs.Answers.{is_noise, is_timed}
 use Rattle.bsc_trust.specs.Trust.{admits, given_to, first_reason, after_time, after_answer}
 use Rattle.bsc_trust.specs.Trust.{after_heard, after_ignored, time_taken, time_since, reason_told}
-use Rattle.bsc_trust.specs.Histories.{Event, Sends, Arrives, Joins, Closes, after, after_all}
+use Rattle.bsc_trust.specs.Histories.{Event, Sends, Withholds, Arrives, Joins, Closes}
+use Rattle.bsc_trust.specs.Histories.{after, after_all}
 use Rattle.bsc_trust.specs.Histories.{IsFine, AreFine}
 use Rattle.bsc_trust.proofs.Steps.{part_of_chosen, chosen_first, chosen_second, part_of_given}
 use Rattle.bsc_trust.proofs.Steps.{after_admitted, after_refused, heard_noise}
@@ -50,6 +51,7 @@ stays t (Arrives called place heard now) first h =
     (after_time (after_answer t called place now) (time_taken t now))
     (after_answer t called place now) (Some first) timed given))
     (first_of t.distrust first (reason_told t called place) h)
+stays t (Withholds now) first h = h
 stays t (Joins place peer) first h = h
 stays t (Closes place) first h = h
 
@@ -124,6 +126,7 @@ fine_step t (Sends now) h later =
     ltb-false t.time_out (time_since t.heard_at now) (not_late_by _ t.distrust LateReply later)
 fine_step t (Arrives called place heard now) h later =
     fine_by (admits t called place heard) t called place heard now refl later
+fine_step t (Withholds now) h later = tt
 fine_step t (Joins place peer) h later = tt
 fine_step t (Closes place) h later = tt
 
@@ -136,6 +139,7 @@ none_step t (Arrives called place heard now) h fine =
     ap (λ (v : Trust). v.distrust) (after_admitted t called place heard now fine.0)
     ∙ none_by (is_noise heard) (is_timed heard (time_taken t now) t.time_out) t called place heard
     now refl refl h fine
+none_step t (Withholds now) h fine = h
 none_step t (Joins place peer) h fine = h
 none_step t (Closes place) h fine = h
 

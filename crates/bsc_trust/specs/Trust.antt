@@ -118,6 +118,11 @@ after_sent t now = record t {
   distrust = reason_after_time t (time_since t.heard_at now) LateReply;
 }
 
+-- After the control station withheld something at this time, since it would have been late. To the
+-- terminals that is as if it had been sent and lost, so that one of them may answer.
+abbrev pub after_withheld : Trust → ℕ → Trust
+after_withheld t now = record t { awaiting = Some now; heard_at = None }
+
 abbrev pub told_of_sending : Trust → ℕ → Option Distrust
 told_of_sending t now = told_of_time t (time_since t.heard_at now) LateReply
 

@@ -10,7 +10,8 @@ ghost use Rattle.bsc_trust.specs.Histories.{Event, after_all, answers_among, sen
 ghost use Rattle.bsc_trust.specs.Histories.{TwoAnswers, AnswersAfterwards, AreFine};
 
 /// After each sending at most one answer is heard until the next sending, and from the beginning at
-/// most as many answers as there were sendings.
+/// most as many answers as there were sendings. What was withheld since it would have been late
+/// counts as sent here, since it is lost to the terminals.
 pub fn one_answer()
     ensures after_sending { (t : TrustValue) (events : List Event)
         → sendings_among events ≡ 0 → answers_among t events ≤ 1 }

@@ -7,6 +7,7 @@ ghost use Rattle.bsc_trust.specs.Trust.{after_sent, after_heard, told_of, after_
 ghost use Rattle.bsc_trust.specs.Trust.{reason_told, slowest_share, with_connected, given_to};
 ghost use Rattle.bsc_trust.specs.Trust.{first_reason, reason_for, reason_of_nobody, after_time};
 ghost use Rattle.bsc_trust.specs.Trust.{told_of_time, told_of_sending, reason_after_time};
+ghost use Rattle.bsc_trust.specs.Trust.{after_withheld};
 
 use crate::answers::{is_noise, is_timed};
 use crate::connected::Connected;
@@ -96,6 +97,15 @@ impl Trust {
         self.awaiting = Some(now);
         self.heard_at = None;
         self.limited(time, Distrust::LateReply)
+    }
+
+    /// Records that the control station withheld something at this time that would have been late.
+    /// It is as if that had been sent and lost on the way: an answer is awaited, and nothing is
+    /// late.
+    pub fn withheld(&mut self, now: u64)
+        ensures { self.new ≡ after_withheld self.old now }
+    {
+        (self.awaiting, self.heard_at) = (Some(now), None);
     }
 
     /// Returns whether a transmission that arrived at this place is to be heard. Noise always is.

@@ -71,6 +71,8 @@ pub(crate) struct Told {
     pub(crate) newcomer: Ends,
     /// The place of the connection that may be replaced.
     pub(crate) replaceable: Option<usize>,
+    /// Whether whatever the station sends is late.
+    pub(crate) is_late: bool,
     pub(crate) counts: Counts,
 }
 
@@ -137,6 +139,8 @@ impl Waiter<Pieces, Expecting> for Told {
 
     ghost may_replace = { λ _ _. ⊤ };
 
+    ghost permits = { λ _ _ _. ⊤ };
+
     fn wait(&mut self) -> Result<Awaited, LiveError> {
         match self.waits.split_first() {
             Some((first, rest)) => {
@@ -159,6 +163,10 @@ impl Waiter<Pieces, Expecting> for Told {
         if pace == Pace::AfterPause {
             self.counts.pauses = self.counts.pauses.wrapping_add(1);
         }
+    }
+
+    fn may_send(&mut self) -> bool {
+        !self.is_late
     }
 
     fn begin_gap(&mut self, _connection: usize) {

@@ -114,16 +114,17 @@ returns-clause-arrives g c =
                 tells = subst (λ (o : List ℕ). g.M.Monitor.is_told c.args.monitor.now
                     c.hear-is_sent.new.self (WasHeard place o) c.note-told.result
                     c.note-told.new.self) c.octets-octets.ensures c.note-told.ensures.told;
+                waiter = c.reply-result.new.waiter;
                 later = later;
                 replies = replies;
                 happens = refl;
                 handles = subst (λ (what : Handled).
-                    g.T.Waiter.handles c.args.waiter.now what
+                    g.T.Waiter.handles c.reply-result.new.waiter what
                     (g.M.Monitor.paces c.reply-result.new.monitor)
                     c.handled.new.self)
                     (c.handled_at.ensures
                     ∙ answered_if_sent answer c.hear-is_sent.result _ octets place sends)
-                    (subst (λ (pace : Pace). g.T.Waiter.handles c.args.waiter.now
+                    (subst (λ (pace : Pace). g.T.Waiter.handles c.reply-result.new.waiter
                     c.handled_at.result pace c.handled.new.self) c.pace.ensures
                     c.handled.ensures);
               };

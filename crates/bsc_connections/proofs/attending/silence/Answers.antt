@@ -19,11 +19,12 @@ returns-clause-silent g c =
           told = c.note-told.result;
           monitor = c.note-told.new.self;
           tells = c.note-told.ensures.told;
+          waiter = c.reply-result.new.waiter;
           later = later;
           replies = replies;
           happens = refl;
           handles = subst (λ (pace : Pace).
-              g.T.Waiter.handles c.args.waiter.now Silence pace c.handled.new.self)
+              g.T.Waiter.handles c.reply-result.new.waiter Silence pace c.handled.new.self)
               c.pace.ensures c.handled.ensures;
         };
       },

@@ -3,7 +3,7 @@ use Rattle.std.proofs.Common.{arith}
 use Rattle.bsc_connections.specs.Parts.{connection_parts}
 use Rattle.bsc_connections.specs.Connections.{Sends}
 use Rattle.bsc_connections.proofs.Places.{passed_at_start, passed_with_one_more}
-use Rattle.bsc_connections.proofs.attending.send_all.Goals as goal
+use Rattle.bsc_connections.proofs.replying.send_all.Goals as goal
 use Rattle.bsc_carrier.proofs.Places.{AllZip-from_places}
 
 pub connections-init : goal.connections-init

@@ -2,7 +2,7 @@
 use Rattle.bsc_connections.specs.Parts.{connection_parts}
 use Rattle.bsc_connections.specs.Connections.{Sends}
 use Rattle.bsc_connections.proofs.Places.{IsPassed}
-use Rattle.bsc_connections.proofs.attending.send_all.Given as goal
+use Rattle.bsc_connections.proofs.replying.send_all.Given as goal
 
 -- The connections below the index have sent the transmission, and the others are unchanged.
 abbrev pub invariant-connections : goal.invariant-connections
