@@ -24,6 +24,7 @@ pub record WantedValue : Type 0 where
   pub patience : ℕ
   pub replace_after : ℕ
   pub pause : ℕ
+  pub line_time_out : ℕ
   pub trace : Bool
 
 abbrev pub wanted_value : Wanted → WantedValue
@@ -40,6 +41,7 @@ wanted_value w = record {
   patience = w.patience;
   replace_after = w.replace_after;
   pause = w.pause;
+  line_time_out = w.line_time_out;
   trace = w.trace;
 }
 
@@ -78,6 +80,7 @@ control_wants s allowed terminals = record {
   patience = s.times.patience;
   replace_after = s.times.replace_after;
   pause = s.times.pause;
+  line_time_out = s.times.time_out;
   trace = is_traced s.printing.trace;
 }
 
@@ -96,5 +99,6 @@ terminal_wants s allowed = record {
   patience = s.times.patience;
   replace_after = s.times.replace_after;
   pause = s.times.pause;
+  line_time_out = s.times.time_out;
   trace = is_traced s.printing.trace;
 }

@@ -1,6 +1,6 @@
 //! The connections that a station asks for.
 
-ghost use Rattle.std.specs.Prelude.{◌≡◌, ◌*◌, min};
+ghost use Rattle.std.specs.Prelude.{◌≡◌, ◌*◌, ◌/◌, min};
 ghost use Rattle.std.specs.Duration.{as_nanos};
 ghost use Rattle.bsc_carrier.specs.declared.limits.TheConstants.{MAX_CONNECTIONS};
 ghost use Rattle.bsc_options.specs.Settings.{place_value, settings_value};
@@ -20,6 +20,11 @@ const LISTENING_PATIENCE: u64 = 60_000;
 
 /// The descriptor of standard input.
 const STANDARD_INPUT: RawFd = 0;
+
+/// The share of the time-out of a line after which what a station sends is late: half. The other
+/// half is left for what the station does not see: the way of the octets in both directions, and the
+/// time before its peer reads them.
+const LATE_SHARE: u32 = 2;
 
 /// The connections that a station asks for.
 #[derive(Clone, Copy)]
@@ -61,6 +66,9 @@ pub struct Wanted<'a> {
     /// The pause with which a wait begins if the monitor asks for it, in milliseconds.
     pub pause: u64,
 
+    /// The time-out of the line, which is that of its terminals, in milliseconds.
+    pub line_time_out: u64,
+
     /// Whether what happens is traced.
     pub trace: bool,
 }
@@ -72,6 +80,8 @@ impl Wanted<'_> {
         ensures gap { as_nanos result.gap ≡ self.now.gap * 1000000 }
         ensures replace_after { as_nanos result.replace_after ≡ self.now.replace_after * 1000000 }
         ensures pause { as_nanos result.pause ≡ self.now.pause * 1000000 }
+        ensures late_after { as_nanos result.late_after
+            ≡ self.now.line_time_out * 1000000 / LATE_SHARE }
         ensures begins { result.begins ≡ self.now.begins }
         ensures allowed { result.allowed ≡ self.now.allowed }
         ensures stops { result.stops_with ≡ input_if self.now.stops }
@@ -81,6 +91,7 @@ impl Wanted<'_> {
             gap: Duration::from_millis(self.gap),
             replace_after: Duration::from_millis(self.replace_after),
             pause: Duration::from_millis(self.pause),
+            late_after: Duration::from_millis(self.line_time_out) / LATE_SHARE,
             begins: self.begins,
             allowed: self.allowed,
             stops_with: if self.stops {
@@ -128,6 +139,7 @@ pub(crate) fn wanted_by_control<'a>(
         patience: settings.times.patience,
         replace_after: settings.times.replace_after,
         pause: settings.times.pause,
+        line_time_out: settings.times.time_out,
         trace: traces(settings.printing.trace),
     }
 }
@@ -152,6 +164,7 @@ pub(crate) fn wanted_by_terminal<'a>(
         patience: settings.times.patience,
         replace_after: settings.times.replace_after,
         pause: settings.times.pause,
+        line_time_out: settings.times.time_out,
         trace: traces(settings.printing.trace),
     }
 }

@@ -11,6 +11,10 @@ pub struct ConnectionSettings {
     /// transmission and sent none for this time. A write also waits no longer.
     pub time_out: Duration,
 
+    /// What the station sends is late when more than this time has passed since what it answers may
+    /// have arrived, or since a time-out. It is then not sent.
+    pub late_after: Duration,
+
     /// The gap: a transmission that does not state its length ends when nothing follows for this
     /// time.
     pub gap: Duration,

@@ -10,7 +10,7 @@ use crate::ready::Ready;
 use crate::standings::Standings;
 use crate::stopping::{Stopping, watch};
 use crate::times::Times;
-use crate::unread::{LATE_SHARE, Unread};
+use crate::unread::Unread;
 use crate::{ConnectionSettings, Listening, SocketsError};
 use bsc_connections::{Awaited, Handled, LiveError, Pace, Waiter};
 use mio::net::{TcpListener, TcpStream};
@@ -197,8 +197,7 @@ impl<'a, N: Net + Clock, A: Allocator + Copy> Sockets<'a, N, A> {
 impl<'a, N: Net + Clock, A: Allocator + Copy> Waiter<Reading, Writing<'a, N, A>>
     for Sockets<'a, N, A> {
     ghost use Rattle.std.specs.Duration.{as_nanos};
-    ghost use Rattle.std.specs.Prelude.{◌≡◌, ◌+◌, ◌/◌, IfOk, IfSome, IsNone, IsSome, OnOk, Some};
-    ghost use Rattle.std.specs.Prelude.{true};
+    ghost use Rattle.std.specs.Prelude.{◌≡◌, ◌+◌, IfOk, IfSome, IsNone, IsSome, OnOk, Some, true};
     ghost use Rattle.std.specs.Prelude.{false, is_some, length, slice_set};
     ghost use Rattle.bsc_connections.specs.declared.awaited.Pace.TheVariants.{AtOnce};
     ghost use Rattle.bsc_sockets.specs.Answers.{IsAnswer, newcomer_may};
@@ -229,8 +228,7 @@ impl<'a, N: Net + Clock, A: Allocator + Copy> Waiter<Reading, Writing<'a, N, A>>
         (after ≡ record before { unread = after.unread })
         × (in_time ≡ false → after.unread ≡ before.unread)
         × (in_time ≡ true → IsSome before.unread.limit
-        × IfSome after.unread.limit
-        (λ limit. as_nanos limit.time ≡ as_nanos before.settings.time_out / LATE_SHARE)) };
+        × IfSome after.unread.limit (λ limit. limit.time ≡ before.settings.late_after)) };
 
     ghost begins_gap = { λ before place after.
         (after.times.time_out ≡ before.times.time_out)
@@ -256,6 +254,9 @@ impl<'a, N: Net + Clock, A: Allocator + Copy> Waiter<Reading, Writing<'a, N, A>>
 
     fn wait(&mut self) -> Result<Awaited, LiveError> {
         self.rest()?;
+        if self.unread.is_unbegun() {
+            self.begin_unread();
+        }
         let ConnectionSettings { time_out, gap, .. } = self.settings;
         let next = self.times.next_end(self.runtime, time_out, gap)?;
         // Before the first call of a station that begins no time has passed.

@@ -1,7 +1,6 @@
 //! Waits for what is ready.
 
-ghost use Rattle.std.specs.Prelude.{◌≡◌, ◌+◌, ◌/◌, ◌↔◌, IfOk, IfSome, IsSome, IsTrue, OnOk, true};
-ghost use Rattle.std.specs.Duration.{as_nanos};
+ghost use Rattle.std.specs.Prelude.{◌≡◌, ◌+◌, ◌↔◌, IfOk, IfSome, IsSome, IsTrue, OnOk, true};
 ghost use Rattle.std.specs.Option.{option_map_or};
 ghost use Rattle.bsc_sockets.specs.Answers.{IsAnswer, may_connect};
 ghost use Rattle.bsc_sockets.specs.Stopping.{asked_if, is_closed_in, stops_in, times_told};
@@ -12,7 +11,6 @@ use crate::sockets::Peer;
 use crate::stopping::{INPUT, is_closed};
 use crate::time_limit::TimeLimit;
 use crate::times::End;
-use crate::unread::LATE_SHARE;
 use crate::{Reception, Sockets, SocketsError};
 use bsc_connections::{Awaited, LiveError, Pace};
 use mio::Events;
@@ -120,11 +118,11 @@ impl<'a, N: Net + Clock, A: Allocator + Copy> Sockets<'a, N, A> {
 
     /// Begins the time anew for which what is read next may have lain unread.
     pub(crate) fn begin_unread(&mut self)
-        ensures { self.new ≡ record self.old { unread = self.new.unread } }
+        ensures others { self.new ≡ record self.old { unread = self.new.unread } }
         ensures late { IfSome self.new.unread.limit
-            (λ limit. as_nanos limit.time ≡ as_nanos self.old.settings.time_out / LATE_SHARE) }
+            (λ limit. limit.time ≡ self.old.settings.late_after) }
     {
-        self.unread.begin(self.runtime, self.settings.time_out);
+        self.unread.begin(self.runtime, self.settings.late_after);
     }
 
     /// As `within`, but looks only at what arrives from now on.

@@ -116,6 +116,8 @@ impl<'a> Waiter<Pieces, Sending<'a>> for Scripted<'a> {
 
     ghost may_replace = { λ _ _. Unit {0} };
 
+    ghost permits = { λ _ _ _. Unit {0} };
+
     fn wait(&mut self) -> Result<Awaited, LiveError> {
         let Some(&step) = self.steps.first() else {
             return Ok(Awaited::Octets { connection: 0 });
@@ -137,6 +139,10 @@ impl<'a> Waiter<Pieces, Sending<'a>> for Scripted<'a> {
     }
 
     fn handled(&mut self, _what: Handled, _pace: Pace) {}
+
+    fn may_send(&mut self) -> bool {
+        true
+    }
 
     fn replaceable(&self) -> Option<usize> {
         None

@@ -93,6 +93,8 @@ impl Waiter<Told, Taking> for Scripted {
 
     ghost may_replace = { λ _ _. Unit {0} };
 
+    ghost permits = { λ _ _ _. Unit {0} };
+
     fn wait(&mut self) -> Result<Awaited, LiveError> {
         let Some(&step) = self.steps.first() else {
             return Ok(Awaited::Octets { connection: 0 });
@@ -106,6 +108,10 @@ impl Waiter<Told, Taking> for Scripted {
     }
 
     fn handled(&mut self, _what: Handled, _pace: Pace) {}
+
+    fn may_send(&mut self) -> bool {
+        true
+    }
 
     fn replaceable(&self) -> Option<usize> {
         None

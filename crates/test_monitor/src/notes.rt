@@ -13,7 +13,7 @@ use std::io::Write;
 use std::test::Fail;
 use test_fixtures::Full;
 use test_fixtures::configurations::TWO_TERMINALS;
-use test_fixtures::octets::EOT;
+use test_fixtures::octets::{ACK1, EOT};
 
 /// Hexadecimal records, with a trace.
 const PRINTING: Printing = Printing {
@@ -38,6 +38,7 @@ const NOTES: &[Note<'static>] = &[
         why: Refusal::NotAllowed,
     },
     Note::Sent { octets: EOT },
+    Note::Withheld { octets: ACK1 },
     Note::Stopped,
     Note::Closed {
         connection: 0,
@@ -78,12 +79,13 @@ const TRACE: &[u8] = b"+1 silence
 +3 refused a peer: the system cannot accept it yet
 +4 refused a peer: its address is not allowed
 +5 control sent EOT 161604ff
-+6 asked to end
-+7 connection 0 closed: the input ended within a record
-+8 connection 1 closed
-+9 connection 1 from 127.0.0.1:2780 joined in place of one that did not answer
-+10 refused 127.0.0.1:2780: every place is taken
-+11 connection 1 from 127.0.0.1:2780 closed
++6 control withheld ACK1 16161031ff
++7 asked to end
++8 connection 0 closed: the input ended within a record
++9 connection 1 closed
++10 connection 1 from 127.0.0.1:2780 joined in place of one that did not answer
++11 refused 127.0.0.1:2780: every place is taken
++12 connection 1 from 127.0.0.1:2780 closed
 ";
 
 /// Passes these notes to a watch.

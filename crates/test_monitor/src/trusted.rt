@@ -14,7 +14,7 @@ use std::alloc::Global;
 use std::test::Fail;
 use test_fixtures::Full;
 use test_fixtures::configurations::TWO_TERMINALS;
-use test_fixtures::octets::{ACK1, CALL_POLL_A, EOT, NOISE, TEXT_HI};
+use test_fixtures::octets::{ACK1, CALL_POLL_A, ENQ, EOT, NOISE, TEXT_HI};
 
 /// Something that happens to a control station.
 #[derive(Clone, Copy)]
@@ -178,8 +178,39 @@ const LATE_REPLY: &[Note<'static>] = &[
     Note::Sent { octets: ACK1 },
 ];
 
-/// Tells the watch of a control station with this time-out of the late reply.
-fn tell_late_reply(alloc: Global, time_out: u64, errors: &mut Vec<u8>) -> Result<(), Fail> {
+/// The same reply is withheld. The terminal repeats itself, and the reply to that is sent.
+const WITHHELD_REPLY: &[Note<'static>] = &[
+    Note::Silence,
+    Note::Sent {
+        octets: CALL_POLL_A,
+    },
+    Note::Heard {
+        connection: 0,
+        octets: TEXT_HI,
+    },
+    Note::Heard {
+        connection: 0,
+        octets: NOISE,
+    },
+    Note::Heard {
+        connection: 0,
+        octets: NOISE,
+    },
+    Note::Withheld { octets: ACK1 },
+    Note::Heard {
+        connection: 0,
+        octets: ENQ,
+    },
+    Note::Sent { octets: ACK1 },
+];
+
+/// Tells the watch of a control station with this time-out of the reply.
+fn tell_reply(
+    alloc: Global,
+    time_out: u64,
+    notes: &[Note<'static>],
+    errors: &mut Vec<u8>,
+) -> Result<(), Fail> {
     let limits = Limits {
         rounds: None,
         idle_rounds: u64::MAX,
@@ -194,7 +225,7 @@ fn tell_late_reply(alloc: Global, time_out: u64, errors: &mut Vec<u8>) -> Result
     let watch = Watch::new(alloc, &control, printing, timer, &mut out, errors)?;
     let trust = Trust::new(false, time_out, TerminalPeers::new());
     let mut watch = ControlWatch::new(&control, watch, limits, true, trust);
-    for note in LATE_REPLY {
+    for note in notes {
         watch.note(&control, *note)?;
     }
     Ok(())
@@ -204,10 +235,20 @@ fn tell_late_reply(alloc: Global, time_out: u64, errors: &mut Vec<u8>) -> Result
 fn a_late_reply_is_told(rt: HostRuntime) -> Result<(), Fail> {
     const LATE: &[u8] = b"not trusted: a reply was sent later than the time-out\n";
     let mut told = Vec::new(rt.alloc());
-    tell_late_reply(rt.alloc(), 3, &mut told)?;
+    tell_reply(rt.alloc(), 3, LATE_REPLY, &mut told)?;
     assert!(rt; told.is_empty());
-    tell_late_reply(rt.alloc(), 2, &mut told)?;
+    tell_reply(rt.alloc(), 2, LATE_REPLY, &mut told)?;
     assert_eq!(rt; told.as_slice(), LATE);
+    Ok(())
+}
+
+/// What is withheld has a line without a trace, and nothing of it speaks against trust.
+#[test]
+fn a_withheld_reply_ends_no_trust(rt: HostRuntime) -> Result<(), Fail> {
+    const WITHHELD: &[u8] = b"a transmission was withheld: it would have been late\n";
+    let mut told = Vec::new(rt.alloc());
+    tell_reply(rt.alloc(), 2, WITHHELD_REPLY, &mut told)?;
+    assert_eq!(rt; told.as_slice(), WITHHELD);
     Ok(())
 }
 

@@ -448,6 +448,7 @@ fn goes_over<F: Framing + Drop>(
         nowhere: 0,
         newcomer: attended.newcomer,
         replaceable: attended.replaceable,
+        is_late: false,
         counts: NOT_TOLD,
     };
     let mut monitor = Expects::new(attended.notes, attended.result.is_ok());
@@ -494,6 +495,7 @@ fn a_station_is_attended_for_millions_of_steps(rt: HostRuntime) -> Result<(), Fa
         nowhere: 2_000_000,
         newcomer: NONE,
         replaceable: None,
+        is_late: false,
         counts: NOT_TOLD,
     };
     let mut monitor = Expects::new(&[], false);

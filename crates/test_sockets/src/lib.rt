@@ -17,6 +17,8 @@ mod ending;
 #[cfg(test)]
 mod framings;
 #[cfg(test)]
+mod late;
+#[cfg(test)]
 mod meeting;
 #[cfg(test)]
 mod memory;

@@ -21,6 +21,7 @@ pub(crate) fn patience() -> Duration {
 pub(crate) fn settings() -> ConnectionSettings {
     ConnectionSettings {
         time_out: Duration::from_millis(40),
+        late_after: patience(),
         gap: Duration::from_millis(10),
         replace_after: Duration::from_millis(80),
         pause: Duration::from_millis(15),

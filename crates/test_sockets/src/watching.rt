@@ -75,6 +75,7 @@ fn parts<'a>(
         Note::Ignored { connection, octets } => (Some(octets), Some(connection), Some(None)),
         Note::Silence => (None, None, None),
         Note::Sent { octets } => (Some(octets), None, None),
+        Note::Withheld { octets } => (Some(octets), None, Some(None)),
         Note::Joined {
             connection,
             replaces: false,

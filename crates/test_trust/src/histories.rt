@@ -1,6 +1,6 @@
 //! Worked cases: what happens to a control station, and what is told of it.
 
-use crate::player::Happening::{Ack, Closes, Enq, Eot, Failed, Joins, Noise, Sends};
+use crate::player::Happening::{Ack, Closes, Enq, Eot, Failed, Joins, Noise, Sends, Withholds};
 use crate::player::{History, played};
 use bsc_trust::{Distrust, TerminalPeers, Trust};
 use std::test::Fail;
@@ -158,6 +158,28 @@ const LATE_REPLIES: History = History {
         (9000, Sends, 0, None, None),
     ],
     distrust: REPLY,
+    share: Some(10),
+};
+
+/// A late reply that is withheld ends no trust, nor does what is sent after it: the terminal asks for
+/// the reply again, or a time-out passes.
+const WITHHELD_REPLIES: History = History {
+    shared: false,
+    given: &[],
+    joined: &[(0, 7)],
+    rows: &[
+        (0, Sends, 0, None, None),
+        (100, Ack, 0, Some(0), None),
+        (3100, Withholds, 0, None, None),
+        (3100, Enq, 0, Some(0), None),
+        (3200, Sends, 0, None, None),
+        (3300, Ack, 0, Some(0), None),
+        (5300, Withholds, 0, None, None),
+        (7300, Sends, 0, None, None),
+        (7400, Ack, 0, Some(0), None),
+        (7410, Ack, 0, Some(0), EARLY_0),
+    ],
+    distrust: EARLY_0,
     share: Some(10),
 };
 
@@ -332,6 +354,7 @@ const HISTORIES: &[History] = &[
     TWICE_AT_ONCE,
     LATE_ANSWERS,
     LATE_REPLIES,
+    WITHHELD_REPLIES,
     LATE_AFTER_A_SILENCE,
     OTHER_TERMINAL,
     NEWCOMERS,

@@ -10,6 +10,9 @@ pub(crate) enum Happening {
     /// The control station sends something, on all connections.
     Sends,
 
+    /// The control station withholds something that would be late.
+    Withholds,
+
     /// A connection begins, whose peer has an address that is not known.
     Joins,
 
@@ -80,6 +83,7 @@ fn plays(trust: &mut Trust, row: &Row) -> bool {
     let (now, happening, place, _, told) = *row;
     match happening {
         Happening::Sends => return trust.sent(now) == told,
+        Happening::Withholds => trust.withheld(now),
         Happening::Joins => trust.joined(place, None),
         Happening::Closes => trust.closed(place),
         Happening::Ack => {
