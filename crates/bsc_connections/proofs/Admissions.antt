@@ -51,8 +51,7 @@ module _ {S R W F M T : Type 0} (parts : SessionParts S R W F M T) where
   due_of_admitted true place octets old between happened result new is h =
       let r = h.answers.replies in
       due_if_equal old new happened (WasHeard place octets ∷ sent_where_some r.in_time r.due)
-      (h.answers.happens ∙ ap (λ (more : List Happening). WasHeard place octets ∷ more) r.happens)
-      (
+      (h.answers.happens ∙ ap (λ (more : List Happening). WasHeard place octets ∷ more) r.happens) (
         is,
         due_of_sent old new (WasHeard place octets ∷ sent_where_some r.in_time r.due) r.in_time
             r.due,

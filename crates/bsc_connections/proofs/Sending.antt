@@ -105,17 +105,17 @@ module _ {S R W F M T : Type 0} (parts : ConnectionParts R W F)
       × Replies parts is_told permits told answer station old before happened result new after
   replies_if_accepted told goes_on is in_time answer station old new before after later result asks
       sends tells_sent result_is = (
-    sent_where_some in_time answer,
-    record {
-      due = answer;
-      accepted = sym (ap (λ (r : Result Bool LiveError). due_if_accepted r answer) is);
-      in_time = in_time;
-      asks = asks;
-      sends = sends;
-      told_later = later;
-      tells_sent = tells_sent;
-      result_is = result_is
-          ∙ sym (ap (λ (r : Result Bool LiveError). both_go_on r later) is);
-      happens = refl;
-    },
-  )
+        sent_where_some in_time answer,
+        record {
+          due = answer;
+          accepted = sym (ap (λ (r : Result Bool LiveError). due_if_accepted r answer) is);
+          in_time = in_time;
+          asks = asks;
+          sends = sends;
+          told_later = later;
+          tells_sent = tells_sent;
+          result_is = result_is
+              ∙ sym (ap (λ (r : Result Bool LiveError). both_go_on r later) is);
+          happens = refl;
+        },
+      )

@@ -248,7 +248,10 @@ fn write_stopped<W: Write>(time: u64, out: &mut W) -> Result<(), PrintError>
 fn write_withheld<W: Write>(out: &mut W) -> Result<(), PrintError>
     ensures { OnOk result (Appends (W.contents out.old) (W.contents out.new) withheld_line) }
 {
-    put(b"a transmission was withheld: it would have been late\n", out)?;
+    put(
+        b"a transmission was withheld: it would have been late\n",
+        out,
+    )?;
     Ok(())
 }
 

@@ -1,9 +1,9 @@
 //! What would be sent late is withheld.
 
+use crate::meeting;
 use crate::memory::Piece::Octets;
 use crate::memory::{Expecting, NOT_TOLD, Piece, Pieces, Told};
 use crate::watching::{Answers, Expects};
-use crate::meeting;
 use bsc_connections::{Awaited, Connection, LiveError, Monitor, Note, Pace, SocketRecords, attend};
 use bsc_sockets::{Begun, ConnectionSettings, Peers, listen};
 use std::io::{Read, Write};

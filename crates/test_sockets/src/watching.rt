@@ -114,7 +114,11 @@ impl Expects {
     }
 
     /// The same of the connection of this peer.
-    pub(crate) fn of_peer(notes: &'static [Note<'static>], ends: bool, peer: SocketAddr) -> Expects {
+    pub(crate) fn of_peer(
+        notes: &'static [Note<'static>],
+        ends: bool,
+        peer: SocketAddr,
+    ) -> Expects {
         Expects {
             peer: Some(peer),
             ..Expects::new(notes, ends)
