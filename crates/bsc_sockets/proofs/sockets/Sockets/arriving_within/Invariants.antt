@@ -1,7 +1,7 @@
--- The loop invariant of `asked_within`.
+-- The loop invariant of `arriving_within`.
 use Rattle.std.proofs.Common.{◌≡◌}
 use Rattle.bsc_sockets.specs.Stopping.{times_told}
-use Rattle.bsc_sockets.proofs.sockets.Sockets.asked_within.Given as goal
+use Rattle.bsc_sockets.proofs.sockets.Sockets.arriving_within.Given as goal
 
 -- The settings, the times and the standings stay as they were, and the station is told nothing.
 abbrev pub invariant-asks : goal.invariant-asks
