@@ -169,6 +169,6 @@ fn a_station_that_was_held_up_answers_nothing_old(rt: HostRuntime) -> Result<(),
     assert!(rt; monitor.expects.is_done());
     let mut read = [0u8; 6];
     peer.read_exact(&mut read)?;
-    assert_eq!(rt; read, EOT_RECORD);
+    assert_eq!(rt; read.as_slice(), EOT_RECORD);
     Ok(())
 }
