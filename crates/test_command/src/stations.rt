@@ -286,6 +286,8 @@ const CASES: &[Case] = &[
             "--shared",
             "--time-out",
             "100",
+            "--patience",
+            "70",
         ]),
         input: None,
         takes: true,
@@ -297,7 +299,7 @@ const CASES: &[Case] = &[
             asking: Some(Asking {
                 begins: true,
                 time_out: 1_700,
-                patience: 100,
+                patience: 70,
                 replace_after: 300,
                 ..CONNECTING
             }),
