@@ -1,5 +1,5 @@
 -- The connections that a station asks for.
-use Rattle.std.specs.Prelude.{ℕ, ℤ, pos, ◌*◌, ◌-◌, ◌^◌, min, Bool, true, false, if◌then◌else◌}
+use Rattle.std.specs.Prelude.{ℕ, ℤ, pos, ◌+◌, ◌*◌, ◌-◌, ◌^◌, min, Bool, true, false, if◌then◌else◌}
 use Rattle.std.specs.Prelude.{Option, None, Some}
 use Rattle.bsc_monitor.specs.declared.tracing.Tracing.{Tracing}
 use Rattle.bsc_monitor.specs.declared.tracing.Tracing.TheVariants.{Off, Exchanges, All}
@@ -60,14 +60,17 @@ abbrev pub is_listening : PlaceValue → Bool
 is_listening (listens_at address) = true
 is_listening (connects_to address) = false
 
--- Twice a time, up to the largest value of 64 bits.
-abbrev pub twice : ℕ → ℕ
-twice time = min (time * 2) (2 ^ 64 - 1)
+-- The time-out of the control station, where the terminals have this time-out and this limit of
+-- failures in a row. A terminal that holds the line acts on each silence, and gives up at the one
+-- that exceeds the limit, the failure `tries + 1`. What it sends then is heard or lost before one
+-- more time-out passes (GA27-3004: time-outs). Up to the largest value of 64 bits.
+abbrev pub time_out_of_control : ℕ → ℕ → ℕ
+time_out_of_control time tries = min (time * (tries + 2)) (2 ^ 64 - 1)
 
 -- The control station begins, and asks for a connection for each terminal, or one for all. Its
--- time-out is twice that of the terminals.
-abbrev pub control_wants : SettingsValue → Networks → ℕ → WantedValue
-control_wants s allowed terminals = record {
+-- time-out is longer than a terminal holds the line without hearing anything.
+abbrev pub control_wants : SettingsValue → Networks → ℕ → ℕ → WantedValue
+control_wants s allowed terminals tries = record {
   place = s.place;
   connections = if s.shared then 1 else terminals;
   raw = s.raw;
@@ -75,7 +78,7 @@ control_wants s allowed terminals = record {
   stops = s.until_input_ends;
   stays = is_listening s.place;
   begins = true;
-  time_out = twice s.times.time_out;
+  time_out = time_out_of_control s.times.time_out tries;
   gap = s.times.gap;
   patience = s.times.patience;
   replace_after = s.times.replace_after;

@@ -178,7 +178,10 @@ fn ending_of(options: &Options<'_>) -> Ending
 fn wanted_by<'a>(options: &Options<'a>, prepared: &Prepared) -> Wanted<'a> {
     let (settings, allowed) = (&options.settings, options.admission.allowed);
     match prepared {
-        Prepared::Control { control } => wanted_by_control(settings, allowed, control.terminals()),
+        Prepared::Control { control } => {
+            let tries = control.setup().tries();
+            wanted_by_control(settings, allowed, control.terminals(), tries)
+        }
         Prepared::Terminal { .. } => wanted_by_terminal(settings, allowed),
     }
 }

@@ -118,13 +118,17 @@ impl Wanted<'_> {
 }
 
 /// Returns the connections that the control station asks for: one for each terminal, or one for
-/// all. It waits for twice the time-out, so that a terminal that holds the line acts first.
+/// all. `tries` is the limit of failures in a row. A terminal that holds the line acts on one
+/// silence more than that, and then gives up; the control station waits for one time-out longer, so
+/// that no terminal holds the line any more when it acts (GA27-3004, time-outs).
 pub(crate) fn wanted_by_control<'a>(
     settings: &StationSettings<'a>,
     allowed: Networks,
     terminals: usize,
+    tries: u8,
 ) -> Wanted<'a>
-    ensures { wanted_value result ≡ control_wants (settings_value settings.now) allowed terminals }
+    ensures { wanted_value result
+        ≡ control_wants (settings_value settings.now) allowed terminals tries }
 {
     Wanted {
         place: settings.place,
@@ -134,7 +138,7 @@ pub(crate) fn wanted_by_control<'a>(
         stops: settings.until_input_ends,
         stays: listens(settings.place),
         begins: true,
-        time_out: settings.times.time_out.saturating_mul(2),
+        time_out: settings.times.time_out.saturating_mul(u64::from(tries) + 2),
         gap: settings.times.gap,
         patience: settings.times.patience,
         replace_after: settings.times.replace_after,

@@ -3,8 +3,10 @@ use Rattle.std.proofs.Common.{◌≡◌, ◌≤◌, Bool, true, false, List, [],
 use Rattle.std.proofs.Common.{Result, Ok, Err, refl, sym, ap, ◌∙◌, subst, append-nil, arith, ◌++◌}
 use Rattle.bsc_carrier.specs.Front.{BeginsRecord, EndsWithin, HasWrongLength}
 use Rattle.bsc_carrier.specs.Cable.{AnswersFor}
+use Rattle.bsc_carrier.specs.Faults.{HasFailed}
 use Rattle.bsc_carrier.specs.KnownOctets.{ReadsRecord, IsExactly}
 use Rattle.bsc_carrier.specs.declared.error.CarrierError.{CarrierError}
+use Rattle.bsc_carrier.specs.declared.fault.DeviceFault.{DeviceFault}
 use Rattle.bsc_carrier.specs.declared.error.CarrierError.TheVariants.{Length, Short, Device}
 use Rattle.bsc_carrier.specs.declared.error.CarrierError.TheVariants.{Unequal}
 use Rattle.bsc_carrier.proofs.Fronts.{whole_length, not_wrong_and_right, not_whole_and_partial}
@@ -69,20 +71,20 @@ short_answered stream s =
       short = λ heard. (λ e. s, λ v. refl);
     }
 
-failed_answered : (stream : List ℕ) → IsAnswered (Err Device) (Some stream)
-failed_answered stream =
+failed_answered : (why : DeviceFault) (stream : List ℕ) → IsAnswered (Err (Device why)) (Some stream)
+failed_answered why stream =
     record {
-      whole = λ heard. absurd (heard refl);
-      ended = λ heard. absurd (heard refl);
-      wrong = λ heard. absurd (heard refl);
-      short = λ heard. absurd (heard refl);
+      whole = λ heard. absurd (heard tt);
+      ended = λ heard. absurd (heard tt);
+      wrong = λ heard. absurd (heard tt);
+      short = λ heard. absurd (heard tt);
     }
 
 pub answered_after_read : (old new : Option (List ℕ)) (result : Result Bool CarrierError) (octets : List ℕ)
     → ReadsRecord old result octets new → IsAnswered result old
 answered_after_read None new result octets read = record { whole = tt; ended = tt; wrong = tt; short = tt }
 answered_after_read (Some stream) new (Ok false) octets read = ended_answered stream read.0
-answered_after_read (Some stream) new (Err Device) octets read = failed_answered stream
+answered_after_read (Some stream) new (Err (Device why)) octets read = failed_answered why stream
 answered_after_read (Some stream) new (Err Unequal) octets read = absurd read
 answered_after_read (Some stream) None (Ok true) octets read = absurd read.1
 answered_after_read (Some stream) (Some rest) (Ok true) octets read =
@@ -101,18 +103,18 @@ pub failed_read : (old new : Option (List ℕ)) (e : CarrierError) (octets other
     → ReadsRecord old (Err e) octets new → ReadsRecord old (Err e) others new
 failed_read old new Length octets others read = read
 failed_read old new Short octets others read = read
-failed_read old new Device octets others read = read
+failed_read old new (Device why) octets others read = read
 failed_read old new Unequal octets others read = read
 
 -- A result of `Device` says nothing of the stream.
 pub device_answers : {T : Type 0} (result : Result T CarrierError) (stream : Option (List ℕ))
-    → result ≡ Err Device → AnswersFor result stream
+    → HasFailed result → AnswersFor result stream
 device_answers result None failed =
-    record { whole = tt; wrong = tt; short = tt; equal = λ e. absurd (cc) }
+    record { whole = tt; wrong = tt; short = tt; equal = λ e. subst HasFailed e failed }
 device_answers result (Some all) failed =
     record {
       whole = λ heard. absurd (heard failed);
       wrong = λ heard. absurd (heard failed);
       short = λ heard. absurd (heard failed);
-      equal = λ e. absurd (cc);
+      equal = λ e. subst HasFailed e failed;
     }

@@ -5,6 +5,7 @@ use Rattle.std.specs.List.{Any}
 use Rattle.std.specs.Io.KnownBytes.{Consumes}
 use Rattle.bsc_carrier.specs.Record.{IsCarried, socket_record}
 use Rattle.bsc_carrier.specs.Front.{IsPartial, HasWrongLength}
+use Rattle.bsc_carrier.specs.Faults.{HasFailed}
 use Rattle.bsc_carrier.specs.KnownOctets.{IsExactly}
 use Rattle.bsc_carrier.specs.Cable.{AnswersFor, BeginsWith, BeginsOther, Explains}
 use Rattle.bsc_carrier.specs.declared.error.CarrierError.{CarrierError}
@@ -33,7 +34,7 @@ explains_later remaining ends octets d Length some first wrong short unequal =
     Any-later (λ end. IfSome (remaining end) HasWrongLength) ends (wrong refl)
 explains_later remaining ends octets d Short some first wrong short unequal =
     Any-later (λ end. IfSome (remaining end) IsPartial) ends (short refl)
-explains_later remaining ends octets d Device some first wrong short unequal = tt
+explains_later remaining ends octets d (Device why) some first wrong short unequal = tt
 explains_later remaining ends octets d Unequal some first wrong short unequal =
     let (other, differs, found) = unequal refl in (
       octets,
@@ -43,7 +44,7 @@ explains_later remaining ends octets d Unequal some first wrong short unequal =
 
 -- What the error of the first end says of the stream that it had left.
 told_first : (result : Result (Unit {0}) CarrierError) (e : CarrierError) (P : List ℕ → Type 0)
-    (stream : Option (List ℕ)) → result ≡ Err e → (result ≡ Err Device → ⊥)
+    (stream : Option (List ℕ)) → result ≡ Err e → (HasFailed result → ⊥)
     → IsExactly result (result ≡ Err e) P stream → IfSome stream P
 told_first result e P None is heard exact = tt
 told_first result e P (Some all) is heard exact = (exact heard).0 is
@@ -54,9 +55,9 @@ pub explains_first : {S : Type 0} (remaining : S → Option (List ℕ)) (ends : 
     → AnswersFor {T = Unit {0}} (Err e) (remaining (get_or ends 0 d)) → Explains remaining e ends
 explains_first remaining ends d Length some answers =
     Any-first (λ end. IfSome (remaining end) HasWrongLength) ends d some
-    (told_first (Err Length) Length HasWrongLength _ refl (λ e. absurd (cc)) answers.wrong)
+    (told_first (Err Length) Length HasWrongLength _ refl (λ failed. failed) answers.wrong)
 explains_first remaining ends d Short some answers =
     Any-first (λ end. IfSome (remaining end) IsPartial) ends d some
-    (told_first (Err Short) Short IsPartial _ refl (λ e. absurd (cc)) answers.short)
-explains_first remaining ends d Device some answers = tt
+    (told_first (Err Short) Short IsPartial _ refl (λ failed. failed) answers.short)
+explains_first remaining ends d (Device why) some answers = tt
 explains_first remaining ends d Unequal some answers = absurd (answers.equal refl)

@@ -224,5 +224,5 @@ module _ {begun piece rest mid new : List ℕ} {head body : ℕ}
       (Err e) new
   gathers_wrong has_begun Length wrong = (wrong_alone has_begun wrong, wrong)
   gathers_wrong has_begun Short wrong = absurd wrong
-  gathers_wrong has_begun Device wrong = absurd wrong
+  gathers_wrong has_begun (Device why) wrong = absurd wrong
   gathers_wrong has_begun Unequal wrong = absurd wrong

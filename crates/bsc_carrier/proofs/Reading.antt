@@ -152,7 +152,7 @@ module _ {a mid b : Option (List ℕ)} {begun piece : List ℕ}
   wrong_read Length octets wrong =
       (begun ++ piece, (wrong, wrong_at_second wrong), both)
   wrong_read Short octets wrong = absurd wrong
-  wrong_read Device octets wrong = absurd wrong
+  wrong_read (Device why) octets wrong = absurd wrong
   wrong_read Unequal octets wrong = absurd wrong
 
   -- When a record is complete, exactly its octets were read.

@@ -37,7 +37,7 @@ IsWhole begun (Ok true) =
 IsWhole begun (Ok false) = IsPartial begun
 IsWhole begun (Err Length) = HasWrongLength begun
 IsWhole begun (Err Short) = ⊥
-IsWhole begun (Err Device) = ⊥
+IsWhole begun (Err (Device why)) = ⊥
 IsWhole begun (Err Unequal) = ⊥
 
 -- What has begun grows by the octets that were taken of the piece. They complete the record, or
@@ -50,7 +50,7 @@ Gathers old piece (Ok (taken, false)) new = (taken ≡ length piece) × (new ≡
     × IsPartial new
 Gathers old piece (Err Length) new = (new ≡ take 2 (old ++ piece)) × HasWrongLength new
 Gathers old piece (Err Short) new = ⊥
-Gathers old piece (Err Device) new = ⊥
+Gathers old piece (Err (Device why)) new = ⊥
 Gathers old piece (Err Unequal) new = ⊥
 
 -- What feeding a piece returns, and what the assembler holds after it.
@@ -68,5 +68,5 @@ Fed old piece (Err Length) new =
     HasWrongLength new.begun × (new.begun ≡ take 2 (old.begun ++ piece))
     × (new.complete ≡ old.complete)
 Fed old piece (Err Short) new = ⊥
-Fed old piece (Err Device) new = ⊥
+Fed old piece (Err (Device why)) new = ⊥
 Fed old piece (Err Unequal) new = ⊥

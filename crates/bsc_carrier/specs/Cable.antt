@@ -54,7 +54,7 @@ BeginsOther remaining octets ends = (other : List ℕ) × (octets ≢ other)
 abbrev pub Explains : {S : Type 0} → (S → Option (List ℕ)) → CarrierError → List S → Type 0
 Explains remaining Length ends = Any (λ end. IfSome (remaining end) HasWrongLength) ends
 Explains remaining Short ends = Any (λ end. IfSome (remaining end) IsPartial) ends
-Explains remaining Device ends = ⊤
+Explains remaining (Device why) ends = ⊤
 -- Two ends begin with different records.
 Explains remaining Unequal ends =
     (octets : List ℕ) × Any (λ end. BeginsWith octets (remaining end)) ends

@@ -4,6 +4,7 @@ use Rattle.std.specs.Prelude.{Option, Some, None, Result, Ok, Err}
 use Rattle.std.specs.Io.KnownBytes.{Appends, Consumes, Keeps, IsAtEnd}
 use Rattle.bsc_carrier.specs.Record.{IsCarried, socket_record}
 use Rattle.bsc_carrier.specs.Front.{IsPartial, EndsWithin, HasWrongLength}
+use Rattle.bsc_carrier.specs.Faults.{HasFailed}
 use Rattle.bsc_carrier.specs.declared.error.CarrierError.{CarrierError}
 use Rattle.bsc_carrier.specs.declared.error.CarrierError.TheVariants.{Length, Short, Device}
 use Rattle.bsc_carrier.specs.declared.error.CarrierError.TheVariants.{Unequal}
@@ -29,7 +30,7 @@ ReadsRecord old (Err Length) octets new =
 -- It takes all that was left, which is less than a record.
 ReadsRecord old (Err Short) octets new = LosesSome EndsWithin old new × IsAtEnd new
 -- It takes less than a record, and then a read failed.
-ReadsRecord old (Err Device) octets new = LosesSome IsPartial old new
+ReadsRecord old (Err (Device why)) octets new = LosesSome IsPartial old new
 ReadsRecord old (Err Unequal) octets new = ⊥
 
 -- Unless a read or a write failed, the call returns this result exactly if P holds of what the
@@ -37,4 +38,4 @@ ReadsRecord old (Err Unequal) octets new = ⊥
 abbrev pub IsExactly : {T : Type 0} → Result T CarrierError → Type 0 → (List ℕ → Type 0)
     → Option (List ℕ) → Type 0
 IsExactly result answer P None = ⊤
-IsExactly result answer P (Some stream) = result ≢ Err Device → (answer ↔ P stream)
+IsExactly result answer P (Some stream) = (HasFailed result → ⊥) → (answer ↔ P stream)

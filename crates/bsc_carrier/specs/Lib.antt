@@ -1,5 +1,6 @@
 pub mod Record
 pub mod Front
+pub mod Faults
 pub mod TwoBuffers
 pub mod Assembler
 pub mod KnownOctets

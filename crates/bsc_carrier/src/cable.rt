@@ -5,6 +5,7 @@ ghost use Rattle.std.specs.Prelude.{◌≡◌, ◌<◌, ◌≤◌, ℕ, length, 
 ghost use Rattle.std.specs.Prelude.{IfSome, IsErrOf, Any, slice_get};
 ghost use Rattle.std.specs.List.{AllZip};
 ghost use Rattle.bsc_carrier.specs.Record.{IsCarried};
+ghost use Rattle.bsc_carrier.specs.Faults.{IsDevice};
 ghost use Rattle.bsc_carrier.specs.Front.{IsPartial, HasWrongLength};
 ghost use Rattle.bsc_carrier.specs.Cable.{Takes, Gives, AnswersFor, ChangesAt, BeginsWith};
 ghost use Rattle.bsc_carrier.specs.Cable.{BeginsOther, Explains};
@@ -97,7 +98,7 @@ fn carry_at<S: Read + Write>(
 fn write_each<S: Write>(ends: &mut [S], octets: &[u8]) -> Result<(), CarrierError>
     requires { IsCarried octets.now }
     ensures wrote { OnOk result (AllZip (Takes S.contents octets.now) ends.old ends.new) }
-    ensures err { IfErr result (λ e. e ≡ CarrierError.Device) }
+    ensures err { IfErr result IsDevice }
 {
     'ends: for end in ends.iter_mut() {
         write_record(end, octets)?;

@@ -1,5 +1,6 @@
 //! The errors of a carrier, and the octets of a record.
 
+use crate::fault::DeviceFault;
 use crate::limits::MAX_RECORD;
 use arrayvec::ArrayVec;
 use thiserror::Error;
@@ -17,8 +18,8 @@ pub enum CarrierError {
     #[error("the input ended within a record")]
     Short,
     /// A read or a write failed, or a write took no octets.
-    #[error("a read or a write failed")]
-    Device,
+    #[error("{why}")]
+    Device { why: DeviceFault },
     /// Two far ends of a cable gave different octets.
     #[error("two far ends gave different octets")]
     Unequal,

@@ -11,6 +11,7 @@
 mod assembler;
 mod cable;
 mod error;
+mod fault;
 pub mod laws;
 pub mod limits;
 mod record;
@@ -19,5 +20,6 @@ mod two_buffers;
 pub use assembler::Assembler;
 pub use cable::Cable;
 pub use error::{CarrierError, Octets};
+pub use fault::DeviceFault;
 pub use record::{read_record, write_record};
 pub use two_buffers::TwoBuffers;

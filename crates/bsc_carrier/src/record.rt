@@ -3,27 +3,39 @@
 ghost use Rattle.std.specs.Prelude.{◌≡◌, ◌≢◌, [], Ok, Err, true, false, OnOk, IfErr, OnErr};
 ghost use Rattle.std.specs.Io.KnownBytes.{Appends};
 ghost use Rattle.bsc_carrier.specs.Record.{socket_record, IsCarried};
+ghost use Rattle.bsc_carrier.specs.Faults.{IsDevice, fault_of};
 ghost use Rattle.bsc_carrier.specs.Front.{BeginsRecord, EndsWithin, HasWrongLength};
 ghost use Rattle.bsc_carrier.specs.KnownOctets.{AppendsPart, ReadsRecord, IsExactly};
 
 use crate::assembler::{is_whole, missing};
 use crate::error::{CarrierError, Octets};
+use crate::fault::DeviceFault;
 use crate::limits::MAX_RECORD_OCTETS;
 use arrayvec::ArrayVec;
-use std::io::{Read, Write};
+use std::io::{ErrorKind, Read, Write};
+
+/// Returns the error of a read or a write that failed with an error of this kind.
+fn device(kind: ErrorKind) -> CarrierError
+    ensures { result ≡ CarrierError.Device (fault_of kind) }
+{
+    CarrierError::Device {
+        why: DeviceFault::of(kind),
+    }
+}
 
 /// Writes all of the octets. Fails with `Device` at the first write that fails or takes no octets.
 fn write_whole<W: Write>(writer: &mut W, octets: &[u8]) -> Result<(), CarrierError>
     ensures ok { OnOk result (Appends (W.contents writer.old) (W.contents writer.new) octets.now) }
     ensures part { OnErr result
         (AppendsPart (W.contents writer.old) (W.contents writer.new) octets.now) }
-    ensures err { IfErr result (λ e. e ≡ CarrierError.Device) }
+    ensures err { IfErr result IsDevice }
 {
     let mut rest = octets;
     'writes: while !rest.is_empty() {
         match writer.write(rest) {
-            Ok(0) | Err(_) => return Err(CarrierError::Device),
+            Ok(0) => return Err(device(ErrorKind::WriteZero)),
             Ok(n) => rest = &rest[n..],
+            Err(error) => return Err(device(error.kind())),
         }
     }
     Ok(())
@@ -38,7 +50,7 @@ pub fn write_record<W: Write>(writer: &mut W, octets: &[u8]) -> Result<(), Carri
         (Appends (W.contents writer.old) (W.contents writer.new) (socket_record octets.now)) }
     ensures part { OnErr result
         (AppendsPart (W.contents writer.old) (W.contents writer.new) (socket_record octets.now)) }
-    ensures err { IfErr result (λ e. e ≡ CarrierError.Device) }
+    ensures err { IfErr result IsDevice }
 {
     let mut record = ArrayVec::<u8, MAX_RECORD_OCTETS>::new();
     record
@@ -60,7 +72,7 @@ fn assemble<R: Read>(reader: &mut R, octets: &mut Octets) -> Result<bool, Carrie
         let end = arrived + missing(&record[..arrived]);
         let count = match reader.read(&mut record[arrived..end]) {
             Ok(count) => count,
-            Err(_) => return Err(CarrierError::Device),
+            Err(error) => return Err(device(error.kind())),
         };
         if count == 0 {
             if arrived == 0 {

@@ -20,7 +20,6 @@ use Rattle.bsc_connections.specs.Streams.{begun_of, GivesRecords, GivesByGaps, L
 use Rattle.bsc_connections.specs.declared.framing.Framing as framing_of
 use Rattle.std.specs.declared.io.Read as read
 use Rattle.std.specs.declared.io.Write as write
-use Rattle.bsc_carrier.specs.declared.error.CarrierError.TheVariants.{Device}
 use Rattle.bsc_connections.proofs.Gathered.{take_of_front}
 use Rattle.bsc_connections.proofs.Sessions.{Fits}
 use Rattle.bsc_frame.proofs.Elements.{all_append}
@@ -175,12 +174,10 @@ module _ {R W : Type 0} (reader : read.Ghosts R) (writer : write.Ghosts W)
   nothing_begun_at_end old new (inr (inl refused)) =
       let clash : ◌≡◌ {A = Option CarrierError} None (Some refused.error) = refused.why_is in
       absurd cc
-  nothing_begun_at_end old new (inr (inr device)) =
-      let clash : ◌≡◌ {A = Option CarrierError} None (Some Device) = device in absurd cc
+  nothing_begun_at_end old new (inr (inr device)) = absurd device
 
   pub loses_nothing : LosesNothing (connection_parts reader writer framing)
-  loses_nothing old new (closed, inl (none, device)) =
-      let clash : ◌≡◌ {A = Option CarrierError} None (Some Device) = device in absurd cc
+  loses_nothing old new (closed, inl (none, device)) = absurd device
   loses_nothing old new (closed, inr c) =
       nothing_begun_at_end (record { reader = c.before; framing = old.framing })
       (record { reader = c.after; framing = new.framing }) c.reads

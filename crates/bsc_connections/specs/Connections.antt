@@ -7,6 +7,9 @@ use Rattle.std.specs.declared.io.ErrorKind.TheVariants as kind
 use Rattle.std.specs.declared.io.Read as read
 use Rattle.bsc_carrier.specs.declared.error.CarrierError.{CarrierError}
 use Rattle.bsc_carrier.specs.declared.error.CarrierError.TheVariants.{Device, Short}
+use Rattle.bsc_carrier.specs.Faults.{IsDevice, fault_of}
+use Rattle.bsc_carrier.specs.declared.fault.DeviceFault.{DeviceFault}
+use Rattle.bsc_carrier.specs.declared.fault.DeviceFault.TheVariants.{Other}
 use Rattle.bsc_connections.specs.declared.connection.Taken.{Taken}
 use Rattle.bsc_connections.specs.declared.connection.Taken.TheVariants.{Nothing, Interrupted, Part}
 use Rattle.bsc_connections.specs.declared.connection.Taken.TheVariants.{Whole}
@@ -20,29 +23,41 @@ pub record ConnectionValue (R W F : Type 0) : Type 0 where
   pub framing : F
 
 -- What a failed read means. If nothing arrived in time there is nothing to read, and if the read
--- was interrupted there may be; the connection stays open. Any other failure closes it.
+-- was interrupted there may be; the connection stays open. Any other failure closes it, with the
+-- fault that its kind says.
 abbrev pub failure_means : ErrorKind → Taken
 failure_means kind.WouldBlock = Nothing
 failure_means kind.TimedOut = Nothing
 failure_means kind.Interrupted = Interrupted
-failure_means _ = Closed (Some Device)
+failure_means other = Closed (Some (Device (fault_of other)))
+
+-- There is an error, and it is that of a device.
+abbrev pub IsDeviceFault : Option CarrierError → Type 0
+IsDeviceFault None = ⊥
+IsDeviceFault (Some error) = IsDevice error
 
 -- Why the end of the input closes a connection. The flag says whether it cuts a transmission short.
 abbrev pub ending_error : Bool → Option CarrierError
 ending_error short = if short then Some Short else None
 
+-- The fault of a write that failed with this error. Without a fault of the device it is an unknown
+-- one.
+abbrev pub write_fault : CarrierError → DeviceFault
+write_fault (Device why) = why
+write_fault _ = Other
+
 -- The read gave no octets. If it closes the connection, that is by a fault of the device.
 abbrev pub GivesNoOctets : Taken → Type 0
 GivesNoOctets Part = ⊥
 GivesNoOctets Whole = ⊥
-GivesNoOctets (Closed why) = why ≡ Some Device
+GivesNoOctets (Closed why) = IsDeviceFault why
 GivesNoOctets _ = ⊤
 
 -- What a read of a closed connection reports: a write that failed, or that there is nothing to
 -- read.
 abbrev pub IsClosedOrNothing : Taken → Type 0
 IsClosedOrNothing Nothing = ⊤
-IsClosedOrNothing (Closed why) = why ≡ Some Device
+IsClosedOrNothing (Closed why) = IsDeviceFault why
 IsClosedOrNothing _ = ⊥
 
 -- A reader, and the framing that is fed what it gives.
@@ -93,7 +108,7 @@ module _ {R F : Type 0} (reading : read.Ghosts R) (framing : framing_of.Ghosts F
   -- loses none that a gap would end; the framing refuses what was read; or the device failed.
   abbrev pub ReadsNoMore : Option CarrierError → Input R F → Input R F → Type 0
   ReadsNoMore why old new =
-      ReadsEnd (Closed why) old new ⊎ (RefusesPiece why old new ⊎ (why ≡ Some Device))
+      ReadsEnd (Closed why) old new ⊎ (RefusesPiece why old new ⊎ IsDeviceFault why)
 
   -- What one read does to the reader and the framing. A transmission is complete by what was read,
   -- or by the end of the input.
@@ -131,7 +146,7 @@ module _ {R W F : Type 0} (parts : ConnectionParts R W F) where
   abbrev pub Closes : Option CarrierError → ConnectionValue R W F → ConnectionValue R W F → Type 0
   Closes why old new =
       (new.ends ≡ None)
-      × (((old.ends ≡ None) × (why ≡ Some Device)) ⊎ ClosesOpen why old new)
+      × (((old.ends ≡ None) × IsDeviceFault why) ⊎ ClosesOpen why old new)
 
   -- A read of a connection. A connection that is closed gives nothing, but a read may report that
   -- it is closed.

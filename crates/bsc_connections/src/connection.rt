@@ -4,10 +4,11 @@ ghost use Rattle.std.specs.Prelude.{◌≡◌, ◌<◌, length, None, Some, not,
 ghost use Rattle.bsc_connections.specs.Parts.{connection_parts};
 ghost use Rattle.bsc_connections.specs.Connections.{Takes, Sends, Reads, IsClosedOrNothing};
 ghost use Rattle.bsc_connections.specs.Connections.{GivesNoOctets, IsEndedBy, failure_means};
+ghost use Rattle.bsc_connections.specs.Connections.{write_fault};
 
 use crate::Framing;
 use crate::limits::MAX_READ;
-use bsc_carrier::CarrierError;
+use bsc_carrier::{CarrierError, DeviceFault};
 use std::io::{ErrorKind, Read, Write};
 use std::marker::Model;
 
@@ -42,8 +43,8 @@ pub struct Connection<R, W, F> {
     /// The framing of the transmissions that arrive.
     framing: F,
 
-    /// Whether a write failed that no read has reported yet.
-    is_untold: bool,
+    /// The fault of a write that failed and that no read has reported yet.
+    untold: Option<DeviceFault>,
 
     /// The octets of the last read.
     read: [u8; MAX_READ],
@@ -66,7 +67,7 @@ impl<R: Read + Drop, W: Write + Drop, F: Framing + Drop> Connection<R, W, F> {
         Connection {
             ends: Some((reader, writer)),
             framing: F::new(),
-            is_untold: false,
+            untold: None,
             read: [0; MAX_READ],
         }
     }
@@ -82,7 +83,7 @@ impl<R: Read + Drop, W: Write + Drop, F: Framing + Drop> Connection<R, W, F> {
     pub(crate) fn is_untold(&self) -> bool
         ensures { result ≡ true → self.now.ends ≡ None }
     {
-        self.ends.is_none() && self.is_untold
+        self.ends.is_none() && self.untold.is_some()
     }
 
     /// Returns the octets of the last complete transmission.
@@ -136,13 +137,12 @@ impl<R: Read + Drop, W: Write + Drop, F: Framing + Drop> Connection<R, W, F> {
         ensures taken { IsClosedOrNothing result }
         ensures same { self.new ≡ self.old }
     {
-        if self.is_untold {
-            self.is_untold = false;
-            return Taken::Closed {
-                why: Some(CarrierError::Device),
-            };
+        match self.untold.take() {
+            Some(why) => Taken::Closed {
+                why: Some(CarrierError::Device { why }),
+            },
+            None => Taken::Nothing,
         }
-        Taken::Nothing
     }
 
     /// Sends a transmission if the connection is open. A write that fails closes the connection;
@@ -154,9 +154,9 @@ impl<R: Read + Drop, W: Write + Drop, F: Framing + Drop> Connection<R, W, F> {
         let Some((_, writer)) = &mut self.ends else {
             return;
         };
-        if F::write(writer, octets).is_err() {
+        if let Err(error) = F::write(writer, octets) {
             self.close();
-            self.is_untold = true;
+            self.untold = Some(fault_of(error));
         }
     }
 }
@@ -208,8 +208,20 @@ fn failed(kind: ErrorKind) -> Taken
     match kind {
         ErrorKind::WouldBlock | ErrorKind::TimedOut => Taken::Nothing,
         ErrorKind::Interrupted => Taken::Interrupted,
-        _ => Taken::Closed {
-            why: Some(CarrierError::Device),
+        kind => Taken::Closed {
+            why: Some(CarrierError::Device {
+                why: DeviceFault::of(kind),
+            }),
         },
+    }
+}
+
+/// Returns the fault of a write that failed with this error.
+fn fault_of(error: CarrierError) -> DeviceFault
+    ensures { result ≡ write_fault error }
+{
+    match error {
+        CarrierError::Device { why } => why,
+        _ => DeviceFault::Other,
     }
 }

@@ -2,7 +2,7 @@
 
 use crate::Framing;
 use crate::limits::{KEPT, MAX_READ, MOST_WITHOUT_GAP};
-use bsc_carrier::{CarrierError, TwoBuffers};
+use bsc_carrier::{CarrierError, DeviceFault, TwoBuffers};
 use std::io::Write;
 use std::marker::Model;
 
@@ -103,7 +103,9 @@ impl Framing for Gaps {
     fn write<W: Write>(writer: &mut W, octets: &[u8]) -> Result<(), CarrierError> {
         match writer.write_all(octets) {
             Ok(()) => Ok(()),
-            Err(_) => Err(CarrierError::Device),
+            Err(error) => Err(CarrierError::Device {
+                why: DeviceFault::of(error.kind()),
+            }),
         }
     }
 }

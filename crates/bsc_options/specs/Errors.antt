@@ -20,9 +20,9 @@ use Rattle.bsc_options.specs.declared.error.OptionError.TheVariants.{PeerForm, R
 
 -- Each reason names the options at fault.
 abbrev pub reason : OptionError → List ℕ
-reason Station = codes "either --control or --terminal must say which station it is"
+reason Station = codes "exactly one of --control and --terminal must say which station it is"
 reason TerminalNumber = codes "--terminal takes the number of a terminal"
-reason Place = codes "either --listen or --connect must say where its connections are"
+reason Place = codes "exactly one of --listen and --connect must say where its connections are"
 reason ConnectNeedsShared = codes "--control with --connect needs --shared"
 reason NeedsControl = codes "--shared, --pause, --rounds and --idle-rounds need --control"
 reason PatienceNeedsConnect = codes "--patience needs --connect"

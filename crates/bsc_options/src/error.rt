@@ -104,9 +104,13 @@ impl OptionError {
         ensures { result.now ≡ reason self }
     {
         match self {
-            OptionError::Station => "either --control or --terminal must say which station it is",
+            OptionError::Station => {
+                "exactly one of --control and --terminal must say which station it is"
+            }
             OptionError::TerminalNumber => "--terminal takes the number of a terminal",
-            OptionError::Place => "either --listen or --connect must say where its connections are",
+            OptionError::Place => {
+                "exactly one of --listen and --connect must say where its connections are"
+            }
             OptionError::ConnectNeedsShared => "--control with --connect needs --shared",
             OptionError::NeedsControl => {
                 "--shared, --pause, --rounds and --idle-rounds need --control"

@@ -50,7 +50,7 @@ impl Trust {
     /// Returns what is known at the beginning: nothing was sent, no connection is owned, and
     /// nothing speaks against trust. `shared` says that all terminals answer on one connection.
     /// `time_out` is that of the stations, at least 1, and not that of the control station, which
-    /// is twice as long.
+    /// is longer.
     pub fn new(shared: bool, time_out: u64, peers: TerminalPeers) -> Trust
         ensures { result ≡ new_trust shared time_out peers }
     {

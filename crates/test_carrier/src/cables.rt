@@ -1,7 +1,7 @@
 //! Cables over streams in memory.
 
 use crate::memory::MemoryStream;
-use bsc_carrier::{Cable, CarrierError, Octets};
+use bsc_carrier::{Cable, CarrierError, DeviceFault, Octets};
 use std::alloc::Global;
 use std::test::Fail;
 
@@ -152,7 +152,9 @@ fn what_is_read_at_an_end_is_told(rt: HostRuntime) -> Result<(), Fail> {
 /// Two connections without a fault.
 const RIGHT: &[Connection<'static>] = &[(SYN, SYN), (SYN, SYN)];
 
-const DEVICE: Answer = Err(CarrierError::Device);
+const DEVICE: Answer = Err(CarrierError::Device {
+    why: DeviceFault::Other,
+});
 
 /// The results of a call for all terminals and then one for the second terminal over `RIGHT`. Each
 /// takes three reads or writes of each end that it uses.

@@ -4,7 +4,7 @@ ghost use Rattle.std.specs.Prelude.{◌≤◌, length};
 
 use crate::memory::MemoryStream;
 use bsc_carrier::laws::any_pieces;
-use bsc_carrier::{CarrierError, Octets, read_record, write_record};
+use bsc_carrier::{CarrierError, DeviceFault, Octets, read_record, write_record};
 use std::alloc::Global;
 use std::test::Fail;
 
@@ -128,7 +128,9 @@ fn each_length_is_written_at_once_and_read_back(rt: HostRuntime) {
 /// Whether a write and a read of ACK0 whose call at this place fails return `Device`, after the
 /// octets before it were written and with nothing heard.
 fn is_device(alloc: Global, place: usize) -> bool {
-    let device = CarrierError::Device;
+    let device = CarrierError::Device {
+        why: DeviceFault::Other,
+    };
     let mut heard = Octets::new();
     let (wrote, _, output) = written(alloc, &ACK0, 1, place);
     let (answer, _) = read(alloc, &RECORD, 1, place, &mut heard);
@@ -146,5 +148,6 @@ fn device_comes_only_after_a_failed_call(rt: HostRuntime) {
     }
     assert!(rt; !is_device(rt.alloc(), 8));
     let (stuck, calls, _) = written(rt.alloc(), &ACK0, 0, 0);
-    assert_eq!(rt; (stuck, calls), (Err(CarrierError::Device), 1));
+    let why = DeviceFault::Other;
+    assert_eq!(rt; (stuck, calls), (Err(CarrierError::Device { why }), 1));
 }

@@ -229,11 +229,22 @@ struct Machine<'a> {
     record: &'a Record,
 }
 
+/// A line on which as much is tried as may be.
+const MOST_TRIES: &str = r#"version = 1
+tries = 15
+poll_list = [0]
+
+[[terminals]]
+poll = "A"
+select = "a"
+"#;
+
 /// Returns the text of the file at this path.
 fn file_at(path: &str) -> Option<&'static str> {
     match path {
         "line.toml" => Some(TWO_TERMINALS),
         "three.toml" => Some(THREE_ADDRESSES),
+        "tries.toml" => Some(MOST_TRIES),
         _ => None,
     }
 }

@@ -208,7 +208,7 @@ fn contradicting_options_are_refused(rt: HostRuntime) -> Result<(), Fail> {
 const REASONS: &[(OptionError, &str)] = &[
     (
         OptionError::Station,
-        "either --control or --terminal must say which station it is",
+        "exactly one of --control and --terminal must say which station it is",
     ),
     (
         OptionError::TerminalNumber,
@@ -216,7 +216,7 @@ const REASONS: &[(OptionError, &str)] = &[
     ),
     (
         OptionError::Place,
-        "either --listen or --connect must say where its connections are",
+        "exactly one of --listen and --connect must say where its connections are",
     ),
     (
         OptionError::ConnectNeedsShared,

@@ -71,7 +71,7 @@ pub(crate) const CONTROLLING: Asking = Asking {
     raw: false,
     stays: true,
     begins: true,
-    time_out: 6_000,
+    time_out: 15_000,
     gap: 50,
     patience: 3_000,
     replace_after: 9_000,
@@ -262,7 +262,7 @@ const CASES: &[Case] = &[
             asking: Some(Asking {
                 begins: true,
                 raw: true,
-                time_out: 80,
+                time_out: 200,
                 gap: 9,
                 patience: 40,
                 replace_after: 120,
@@ -272,6 +272,40 @@ const CASES: &[Case] = &[
             to 1: offered 0, known 0\nslowest answer: none\ntrusted\n",
             errors: "bscline: records not delivered\n",
             status: 4,
+        },
+    },
+    // The time-out of a control station is longer than that of a terminal, 17 times here: it does
+    // not act before a terminal has given up.
+    Case {
+        words: Some(&[
+            "station",
+            "tries.toml",
+            "--control",
+            "--connect",
+            "h:1",
+            "--shared",
+            "--time-out",
+            "100",
+            "--patience",
+            "70",
+        ]),
+        input: None,
+        takes: true,
+        scene: Scene {
+            steps: b"t",
+            ..SILENT
+        },
+        due: Due {
+            asking: Some(Asking {
+                begins: true,
+                time_out: 1_700,
+                patience: 70,
+                replace_after: 300,
+                ..CONNECTING
+            }),
+            out: "from 0: spooled 0\nto 0: offered 0, known 0\nslowest answer: none\ntrusted\n",
+            errors: "",
+            status: 0,
         },
     },
 ];

@@ -3,7 +3,7 @@
 use crate::memory::Piece::{Fails, Octets};
 use crate::memory::{Counts, Ends, Expecting, NOT_TOLD, Pieces, Told};
 use crate::watching::{Answers, Expects};
-use bsc_carrier::CarrierError;
+use bsc_carrier::{CarrierError, DeviceFault};
 use bsc_connections::Awaited::{Gap, Newcomer, NotAccepted, NotAllowed, Stopped, TimeOut};
 use bsc_connections::{
     Awaited, Connection, Framing, Gaps, LiveError, Note, Refusal, SocketRecords, attend,
@@ -189,7 +189,9 @@ const OVER_RECORDS: &[Attended] = &[
             Note::Closed {
                 connection: 1,
                 peer: None,
-                why: Some(CarrierError::Device),
+                why: Some(CarrierError::Device {
+                    why: DeviceFault::BrokenPipe,
+                }),
             },
             Note::Closed {
                 connection: 0,
@@ -418,7 +420,9 @@ const OVER_GAPS: &[Attended] = &[
         notes: &[Note::Closed {
             connection: 0,
             peer: None,
-            why: Some(CarrierError::Device),
+            why: Some(CarrierError::Device {
+                why: DeviceFault::Reset,
+            }),
         }],
         result: Ok(()),
         counts: Counts {

@@ -2,7 +2,7 @@
 
 use bsc_bid::{ReleaseError, SettingError, TerminalError};
 use bsc_block::{FormatError, RecordError};
-use bsc_carrier::CarrierError;
+use bsc_carrier::{CarrierError, DeviceFault};
 use bsc_config::ConfigError;
 use bsc_connections::LiveError;
 use bsc_control::SetupError;
@@ -10,6 +10,7 @@ use bsc_frame::AddressError;
 use bsc_input::{InputError, Unreadable};
 use bsc_print::PrintError;
 use bsc_script::ScriptError;
+use std::io::ErrorKind;
 use std::test::Fail;
 
 #[test]
@@ -71,14 +72,21 @@ the characters of a block are not 146 to 400
 #[test]
 fn records_and_carriers(rt: HostRuntime) -> Result<(), Fail> {
     let texts = format!(in rt.alloc();
-        "{}\n{}\n{}\n{}\n{}\n{}\n{}\n{}\n",
+        "{}\n{}\n{}\n{}\n{}\n{}\n{}\n{}\n{}\n{}\n{}\n{}\n{}\n",
         RecordError::TooLong,
         RecordError::NotText(80),
         ReleaseError::NotInDoubt,
         ReleaseError::CountMismatch,
         CarrierError::Length,
         CarrierError::Short,
-        CarrierError::Device,
+        CarrierError::Device {
+            why: DeviceFault::of(ErrorKind::ConnectionReset),
+        },
+        DeviceFault::of(ErrorKind::ConnectionAborted),
+        DeviceFault::of(ErrorKind::BrokenPipe),
+        DeviceFault::of(ErrorKind::TimedOut),
+        DeviceFault::of(ErrorKind::NetworkUnreachable),
+        DeviceFault::of(ErrorKind::WriteZero),
         CarrierError::Unequal,
     )?;
     assert_eq!(rt;
@@ -89,6 +97,11 @@ not in doubt
 count mismatch
 the length of a record is wrong
 the input ended within a record
+connection reset by peer
+connection aborted
+broken pipe
+timed out
+the peer cannot be reached
 a read or a write failed
 two far ends gave different octets
 "

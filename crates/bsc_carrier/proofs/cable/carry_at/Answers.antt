@@ -1,10 +1,11 @@
 -- `carry_at` changes the two ends at its place, and returns each result when it is due.
-use Rattle.std.proofs.Common.{ℕ, List, refl, ap, ◌∙◌, subst, Option, Result, Ok, Err}
+use Rattle.std.proofs.Common.{ℕ, List, refl, sym, ap, ◌∙◌, subst, Option, Result, Ok, Err}
 use Rattle.std.specs.Result.{OnOk}
 use Rattle.std.specs.Io.KnownBytes.{Appends}
 use Rattle.std.proofs.lemmas.Option.{slice_get-get_or, get_or_from_slice_get}
 use Rattle.std.proofs.lemmas.Result.{err_from_is_err_and, IfOk-from_err}
 use Rattle.bsc_carrier.specs.Cable.{Gives, AnswersFor}
+use Rattle.bsc_carrier.specs.Faults.{HasFailed}
 use Rattle.bsc_carrier.proofs.Places.{stays_after_error}
 use Rattle.bsc_carrier.proofs.Answered.{device_answers}
 use Rattle.bsc_carrier.proofs.cable.carry_at.Goals as goal
@@ -58,4 +59,5 @@ returns-in_err-write_record-clause-wrote g c =
 pub returns-in_err-write_record-clause-exact : goal.returns-in_err-write_record-clause-exact
 returns-in_err-write_record-clause-exact g c =
     let p = err_from_is_err_and c.from_residual.result c.from_residual.ensures.1 in
-    λ end here. device_answers _ _ (p.1 ∙ ap Err (p.2 ∙ c.in_err-write_record.ensures.err))
+    let failed = subst HasFailed (sym (p.1 ∙ ap Err p.2)) c.in_err-write_record.ensures.err in
+    λ end here. device_answers _ _ failed
