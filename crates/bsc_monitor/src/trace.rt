@@ -221,7 +221,8 @@ pub(crate) fn write_unanswered<W: Write>(terminal: usize, out: &mut W) -> Result
 
 /// Writes the line for a time-out.
 fn write_silence<W: Write>(time: u64, out: &mut W) -> Result<(), PrintError>
-    ensures ok { OnOk result (Appends (W.contents out.old) (W.contents out.new) (silence_line time)) }
+    ensures ok { OnOk result (Appends (W.contents out.old) (W.contents out.new)
+        (silence_line time)) }
     ensures err { IfErr result (λ error. error ≡ PrintError.Output) }
 {
     match write!(out, "+{time} silence\n") {
@@ -232,7 +233,8 @@ fn write_silence<W: Write>(time: u64, out: &mut W) -> Result<(), PrintError>
 
 /// Writes the line for a station that is asked to end.
 fn write_stopped<W: Write>(time: u64, out: &mut W) -> Result<(), PrintError>
-    ensures ok { OnOk result (Appends (W.contents out.old) (W.contents out.new) (stopped_line time)) }
+    ensures ok { OnOk result (Appends (W.contents out.old) (W.contents out.new)
+        (stopped_line time)) }
     ensures err { IfErr result (λ error. error ≡ PrintError.Output) }
 {
     match write!(out, "+{time} asked to end\n") {

@@ -160,8 +160,8 @@ impl<'a, A: Allocator + Copy, T: Timer + Drop, W: Write, D: Write> Watch<'a, A, 
     /// Writes the line for a terminal that has not answered, in a trace with the time.
     fn write_unanswered(&mut self, terminal: usize) -> Result<(), PrintError>
         ensures records { output_of W.contents self.new ≡ output_of W.contents self.old }
-        ensures trace { OnOk result (ShowsLine (unanswered_line terminal) (trace_of D.contents self.old)
-            (trace_of D.contents self.new)) }
+        ensures trace { OnOk result (ShowsLine (unanswered_line terminal)
+            (trace_of D.contents self.old) (trace_of D.contents self.new)) }
     {
         self.write_start()?;
         write_unanswered(terminal, self.errors)
