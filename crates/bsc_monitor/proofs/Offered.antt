@@ -60,6 +60,9 @@ offer_of_one_record old t s codes new less there e =
       offered = ap (λ (q : PeerValue). (outbound_at q s).queue.offered) peer_is
           ∙ ap (λ (q : OutboundValue). q.queue.offered)
           (get_or-set_same (peer_at old t).outbounds s _ no_outbound there);
+      known = ap (λ (q : PeerValue). (outbound_at q s).queue.known) peer_is
+          ∙ ap (λ (q : OutboundValue). q.queue.known)
+          (get_or-set_same (peer_at old t).outbounds s _ no_outbound there);
       others = λ queue. ap (λ (c : ControlValue). with_queue c t s queue) e
           ∙ queue_set_again old t s
           (record (outbound_of old t s).queue {

@@ -8,6 +8,7 @@ pub mod Offers
 pub mod Printed
 pub mod Progress
 pub mod Rounds
+pub mod Telling
 pub mod Traces
 pub mod TrustReport
 pub mod Trusting

@@ -2,6 +2,7 @@
 use Rattle.std.specs.Prelude.{◌≡◌, ℕ, Option}
 use Rattle.bsc_frame.specs.declared.message.Message.{Message}
 use Rattle.bsc_frame.specs.declared.message.Heard.{Heard}
+use Rattle.bsc_spool.specs.Queue.{QueueValue}
 use Rattle.bsc_tributary.specs.Tributary.{TributaryValue}
 use Rattle.bsc_tributary.specs.Kept.{IsHearing, IsSilence}
 
@@ -12,6 +13,10 @@ pub record LineTerminalValue : Type 0 where
 
 abbrev pub line_terminal_of : ℕ → TributaryValue → LineTerminalValue
 line_terminal_of number tributary = record { number = number; tributary = tributary }
+
+-- The terminal with this queue, and otherwise the same.
+abbrev pub with_own_queue : LineTerminalValue → QueueValue → LineTerminalValue
+with_own_queue l queue = line_terminal_of l.number (record l.tributary { queue = queue })
 
 -- The terminal hears a transmission, and keeps its number.
 pub record Hears (old : LineTerminalValue) (heard : Heard) (new : LineTerminalValue)

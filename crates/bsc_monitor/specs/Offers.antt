@@ -6,6 +6,7 @@ use Rattle.bsc_control.specs.Control.{ControlValue, peer_at, with_peer}
 use Rattle.bsc_control.specs.Kept.{outbound_of}
 use Rattle.bsc_control.specs.Peer.{with_outbound}
 use Rattle.std.specs.List.{AllByRecursion}
+use Rattle.bsc_monitor.specs.LineTerminal.{LineTerminalValue, with_own_queue}
 use Rattle.bsc_block.specs.Records.{record_of}
 use Rattle.bsc_block.specs.declared.record.RecordError.{RecordError}
 
@@ -34,6 +35,10 @@ with_queue c t s queue =
 abbrev pub KeepsOtherQueues : ControlValue → ℕ → ℕ → ControlValue → Type 0
 KeepsOtherQueues old t s new = with_queue new t s (outbound_of old t s).queue ≡ old
 
+-- The same of a terminal and its own queue.
+abbrev pub KeepsAllElse : LineTerminalValue → LineTerminalValue → Type 0
+KeepsAllElse old new = with_own_queue new old.tributary.queue ≡ old
+
 -- A record was offered for this selection address.
 pub record IsOffered (old : ControlValue) (t s : ℕ) (codes : List ℕ)
     (new : ControlValue) : Type 0 where
@@ -42,4 +47,5 @@ pub record IsOffered (old : ControlValue) (t s : ℕ) (codes : List ℕ)
   pub selects : length (peer_at new t).outbounds ≡ length (peer_at old t).outbounds
   pub offered : (outbound_of new t s).queue.offered ≡ (outbound_of old t s).queue.offered ++ codes
       ∷ []
+  pub known : (outbound_of new t s).queue.known ≡ (outbound_of old t s).queue.known
   pub others : (queue : QueueValue) → with_queue new t s queue ≡ with_queue old t s queue

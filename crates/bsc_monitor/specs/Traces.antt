@@ -1,5 +1,5 @@
 -- The lines of a trace.
-use Rattle.std.specs.Prelude.{⊤, ℕ, Bool, true, false, List, [], ◌++◌, codes, if◌then◌else◌}
+use Rattle.std.specs.Prelude.{◌≡◌, ⊤, ℕ, Bool, true, false, List, [], ◌++◌, codes, if◌then◌else◌}
 use Rattle.std.specs.Prelude.{Option, None, Some}
 use Rattle.std.specs.Fmt.{decimal}
 use Rattle.std.specs.Io.KnownBytes.{Appends}
@@ -8,7 +8,8 @@ use Rattle.std.specs.declared.net.socket_addr.SocketAddr.{SocketAddr}
 use Rattle.bsc_connections.specs.Histories.{Happening, WasHeard, WasIgnored, WasSilent, WasSent}
 use Rattle.bsc_connections.specs.Histories.{WasStopped, WasWithheld}
 use Rattle.bsc_connections.specs.declared.monitor.Note.{Note}
-use Rattle.bsc_connections.specs.declared.monitor.Note.TheVariants.{Joined, Withheld}
+use Rattle.bsc_connections.specs.declared.monitor.Note.TheVariants.{Joined, Refused, Closed}
+use Rattle.bsc_connections.specs.declared.monitor.Note.TheVariants.{Withheld}
 use Rattle.bsc_frame.specs.declared.message.Heard.{Heard}
 use Rattle.bsc_frame.specs.Reading.{heard}
 use Rattle.bsc_print.specs.Names.{chars_shown, name_of}
@@ -96,13 +97,16 @@ joined_line place peer replaces = connection_shown place peer ++ joined_shown re
 abbrev pub withheld_line : List ℕ
 withheld_line = codes "a transmission was withheld: it would have been late\n"
 
--- The line for a peer that took a connection is written, or the one for something that was withheld;
--- of other lines nothing is said.
+-- The line for a peer that took a connection is written, or the one for something that was withheld.
+-- Of those for a peer that is refused and for a connection that is closed nothing is said, and other
+-- events have none.
 abbrev pub ShowsChange : Note → Option (List ℕ) → Option (List ℕ) → Type 0
 ShowsChange (Joined place peer replaces) old new =
     Appends old new (joined_line place peer replaces)
 ShowsChange (Withheld octets) old new = Appends old new withheld_line
-ShowsChange note old new = ⊤
+ShowsChange (Refused peer why) old new = ⊤
+ShowsChange (Closed place peer why) old new = ⊤
+ShowsChange note old new = new ≡ old
 
 -- The start of a line that is printed while a station waits for its peers: a trace has the time 0.
 abbrev pub start_shown : Bool → List ℕ
@@ -132,6 +136,11 @@ waiting_line connected wanted = connected_shown connected ++ wanted_shown wanted
 -- A terminal waits for the control station.
 abbrev pub waiting_for_control : List ℕ
 waiting_for_control = codes "waiting for the control station\n"
+
+-- A terminal that has not answered.
+abbrev pub unanswered_line : ℕ → List ℕ
+unanswered_line terminal =
+    codes "terminal " ++ decimal terminal ++ codes " has not answered\n"
 
 -- Why the line is not trusted.
 abbrev pub distrust_line : Distrust → List ℕ

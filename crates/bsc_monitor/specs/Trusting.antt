@@ -1,5 +1,5 @@
 -- What a control station can tell of the premises of its line, by what happens to it.
-use Rattle.std.specs.Prelude.{◌≡◌, ℕ, Bool, List, Option, None, Some}
+use Rattle.std.specs.Prelude.{ℕ, Bool, List, Option, None, Some}
 use Rattle.std.specs.Net.Socket.{socket_ip}
 use Rattle.std.specs.declared.net.ip_addr.IpAddr.{IpAddr}
 use Rattle.std.specs.declared.net.socket_addr.SocketAddr.{SocketAddr}
@@ -63,11 +63,3 @@ distrust_told t called (WasHeard place octets) now = told_of t (heard octets) no
 distrust_told t called (WasIgnored place octets) now = Some (reason_told t called place)
 distrust_told t called (WasSent octets) now = told_of_sending t now
 distrust_told t called _ now = None
-
--- This happened at some time, to a peer of some address if one joined; what is known of it is kept.
--- Then this terminal is called.
-pub record KeepsTrust (old : Trusting) (happening : Happening) (called : Option ℕ)
-    (new : Trusting) : Type 0 where
-  pub now : ℕ
-  pub peer : Option IpAddr
-  pub is : new ≡ trusting_of (trust_after old.trust old.called happening now peer) called

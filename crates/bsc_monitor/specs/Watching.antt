@@ -4,6 +4,7 @@ use Rattle.std.specs.Prelude.{length}
 use Rattle.std.specs.Prelude.{Option, Result, Ok, Err, OnOk, slice_index}
 use Rattle.std.specs.Io.KnownBytes.{Appends}
 use Rattle.bsc_connections.specs.declared.awaited.LiveError.{LiveError}
+use Rattle.bsc_connections.specs.declared.awaited.LiveError.TheVariants as live
 use Rattle.bsc_connections.specs.Parts.{SessionParts}
 use Rattle.bsc_connections.specs.Connections.{ConnectionValue}
 use Rattle.bsc_connections.specs.Histories.{Happening, WasHeard, WasSilent, WasStopped, HasClosed}
@@ -18,6 +19,8 @@ use Rattle.bsc_monitor.specs.Arrivals.{AreCounted, AsManyArePrinted, MoreArePrin
 use Rattle.bsc_monitor.specs.Arrivals.{arrivals_of, arrived_on}
 use Rattle.bsc_monitor.specs.Progress.{progress_after}
 use Rattle.bsc_monitor.specs.declared.progress.Progress.{Progress}
+use Rattle.bsc_print.specs.declared.error.PrintError.{PrintError}
+use Rattle.bsc_print.specs.declared.error.PrintError.TheVariants as print
 use Rattle.bsc_print.specs.declared.form.Form.{Form}
 use Rattle.bsc_monitor.specs.declared.party.Party as party_of
 use Rattle.bsc_monitor.specs.declared.watch.Watch.{Watch}
@@ -75,6 +78,12 @@ Counts (Ok goes_on) party control happening old new =
     (found : Bool) × IsFound party control found old.output new.output
     × (new.progress ≡ progress_after old.progress found control happening)
 Counts (Err error) party control happening old new = new.progress ≡ old.progress
+
+-- What the result of printing a line of the trace is to a station that is attended.
+abbrev pub live_of : Result (Unit {0}) PrintError → Result (Unit {0}) LiveError
+live_of (Ok done) = Ok done
+live_of (Err print.Output) = Err live.Output
+live_of (Err print.Memory) = Err live.Memory
 
 -- Whether a terminal was asked to end, whether it has ended, and the fault that closed its
 -- connection, if it was a fault.

@@ -1,6 +1,6 @@
 //! The lines printed while a station waits for its peers.
 
-ghost use Rattle.std.specs.Prelude.{◌≡◌, ◌++◌, OnOk, Some, false};
+ghost use Rattle.std.specs.Prelude.{◌≡◌, ◌++◌, IfErr, OnOk, Some, false};
 ghost use Rattle.std.specs.Io.KnownBytes.{Appends};
 ghost use Rattle.bsc_monitor.specs.Traces.{connected_shown, joined_line, listening_line};
 ghost use Rattle.bsc_monitor.specs.Traces.{not_allowed_line, start_shown};
@@ -26,8 +26,9 @@ impl Beginning {
         address: SocketAddr,
         out: &mut W,
     ) -> Result<(), PrintError>
-        ensures { OnOk result (Appends (W.contents out.old) (W.contents out.new)
+        ensures ok { OnOk result (Appends (W.contents out.old) (W.contents out.new)
             (start_shown self.trace ++ listening_line address)) }
+        ensures err { IfErr result (λ error. error ≡ PrintError.Output) }
     {
         self.write_start(out)?;
         write_address(address, out)?;
@@ -41,8 +42,9 @@ impl Beginning {
         wanted: usize,
         out: &mut W,
     ) -> Result<(), PrintError>
-        ensures { OnOk result (Appends (W.contents out.old) (W.contents out.new)
+        ensures ok { OnOk result (Appends (W.contents out.old) (W.contents out.new)
             (start_shown self.trace ++ waiting_line connected wanted)) }
+        ensures err { IfErr result (λ error. error ≡ PrintError.Output) }
     {
         self.write_start(out)?;
         write_counts(connected, wanted, out)?;
@@ -51,8 +53,9 @@ impl Beginning {
 
     /// Writes that a terminal waits for the control station.
     pub fn write_waiting_for_control<W: Write>(self, out: &mut W) -> Result<(), PrintError>
-        ensures { OnOk result (Appends (W.contents out.old) (W.contents out.new)
+        ensures ok { OnOk result (Appends (W.contents out.old) (W.contents out.new)
             (start_shown self.trace ++ waiting_for_control)) }
+        ensures err { IfErr result (λ error. error ≡ PrintError.Output) }
     {
         self.write_start(out)?;
         put(b"waiting for the control station\n", out)?;
@@ -66,8 +69,9 @@ impl Beginning {
         peer: SocketAddr,
         out: &mut W,
     ) -> Result<(), PrintError>
-        ensures { OnOk result (Appends (W.contents out.old) (W.contents out.new)
+        ensures ok { OnOk result (Appends (W.contents out.old) (W.contents out.new)
             (start_shown self.trace ++ joined_line place (Some peer) false)) }
+        ensures err { IfErr result (λ error. error ≡ PrintError.Output) }
     {
         let note = Note::Joined {
             connection: place,
@@ -81,8 +85,9 @@ impl Beginning {
 
     /// Writes that this peer was turned away, since its address is not allowed.
     pub fn write_refused<W: Write>(self, peer: SocketAddr, out: &mut W) -> Result<(), PrintError>
-        ensures { OnOk result (Appends (W.contents out.old) (W.contents out.new)
+        ensures ok { OnOk result (Appends (W.contents out.old) (W.contents out.new)
             (start_shown self.trace ++ not_allowed_line peer)) }
+        ensures err { IfErr result (λ error. error ≡ PrintError.Output) }
     {
         self.write_start(out)?;
         write_not_allowed(peer, out)?;
@@ -91,8 +96,9 @@ impl Beginning {
 
     /// Writes the time at the start of a line, if it is one of a trace.
     fn write_start<W: Write>(self, out: &mut W) -> Result<(), PrintError>
-        ensures { OnOk result (Appends (W.contents out.old) (W.contents out.new)
+        ensures ok { OnOk result (Appends (W.contents out.old) (W.contents out.new)
             (start_shown self.trace)) }
+        ensures err { IfErr result (λ error. error ≡ PrintError.Output) }
     {
         if self.trace {
             return write_time(0, out);
@@ -103,8 +109,9 @@ impl Beginning {
 
 /// Writes the address at which peers can connect.
 fn write_address<W: Write>(address: SocketAddr, out: &mut W) -> Result<(), PrintError>
-    ensures { OnOk result (Appends (W.contents out.old) (W.contents out.new)
+    ensures ok { OnOk result (Appends (W.contents out.old) (W.contents out.new)
         (listening_line address)) }
+    ensures err { IfErr result (λ error. error ≡ PrintError.Output) }
 {
     match write!(out, "listening at {address}\n") {
         Ok(()) => Ok(()),
@@ -114,8 +121,9 @@ fn write_address<W: Write>(address: SocketAddr, out: &mut W) -> Result<(), Print
 
 /// Writes that a peer was turned away, since its address is not allowed.
 fn write_not_allowed<W: Write>(peer: SocketAddr, out: &mut W) -> Result<(), PrintError>
-    ensures { OnOk result (Appends (W.contents out.old) (W.contents out.new)
+    ensures ok { OnOk result (Appends (W.contents out.old) (W.contents out.new)
         (not_allowed_line peer)) }
+    ensures err { IfErr result (λ error. error ≡ PrintError.Output) }
 {
     match write!(out, "refused {peer}: its address is not allowed\n") {
         Ok(()) => Ok(()),
@@ -125,8 +133,9 @@ fn write_not_allowed<W: Write>(peer: SocketAddr, out: &mut W) -> Result<(), Prin
 
 /// Writes how many terminals have connected, and how many are wanted.
 fn write_counts<W: Write>(connected: usize, wanted: usize, out: &mut W) -> Result<(), PrintError>
-    ensures { OnOk result (Appends (W.contents out.old) (W.contents out.new)
+    ensures ok { OnOk result (Appends (W.contents out.old) (W.contents out.new)
         (waiting_line connected wanted)) }
+    ensures err { IfErr result (λ error. error ≡ PrintError.Output) }
 {
     write_connected(connected, out)?;
     write_wanted(wanted, out)?;
@@ -135,8 +144,9 @@ fn write_counts<W: Write>(connected: usize, wanted: usize, out: &mut W) -> Resul
 
 /// Writes how many terminals have connected.
 fn write_connected<W: Write>(connected: usize, out: &mut W) -> Result<(), PrintError>
-    ensures { OnOk result (Appends (W.contents out.old) (W.contents out.new)
+    ensures ok { OnOk result (Appends (W.contents out.old) (W.contents out.new)
         (connected_shown connected)) }
+    ensures err { IfErr result (λ error. error ≡ PrintError.Output) }
 {
     match write!(out, "waiting for terminals: {connected}") {
         Ok(()) => Ok(()),
@@ -146,8 +156,9 @@ fn write_connected<W: Write>(connected: usize, out: &mut W) -> Result<(), PrintE
 
 /// Writes how many terminals are wanted, and the end of the line.
 fn write_wanted<W: Write>(wanted: usize, out: &mut W) -> Result<(), PrintError>
-    ensures { OnOk result (Appends (W.contents out.old) (W.contents out.new)
+    ensures ok { OnOk result (Appends (W.contents out.old) (W.contents out.new)
         (wanted_shown wanted)) }
+    ensures err { IfErr result (λ error. error ≡ PrintError.Output) }
 {
     match write!(out, " of {wanted} connected\n") {
         Ok(()) => Ok(()),

@@ -1,8 +1,10 @@
 //! The monitor of a control station.
 
 ghost use Rattle.std.specs.Prelude.{◌≡◌, ◌-◌, false, length};
+ghost use Rattle.bsc_connections.specs.declared.awaited.Pace.TheVariants.{AtOnce};
 ghost use Rattle.bsc_monitor.specs.Answering.{new_answering};
 ghost use Rattle.bsc_monitor.specs.Progress.{progress_of};
+ghost use Rattle.bsc_monitor.specs.Telling.{calls_in};
 ghost use Rattle.bsc_monitor.specs.Trusting.{called_by, trusting_of};
 
 use crate::answering::Answering;
@@ -56,6 +58,7 @@ impl<'a, A: Allocator + Copy, T: Timer + Drop, W: Write, D: Write> ControlWatch<
             ≡ progress_of limits (length control.now.poll_list - 1) listens }
         ensures trusting { result.trusting ≡ trusting_of trust (called_by control.now) }
         ensures answering { result.answering ≡ new_answering }
+        ensures pace { result.pace ≡ AtOnce }
     {
         ControlWatch {
             watch,
@@ -107,7 +110,8 @@ impl<'a, A: Allocator + Copy, T: Timer + Drop, W: Write, D: Write, B: Allocator>
     ghost use Rattle.std.specs.Prelude.{◌≡◌, OnOk};
     ghost use Rattle.bsc_monitor.specs.Answering.{answering_after};
     ghost use Rattle.bsc_monitor.specs.Progress.{pace_after};
-    ghost use Rattle.bsc_monitor.specs.Trusting.{KeepsTrust, called_by, is_admitted};
+    ghost use Rattle.bsc_monitor.specs.Telling.{ControlShows, trace_of};
+    ghost use Rattle.bsc_monitor.specs.Trusting.{called_by, is_admitted};
     ghost use Rattle.bsc_monitor.specs.Watching.{Counts, Sees, output_of};
 
     ghost has_ended = { λ w. w.progress.ended };
@@ -124,7 +128,8 @@ impl<'a, A: Allocator + Copy, T: Timer + Drop, W: Write, D: Write, B: Allocator>
         (record { output = output_of W.contents old.watch; progress = old.progress })
         (record { output = output_of W.contents new.watch; progress = new.progress })
         × (OnOk result (new.pace ≡ pace_after old.progress station happening))
-        × (OnOk result (KeepsTrust old.trusting happening (called_by station) new.trusting))
+        × (OnOk result (ControlShows station happening old.answering old.trusting new.trusting
+        (trace_of D.contents old.watch) (trace_of D.contents new.watch)))
         × (OnOk result (new.answering ≡ answering_after old.answering station happening)) };
 
     fn admits(&self, station: &Control<B>, connection: usize, octets: &[u8]) -> bool {
@@ -154,7 +159,9 @@ impl<'a, A: Allocator + Copy, T: Timer + Drop, W: Write, D: Write, B: Allocator>
 }
 
 /// Returns which calls may begin an idle poll: while the control station polls, those that it sends.
-fn calls_of<B: Allocator>(control: &Control<B>) -> Calls {
+fn calls_of<B: Allocator>(control: &Control<B>) -> Calls
+    ensures { result ≡ calls_in control.now.task }
+{
     match control.task() {
         Task::Polling { .. } => Calls::Sent,
         _ => Calls::Neither,

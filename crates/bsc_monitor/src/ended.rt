@@ -74,7 +74,8 @@ impl<'a, A: Allocator + Copy, T: Timer + Drop, W: Write, D: Write> Monitor<Ended
     for LastWatch<'a, A, T, W, D> {
     ghost use Rattle.std.specs.Prelude.{◌≡◌, OnOk};
     ghost use Rattle.bsc_connections.specs.declared.awaited.Pace.TheVariants.{AtOnce};
-    ghost use Rattle.bsc_monitor.specs.Trusting.{KeepsTrust, is_admitted};
+    ghost use Rattle.bsc_monitor.specs.Telling.{LastShows, trace_of};
+    ghost use Rattle.bsc_monitor.specs.Trusting.{is_admitted};
     ghost use Rattle.bsc_monitor.specs.Watching.{last_of, last_told, output_of};
 
     ghost has_ended = { λ w. w.ended };
@@ -88,7 +89,8 @@ impl<'a, A: Allocator + Copy, T: Timer + Drop, W: Write, D: Write> Monitor<Ended
         (output_of W.contents new.watch ≡ output_of W.contents old.watch)
         × (last_of new.ended new.stopped
         ≡ last_told result (last_of old.ended old.stopped) happening)
-        × (OnOk result (KeepsTrust old.trusting happening old.trusting.called new.trusting)) };
+        × (OnOk result (LastShows happening old.trusting new.trusting
+        (trace_of D.contents old.watch) (trace_of D.contents new.watch))) };
 
     fn admits(&self, _station: &Ended, connection: usize, octets: &[u8]) -> bool {
         self.trusting.admits_last(connection, octets)

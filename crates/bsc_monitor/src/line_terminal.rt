@@ -1,8 +1,9 @@
 //! A terminal of a configured line.
 
-ghost use Rattle.std.specs.Prelude.{◌≡◌, ◌≤◌, ◌<◌, ◌++◌, ◌∷◌, [], length, OnOk};
+ghost use Rattle.std.specs.Prelude.{◌≡◌, ◌≤◌, ◌<◌, length, IfErr, OnErr, OnOk};
 ghost use Rattle.bsc_monitor.specs.Ends.{IsWay};
-ghost use Rattle.bsc_monitor.specs.LineTerminal.{line_terminal_of};
+ghost use Rattle.bsc_monitor.specs.LineTerminal.{line_terminal_of, with_own_queue};
+ghost use Rattle.bsc_spool.specs.Queue.{with_offered};
 ghost use Rattle.bsc_bid.specs.Terminal.{HasDistinctAddresses};
 ghost use Rattle.bsc_tributary.specs.Kept.{IsNewTerminal};
 ghost use Rattle.bsc_tributary.specs.Tributary.{is_control_mode};
@@ -79,10 +80,10 @@ impl<A: Allocator> LineTerminal<A> {
     /// full length. If memory runs out, nothing changes and the record is returned.
     pub fn offer(&mut self, record: Record) -> Result<(), Record>
         requires { length «record» ≤ self.old.tributary.queue.format.full }
-        ensures number { self.new.number ≡ self.old.number }
-        ensures format { self.new.tributary.queue.format ≡ self.old.tributary.queue.format }
-        ensures offered { OnOk result (self.new.tributary.queue.offered
-            ≡ self.old.tributary.queue.offered ++ «record» ∷ []) }
+        ensures ok { OnOk result (self.new
+            ≡ with_own_queue self.old (with_offered self.old.tributary.queue «record»)) }
+        ensures err { OnErr result (self.new ≡ self.old) }
+        ensures given_back { IfErr result (λ r. r ≡ «record») }
     {
         self.tributary.offer(record)
     }

@@ -4,7 +4,7 @@ ghost use Rattle.std.specs.Prelude.{◌≡◌, ◌≤◌, ◌<◌, ◌++◌, len
 ghost use Rattle.bsc_block.specs.Blocks.{AreShort};
 ghost use Rattle.bsc_control.specs.Control.{peer_at};
 ghost use Rattle.bsc_control.specs.Kept.{outbound_of};
-ghost use Rattle.bsc_monitor.specs.Offers.{IsOffered, KeepsOtherQueues};
+ghost use Rattle.bsc_monitor.specs.Offers.{IsOffered, KeepsAllElse, KeepsOtherQueues};
 
 use crate::{LineTerminal, OfferError};
 use bsc_block::Record;
@@ -13,7 +13,7 @@ use std::alloc::Allocator;
 
 /// Offers records at a terminal, for the control station, in order. None may be longer than the
 /// full length. Returns `Memory` if memory for a record runs out; the records before it are
-/// offered.
+/// offered. Nothing but the queue changes.
 pub fn offer_at_terminal<A: Allocator, B: Allocator>(
     terminal: &mut LineTerminal<A>,
     records: Vec<Record, B>,
@@ -22,6 +22,8 @@ pub fn offer_at_terminal<A: Allocator, B: Allocator>(
     ensures offered { OnOk result (terminal.new.tributary.queue.offered
         ≡ terminal.old.tributary.queue.offered ++ records.items) }
     ensures format { terminal.new.tributary.queue.format ≡ terminal.old.tributary.queue.format }
+    ensures known { terminal.new.tributary.queue.known ≡ terminal.old.tributary.queue.known }
+    ensures others { KeepsAllElse terminal.old terminal.new }
 {
     for record in records {
         if terminal.offer(record).is_err() {
@@ -45,6 +47,8 @@ pub fn offer_for_terminal<A: Allocator, B: Allocator>(
     requires short { AreShort control.old.setup.format.full records.items }
     ensures offered { OnOk result ((outbound_of control.new terminal select).queue.offered
         ≡ (outbound_of control.old terminal select).queue.offered ++ records.items) }
+    ensures known { (outbound_of control.new terminal select).queue.known
+        ≡ (outbound_of control.old terminal select).queue.known }
     ensures others { KeepsOtherQueues control.old terminal select control.new }
 {
     for record in records {

@@ -56,8 +56,9 @@ impl<'a, A: Allocator + Copy, T: Timer + Drop, W: Write, D: Write> TerminalWatch
 impl<'a, A: Allocator + Copy, T: Timer + Drop, W: Write, D: Write, B: Allocator> Monitor<
     LineTerminal<B>,
 > for TerminalWatch<'a, A, T, W, D> {
-    ghost use Rattle.std.specs.Prelude.{◌≡◌, true};
+    ghost use Rattle.std.specs.Prelude.{◌≡◌, OnOk, true};
     ghost use Rattle.bsc_connections.specs.declared.awaited.Pace.TheVariants.{AtOnce};
+    ghost use Rattle.bsc_monitor.specs.Telling.{TerminalShows, trace_of};
     ghost use Rattle.bsc_monitor.specs.Watching.{Sees, closing_of, closing_told, output_of};
 
     ghost has_ended = { λ w. w.ended };
@@ -71,7 +72,9 @@ impl<'a, A: Allocator + Copy, T: Timer + Drop, W: Write, D: Write, B: Allocator>
         (output_of W.contents old.watch) (output_of W.contents new.watch)
         × (closing_told result (closing_of old.ended old.closed old.stopped)
         station.tributary.mode happening
-        ≡ closing_of new.ended new.closed new.stopped) };
+        ≡ closing_of new.ended new.closed new.stopped)
+        × (OnOk result (TerminalShows station.number happening
+        (trace_of D.contents old.watch) (trace_of D.contents new.watch))) };
 
     fn admits(&self, _station: &LineTerminal<B>, _connection: usize, _octets: &[u8]) -> bool {
         true

@@ -1,7 +1,6 @@
 //! The lines printed for the events of a station.
 
-ghost use Rattle.std.specs.Prelude.{◌≡◌, ◌++◌, codes, OnOk};
-ghost use Rattle.std.specs.Fmt.{decimal};
+ghost use Rattle.std.specs.Prelude.{◌≡◌, ◌++◌, IfErr, OnOk};
 ghost use Rattle.std.specs.Io.KnownBytes.{Appends};
 ghost use Rattle.bsc_connections.specs.Notes.{told_by};
 ghost use Rattle.bsc_frame.specs.Reading.{heard};
@@ -10,7 +9,8 @@ ghost use Rattle.bsc_monitor.specs.Traces.{IsTraced, ShowsChange, connection_sho
 ghost use Rattle.bsc_monitor.specs.Traces.{distrust_line, joined_shown, octets_shown, origin_shown};
 ghost use Rattle.bsc_monitor.specs.Traces.{silence_line, stopped_line};
 ghost use Rattle.bsc_monitor.specs.Traces.{heard_from as sender_heard, time_shown};
-ghost use Rattle.bsc_monitor.specs.Traces.{transmission_line, who_shown, withheld_line};
+ghost use Rattle.bsc_monitor.specs.Traces.{transmission_line, unanswered_line, who_shown};
+ghost use Rattle.bsc_monitor.specs.Traces.{withheld_line};
 
 use bsc_carrier::CarrierError;
 use bsc_connections::{Note, Refusal};
@@ -53,8 +53,9 @@ pub(crate) enum Deed {
 
 /// Writes the time at the start of a line, in milliseconds.
 pub(crate) fn write_time<W: Write>(time: u64, out: &mut W) -> Result<(), PrintError>
-    ensures { OnOk result (Appends (W.contents out.old) (W.contents out.new)
+    ensures ok { OnOk result (Appends (W.contents out.old) (W.contents out.new)
         (time_shown time)) }
+    ensures err { IfErr result (λ error. error ≡ PrintError.Output) }
 {
     match write!(out, "+{time} ") {
         Ok(()) => Ok(()),
@@ -64,7 +65,8 @@ pub(crate) fn write_time<W: Write>(time: u64, out: &mut W) -> Result<(), PrintEr
 
 /// Writes the sender of a transmission.
 fn write_who<W: Write>(who: Who, out: &mut W) -> Result<(), PrintError>
-    ensures { OnOk result (Appends (W.contents out.old) (W.contents out.new) (who_shown who)) }
+    ensures ok { OnOk result (Appends (W.contents out.old) (W.contents out.new) (who_shown who)) }
+    ensures err { IfErr result (λ error. error ≡ PrintError.Output) }
 {
     let written = match who {
         Who::Control => write!(out, "control"),
@@ -186,7 +188,8 @@ pub(crate) fn heard_from(me: Who, connection: usize) -> Who
 /// Writes the line for a peer that joined or was refused, for a connection that is closed, or for
 /// something that was withheld, without a time. Writes nothing for any other event.
 pub(crate) fn write_change<W: Write>(note: &Note<'_>, out: &mut W) -> Result<(), PrintError>
-    ensures { OnOk result (ShowsChange note.now (W.contents out.old) (W.contents out.new)) }
+    ensures ok { OnOk result (ShowsChange note.now (W.contents out.old) (W.contents out.new)) }
+    ensures err { IfErr result (λ error. error ≡ PrintError.Output) }
 {
     match note {
         Note::Joined {
@@ -215,8 +218,9 @@ pub(crate) fn write_change<W: Write>(note: &Note<'_>, out: &mut W) -> Result<(),
 
 /// Writes the line for a terminal that has not answered, without a time.
 pub(crate) fn write_unanswered<W: Write>(terminal: usize, out: &mut W) -> Result<(), PrintError>
-    ensures { OnOk result (Appends (W.contents out.old) (W.contents out.new)
-        (codes "terminal " ++ decimal terminal ++ codes " has not answered\n")) }
+    ensures ok { OnOk result (Appends (W.contents out.old) (W.contents out.new)
+        (unanswered_line terminal)) }
+    ensures err { IfErr result (λ error. error ≡ PrintError.Output) }
 {
     match write!(out, "terminal {terminal} has not answered\n") {
         Ok(()) => Ok(()),
@@ -226,7 +230,9 @@ pub(crate) fn write_unanswered<W: Write>(terminal: usize, out: &mut W) -> Result
 
 /// Writes the line for a time-out.
 fn write_silence<W: Write>(time: u64, out: &mut W) -> Result<(), PrintError>
-    ensures { OnOk result (Appends (W.contents out.old) (W.contents out.new) (silence_line time)) }
+    ensures ok { OnOk result (Appends (W.contents out.old) (W.contents out.new)
+        (silence_line time)) }
+    ensures err { IfErr result (λ error. error ≡ PrintError.Output) }
 {
     match write!(out, "+{time} silence\n") {
         Ok(()) => Ok(()),
@@ -236,7 +242,9 @@ fn write_silence<W: Write>(time: u64, out: &mut W) -> Result<(), PrintError>
 
 /// Writes the line for a station that is asked to end.
 fn write_stopped<W: Write>(time: u64, out: &mut W) -> Result<(), PrintError>
-    ensures { OnOk result (Appends (W.contents out.old) (W.contents out.new) (stopped_line time)) }
+    ensures ok { OnOk result (Appends (W.contents out.old) (W.contents out.new)
+        (stopped_line time)) }
+    ensures err { IfErr result (λ error. error ≡ PrintError.Output) }
 {
     match write!(out, "+{time} asked to end\n") {
         Ok(()) => Ok(()),
@@ -246,7 +254,8 @@ fn write_stopped<W: Write>(time: u64, out: &mut W) -> Result<(), PrintError>
 
 /// Writes the line for something that was withheld, without a time.
 fn write_withheld<W: Write>(out: &mut W) -> Result<(), PrintError>
-    ensures { OnOk result (Appends (W.contents out.old) (W.contents out.new) withheld_line) }
+    ensures ok { OnOk result (Appends (W.contents out.old) (W.contents out.new) withheld_line) }
+    ensures err { IfErr result (λ error. error ≡ PrintError.Output) }
 {
     put(
         b"a transmission was withheld: it would have been late\n",
@@ -257,8 +266,9 @@ fn write_withheld<W: Write>(out: &mut W) -> Result<(), PrintError>
 
 /// Writes why the line is not trusted, without a time.
 pub(crate) fn write_distrust<W: Write>(why: Distrust, out: &mut W) -> Result<(), PrintError>
-    ensures { OnOk result (Appends (W.contents out.old) (W.contents out.new)
+    ensures ok { OnOk result (Appends (W.contents out.old) (W.contents out.new)
         (distrust_line why)) }
+    ensures err { IfErr result (λ error. error ≡ PrintError.Output) }
 {
     match write!(out, "not trusted: {why}\n") {
         Ok(()) => Ok(()),
@@ -272,8 +282,9 @@ fn write_connection<W: Write>(
     peer: Option<SocketAddr>,
     out: &mut W,
 ) -> Result<(), PrintError>
-    ensures { OnOk result (Appends (W.contents out.old) (W.contents out.new)
+    ensures ok { OnOk result (Appends (W.contents out.old) (W.contents out.new)
         (connection_shown connection peer)) }
+    ensures err { IfErr result (λ error. error ≡ PrintError.Output) }
 {
     write_who(Who::Connection(connection), out)?;
     write_origin(peer, out)?;
@@ -282,8 +293,9 @@ fn write_connection<W: Write>(
 
 /// Writes the address of a peer, if it is known.
 fn write_origin<W: Write>(peer: Option<SocketAddr>, out: &mut W) -> Result<(), PrintError>
-    ensures { OnOk result (Appends (W.contents out.old) (W.contents out.new)
+    ensures ok { OnOk result (Appends (W.contents out.old) (W.contents out.new)
         (origin_shown peer)) }
+    ensures err { IfErr result (λ error. error ≡ PrintError.Output) }
 {
     let Some(peer) = peer else {
         return Ok(());
@@ -310,7 +322,9 @@ fn write_refused<W: Write>(
     peer: Option<SocketAddr>,
     why: Refusal,
     out: &mut W,
-) -> Result<(), PrintError> {
+) -> Result<(), PrintError>
+    ensures { IfErr result (λ error. error ≡ PrintError.Output) }
+{
     let written = match peer {
         Some(peer) => write!(out, "refused {peer}: {why}\n"),
         None => write!(out, "refused a peer: {why}\n"),
@@ -323,7 +337,9 @@ fn write_refused<W: Write>(
 
 /// Writes the end of the line for a connection that is closed, and why. Without a reason, its peer
 /// closed it between transmissions.
-fn write_closed<W: Write>(why: Option<CarrierError>, out: &mut W) -> Result<(), PrintError> {
+fn write_closed<W: Write>(why: Option<CarrierError>, out: &mut W) -> Result<(), PrintError>
+    ensures { IfErr result (λ error. error ≡ PrintError.Output) }
+{
     let written = match why {
         Some(why) => write!(out, " closed: {why}\n"),
         None => write!(out, " closed\n"),

@@ -1,6 +1,6 @@
 //! The last lines of the report of a control station.
 
-ghost use Rattle.std.specs.Prelude.{OnOk};
+ghost use Rattle.std.specs.Prelude.{◌≡◌, IfErr, OnOk};
 ghost use Rattle.std.specs.Io.KnownBytes.{Appends};
 ghost use Rattle.bsc_monitor.specs.TrustReport.{advice_shown, measured_line, share_shown};
 ghost use Rattle.bsc_monitor.specs.TrustReport.{slowest_line, trust_report, trusted_line};
@@ -18,8 +18,9 @@ const SLOW: u64 = 50;
 /// should be longer if that is 50 or more; then that the line is trusted, or the first reason why it
 /// is not. After an error a part of them may have been written.
 pub fn write_trust<W: Write>(trust: &Trust, out: &mut W) -> Result<(), PrintError>
-    ensures { OnOk result (Appends (W.contents out.old) (W.contents out.new)
+    ensures ok { OnOk result (Appends (W.contents out.old) (W.contents out.new)
         (trust_report trust.now)) }
+    ensures err { IfErr result (λ error. error ≡ PrintError.Output) }
 {
     write_slowest(trust.slowest_share(), out)?;
     write_trusted(trust.distrust(), out)
@@ -27,8 +28,9 @@ pub fn write_trust<W: Write>(trust: &Trust, out: &mut W) -> Result<(), PrintErro
 
 /// Writes the line for the slowest answer, by its time in hundredths of the time-out.
 fn write_slowest<W: Write>(share: Option<u64>, out: &mut W) -> Result<(), PrintError>
-    ensures { OnOk result (Appends (W.contents out.old) (W.contents out.new)
+    ensures ok { OnOk result (Appends (W.contents out.old) (W.contents out.new)
         (slowest_line share)) }
+    ensures err { IfErr result (λ error. error ≡ PrintError.Output) }
 {
     match share {
         Some(share) => write_measured(share, out),
@@ -38,8 +40,9 @@ fn write_slowest<W: Write>(share: Option<u64>, out: &mut W) -> Result<(), PrintE
 
 /// Writes the line for the slowest answer, of this time.
 fn write_measured<W: Write>(share: u64, out: &mut W) -> Result<(), PrintError>
-    ensures { OnOk result (Appends (W.contents out.old) (W.contents out.new)
+    ensures ok { OnOk result (Appends (W.contents out.old) (W.contents out.new)
         (measured_line share)) }
+    ensures err { IfErr result (λ error. error ≡ PrintError.Output) }
 {
     write_share(share, out)?;
     write_advice(SLOW <= share, out)?;
@@ -48,8 +51,9 @@ fn write_measured<W: Write>(share: u64, out: &mut W) -> Result<(), PrintError>
 
 /// Writes the time of the slowest answer.
 fn write_share<W: Write>(share: u64, out: &mut W) -> Result<(), PrintError>
-    ensures { OnOk result (Appends (W.contents out.old) (W.contents out.new)
+    ensures ok { OnOk result (Appends (W.contents out.old) (W.contents out.new)
         (share_shown share)) }
+    ensures err { IfErr result (λ error. error ≡ PrintError.Output) }
 {
     match write!(out, "slowest answer: {share}% of the time-out") {
         Ok(()) => Ok(()),
@@ -59,8 +63,9 @@ fn write_share<W: Write>(share: u64, out: &mut W) -> Result<(), PrintError>
 
 /// Writes the end of the line for the slowest answer.
 fn write_advice<W: Write>(is_slow: bool, out: &mut W) -> Result<(), PrintError>
-    ensures { OnOk result (Appends (W.contents out.old) (W.contents out.new)
+    ensures ok { OnOk result (Appends (W.contents out.old) (W.contents out.new)
         (advice_shown is_slow)) }
+    ensures err { IfErr result (λ error. error ≡ PrintError.Output) }
 {
     if is_slow {
         put(b", which should be longer\n", out)
@@ -71,8 +76,9 @@ fn write_advice<W: Write>(is_slow: bool, out: &mut W) -> Result<(), PrintError>
 
 /// Writes whether the line is trusted, or the first reason why it is not.
 fn write_trusted<W: Write>(why: Option<Distrust>, out: &mut W) -> Result<(), PrintError>
-    ensures { OnOk result (Appends (W.contents out.old) (W.contents out.new)
+    ensures ok { OnOk result (Appends (W.contents out.old) (W.contents out.new)
         (trusted_line why)) }
+    ensures err { IfErr result (λ error. error ≡ PrintError.Output) }
 {
     match why {
         Some(why) => write_distrust(why, out),

@@ -2,7 +2,10 @@
 
 ghost use Rattle.std.specs.Prelude.{◌≡◌, IfOk, OnOk};
 ghost use Rattle.bsc_connections.specs.Notes.{told_by};
-ghost use Rattle.bsc_monitor.specs.Watching.{IsFound, PrintsArrivals, Sees, output_of};
+ghost use Rattle.bsc_monitor.specs.Telling.{BeginsLine, ShowsDistrust, ShowsEvent, ShowsLine};
+ghost use Rattle.bsc_monitor.specs.Telling.{ShowsUnanswered, trace_of};
+ghost use Rattle.bsc_monitor.specs.Traces.{distrust_line, unanswered_line};
+ghost use Rattle.bsc_monitor.specs.Watching.{IsFound, PrintsArrivals, Sees, live_of, output_of};
 
 use crate::arrivals::print_arrivals;
 use crate::held::{HeldCall, Seen, write_held, write_next};
@@ -85,7 +88,8 @@ impl<'a, A: Allocator + Copy, T: Timer + Drop, W: Write, D: Write> Watch<'a, A, 
 
     /// Returns the milliseconds since the start of the station.
     pub(crate) fn milliseconds(&mut self) -> u64
-        ensures { output_of W.contents self.new ≡ output_of W.contents self.old }
+        ensures records { output_of W.contents self.new ≡ output_of W.contents self.old }
+        ensures trace { trace_of D.contents self.new ≡ trace_of D.contents self.old }
     {
         self.timer.milliseconds()
     }
@@ -103,6 +107,8 @@ impl<'a, A: Allocator + Copy, T: Timer + Drop, W: Write, D: Write> Watch<'a, A, 
             (output_of W.contents self.old) (output_of W.contents self.new) }
         ensures found { IfOk result (λ found. IsFound P.Party station.now found
             (output_of W.contents self.old) (output_of W.contents self.new)) }
+        ensures trace { OnOk result (ShowsEvent seen.calls seen.me seen.time note.now
+            (trace_of D.contents self.old) (trace_of D.contents self.new)) }
     {
         live(self.tell(seen, note))?;
         match note {
@@ -120,6 +126,7 @@ impl<'a, A: Allocator + Copy, T: Timer + Drop, W: Write, D: Write> Watch<'a, A, 
             (output_of W.contents self.old) (output_of W.contents self.new)) }
         ensures found { IfOk result (λ found. IsFound P.Party station.now found
             (output_of W.contents self.old) (output_of W.contents self.new)) }
+        ensures trace { trace_of D.contents self.new ≡ trace_of D.contents self.old }
     {
         // There is a count for each channel on which the station of this watch receives.
         if self.printed.len() != station.spools() {
@@ -142,7 +149,9 @@ impl<'a, A: Allocator + Copy, T: Timer + Drop, W: Write, D: Write> Watch<'a, A, 
     /// Prints that this terminal has not answered, in a trace with the time. Prints nothing if there
     /// is none.
     pub(crate) fn tell_unanswered(&mut self, terminal: Option<usize>) -> Result<(), LiveError>
-        ensures { output_of W.contents self.new ≡ output_of W.contents self.old }
+        ensures records { output_of W.contents self.new ≡ output_of W.contents self.old }
+        ensures trace { OnOk result (ShowsUnanswered terminal (trace_of D.contents self.old)
+            (trace_of D.contents self.new)) }
     {
         match terminal {
             Some(terminal) => live(self.write_unanswered(terminal)),
@@ -152,7 +161,9 @@ impl<'a, A: Allocator + Copy, T: Timer + Drop, W: Write, D: Write> Watch<'a, A, 
 
     /// Writes the line for a terminal that has not answered, in a trace with the time.
     fn write_unanswered(&mut self, terminal: usize) -> Result<(), PrintError>
-        ensures { output_of W.contents self.new ≡ output_of W.contents self.old }
+        ensures records { output_of W.contents self.new ≡ output_of W.contents self.old }
+        ensures trace { OnOk result (ShowsLine (unanswered_line terminal)
+            (trace_of D.contents self.old) (trace_of D.contents self.new)) }
     {
         self.write_start()?;
         write_unanswered(terminal, self.errors)
@@ -161,7 +172,9 @@ impl<'a, A: Allocator + Copy, T: Timer + Drop, W: Write, D: Write> Watch<'a, A, 
     /// Prints why the line is not trusted, in a trace with the time. Prints nothing if there is no
     /// reason.
     pub(crate) fn tell_distrust(&mut self, why: Option<Distrust>) -> Result<(), LiveError>
-        ensures { output_of W.contents self.new ≡ output_of W.contents self.old }
+        ensures records { output_of W.contents self.new ≡ output_of W.contents self.old }
+        ensures trace { OnOk result (ShowsDistrust why (trace_of D.contents self.old)
+            (trace_of D.contents self.new)) }
     {
         match why {
             Some(why) => live(self.write_distrust(why)),
@@ -171,7 +184,9 @@ impl<'a, A: Allocator + Copy, T: Timer + Drop, W: Write, D: Write> Watch<'a, A, 
 
     /// Writes why the line is not trusted, in a trace with the time.
     fn write_distrust(&mut self, why: Distrust) -> Result<(), PrintError>
-        ensures { output_of W.contents self.new ≡ output_of W.contents self.old }
+        ensures records { output_of W.contents self.new ≡ output_of W.contents self.old }
+        ensures trace { OnOk result (ShowsLine (distrust_line why) (trace_of D.contents self.old)
+            (trace_of D.contents self.new)) }
     {
         self.write_start()?;
         write_distrust(why, self.errors)
@@ -180,7 +195,9 @@ impl<'a, A: Allocator + Copy, T: Timer + Drop, W: Write, D: Write> Watch<'a, A, 
     /// Writes the start of a line that tells of no event: in a trace the line that is held back, and
     /// the time.
     fn write_start(&mut self) -> Result<(), PrintError>
-        ensures { output_of W.contents self.new ≡ output_of W.contents self.old }
+        ensures records { output_of W.contents self.new ≡ output_of W.contents self.old }
+        ensures trace { OnOk result (BeginsLine (trace_of D.contents self.old)
+            (trace_of D.contents self.new)) }
     {
         if matches!(self.printing.trace, Tracing::Off) {
             return Ok(());
@@ -194,7 +211,10 @@ impl<'a, A: Allocator + Copy, T: Timer + Drop, W: Write, D: Write> Watch<'a, A, 
     /// Prints the line for an event: a line of the trace, or without a trace only that of a peer
     /// that joined, left or was refused, or of something that was withheld.
     pub(crate) fn tell(&mut self, seen: Seen, note: &Note<'_>) -> Result<(), PrintError>
-        ensures { output_of W.contents self.new ≡ output_of W.contents self.old }
+        ensures records { output_of W.contents self.new ≡ output_of W.contents self.old }
+        ensures trace { OnOk result (ShowsEvent seen.calls seen.me seen.time note.now
+            (trace_of D.contents self.old)
+            (trace_of D.contents self.new)) }
     {
         match self.printing.trace {
             Tracing::Off => write_change(note, self.errors),
@@ -205,9 +225,11 @@ impl<'a, A: Allocator + Copy, T: Timer + Drop, W: Write, D: Write> Watch<'a, A, 
 }
 
 /// Converts the result of printing a line of the trace to that of attending a station.
-pub(crate) fn live<V: Drop>(printed: Result<V, PrintError>) -> Result<V, LiveError> {
+pub(crate) fn live(printed: Result<(), PrintError>) -> Result<(), LiveError>
+    ensures { result ≡ live_of printed }
+{
     match printed {
-        Ok(value) => Ok(value),
+        Ok(()) => Ok(()),
         Err(PrintError::Output) => Err(LiveError::Output),
         Err(PrintError::Memory) => Err(LiveError::Memory),
     }

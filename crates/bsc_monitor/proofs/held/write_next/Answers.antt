@@ -1,5 +1,5 @@
 -- The line that was held back is written or dropped, and then the line for the event.
-use Rattle.std.proofs.Common.{◌≡◌, rules, is_some}
+use Rattle.std.proofs.Common.{◌≡◌, rules}
 use Rattle.bsc_connections.specs.Notes.{told_by}
 use Rattle.bsc_monitor.specs.Holding.{drops_held, has_no_line}
 use Rattle.bsc_monitor.proofs.held.write_next.Goals as goal

@@ -2,6 +2,7 @@
 use Rattle.std.proofs.Common.{◌≡◌, ◌++◌}
 use Rattle.std.specs.Vec.Iter.{into_iter_items}
 use Rattle.bsc_block.specs.Blocks.{AreShort}
+use Rattle.bsc_monitor.specs.Offers.{KeepsAllElse}
 use Rattle.bsc_monitor.proofs.offering.offer_at_terminal.Given as goal
 
 abbrev pub invariant-loop-record : goal.invariant-loop-record
@@ -12,4 +13,6 @@ invariant-loop-record g l = record {
   format : l.terminal.tributary.queue.format ≡ l.initial.terminal.tributary.queue.format;
   offered : l.terminal.tributary.queue.offered ≡ l.initial.terminal.tributary.queue.offered
       ++ l.yielded;
+  known : l.terminal.tributary.queue.known ≡ l.initial.terminal.tributary.queue.known;
+  others : KeepsAllElse l.initial.terminal l.terminal;
 }

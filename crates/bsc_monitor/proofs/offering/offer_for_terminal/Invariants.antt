@@ -17,6 +17,8 @@ invariant-loop-record g l = record {
   selects : l.select < length (peer_at l.control l.terminal).outbounds;
   offered : (outbound_of l.control l.terminal l.select).queue.offered
       ≡ (outbound_of l.initial.control l.terminal l.select).queue.offered ++ l.yielded;
+  known : (outbound_of l.control l.terminal l.select).queue.known
+      ≡ (outbound_of l.initial.control l.terminal l.select).queue.known;
   others : (queue : QueueValue) → with_queue l.control l.terminal l.select queue
       ≡ with_queue l.initial.control l.terminal l.select queue;
 }

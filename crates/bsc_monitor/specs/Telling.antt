@@ -1,0 +1,132 @@
+-- What a watch prints to its trace.
+use Rattle.std.specs.Prelude.{◌≡◌, ℕ, List, [], ◌++◌, Option, None, Some}
+use Rattle.std.specs.Io.KnownBytes.{Appends}
+use Rattle.bsc_connections.specs.Histories.{Happening}
+use Rattle.bsc_connections.specs.Notes.{told_by}
+use Rattle.bsc_connections.specs.declared.monitor.Note.{Note}
+use Rattle.bsc_control.specs.Control.{ControlValue}
+use Rattle.bsc_control.specs.declared.task.Task.{Task}
+use Rattle.bsc_control.specs.declared.task.Task.TheVariants.{Polling}
+use Rattle.bsc_trust.specs.declared.distrust.Distrust.{Distrust}
+use Rattle.bsc_monitor.specs.Answering.{unanswered}
+use Rattle.bsc_monitor.specs.Holding.{CallLine, TracesNext, held_for, held_shown}
+use Rattle.bsc_monitor.specs.Traces.{IsTraced, ShowsChange, distrust_line, time_shown}
+use Rattle.bsc_monitor.specs.Traces.{unanswered_line}
+use Rattle.bsc_monitor.specs.Trusting.{called_by, distrust_told, joining_address, trust_after}
+use Rattle.bsc_monitor.specs.Trusting.{trusting_of}
+use Rattle.bsc_monitor.specs.declared.answering.Answering.{Answering}
+use Rattle.bsc_monitor.specs.declared.held.Calls.{Calls}
+use Rattle.bsc_monitor.specs.declared.held.Calls.TheVariants as calls
+use Rattle.bsc_monitor.specs.declared.trace.Who.{Who}
+use Rattle.bsc_monitor.specs.declared.trace.Who.TheVariants.{Control, Terminal}
+use Rattle.bsc_monitor.specs.declared.tracing.Tracing.{Tracing}
+use Rattle.bsc_monitor.specs.declared.tracing.Tracing.TheVariants.{Off, Exchanges, All}
+use Rattle.bsc_monitor.specs.declared.trusting.Trusting.{Trusting}
+use Rattle.bsc_monitor.specs.declared.watch.Watch.{Watch}
+
+-- How much a trace tells, the line that is held back, and what its writer holds, as far as that is
+-- known.
+pub record Trace : Type 0 where
+  pub tracing : Tracing
+  pub held : Option CallLine
+  pub contents : Option (List ℕ)
+
+abbrev pub trace_of : {A T W D : Type 0} → (D → Option (List ℕ)) → Watch A T W D → Trace
+trace_of contents w =
+    record { tracing = w.printing.trace; held = w.held; contents = contents w.errors.now }
+
+-- The line for an event of this station at this time is printed, if there is one: without a trace
+-- only for a peer that joins, leaves or is refused.
+abbrev pub ShowsIn : Tracing → Calls → Who → ℕ → Note → Trace → Trace → Type 0
+ShowsIn Off calls me time note old new =
+    ShowsChange note old.contents new.contents × (new.held ≡ old.held)
+ShowsIn Exchanges calls me time note old new =
+    TracesNext old.held calls (told_by note) time me old.contents new.contents
+    × (new.held ≡ held_for calls time (told_by note))
+ShowsIn All calls me time note old new =
+    IsTraced (told_by note) time me old.contents new.contents × (new.held ≡ old.held)
+
+pub record ShowsEvent (calls : Calls) (me : Who) (time : ℕ) (note : Note) (old new : Trace)
+    : Type 0 where
+  pub tracing : new.tracing ≡ old.tracing
+  pub line : ShowsIn old.tracing calls me time note old new
+
+-- The start of a line that tells of no event: in a trace the line that is held back, and the time.
+abbrev pub start_of : Tracing → Option CallLine → ℕ → List ℕ
+start_of Off held time = []
+start_of Exchanges held time = held_shown held ++ time_shown time
+start_of All held time = held_shown held ++ time_shown time
+
+abbrev pub held_then : Tracing → Option CallLine → Option CallLine
+held_then Off held = held
+held_then Exchanges held = None
+held_then All held = None
+
+-- Such a start was written at some time.
+pub record BeginsLine (old new : Trace) : Type 0 where
+  pub time : ℕ
+  pub text : Appends old.contents new.contents (start_of old.tracing old.held time)
+  pub held : new.held ≡ held_then old.tracing old.held
+  pub tracing : new.tracing ≡ old.tracing
+
+-- This line was written after such a start.
+pub record ShowsLine (line : List ℕ) (old new : Trace) : Type 0 where
+  pub between : Trace
+  pub begins : BeginsLine old between
+  pub text : Appends between.contents new.contents line
+  pub held : new.held ≡ between.held
+  pub tracing : new.tracing ≡ between.tracing
+
+-- It is told why the line is not trusted, if there is a reason to tell.
+abbrev pub ShowsDistrust : Option Distrust → Trace → Trace → Type 0
+ShowsDistrust None old new = new ≡ old
+ShowsDistrust (Some why) old new = ShowsLine (distrust_line why) old new
+
+-- It is told that this terminal has not answered, if there is one to tell of.
+abbrev pub ShowsUnanswered : Option ℕ → Trace → Trace → Type 0
+ShowsUnanswered None old new = new ≡ old
+ShowsUnanswered (Some terminal) old new = ShowsLine (unanswered_line terminal) old new
+
+-- Which calls may begin an idle poll of a control station in this task: while it polls, those that
+-- it sends.
+abbrev pub calls_in : Task → Calls
+calls_in (Polling replied) = calls.Sent
+calls_in _ = calls.Neither
+
+-- What happened to a control station is shown with the time, and kept with the same time: the line
+-- for it, then why the line is not trusted if that is told of it, then the terminal that has not
+-- answered if one is told of.
+pub record ControlShows (control : ControlValue) (happening : Happening) (answering : Answering)
+    (old new : Trusting) (before after : Trace) : Type 0 where
+  pub time : ℕ
+  pub note : Note
+  pub is : told_by note ≡ happening
+  pub trust : new
+      ≡ trusting_of (trust_after old.trust old.called happening time (joining_address note))
+      (called_by control)
+  pub first : Trace
+  pub event : ShowsEvent (calls_in control.task) Control time note before first
+  pub second : Trace
+  pub distrust : ShowsDistrust (distrust_told old.trust old.called happening time) first second
+  pub silent : ShowsUnanswered (unanswered answering control happening) second after
+
+-- The same of a control station that has ended, which calls nobody else.
+pub record LastShows (happening : Happening) (old new : Trusting) (before after : Trace)
+    : Type 0 where
+  pub time : ℕ
+  pub note : Note
+  pub is : told_by note ≡ happening
+  pub trust : new
+      ≡ trusting_of (trust_after old.trust old.called happening time (joining_address note))
+      old.called
+  pub first : Trace
+  pub event : ShowsEvent calls.Neither Control time note before first
+  pub distrust : ShowsDistrust (distrust_told old.trust old.called happening time) first after
+
+-- What happened to the terminal with this number is shown with the time.
+pub record TerminalShows (number : ℕ) (happening : Happening) (before after : Trace)
+    : Type 0 where
+  pub time : ℕ
+  pub note : Note
+  pub is : told_by note ≡ happening
+  pub event : ShowsEvent calls.Heard (Terminal number) time note before after
