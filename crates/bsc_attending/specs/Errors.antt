@@ -6,6 +6,8 @@ use Rattle.bsc_input.specs.declared.texts.TextError.{TextError}
 use Rattle.bsc_input.specs.declared.texts.TextError.TheVariants as text
 use Rattle.bsc_connections.specs.declared.awaited.LiveError.{LiveError}
 use Rattle.bsc_connections.specs.declared.awaited.LiveError.TheVariants as live
+use Rattle.bsc_options.specs.declared.error.OptionError.{OptionError}
+use Rattle.bsc_options.specs.declared.error.OptionError.TheVariants as option
 use Rattle.bsc_print.specs.declared.error.PrintError.{PrintError}
 use Rattle.bsc_print.specs.declared.error.PrintError.TheVariants as print
 use Rattle.bsc_sockets.specs.declared.error.SocketsError.{SocketsError}
@@ -30,6 +32,12 @@ abbrev pub print_error : PrintError → AttendingError
 print_error print.Output = attending.Output
 print_error print.Memory = attending.Memory
 
+-- The errors of printing.
+abbrev pub IsPrintFault : AttendingError → Type 0
+IsPrintFault attending.Output = Unit {0}
+IsPrintFault attending.Memory = Unit {0}
+IsPrintFault _ = ⊥
+
 -- The error for connections that could not be made.
 abbrev pub sockets_error : SocketsError → AttendingError
 sockets_error sockets.Memory = attending.Memory
@@ -43,10 +51,18 @@ live_error live.Output = attending.Output
 live_error live.Unprinted = attending.Unprinted
 live_error live.Memory = attending.Memory
 
+-- The reasons for refusing options that are found after the configuration is read.
+abbrev pub IsFoundLate : OptionError → Type 0
+IsFoundLate option.NoTerminal = Unit {0}
+IsFoundLate option.NoPeer = Unit {0}
+IsFoundLate option.OfferForm = Unit {0}
+IsFoundLate option.NoChannel = Unit {0}
+IsFoundLate _ = ⊥
+
 -- The errors of the records that a station has to send: a wrong option, a text that could not be
 -- read, or a line that is not a record.
 abbrev pub IsOfferError : AttendingError → Type 0
-IsOfferError (attending.Options error) = Unit {0}
+IsOfferError (attending.Options error) = IsFoundLate error
 IsOfferError (attending.Offer path error) = Unit {0}
 IsOfferError (attending.Text error) = Unit {0}
 IsOfferError attending.Memory = Unit {0}

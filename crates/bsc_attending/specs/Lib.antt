@@ -1,4 +1,5 @@
 pub mod Errors
+pub mod Ending
 pub mod Framings
 pub mod Offering
 pub mod Wanted

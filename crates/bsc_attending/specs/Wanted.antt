@@ -1,11 +1,13 @@
 -- The connections that a station asks for.
 use Rattle.std.specs.Prelude.{ℕ, ℤ, pos, ◌+◌, ◌*◌, ◌-◌, ◌^◌, min, Bool, true, false, if◌then◌else◌}
-use Rattle.std.specs.Prelude.{Option, None, Some}
+use Rattle.std.specs.Prelude.{Option, None, Some, length}
 use Rattle.bsc_monitor.specs.declared.tracing.Tracing.{Tracing}
 use Rattle.bsc_monitor.specs.declared.tracing.Tracing.TheVariants.{Off, Exchanges, All}
 use Rattle.bsc_peers.specs.declared.networks.Networks.{Networks}
 use Rattle.bsc_options.specs.Settings.{PlaceValue, SettingsValue, connects_to, listens_at}
 use Rattle.bsc_options.specs.Settings.{place_value}
+use Rattle.bsc_attending.specs.declared.preparing.Prepared.{Prepared}
+use Rattle.bsc_attending.specs.declared.preparing.Prepared.TheVariants as prepared
 use Rattle.bsc_attending.specs.declared.wanted.Wanted.{Wanted}
 
 -- The connections: their place and number, whether their octets are raw, from which networks peers
@@ -105,3 +107,9 @@ terminal_wants s allowed = record {
   line_time_out = s.times.time_out;
   trace = is_traced s.printing.trace;
 }
+
+-- What a station asks for that is prepared.
+abbrev pub wants : SettingsValue → Networks → Prepared → WantedValue
+wants s allowed (prepared.Control control) =
+    control_wants s allowed (length control.peers) control.setup.tries
+wants s allowed (prepared.Terminal terminal) = terminal_wants s allowed

@@ -1,7 +1,7 @@
 //! The connections of a station, and attending the station over them.
 
-ghost use Rattle.std.specs.Prelude.{◌≡◌, IfErr, IfOk};
-ghost use Rattle.bsc_attending.specs.Framings.{is_raw};
+ghost use Rattle.std.specs.Prelude.{◌≡◌, IfErr, IfOk, Some, map, ℕ};
+ghost use Rattle.bsc_attending.specs.Framings.{ends_of, is_raw};
 ghost use Rattle.bsc_attending.specs.Errors.{IsLate};
 
 use crate::{AttendingError, Network, Opened, Wanted};
@@ -58,6 +58,7 @@ fn in_framing<R: Read + Drop, W: Write + Drop>(
     directions: Vec<(R, W)>,
 ) -> Result<Framed<R, W>, AttendingError>
     ensures framing { IfOk result (λ framed. is_raw framed ≡ raw) }
+    ensures all { IfOk result (λ framed. ends_of framed ≡ map (λ d. Some d) directions.items) }
     ensures late { IfErr result IsLate }
 {
     if raw {
@@ -73,10 +74,13 @@ fn connections_of<R: Read + Drop, W: Write + Drop, F: Framing + Drop>(
     alloc: Global,
     directions: Vec<(R, W)>,
 ) -> Result<Vec<Connection<R, W, F>>, AttendingError>
-    ensures { IfErr result IsLate }
+    ensures all { IfOk result (λ connections.
+        map (λ c. c.ends) connections.items ≡ map (λ d. Some d) directions.items) }
+    ensures late { IfErr result IsLate }
 {
     let mut connections = Vec::new(alloc);
-    for (reader, writer) in directions {
+    'directions: for direction in directions {
+        let (reader, writer) = direction;
         connections.push(Connection::new(reader, writer))?;
     }
     Ok(connections)
@@ -84,6 +88,9 @@ fn connections_of<R: Read + Drop, W: Write + Drop, F: Framing + Drop>(
 
 /// Connections over which a station can be attended.
 pub(crate) trait Attend {
+    /// The number of connections.
+    ghost places: { Self → ℕ };
+
     /// Attends a station over the connections until the monitor ends it.
     fn attend<S: Station, M: Monitor<S>>(
         &mut self,
@@ -92,13 +99,18 @@ pub(crate) trait Attend {
     ) -> Result<(), LiveError>;
 
     /// Returns the number of connections.
-    fn count(&self) -> usize;
+    fn count(&self) -> usize
+        ensures { result ≡ places self.now };
 
     /// Returns the address of the peer of the connection at this place, if it is known.
     fn peer(&self, place: usize) -> Option<IpAddr>;
 }
 
 impl<R: Read + Drop, W: Write + Drop, Q: Waiter<R, W> + Drop> Attend for Connections<R, W, Q> {
+    ghost use Rattle.bsc_attending.specs.Framings.{connection_count};
+
+    ghost places = { λ c. connection_count c.framed };
+
     fn attend<S: Station, M: Monitor<S>>(
         &mut self,
         station: &mut S,

@@ -1,8 +1,9 @@
 //! The records that a station has to send.
 
-ghost use Rattle.std.specs.Prelude.{◌≡◌, ◌≢◌, IfErr, IfOk, OnOk, codes};
+ghost use Rattle.std.specs.Prelude.{◌≡◌, ◌≢◌, IfErr, IfOk, OnOk, codes, map, string_bytes};
 ghost use Rattle.bsc_attending.specs.Errors.{IsOfferError};
-ghost use Rattle.bsc_attending.specs.Offering.{AreLinesAt, OffersLines};
+ghost use Rattle.bsc_attending.specs.Offering.{AddsAllLines, AddsLines, AreLinesAt};
+ghost use Rattle.bsc_attending.specs.Offering.{OffersAllLines, OffersLines};
 ghost use Rattle.bsc_block.specs.Blocks.{AreShort};
 
 use crate::AttendingError;
@@ -59,15 +60,37 @@ pub(crate) fn offer_all_at_terminal<R: Read, F: Files>(
     files: &mut F,
 ) -> Result<(), AttendingError>
     requires { terminal.old.tributary.queue.format ≡ setup.format }
-    ensures { IfErr result IsOfferError }
+    ensures error { IfErr result IsOfferError }
+    ensures offers { OnOk result (AddsAllLines R.remaining (map string_bytes offers.now)
+        (input.old, terminal.old.tributary.queue.offered)
+        (input.new, terminal.new.tributary.queue.offered)) }
 {
     'offers: for path in offers {
-        let records = records_at(alloc, path.as_str(), setup, input, files)?;
-        if offer_at_terminal(terminal, records).is_err() {
-            return Err(AttendingError::Memory);
-        }
+        add_lines(alloc, path.as_str(), setup, terminal, input, files)?;
     }
     Ok(())
+}
+
+/// Offers the lines of one text at a terminal.
+fn add_lines<R: Read, F: Files>(
+    alloc: Global,
+    path: &str,
+    setup: Setup,
+    terminal: &mut LineTerminal<Global>,
+    input: &mut R,
+    files: &mut F,
+) -> Result<(), AttendingError>
+    requires { terminal.old.tributary.queue.format ≡ setup.format }
+    ensures error { IfErr result IsOfferError }
+    ensures format { terminal.new.tributary.queue.format ≡ setup.format }
+    ensures adds { OnOk result (AddsLines R.remaining path.now input.old input.new
+        terminal.old.tributary.queue.offered terminal.new.tributary.queue.offered) }
+{
+    let records = records_at(alloc, path, setup, input, files)?;
+    match offer_at_terminal(terminal, records) {
+        Ok(()) => Ok(()),
+        Err(_) => Err(AttendingError::Memory),
+    }
 }
 
 /// Offers the lines of each text at the control station.
@@ -78,7 +101,9 @@ pub(crate) fn offer_all_for_terminals<R: Read, F: Files>(
     input: &mut R,
     files: &mut F,
 ) -> Result<(), AttendingError>
-    ensures { IfErr result IsOfferError }
+    ensures error { IfErr result IsOfferError }
+    ensures offers { OnOk result (OffersAllLines R.remaining (map string_bytes offers.now)
+        (input.old, control.old) (input.new, control.new)) }
 {
     'offers: for text in offers {
         offer_for(alloc, text.as_str(), control, input, files)?;

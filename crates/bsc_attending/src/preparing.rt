@@ -1,7 +1,7 @@
 //! Prepares the station of a configuration with the records that it has to send: everything that is
 //! read before a connection is made.
 
-ghost use Rattle.std.specs.Prelude.{IfErr};
+ghost use Rattle.std.specs.Prelude.{◌≡◌, ◌<◌, ◌≤◌, Err, IfErr, length};
 ghost use Rattle.bsc_attending.specs.Errors.{IsPreparingError};
 
 use crate::AttendingError;
@@ -54,7 +54,9 @@ fn control_station<R: Read, F: Files>(
     input: &mut R,
     files: &mut F,
 ) -> Result<Prepared, AttendingError>
-    ensures { IfErr result IsPreparingError }
+    ensures error { IfErr result IsPreparingError }
+    ensures peers { length config.now.terminals < peers.terminals →
+        result ≡ Err (AttendingError.Options OptionError.NoPeer) }
 {
     if peers.terminals > config.terminals() {
         let error = OptionError::NoPeer;
@@ -74,7 +76,9 @@ fn terminal<R: Read, F: Files>(
     input: &mut R,
     files: &mut F,
 ) -> Result<Prepared, AttendingError>
-    ensures { IfErr result IsPreparingError }
+    ensures error { IfErr result IsPreparingError }
+    ensures number { length config.now.terminals ≤ number →
+        result ≡ Err (AttendingError.Options OptionError.NoTerminal) }
 {
     if number >= config.terminals() {
         let error = OptionError::NoTerminal;

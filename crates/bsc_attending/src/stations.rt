@@ -1,9 +1,11 @@
 //! One station of a line: prepares it, makes its connections, and attends it until it ends.
 
 ghost use Rattle.std.specs.Prelude.{◌≡◌, IfErr};
-ghost use Rattle.bsc_options.specs.Settings.{place_value};
-ghost use Rattle.bsc_attending.specs.Errors.{IsEarly, IsLate, control_outcome_of, outcome_of};
-ghost use Rattle.bsc_attending.specs.Wanted.{is_listening};
+ghost use Rattle.bsc_options.specs.Settings.{place_value, settings_value};
+ghost use Rattle.bsc_attending.specs.Ending.{IsConcluded, JoinsFirst};
+ghost use Rattle.bsc_attending.specs.Errors.{IsEarly, IsLate, IsPrintFault, control_outcome_of};
+ghost use Rattle.bsc_attending.specs.Errors.{outcome_of};
+ghost use Rattle.bsc_attending.specs.Wanted.{is_listening, wanted_value, wants};
 ghost use Rattle.bsc_trust.specs.Trust.{new_trust};
 
 use crate::connections::{Attend, connect};
@@ -175,7 +177,10 @@ fn ending_of(options: &Options<'_>) -> Ending
 }
 
 /// Returns the connections that a station asks for.
-fn wanted_by<'a>(options: &Options<'a>, prepared: &Prepared) -> Wanted<'a> {
+fn wanted_by<'a>(options: &Options<'a>, prepared: &Prepared) -> Wanted<'a>
+    ensures { wanted_value result
+        ≡ wants (settings_value options.now.settings) options.now.admission.allowed prepared.now }
+{
     let (settings, allowed) = (&options.settings, options.admission.allowed);
     match prepared {
         Prepared::Control { control } => {
@@ -232,9 +237,11 @@ fn attend_control<C: Attend, T: Timer + Drop, O: Write, D: Write>(
 }
 
 /// Records the peers of the connections with which the control station begins.
-fn with_connections<C: Attend>(trust: Trust, connections: &C) -> Trust {
+fn with_connections<C: Attend>(trust: Trust, connections: &C) -> Trust
+    ensures { JoinsFirst (C.places connections.now) trust result }
+{
     let mut trust = trust;
-    for place in 0..connections.count() {
+    'places: for place in 0..connections.count() {
         trust.joined(place, connections.peer(place));
     }
     trust
@@ -286,7 +293,8 @@ fn conclude<W: Write>(
     left: Left,
     out: &mut W,
 ) -> Result<(), AttendingError>
-    ensures { IfErr result IsLate }
+    ensures late { IfErr result IsLate }
+    ensures concluded { IsConcluded left result }
 {
     let standing = report(alloc, reported, prepared, out)?;
     match left {
@@ -308,7 +316,8 @@ fn report<W: Write>(
     prepared: &Prepared,
     out: &mut W,
 ) -> Result<Standing, AttendingError>
-    ensures { IfErr result IsLate }
+    ensures late { IfErr result IsLate }
+    ensures fault { IfErr result IsPrintFault }
 {
     match prepared {
         Prepared::Control { control } => {

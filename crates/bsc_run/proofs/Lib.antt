@@ -4,3 +4,4 @@ pub mod Speaking
 pub mod Acting
 pub mod LineRuns
 pub mod Playing
+mod Telling

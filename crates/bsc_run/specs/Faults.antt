@@ -1,8 +1,10 @@
 -- The errors of a run for those of its parts.
-use Rattle.std.specs.Prelude.{ℕ, Result, Ok, Err}
+use Rattle.std.specs.Prelude.{◌≡◌, ℕ, List, Result, Ok, Err}
+use Rattle.std.specs.List.{Any}
 use Rattle.bsc_line_model.specs.declared.error.LineError.{LineError}
 use Rattle.bsc_print.specs.declared.error.PrintError.{PrintError}
 use Rattle.bsc_print.specs.declared.error.PrintError.TheVariants as print
+use Rattle.bsc_script.specs.Actions.{NumberedEvent}
 use Rattle.bsc_run.specs.declared.error.StepError.{StepError}
 use Rattle.bsc_run.specs.declared.error.StepError.TheVariants as step
 use Rattle.bsc_run.specs.declared.error.RunError.{RunError}
@@ -33,3 +35,8 @@ fault_at line step.Output = Output
 fault_at line step.Socket = Socket line
 fault_at line step.Memory = Memory
 fault_at line (step.Refused why) = Refused line why
+
+-- A run that a fault of the cable ended says so with the line of an event of the script.
+abbrev pub TellsLine : List NumberedEvent → Result (Unit {0}) RunError → Type 0
+TellsLine steps (Err (Socket line)) = Any (λ (step : NumberedEvent). line ≡ step.line) steps
+TellsLine steps _ = Unit {0}

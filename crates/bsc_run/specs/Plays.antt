@@ -8,7 +8,7 @@ use Rattle.bsc_line_model.specs.Line.{LineValue}
 use Rattle.bsc_line_model.specs.Kept.{IsLine}
 use Rattle.bsc_script.specs.Actions.{NumberedEvent}
 use Rattle.bsc_run.specs.declared.error.RunError.{RunError}
-use Rattle.bsc_run.specs.declared.error.RunError.TheVariants.{Refused}
+use Rattle.bsc_run.specs.declared.error.RunError.TheVariants.{Refused, Socket}
 use Rattle.bsc_run.specs.LineRuns.{RunsLine}
 use Rattle.bsc_run.specs.Printed.{report_of}
 use Rattle.bsc_run.specs.Speaking.{Fits}
@@ -80,6 +80,7 @@ module _ {S : Type 0} (streams : Streams S) where
     pub refused : (line : ℕ) (why : LineError) → result ≡ Err (Refused line why)
         → (line ≡ step.line) × Refuses step.event why old.line new.line
         × (new.outside.cable ≡ old.outside.cable) × Appends old.outside.held new.outside.held []
+    pub socket : (line : ℕ) → result ≡ Err (Socket line) → line ≡ step.line
 
   -- The text that a run of the events prints was written.
   pub record Played (steps : List NumberedEvent) (old : Playing S)

@@ -4,6 +4,7 @@ ghost use Rattle.std.specs.Prelude.{◌≡◌, map, OnOk};
 ghost use Rattle.std.specs.Io.KnownBytes.{Appends};
 ghost use Rattle.bsc_script.specs.Actions.{event_in, numbered};
 ghost use Rattle.bsc_run.specs.Crossing.{streams_of};
+ghost use Rattle.bsc_run.specs.Faults.{TellsLine};
 ghost use Rattle.bsc_run.specs.Plays.{TakesStep, Played, Runs, WhereWhole, playing};
 ghost use Rattle.bsc_run.specs.Speaking.{Fits};
 ghost use Rattle.bsc_run.specs.Steps.{is_heard as is_heard_event, trace_after};
@@ -47,7 +48,8 @@ pub fn run_on<
     out: &mut W,
 ) -> Result<(), RunError>
     requires { Fits line.old cable.old }
-    ensures { WhereWhole result (Runs (streams_of S.contents S.remaining)
+    ensures socket { TellsLine (map numbered steps.now) result }
+    ensures whole { WhereWhole result (Runs (streams_of S.contents S.remaining)
         (map numbered steps.now) (playing line.old cable.old (W.contents out.old)) result
         (playing line.new cable.new (W.contents out.new))) }
 {
@@ -81,7 +83,8 @@ fn play<
     out: &mut W,
 ) -> Result<(), RunError>
     requires { Fits line.old cable.old }
-    ensures { WhereWhole result (Played (streams_of S.contents S.remaining)
+    ensures socket { TellsLine (map numbered steps.now) result }
+    ensures whole { WhereWhole result (Played (streams_of S.contents S.remaining)
         (map numbered steps.now) (playing line.old cable.old (W.contents out.old)) result
         (playing line.new cable.new (W.contents out.new))) }
 {

@@ -2,6 +2,7 @@
 
 ghost use Rattle.std.specs.Prelude.{◌≡◌, length};
 ghost use Rattle.bsc_run.specs.Crossing.{connection_count, streams_of};
+ghost use Rattle.bsc_run.specs.Faults.{TellsLine};
 ghost use Rattle.bsc_run.specs.Plays.{WhereWhole};
 ghost use Rattle.bsc_run.specs.Runs.{RunsScript};
 
@@ -34,7 +35,8 @@ pub fn run_line<S: Read + Write + Drop, A: Allocator, C: Allocator, E: Allocator
     out: &mut W,
 ) -> Result<(), RunError>
     requires { connection_count cable.old ≡ length config.now.terminals }
-    ensures { WhereWhole result (RunsScript (streams_of S.contents S.remaining) config.now
+    ensures socket { TellsLine script.now result }
+    ensures whole { WhereWhole result (RunsScript (streams_of S.contents S.remaining) config.now
         script.now (record { cable = cable.old; held = W.contents out.old }) result
         (record { cable = cable.new; held = W.contents out.new })) }
 {

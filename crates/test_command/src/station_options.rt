@@ -416,3 +416,51 @@ fn answers_from_another_address_end_trust(rt: HostRuntime) -> Result<(), Fail> {
     assert_eq!(rt; first_unlike(rt.alloc(), PEERS), None);
     Ok(())
 }
+
+const ANSWERED: &[Watched] = &[Watched {
+    case: Case {
+        words: Some(&[
+            "station",
+            "line.toml",
+            "--control",
+            "--listen",
+            "h:1",
+            "--shared",
+            "--rounds",
+            "1",
+            "--trace",
+            "--trace",
+        ]),
+        input: Some(""),
+        takes: true,
+        scene: Scene {
+            pieces: IDLE,
+            steps: b"trrr",
+            ..SILENT
+        },
+        due: Due {
+            asking: Some(Asking {
+                trace: true,
+                ..SHARING
+            }),
+            out: PROMPT,
+            errors: "",
+            status: 0,
+        },
+    },
+    sent: 33,
+    trace: "+0 silence\n\
+        +0 control sent CALL A 161604ff1616c185ff\n\
+        +0 connection 0 heard EOT 161604ff\n\
+        +0 control sent CALL B 161604ff1616c285ff\n\
+        +0 connection 0 heard EOT 161604ff\n\
+        +0 control sent CALL A 161604ff1616c185ff\n\
+        +0 connection 0 heard EOT 161604ff\n",
+}];
+
+/// After the last round the control station calls once more, and waits for the answer.
+#[test]
+fn the_last_call_of_a_control_station_is_answered(rt: HostRuntime) -> Result<(), Fail> {
+    assert_eq!(rt; first_unlike(rt.alloc(), ANSWERED), None);
+    Ok(())
+}

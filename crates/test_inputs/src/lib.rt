@@ -10,3 +10,5 @@ mod input;
 mod names;
 #[cfg(test)]
 mod peers;
+#[cfg(test)]
+mod texts;

@@ -1,10 +1,11 @@
 -- Shows that the loop performs the events in order, up to the first that fails.
-use Rattle.std.proofs.Common.{map, drop, ◌+◌, arith}
+use Rattle.std.proofs.Common.{map, drop, ◌+◌, arith, ap, Err}
 use Rattle.bsc_script.specs.Actions.{numbered}
 use Rattle.bsc_run.specs.Crossing.{streams_of}
 use Rattle.bsc_run.specs.Plays.{playing}
 use Rattle.bsc_run.proofs.Playing.{drop_map, drop_map_all, has_played_none, has_played_more}
 use Rattle.bsc_run.proofs.Playing.{has_played_all, has_played_stop}
+use Rattle.bsc_run.proofs.Telling.{tells_line}
 use Rattle.bsc_run.proofs.play.play.Goals as goal
 
 pub steps-init : goal.steps-init
@@ -15,8 +16,8 @@ steps-init g c = record {
       (playing c.args.line.now c.args.cable.now (g.W.Write.contents c.args.out.now));
 }
 
-pub returns-in-Err : goal.returns-in-Err
-returns-in-Err g c =
+pub returns-in-Err-clause-whole : goal.returns-in-Err-clause-whole
+returns-in-Err-clause-whole g c =
     let all = map numbered c.args.steps.now in
     let next =
     drop_map numbered c.args.steps.now c.steps.step-index c.step-item.result (omega arith)
@@ -27,6 +28,11 @@ returns-in-Err g c =
     (playing c.steps.line c.steps.cable (g.W.Write.contents c.steps.out))
     (playing c.take.new.line c.take.new.cable (g.W.Write.contents c.take.new.out))
     c.in-Err.error (rw next at c.steps.invariant.played) c.in-Err.ensures
+
+pub returns-in-Err-clause-socket : goal.returns-in-Err-clause-socket
+returns-in-Err-clause-socket g c =
+    tells_line numbered c.args.steps.now c.steps.step-index c.step-item.result c.in-Err.error
+    (omega arith) c.step-item.is (λ line e. c.in-Err.ensures.socket line (ap Err e))
 
 pub steps-preserved : goal.steps-preserved
 steps-preserved g c =
@@ -46,8 +52,8 @@ steps-preserved g c =
           c.in_default.ensures.accepted c.in_default.ensures.printed;
     }
 
-pub returns : goal.returns
-returns g c =
+pub returns-clause-whole : goal.returns-clause-whole
+returns-clause-whole g c =
     let all = map numbered c.args.steps.now in
     let end = drop_map_all numbered c.args.steps.now c.steps.step-index (omega arith) in
     has_played_all (streams_of g.S.Write.contents g.S.Read.remaining) all

@@ -7,8 +7,8 @@ use Rattle.bsc_run.specs.Plays.{playing}
 use Rattle.bsc_run.proofs.Playing.{runs_reported}
 use Rattle.bsc_run.proofs.play.run_on.Goals as goal
 
-pub returns-in_ok-write_report-in-Ok : goal.returns-in_ok-write_report-in-Ok
-returns-in_ok-write_report-in-Ok g c =
+pub returns-in_ok-write_report-in-Ok-clause-whole : goal.returns-in_ok-write_report-in-Ok-clause-whole
+returns-in_ok-write_report-in-Ok-clause-whole g c =
     let streams = (streams_of g.S.Write.contents g.S.Read.remaining) in
     let old = playing c.args.line.now c.args.cable.now (g.W.Write.contents c.args.out.now) in
     let new =
@@ -22,11 +22,11 @@ returns-in_ok-write_report-in-Ok g c =
       round = c.round.ensures;
     })
     streams (map numbered c.args.steps.now) old (Ok tt) new holds c.requires.line
-    c.in-Ok.ensures c.in_ok-write_report-in-Ok.ensures
+    c.in-Ok.ensures.whole c.in_ok-write_report-in-Ok.ensures
 
-pub returns-in_ok-write_report-in-Err-Refused : goal.returns-in_ok-write_report-in-Err-Refused
-returns-in_ok-write_report-in-Err-Refused g c =
-    let played = rw c.in-Err-Refused.field-0-is at c.in-Err-Refused.ensures in
+pub returns-in_ok-write_report-in-Err-Refused-clause-whole : goal.returns-in_ok-write_report-in-Err-Refused-clause-whole
+returns-in_ok-write_report-in-Err-Refused-clause-whole g c =
+    let played = rw c.in-Err-Refused.field-0-is at c.in-Err-Refused.ensures.whole in
     let streams = (streams_of g.S.Write.contents g.S.Read.remaining) in
     let old = playing c.args.line.now c.args.cable.now (g.W.Write.contents c.args.out.now) in
     let new =

@@ -15,15 +15,15 @@ run_on-requires g c =
     new_line_fits c.args.config.now.setup c.args.config.now.terminals c.args.config.now.poll_list
     c.in-Ok.line c.args.cable.now new c.in-Ok.ensures.line c.requires
 
-pub returns-in-Ok : goal.returns-in-Ok
-returns-in-Ok g c =
+pub returns-in-Ok-clause-whole : goal.returns-in-Ok-clause-whole
+returns-in-Ok-clause-whole g c =
     let new =
     rw (
       c.setup.ensures.value,
       c.terminal_list-terminals.ensures.value,
       c.poll_list-poll_list.ensures.value,
     ) at c.in-Ok.ensures.value in
-    let runs = rw c.steps.ensures at c.run_on.ensures in
+    let runs = rw c.steps.ensures at c.run_on.ensures.whole in
     where_whole c.run_on.result (λ r. record {
       begun = c.in-Ok.line;
       ended = c.run_on.new.line;
