@@ -1,11 +1,14 @@
 //! A control station attended over a scripted connection. The octets are those of docs/PROTOCOL.md.
 
-use crate::fakes::{Counting, Scripted, connections, trust_of};
+use crate::fakes::{
+    Counting, Scripted, Taking, Told, attend_station, connections, control_watch, trust_of,
+};
 use crate::stations::{control_of, sending_control};
-use bsc_connections::attend;
+use bsc_connections::{Connection, LiveError, SocketRecords};
 use bsc_control::Control;
 use bsc_monitor::{
-    ControlWatch, Ended, Limits, Printing, Standing, Tracing, Watch, station_standing, write_report,
+    ControlWatch, Ended, LastWatch, Limits, Printing, Standing, Tracing, station_standing,
+    write_report,
 };
 use bsc_print::Form;
 use std::alloc::Global;
@@ -60,8 +63,31 @@ struct Attended {
     steps: &'static [u8],
 }
 
+/// Attends the connections of a control station that has ended until the last call is answered.
+fn attend_last(
+    connections: &mut [Connection<Told, Taking, SocketRecords>],
+    waiter: &mut Scripted,
+    mut last: LastWatch<'_, Global, Counting, Vec<u8>, Vec<u8>>,
+) -> Result<(), LiveError> {
+    attend_station(&mut Ended, connections, waiter, &mut last)
+}
+
 /// Attends a control station until it ends, and then its connection until the last call is
 /// answered.
+fn attend_and_last(
+    control: &mut Control<Global>,
+    connections: &mut [Connection<Told, Taking, SocketRecords>],
+    waiter: &mut Scripted,
+    mut watch: ControlWatch<'_, Global, Counting, Vec<u8>, Vec<u8>>,
+) -> Result<(), LiveError> {
+    attend_station(control, connections, waiter, &mut watch)?;
+    if watch.is_closed() {
+        return Ok(());
+    }
+    attend_last(connections, waiter, watch.into_last())
+}
+
+/// Attends a control station in this way over such a connection.
 fn attend_control(
     alloc: Global,
     control: &mut Control<Global>,
@@ -69,19 +95,14 @@ fn attend_control(
     attended: &Attended,
     out: &mut Vec<u8>,
     trace: &mut Vec<u8>,
-) -> Result<(), Fail> {
+) -> Result<(), LiveError> {
     let mut connections = connections(alloc, attended.octets)?;
-    let watch = Watch::new(alloc, control, printing, Counting { asked: 0 }, out, trace)?;
-    let mut watch = ControlWatch::new(control, watch, attended.limits, false, trust_of(1_000));
+    let settings = (printing, attended.limits, false, trust_of(1_000));
+    let watch = control_watch(alloc, control, settings, out, trace)?;
     let mut waiter = Scripted {
         steps: attended.steps,
     };
-    attend(control, &mut connections, &mut waiter, &mut watch)?;
-    if !watch.is_closed() {
-        let mut last = watch.into_last();
-        attend(&mut Ended, &mut connections, &mut waiter, &mut last)?;
-    }
-    Ok(())
+    attend_and_last(control, &mut connections, &mut waiter, watch)
 }
 
 /// Does the same for a control station with one record for terminal 0, and writes its report without
@@ -200,11 +221,14 @@ to 1: offered 0, known 0
     Ok(())
 }
 
+/// The end of a line which says that a terminal has not answered.
+const UNANSWERED: &[u8] = b" has not answered\n";
+
 /// The number of lines of a trace which say that a terminal has not answered.
 fn unanswered(trace: &[u8]) -> usize {
     let mut count = 0usize;
-    for line in trace.split(|octet| *octet == b'\n') {
-        if line.ends_with(b" has not answered") {
+    for place in 0..trace.len() {
+        if trace[place..].starts_with(UNANSWERED) {
             count = count.saturating_add(1);
         }
     }
@@ -243,20 +267,14 @@ fn a_terminal_without_answers_is_told_of_once(rt: HostRuntime) -> Result<(), Fai
     Ok(())
 }
 
-/// Whether a control station with a record to send, or with none, writes this trace when it is
-/// attended.
+/// Whether this control station writes this trace when it is attended.
 fn traces(
     alloc: Global,
-    sends: bool,
+    mut control: Control<Global>,
     printing: Printing,
     attended: &Attended,
     wanted: &[u8],
-) -> Result<bool, Fail> {
-    let mut control = if sends {
-        sending_control(alloc)?
-    } else {
-        control_of(alloc, TWO_TERMINALS)?
-    };
+) -> Result<bool, LiveError> {
     let (mut out, mut trace) = (Vec::new(alloc), Vec::new(alloc));
     attend_control(
         alloc,
@@ -297,7 +315,8 @@ fn a_trace_of_exchanges_has_no_idle_polls(rt: HostRuntime) -> Result<(), Fail> {
 +8 control sent ACK1 16161031ff
 +9 connection 0 heard EOT 161604ff
 ";
-    assert!(rt; traces(rt.alloc(), false, EXCHANGES, &ATTENDED, TRACE)?);
+    let control = control_of(rt.alloc(), TWO_TERMINALS)?;
+    assert!(rt; traces(rt.alloc(), control, EXCHANGES, &ATTENDED, TRACE)?);
     Ok(())
 }
 
@@ -312,7 +331,8 @@ fn a_trace_of_exchanges_has_all_else(rt: HostRuntime) -> Result<(), Fail> {
         octets: TO_CONTROL,
         steps: b"trrrrrrrrttttrr",
     };
-    assert!(rt; traces(rt.alloc(), true, EXCHANGES, &ATTENDED, CONTROL_TRACE)?);
+    let control = sending_control(rt.alloc())?;
+    assert!(rt; traces(rt.alloc(), control, EXCHANGES, &ATTENDED, CONTROL_TRACE)?);
     Ok(())
 }
 
@@ -335,6 +355,7 @@ fn a_control_station_that_is_asked_twice_ends_at_once(rt: HostRuntime) -> Result
 +5 control sent CALL A 161604ff1616c185ff
 +6 asked to end
 ";
-    assert!(rt; traces(rt.alloc(), false, ALL, &ATTENDED, TRACE)?);
+    let control = control_of(rt.alloc(), TWO_TERMINALS)?;
+    assert!(rt; traces(rt.alloc(), control, ALL, &ATTENDED, TRACE)?);
     Ok(())
 }

@@ -1,10 +1,10 @@
 //! A terminal attended over a scripted connection. The octets are those of docs/PROTOCOL.md.
 
-use crate::fakes::{Counting, Scripted, Unflushed, connections};
+use crate::fakes::{Scripted, Unflushed, attend_station, connections, terminal_watch};
 use crate::stations::{quiet_terminal, sending_terminal};
 use bsc_carrier::CarrierError;
-use bsc_connections::{LiveError, attend};
-use bsc_monitor::{LineTerminal, Printing, TerminalWatch, Tracing, Watch, write_report};
+use bsc_connections::LiveError;
+use bsc_monitor::{LineTerminal, Printing, Tracing, write_report};
 use bsc_print::Form;
 use std::alloc::Global;
 use std::io::Write;
@@ -32,6 +32,12 @@ const TERMINAL_TRACE: &[u8] = b"+1 control heard CALL A 161604ff1616c185ff
 +10 connection 0 closed
 ";
 
+/// How a terminal prints records, with a trace.
+const ALL: Printing = Printing {
+    form: Form::Hexadecimal,
+    trace: Tracing::All,
+};
+
 /// The octets that a terminal reads, and the waits before them: octets to read for each `r`, and that
 /// it is asked to end for each `s`.
 #[derive(Clone, Copy)]
@@ -42,21 +48,20 @@ struct Attended {
 
 /// Attends a terminal over such a connection. Returns the fault for which the connection was closed,
 /// if there was one.
-fn attend_terminal(
+fn attend_terminal<W: Write>(
     alloc: Global,
     terminal: &mut LineTerminal<Global>,
     printing: Printing,
     attended: &Attended,
-    out: &mut Vec<u8>,
+    out: &mut W,
     trace: &mut Vec<u8>,
-) -> Result<Option<CarrierError>, Fail> {
+) -> Result<Option<CarrierError>, LiveError> {
     let mut connections = connections(alloc, attended.octets)?;
-    let watch = Watch::new(alloc, terminal, printing, Counting { asked: 0 }, out, trace)?;
-    let mut watch = TerminalWatch::new(watch);
+    let mut watch = terminal_watch(alloc, terminal, printing, out, trace)?;
     let mut waiter = Scripted {
         steps: attended.steps,
     };
-    attend(terminal, &mut connections, &mut waiter, &mut watch)?;
+    attend_station(terminal, &mut connections, &mut waiter, &mut watch)?;
     Ok(watch.closed())
 }
 
@@ -91,15 +96,11 @@ fn prints(
 
 #[test]
 fn a_terminal_sends_and_receives(rt: HostRuntime) -> Result<(), Fail> {
-    const PRINTING: Printing = Printing {
-        form: Form::Hexadecimal,
-        trace: Tracing::All,
-    };
     const PRINTED: &[u8] = b"to 0: 4849\nfrom 0: offered 1, known 1\nto 0: spooled 1\n  4849\n";
     assert!(rt;
         prints(
             rt.alloc(),
-            PRINTING,
+            ALL,
             TO_TERMINAL,
             (PRINTED, TERMINAL_TRACE, None)
         )?
@@ -130,34 +131,16 @@ const REFUSED_END: &[u8] = b"+5 control heard CALL a 161604ff16166185ff
 +7 control heard TEXT ETX 1 161602c84919839bff
 ";
 
-/// Attends a terminal until it ends. Returns whether it ended because a record that arrived could
-/// not be printed.
-fn ends_unprinted<W: Write>(
-    alloc: Global,
-    terminal: &mut LineTerminal<Global>,
-    out: &mut W,
-    trace: &mut Vec<u8>,
-) -> Result<bool, Fail> {
-    const PRINTING: Printing = Printing {
-        form: Form::Hexadecimal,
-        trace: Tracing::All,
-    };
-    let mut connections = connections(alloc, TO_TERMINAL)?;
-    let watch = Watch::new(alloc, terminal, PRINTING, Counting { asked: 0 }, out, trace)?;
-    let mut watch = TerminalWatch::new(watch);
-    let mut waiter = Scripted { steps: b"" };
-    match attend(terminal, &mut connections, &mut waiter, &mut watch) {
-        Err(LiveError::Unprinted) => Ok(true),
-        _ => Ok(false),
-    }
-}
-
 /// Whether a terminal ends with `Unprinted` over this output, and sends nothing after the text.
 fn refuses<W: Write>(alloc: Global, out: &mut W) -> Result<bool, Fail> {
+    const ATTENDED: Attended = Attended {
+        octets: TO_TERMINAL,
+        steps: b"",
+    };
     let mut terminal = sending_terminal(alloc)?;
     let mut trace = Vec::new(alloc);
-    let is_unprinted = ends_unprinted(alloc, &mut terminal, out, &mut trace)?;
-    Ok(is_unprinted && trace.ends_with(REFUSED_END))
+    let ended = attend_terminal(alloc, &mut terminal, ALL, &ATTENDED, out, &mut trace);
+    Ok(ended == Err(LiveError::Unprinted) && trace.ends_with(REFUSED_END))
 }
 
 /// Whichever write of the line of a record fails, the text that brought the record is not
@@ -175,47 +158,66 @@ fn a_record_that_is_not_flushed_is_not_acknowledged(rt: HostRuntime) -> Result<(
     Ok(())
 }
 
-/// Attends a terminal by these steps, and then until its connection is closed. Returns its trace.
-fn trace_of(
+/// Attends a terminal by these steps, and then until its connection is closed. Returns whether it
+/// writes this trace.
+fn traces(
     alloc: Global,
     terminal: &mut LineTerminal<Global>,
     trace: Tracing,
-    octets: &'static [u8],
-    steps: &'static [u8],
-) -> Result<Vec<u8>, Fail> {
-    let printing = Printing {
-        form: Form::Hexadecimal,
-        trace,
-    };
-    let attended = Attended { octets, steps };
+    attended: &Attended,
+    wanted: &[u8],
+) -> Result<bool, Fail> {
+    let form = Form::Hexadecimal;
+    let printing = Printing { form, trace };
     let (mut out, mut errors) = (Vec::new(alloc), Vec::new(alloc));
-    attend_terminal(alloc, terminal, printing, &attended, &mut out, &mut errors)?;
-    Ok(errors)
+    attend_terminal(alloc, terminal, printing, attended, &mut out, &mut errors)?;
+    Ok(errors.as_slice() == wanted)
+}
+
+/// The same of a terminal with a record to send, which hears what a control station sends.
+fn traces_steps(alloc: Global, steps: &'static [u8], wanted: &[u8]) -> Result<bool, Fail> {
+    let octets = TO_TERMINAL;
+    let mut terminal = sending_terminal(alloc)?;
+    traces(
+        alloc,
+        &mut terminal,
+        Tracing::All,
+        &Attended { octets, steps },
+        wanted,
+    )
 }
 
 /// A terminal hears the poll of another one, its own, that of the other one again, and a selection.
 #[test]
 fn a_trace_of_exchanges_has_no_calls_without_an_answer(rt: HostRuntime) -> Result<(), Fail> {
-    const OCTETS: &[u8] = b"\x00\x09\x16\x16\x04\xFF\x16\x16\xC2\x85\xFF\
+    const ATTENDED: Attended = Attended {
+        octets: b"\x00\x09\x16\x16\x04\xFF\x16\x16\xC2\x85\xFF\
 \x00\x09\x16\x16\x04\xFF\x16\x16\xC1\x85\xFF\
 \x00\x09\x16\x16\x04\xFF\x16\x16\xC2\x85\xFF\
-\x00\x09\x16\x16\x04\xFF\x16\x16\x61\x85\xFF";
+\x00\x09\x16\x16\x04\xFF\x16\x16\x61\x85\xFF",
+        steps: b"",
+    };
     const TRACE: &[u8] = b"+5 control heard CALL a 161604ff16166185ff
 +6 terminal 0 sent ACK0 161610b0ff
 +7 connection 0 closed
 ";
     let mut terminal = quiet_terminal(rt.alloc())?;
-    let trace = trace_of(rt.alloc(), &mut terminal, Tracing::Exchanges, OCTETS, b"")?;
-    assert_eq!(rt; trace.as_slice(), TRACE);
+    assert!(rt;
+        traces(
+            rt.alloc(),
+            &mut terminal,
+            Tracing::Exchanges,
+            &ATTENDED,
+            TRACE
+        )?
+    );
     Ok(())
 }
 
 /// A terminal in control mode ends at once.
 #[test]
 fn a_terminal_that_is_asked_to_end_ends(rt: HostRuntime) -> Result<(), Fail> {
-    let mut terminal = sending_terminal(rt.alloc())?;
-    let trace = trace_of(rt.alloc(), &mut terminal, Tracing::All, TO_TERMINAL, b"s")?;
-    assert_eq!(rt; trace.as_slice(), b"+1 asked to end\n".as_slice());
+    assert!(rt; traces_steps(rt.alloc(), b"s", b"+1 asked to end\n")?);
     Ok(())
 }
 
@@ -233,17 +235,7 @@ fn a_terminal_that_is_asked_to_end_ends_its_bid(rt: HostRuntime) -> Result<(), F
 +3 asked to end
 +4 asked to end
 ";
-    let mut terminal = sending_terminal(rt.alloc())?;
-    let once = trace_of(rt.alloc(), &mut terminal, Tracing::All, TO_TERMINAL, b"rrs")?;
-    assert_eq!(rt; once.as_slice(), ONCE);
-    let mut terminal = sending_terminal(rt.alloc())?;
-    let twice = trace_of(
-        rt.alloc(),
-        &mut terminal,
-        Tracing::All,
-        TO_TERMINAL,
-        b"rrss",
-    )?;
-    assert_eq!(rt; twice.as_slice(), TWICE);
+    assert!(rt; traces_steps(rt.alloc(), b"rrs", ONCE)?);
+    assert!(rt; traces_steps(rt.alloc(), b"rrss", TWICE)?);
     Ok(())
 }

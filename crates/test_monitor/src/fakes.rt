@@ -1,9 +1,13 @@
-//! A scripted connection, and a clock that counts.
+//! A scripted connection, a clock that counts, and the watches of stations.
 
-use bsc_connections::{Awaited, Connection, Handled, LiveError, Pace, SocketRecords, Waiter};
-use bsc_monitor::Timer;
+use bsc_bid::Station;
+use bsc_connections::{
+    Awaited, Connection, Handled, LiveError, Monitor, Note, Pace, SocketRecords, Waiter, attend,
+};
+use bsc_control::Control;
+use bsc_monitor::{ControlWatch, Limits, LineTerminal, Printing, TerminalWatch, Timer, Watch};
 use bsc_trust::{TerminalPeers, Trust};
-use std::alloc::{AllocError, Global};
+use std::alloc::Global;
 use std::io;
 use std::io::{Read, Write};
 use std::net::SocketAddr;
@@ -140,8 +144,73 @@ impl Waiter<Told, Taking> for Scripted {
 pub(crate) fn connections(
     alloc: Global,
     octets: &'static [u8],
-) -> Result<Vec<Connection<Told, Taking, SocketRecords>>, AllocError> {
-    let mut connections = Vec::new(alloc);
-    connections.push(Connection::new(Told { octets }, Taking))?;
-    Ok(connections)
+) -> Result<Vec<Connection<Told, Taking, SocketRecords>>, LiveError> {
+    match Vec::from_array(alloc, [Connection::new(Told { octets }, Taking)]) {
+        Ok(connections) => Ok(connections),
+        Err(_) => Err(LiveError::Memory),
+    }
+}
+
+/// Attends a station over these connections until its monitor ends it.
+pub(crate) fn attend_station<S: Station, M: Monitor<S>>(
+    station: &mut S,
+    connections: &mut [Connection<Told, Taking, SocketRecords>],
+    waiter: &mut Scripted,
+    monitor: &mut M,
+) -> Result<(), LiveError> {
+    attend(station, connections, waiter, monitor)
+}
+
+/// Limits at which a control station never ends.
+pub(crate) const NO_LIMITS: Limits = Limits {
+    rounds: None,
+    idle_rounds: u64::MAX,
+};
+
+/// The watch of a control station that ends at these limits, over a line of which this is known. If
+/// `listens` is true other peers may connect later.
+pub(crate) fn control_watch<'a, W: Write, D: Write>(
+    alloc: Global,
+    control: &Control<Global>,
+    (printing, limits, listens, trust): (Printing, Limits, bool, Trust),
+    out: &'a mut W,
+    errors: &'a mut D,
+) -> Result<ControlWatch<'a, Global, Counting, W, D>, LiveError> {
+    match Watch::new(alloc, control, printing, Counting { asked: 0 }, out, errors) {
+        Ok(watch) => Ok(ControlWatch::new(control, watch, limits, listens, trust)),
+        Err(_) => Err(LiveError::Memory),
+    }
+}
+
+/// The watch of a terminal.
+pub(crate) fn terminal_watch<'a, W: Write, D: Write>(
+    alloc: Global,
+    terminal: &LineTerminal<Global>,
+    printing: Printing,
+    out: &'a mut W,
+    errors: &'a mut D,
+) -> Result<TerminalWatch<'a, Global, Counting, W, D>, LiveError> {
+    match Watch::new(
+        alloc,
+        terminal,
+        printing,
+        Counting { asked: 0 },
+        out,
+        errors,
+    ) {
+        Ok(watch) => Ok(TerminalWatch::new(watch)),
+        Err(_) => Err(LiveError::Memory),
+    }
+}
+
+/// Tells a monitor of these notes.
+pub(crate) fn tell_each<M: Monitor<Control<Global>>>(
+    control: &Control<Global>,
+    watch: &mut M,
+    notes: &[Note<'_>],
+) -> Result<(), LiveError> {
+    for note in notes {
+        watch.note(control, *note)?;
+    }
+    Ok(())
 }

@@ -16,6 +16,8 @@ mod fakes;
 #[cfg(test)]
 mod growths;
 #[cfg(test)]
+mod happenings;
+#[cfg(test)]
 mod notes;
 #[cfg(test)]
 mod offered;

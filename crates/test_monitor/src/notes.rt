@@ -1,12 +1,12 @@
 //! The lines of a trace for the notes that a watch receives.
 
 use crate::beginning::address;
-use crate::fakes::{Counting, trust_of};
+use crate::fakes::{NO_LIMITS, control_watch, tell_each, trust_of};
 use crate::stations::control_of;
 use bsc_carrier::CarrierError;
-use bsc_connections::{LiveError, Monitor, Note, Refusal};
+use bsc_connections::{LiveError, Note, Refusal};
 use bsc_control::Control;
-use bsc_monitor::{ControlWatch, Limits, Printing, Tracing, Watch};
+use bsc_monitor::{Printing, Tracing};
 use bsc_print::Form;
 use std::alloc::Global;
 use std::io::Write;
@@ -95,22 +95,10 @@ fn tell<W: Write>(
     trace: &mut W,
 ) -> Result<(), LiveError> {
     let mut out = Vec::new(alloc);
-    let timer = Counting { asked: 0 };
-    let Ok(watch) = Watch::new(alloc, control, PRINTING, timer, &mut out, trace) else {
-        return Err(LiveError::Memory);
-    };
-    let limits = Limits {
-        rounds: None,
-        idle_rounds: u64::MAX,
-    };
-    let mut watch = ControlWatch::new(control, watch, limits, true, trust_of(1_000));
-    for note in NOTES {
-        watch.note(control, *note)?;
-    }
-    for note in &notes_of_peer() {
-        watch.note(control, *note)?;
-    }
-    Ok(())
+    let settings = (PRINTING, NO_LIMITS, true, trust_of(1_000));
+    let mut watch = control_watch(alloc, control, settings, &mut out, trace)?;
+    tell_each(control, &mut watch, NOTES)?;
+    tell_each(control, &mut watch, &notes_of_peer())
 }
 
 #[test]

@@ -1,5 +1,8 @@
 //! Stations of a line with a record to send.
 
+ghost use Rattle.std.specs.Prelude.{◌≡◌, IfOk};
+
+use bsc_bid::Setup;
 use bsc_config::{Config, read_config};
 use bsc_control::Control;
 use bsc_monitor::{
@@ -9,30 +12,42 @@ use std::alloc::Global;
 use std::test::Fail;
 use test_fixtures::configurations::TWO_TERMINALS;
 
-/// Terminal 0 of a line, with the record HI to send.
-fn terminal_of(alloc: Global, config: &Config) -> Result<LineTerminal<Global>, Fail> {
+/// Offers the record HI at a terminal of a line with these settings.
+fn offer_at(alloc: Global, terminal: &mut LineTerminal<Global>, setup: Setup) -> Result<(), Fail>
+    requires { terminal.old.tributary.queue.format ≡ setup.format }
+{
+    let records = read_records(alloc, b"HI\n", setup.format().full())?;
+    Ok(offer_at_terminal(terminal, records)?)
+}
+
+/// Terminal 0 of a line, with nothing to send.
+fn terminal_of(alloc: Global, config: &Config) -> Result<LineTerminal<Global>, Fail>
+    ensures { IfOk result (λ terminal.
+        terminal.tributary.queue.format ≡ config.now.setup.format) }
+{
     if config.terminals() == 0 {
         return Err(Fail::new("no terminal"));
     }
-    let mut terminal = new_terminal(alloc, config, 0);
-    let records = read_records(alloc, b"HI\n", config.setup().format().full())?;
-    offer_at_terminal(&mut terminal, records)?;
+    Ok(new_terminal(alloc, config, 0))
+}
+
+/// The same with the record HI to send.
+fn sending_of(alloc: Global, config: &Config) -> Result<LineTerminal<Global>, Fail> {
+    let mut terminal = terminal_of(alloc, config)?;
+    offer_at(alloc, &mut terminal, config.setup())?;
     Ok(terminal)
 }
 
 /// Terminal 0 of a line of two, with the record HI to send.
 pub(crate) fn sending_terminal(alloc: Global) -> Result<LineTerminal<Global>, Fail> {
     let config = read_config(alloc, TWO_TERMINALS.as_bytes())?;
-    terminal_of(alloc, &config)
+    sending_of(alloc, &config)
 }
 
 /// Terminal 0 of a line of two, with nothing to send.
 pub(crate) fn quiet_terminal(alloc: Global) -> Result<LineTerminal<Global>, Fail> {
     let config = read_config(alloc, TWO_TERMINALS.as_bytes())?;
-    if config.terminals() == 0 {
-        return Err(Fail::new("no terminal"));
-    }
-    Ok(new_terminal(alloc, &config, 0))
+    terminal_of(alloc, &config)
 }
 
 /// The control station of the line that a document describes, with nothing to send.

@@ -1,13 +1,13 @@
 //! What a control station hears, what it ignores, and what it says of the line.
 
-use crate::fakes::Counting;
+use crate::fakes::{NO_LIMITS, control_watch, tell_each};
+use crate::happenings::{falls_silent, hears};
 use crate::stations::control_of;
 use crate::trusted::Event::{Arrives, Silence};
-use bsc_bid::Station;
-use bsc_connections::{Monitor, Note};
+use bsc_connections::{LiveError, Monitor, Note};
 use bsc_control::Control;
-use bsc_frame::{Heard, TextBuffer, Wire, decode};
-use bsc_monitor::{ControlWatch, Ended, Limits, Printing, Tracing, Watch, write_trust};
+use bsc_frame::{TextBuffer, decode};
+use bsc_monitor::{Ended, Limits, Printing, Tracing, write_trust};
 use bsc_print::{Form, PrintError};
 use bsc_trust::{Distrust, TerminalPeers, Trust};
 use std::alloc::Global;
@@ -64,30 +64,50 @@ const TRACE_END: &[u8] = b"+9 connection 2 heard NOISE 161610
 ";
 
 /// Lets an event happen to a control station, and tells a watch of it and of what the station sent.
+/// Returns whether the station is to be attended further.
 fn happens<M: Monitor<Control<Global>>>(
     control: &mut Control<Global>,
     watch: &mut M,
     event: Event,
-) -> Result<(), Fail> {
-    let mut wire = Wire::new();
+) -> Result<bool, LiveError> {
     match event {
-        Silence => {
-            let _ = control.silence(&mut wire);
-            watch.note(control, Note::Silence)?;
-        }
-        Arrives(connection, octets) => {
-            if !watch.admits(control, connection, octets) {
-                watch.note(control, Note::Ignored { connection, octets })?;
-                return Ok(());
-            }
-            let _ = control.hear(octets, &mut wire);
-            watch.note(control, Note::Heard { connection, octets })?;
-        }
+        Silence => falls_silent(control, watch),
+        Arrives(connection, octets) => arrives(control, watch, connection, octets),
     }
-    if !wire.is_empty() {
-        watch.note(control, Note::Sent { octets: &wire })?;
+}
+
+/// Lets these octets arrive on the connection at this place. Returns the same.
+fn arrives<M: Monitor<Control<Global>>>(
+    control: &mut Control<Global>,
+    watch: &mut M,
+    connection: usize,
+    octets: &[u8],
+) -> Result<bool, LiveError> {
+    if watch.admits(control, connection, octets) {
+        hears(control, watch, connection, octets)
+    } else {
+        watch.note(control, Note::Ignored { connection, octets })
+    }
+}
+
+/// Lets these events happen to a control station.
+fn happen_each<M: Monitor<Control<Global>>>(
+    control: &mut Control<Global>,
+    watch: &mut M,
+    events: &[Event],
+) -> Result<(), LiveError> {
+    for event in events {
+        happens(control, watch, *event)?;
     }
     Ok(())
+}
+
+/// What a watch prints, that it never ends, and what is known of a line with this time-out over
+/// several connections.
+fn settings(trace: Tracing, time_out: u64) -> (Printing, Limits, bool, Trust) {
+    let form = Form::Hexadecimal;
+    let trust = Trust::new(false, time_out, TerminalPeers::new());
+    (Printing { form, trace }, NO_LIMITS, true, trust)
 }
 
 /// Lets these events happen to a control station of two terminals, with this trace and this
@@ -99,21 +119,11 @@ fn trust_after(
     events: &[Event],
     errors: &mut Vec<u8>,
 ) -> Result<Trust, Fail> {
-    let form = Form::Hexadecimal;
-    let limits = Limits {
-        rounds: None,
-        idle_rounds: u64::MAX,
-    };
     let mut control = control_of(alloc, TWO_TERMINALS)?;
     let mut out = Vec::new(alloc);
-    let printing = Printing { form, trace };
-    let timer = Counting { asked: 0 };
-    let watch = Watch::new(alloc, &control, printing, timer, &mut out, errors)?;
-    let trust = Trust::new(false, time_out, TerminalPeers::new());
-    let mut watch = ControlWatch::new(&control, watch, limits, true, trust);
-    for &event in events {
-        happens(&mut control, &mut watch, event)?;
-    }
+    let settings = settings(trace, time_out);
+    let mut watch = control_watch(alloc, &control, settings, &mut out, errors)?;
+    happen_each(&mut control, &mut watch, events)?;
     Ok(watch.trust())
 }
 
@@ -211,24 +221,11 @@ fn tell_reply(
     notes: &[Note<'static>],
     errors: &mut Vec<u8>,
 ) -> Result<(), Fail> {
-    let limits = Limits {
-        rounds: None,
-        idle_rounds: u64::MAX,
-    };
-    let printing = Printing {
-        form: Form::Hexadecimal,
-        trace: Tracing::Off,
-    };
     let control = control_of(alloc, TWO_TERMINALS)?;
     let mut out = Vec::new(alloc);
-    let timer = Counting { asked: 0 };
-    let watch = Watch::new(alloc, &control, printing, timer, &mut out, errors)?;
-    let trust = Trust::new(false, time_out, TerminalPeers::new());
-    let mut watch = ControlWatch::new(&control, watch, limits, true, trust);
-    for note in notes {
-        watch.note(&control, *note)?;
-    }
-    Ok(())
+    let settings = settings(Tracing::Off, time_out);
+    let mut watch = control_watch(alloc, &control, settings, &mut out, errors)?;
+    Ok(tell_each(&control, &mut watch, notes)?)
 }
 
 #[test]
@@ -252,42 +249,43 @@ fn a_withheld_reply_ends_no_trust(rt: HostRuntime) -> Result<(), Fail> {
     Ok(())
 }
 
-/// A control station that has ended awaits the answer of the terminal that it called last. An answer
-/// of another one does not end it.
-#[test]
-fn the_last_answer_is_that_of_the_last_call(rt: HostRuntime) -> Result<(), Fail> {
-    let alloc = rt.alloc();
-    let (mut out, mut told) = (Vec::new(alloc), Vec::new(alloc));
-    let mut control = control_of(alloc, TWO_TERMINALS)?;
-    let printing = Printing {
-        form: Form::Hexadecimal,
-        trace: Tracing::Off,
-    };
-    let limits = Limits {
-        rounds: None,
-        idle_rounds: u64::MAX,
-    };
-    let timer = Counting { asked: 0 };
-    let watch = Watch::new(alloc, &control, printing, timer, &mut out, &mut told)?;
-    let trust = Trust::new(false, 1_000, TerminalPeers::new());
-    let mut watch = ControlWatch::new(&control, watch, limits, true, trust);
-    for event in [Silence, Arrives(0, EOT)] {
-        happens(&mut control, &mut watch, event)?;
-    }
-    let mut last = watch.into_last();
-    assert!(rt; !last.admits(&Ended, 0, EOT));
+/// Whether an answer of connection 0 is admitted, whether the station is attended further after it
+/// was ignored, whether an answer of connection 1 is admitted, and whether the station is attended
+/// further after that was heard.
+fn last_answers<M: Monitor<Ended>>(last: &mut M) -> Result<[bool; 4], LiveError> {
     let ignored = Note::Ignored {
         connection: 0,
         octets: EOT,
     };
-    assert!(rt; last.note(&Ended, ignored)?);
-    assert!(rt; last.admits(&Ended, 1, EOT));
     let heard = Note::Heard {
         connection: 1,
         octets: EOT,
     };
-    assert!(rt; !last.note(&Ended, heard)?);
-    assert!(rt; last.trust().distrust().is_some());
+    let admits_first = last.admits(&Ended, 0, EOT);
+    let after_ignored = last.note(&Ended, ignored)?;
+    let admits_second = last.admits(&Ended, 1, EOT);
+    let after_heard = last.note(&Ended, heard)?;
+    Ok([admits_first, after_ignored, admits_second, after_heard])
+}
+
+/// The last answers of a control station that has ended after the answer of terminal 0, and whether
+/// anything speaks against trust after them.
+fn after_last(alloc: Global) -> Result<([bool; 4], bool), Fail> {
+    let mut control = control_of(alloc, TWO_TERMINALS)?;
+    let (mut out, mut told) = (Vec::new(alloc), Vec::new(alloc));
+    let settings = settings(Tracing::Off, 1_000);
+    let mut watch = control_watch(alloc, &control, settings, &mut out, &mut told)?;
+    happen_each(&mut control, &mut watch, &[Silence, Arrives(0, EOT)])?;
+    let mut last = watch.into_last();
+    let answers = last_answers(&mut last)?;
+    Ok((answers, last.trust().distrust().is_some()))
+}
+
+/// A control station that has ended awaits the answer of the terminal that it called last. An answer
+/// of another one does not end it.
+#[test]
+fn the_last_answer_is_that_of_the_last_call(rt: HostRuntime) -> Result<(), Fail> {
+    assert_eq!(rt; after_last(rt.alloc())?, ([false, true, true, false], true));
     Ok(())
 }
 

@@ -1,13 +1,12 @@
 //! The end of visits and rounds of the poll list, as a watch counts them.
 
-use crate::fakes::{Counting, trust_of};
+use crate::fakes::{NO_LIMITS, control_watch, trust_of};
+use crate::happenings::{falls_silent, hears};
 use crate::stations::{control_of, offer};
 use crate::visits::Event::{Asks, Heard, Offered, Silence, Stopped};
-use bsc_bid::Station;
-use bsc_connections::{LiveError, Monitor, Note};
+use bsc_connections::{Monitor, Note};
 use bsc_control::Control;
-use bsc_frame::Wire;
-use bsc_monitor::{ControlWatch, Limits, Printing, Tracing, Watch};
+use bsc_monitor::{Limits, Printing, Tracing};
 use bsc_print::Form;
 use std::alloc::Global;
 use std::test::Fail;
@@ -183,21 +182,6 @@ fn asks(control: &mut Control<Global>, terminal: usize) -> Result<(), Fail> {
     Ok(())
 }
 
-/// Tells a watch what has happened to a control station, and then what this sent. Returns whether
-/// the station is to be attended further.
-fn tell<M: Monitor<Control<Global>>>(
-    control: &Control<Global>,
-    watch: &mut M,
-    note: Note<'_>,
-    sent: &[u8],
-) -> Result<bool, LiveError> {
-    let goes_on = watch.note(control, note)?;
-    if sent.is_empty() {
-        return Ok(goes_on);
-    }
-    watch.note(control, Note::Sent { octets: sent })
-}
-
 /// Lets an event happen to a control station, and tells a watch of it. Returns whether the station
 /// is to be attended further.
 fn happens<M: Monitor<Control<Global>>>(
@@ -206,47 +190,52 @@ fn happens<M: Monitor<Control<Global>>>(
     watch: &mut M,
     event: Event,
 ) -> Result<bool, Fail> {
-    let mut wire = Wire::new();
     match event {
-        Offered(select) => offer(alloc, control, select)?,
-        Asks(terminal) => asks(control, terminal)?,
-        Silence => {
-            let _ = control.silence(&mut wire);
-            return Ok(tell(control, watch, Note::Silence, &wire)?);
+        Offered(select) => {
+            offer(alloc, control, select)?;
+            Ok(true)
         }
-        Heard(octets) => {
-            let _ = control.hear(octets, &mut wire);
-            let note = Note::Heard {
-                connection: 0,
-                octets,
-            };
-            return Ok(tell(control, watch, note, &wire)?);
+        Asks(terminal) => {
+            asks(control, terminal)?;
+            Ok(true)
         }
-        Stopped => return Ok(tell(control, watch, Note::Stopped, &wire)?),
+        Silence => Ok(falls_silent(control, watch)?),
+        Heard(octets) => Ok(hears(control, watch, 0, octets)?),
+        Stopped => Ok(watch.note(control, Note::Stopped)?),
     }
-    Ok(true)
 }
+
+/// Lets these events happen to a control station. Returns whether it is to be attended further.
+fn goes_on_after<M: Monitor<Control<Global>>>(
+    alloc: Global,
+    control: &mut Control<Global>,
+    watch: &mut M,
+    events: &[Event],
+) -> Result<bool, Fail> {
+    let mut goes_on = true;
+    for event in events {
+        goes_on = happens(alloc, control, watch, *event)?;
+    }
+    Ok(goes_on)
+}
+
+/// Hexadecimal records, without a trace.
+const PRINTING: Printing = Printing {
+    form: Form::Hexadecimal,
+    trace: Tracing::Off,
+};
 
 /// Whether a control station that ends after this many rounds has ended after these events.
 fn has_ended(alloc: Global, document: &str, events: &[Event], rounds: u64) -> Result<bool, Fail> {
-    let printing = Printing {
-        form: Form::Hexadecimal,
-        trace: Tracing::Off,
-    };
     let limits = Limits {
         rounds: Some(rounds),
-        idle_rounds: u64::MAX,
+        ..NO_LIMITS
     };
+    let settings = (PRINTING, limits, true, trust_of(1_000));
     let mut control = control_of(alloc, document)?;
     let (mut out, mut errors) = (Vec::new(alloc), Vec::new(alloc));
-    let timer = Counting { asked: 0 };
-    let watch = Watch::new(alloc, &control, printing, timer, &mut out, &mut errors)?;
-    let mut watch = ControlWatch::new(&control, watch, limits, true, trust_of(1_000));
-    let mut goes_on = true;
-    for &event in events {
-        goes_on = happens(alloc, &mut control, &mut watch, event)?;
-    }
-    Ok(!goes_on)
+    let mut watch = control_watch(alloc, &control, settings, &mut out, &mut errors)?;
+    Ok(!goes_on_after(alloc, &mut control, &mut watch, events)?)
 }
 
 /// Whether exactly this many rounds end with these events.
