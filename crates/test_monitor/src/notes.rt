@@ -125,14 +125,14 @@ fn a_trace_has_a_line_for_each_note(rt: HostRuntime) -> Result<(), Fail> {
 /// Lets each write of the trace fail in turn, until all of them succeed. Returns how many writes
 /// failed; each has to be reported as an output fault.
 fn failing_writes(alloc: Global, control: &Control<Global>) -> Result<usize, LiveError> {
-    for left in 0..99usize {
+    for left in 0..200usize {
         match tell(alloc, control, &mut Full { left }) {
             Ok(()) => return Ok(left),
             Err(LiveError::Output) => {}
             Err(error) => return Err(error),
         }
     }
-    Ok(99)
+    Ok(200)
 }
 
 /// Each line is written in at least one part.
@@ -140,6 +140,6 @@ fn failing_writes(alloc: Global, control: &Control<Global>) -> Result<usize, Liv
 fn a_line_of_a_trace_that_is_not_taken_is_told(rt: HostRuntime) -> Result<(), Fail> {
     let control = control_of(rt.alloc(), TWO_TERMINALS)?;
     let count = failing_writes(rt.alloc(), &control)?;
-    assert!(rt; NOTES.len() <= count && count < 99);
+    assert!(rt; NOTES.len() <= count && count < 200);
     Ok(())
 }
