@@ -162,6 +162,19 @@ const CASES: &[Case] = &[
             asking: None,
         },
     },
+    // The same, and a line after the first is wrong.
+    Case {
+        words: Some(&[]),
+        input: Some("16 04\nxx\n"),
+        takes: false,
+        scene: SILENT,
+        due: Due {
+            out: "",
+            errors: "bscline: output fault\n",
+            status: 1,
+            asking: None,
+        },
+    },
     // Standard input fails.
     Case {
         words: Some(&["show"]),
