@@ -22,8 +22,8 @@ const LISTENING_PATIENCE: u64 = 60_000;
 const STANDARD_INPUT: RawFd = 0;
 
 /// The share of the time-out of a line after which what a station sends is late: half. The other
-/// half is left for what the station does not see: the way of the octets in both directions, and the
-/// time before its peer reads them.
+/// half is left for what the station does not see: the way of the octets in both directions, and
+/// the time before its peer reads them.
 const LATE_SHARE: u32 = 2;
 
 /// The connections that a station asks for.

@@ -108,8 +108,8 @@ module _ {R W F : Type 0} (parts : ConnectionParts R W F) where
       ChangesAt place (λ b a. Takes parts b taken a) before after
       ⊎ ((slice_get before place ≡ None) × (taken ≡ Nothing) × (after ≡ before))
 
--- What is known of the connections, what the monitor does when it is told of something, and what the
--- waiter says of whether something is in time.
+-- What is known of the connections, what the monitor does when it is told of something, and what
+-- the waiter says of whether something is in time.
 module _ {S R W F M T : Type 0} (parts : ConnectionParts R W F)
     (is_told : M → S → Happening → Result Bool LiveError → M → Type 0)
     (permits : T → Bool → T → Type 0) where
@@ -121,8 +121,8 @@ module _ {S R W F M T : Type 0} (parts : ConnectionParts R W F)
   AsksWaiter None before in_time after = after ≡ before
   AsksWaiter (Some m) before in_time after = permits before in_time after
 
-  -- If this message was due, the monitor is told whether it was sent or withheld. If none was, it is
-  -- told of nothing.
+  -- If this message was due, the monitor is told whether it was sent or withheld. If none was, it
+  -- is told of nothing.
   abbrev pub TellsSent : Bool → Option Message → S → M → Result Bool LiveError → M → Type 0
   TellsSent in_time None station before result after = (result ≡ Ok true) × (after ≡ before)
   TellsSent in_time (Some m) station before result after =
@@ -163,8 +163,8 @@ module _ {S R W F M T : Type 0} (parts : SessionParts S R W F M T) where
       (happened ≡ happening ∷ []) × parts.is_told before station happening result after
 
   -- The station has this answer to what happened. The monitor is told what happened, and then the
-  -- answer is sent if it accepted that, unless it is late. Then the waiter is told what was handled,
-  -- late or not, and with which pace of the monitor it goes on.
+  -- answer is sent if it accepted that, unless it is late. Then the waiter is told what was
+  -- handled, late or not, and with which pace of the monitor it goes on.
   pub record Answers (happening : Happening) (answer : Option Message) (old : Now)
       (happened : List Happening) (result : Result Bool LiveError) (new : Now) : Type 0 where
     pub told : Result Bool LiveError

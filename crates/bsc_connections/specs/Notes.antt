@@ -4,7 +4,8 @@ use Rattle.bsc_connections.specs.declared.monitor.Note.TheVariants.{Heard, Silen
 use Rattle.bsc_connections.specs.declared.monitor.Note.TheVariants.{Closed, Refused, Ignored}
 use Rattle.bsc_connections.specs.declared.monitor.Note.TheVariants.{Stopped, Withheld}
 use Rattle.bsc_connections.specs.Histories.{Happening, WasHeard, WasSilent, WasSent, HasJoined}
-use Rattle.bsc_connections.specs.Histories.{HasClosed, WasRefused, WasIgnored, WasStopped, WasWithheld}
+use Rattle.bsc_connections.specs.Histories.{HasClosed, WasRefused, WasIgnored, WasStopped}
+use Rattle.bsc_connections.specs.Histories.{WasWithheld}
 
 -- What a note tells.
 abbrev pub told_by : Note → Happening

@@ -21,11 +21,11 @@ use std::io::{Read, Write};
 /// The monitor is told what the station heard, or that a time-out passed, before the station's
 /// answer is written. If it accepts that, the answer is written to every open connection before
 /// anything else is heard, or withheld where the waiter says that it is late, so that it is lost to
-/// the peers and none of them hears it after a time-out; if the monitor refuses, nothing is written.
-/// It makes no difference to the station whether its answer is withheld. A connection that fails or
-/// ends is closed for good, and a peer that connects later takes its place; if none is closed, that
-/// of a connection that the waiter says may be replaced. Returns at once with any error of the
-/// waiter or of the monitor, and with `Count` after 2^64 - 1 steps.
+/// the peers and none of them hears it after a time-out; if the monitor refuses, nothing is
+/// written. It makes no difference to the station whether its answer is withheld. A connection that
+/// fails or ends is closed for good, and a peer that connects later takes its place; if none is
+/// closed, that of a connection that the waiter says may be replaced. Returns at once with any
+/// error of the waiter or of the monitor, and with `Count` after 2^64 - 1 steps.
 pub fn attend<
     S: Station,
     R: Read + Drop,
@@ -233,8 +233,8 @@ fn take_at<R: Read + Drop, W: Write + Drop, F: Framing + Drop>(
 
 /// Lets the station hear the last transmission of the connection at this place if the monitor
 /// admits it, tells the monitor what was heard, and sends the station's answer if the monitor
-/// accepts and it is in time. The waiter is then told whether the station had an answer. If the monitor does not
-/// admit the transmission, it is told of it, and nothing else is done.
+/// accepts and it is in time. The waiter is then told whether the station had an answer. If the
+/// monitor does not admit the transmission, it is told of it, and nothing else is done.
 fn arrive_at<
     S: Station,
     R: Read + Drop,

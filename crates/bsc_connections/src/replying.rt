@@ -26,8 +26,8 @@ fn send_all<R: Read + Drop, W: Write + Drop, F: Framing + Drop>(
     }
 }
 
-/// Writes a transmission to every open connection if it is in time, and else to none. Then tells the
-/// monitor which.
+/// Writes a transmission to every open connection if it is in time, and else to none. Then tells
+/// the monitor which.
 fn send_in_time<
     S: Station,
     R: Read + Drop,

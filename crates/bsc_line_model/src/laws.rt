@@ -111,7 +111,8 @@ pub fn heard_alike()
 
 /// Octets are heard fairly exactly if they spell the message that was sent, or EOT of a call, or
 /// spell no message; a failed text is fair only if a text was sent. All terminals hear fairly
-/// exactly if each hears such octets, and a call is spelled by the octets at all of them or at none.
+/// exactly if each hears such octets, and a call is spelled by the octets at all of them or at
+/// none.
 pub fn fair_in_octets()
     ensures one { FairInOctets }
     ensures all { AllFairInOctets }

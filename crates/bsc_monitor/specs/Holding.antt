@@ -38,8 +38,8 @@ abbrev pub is_eot : Heard → Bool
 is_eot (Whole Eot) = true
 is_eot _ = false
 
--- The line of this transmission, if it is held back: it is a call, and has at most as many octets as
--- are sent for a message. A call of more octets is padded.
+-- The line of this transmission, if it is held back: it is a call, and has at most as many octets
+-- as are sent for a message. A call of more octets is padded.
 abbrev pub held_if_call : ℕ → Deed → List ℕ → Option CallLine
 held_if_call time deed octets =
     if is_call (heard octets) && nat_le (length octets) MAX_SENT
@@ -104,4 +104,5 @@ pub record TracesNext (held : Option CallLine) (calls : Calls) (happening : Happ
     (me : Who) (old new : Option (List ℕ)) : Type 0 where
   pub between : Option (List ℕ)
   pub held_line : Appends old between (released (drops_held calls time happening) held)
-  pub own_line : IsTracedUnless (has_no_line held calls time happening) happening time me between new
+  pub own_line : IsTracedUnless (has_no_line held calls time happening)
+      happening time me between new

@@ -97,9 +97,9 @@ joined_line place peer replaces = connection_shown place peer ++ joined_shown re
 abbrev pub withheld_line : List ℕ
 withheld_line = codes "a transmission was withheld: it would have been late\n"
 
--- The line for a peer that took a connection is written, or the one for something that was withheld.
--- Of those for a peer that is refused and for a connection that is closed nothing is said, and other
--- events have none.
+-- The line for a peer that took a connection is written, or the one for something that was
+-- withheld. Of those for a peer that is refused and for a connection that is closed nothing is
+-- said, and other events have none.
 abbrev pub ShowsChange : Note → Option (List ℕ) → Option (List ℕ) → Type 0
 ShowsChange (Joined place peer replaces) old new =
     Appends old new (joined_line place peer replaces)

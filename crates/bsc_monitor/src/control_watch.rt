@@ -21,10 +21,10 @@ use bsc_trust::Trust;
 use std::alloc::Allocator;
 use std::io::Write;
 
-/// Prints what happens to a control station, admits the answers that are due, and ends the run after
-/// enough rounds of the poll list. If no other peer can connect, the run also ends when a connection
-/// is closed. If the station is asked to end, the run ends with the visit to the entry that is
-/// polled, or at a silence; if it is asked again, at once.
+/// Prints what happens to a control station, admits the answers that are due, and ends the run
+/// after enough rounds of the poll list. If no other peer can connect, the run also ends when a
+/// connection is closed. If the station is asked to end, the run ends with the visit to the entry
+/// that is polled, or at a silence; if it is asked again, at once.
 #[derive(Drop)]
 pub struct ControlWatch<'a, A: Allocator, T: Drop, W, D> {
     /// Prints the records and the trace.
@@ -158,7 +158,8 @@ impl<'a, A: Allocator + Copy, T: Timer + Drop, W: Write, D: Write, B: Allocator>
     }
 }
 
-/// Returns which calls may begin an idle poll: while the control station polls, those that it sends.
+/// Returns which calls may begin an idle poll: while the control station polls, those that it
+/// sends.
 fn calls_of<B: Allocator>(control: &Control<B>) -> Calls
     ensures { result ≡ calls_in control.now.task }
 {

@@ -44,8 +44,8 @@ impl Station for Ended {
     ghost ignores_noise = { λ old new sent hearing. hearing };
 }
 
-/// Prints the last transmission that is heard, and ends with it, with a time-out, with the close of a
-/// connection, or if it is asked to end a second time.
+/// Prints the last transmission that is heard, and ends with it, with a time-out, with the close of
+/// a connection, or if it is asked to end a second time.
 #[derive(Drop)]
 pub struct LastWatch<'a, A: Allocator, T: Drop, W, D> {
     /// Prints the records and the trace.

@@ -135,8 +135,8 @@ impl Progress {
         }
     }
 
-    /// Counts a transmission of the control station. Returns `true` if it has made enough rounds, or
-    /// a visit has ended after it was asked to end.
+    /// Counts a transmission of the control station. Returns `true` if it has made enough rounds,
+    /// or a visit has ended after it was asked to end.
     fn count_sent<B: Allocator>(&mut self, control: &Control<B>) -> bool
         ensures state { self.new ≡ after_sent self.old control.now }
         ensures ends { result ≡ ends_when_sent self.old control.now }

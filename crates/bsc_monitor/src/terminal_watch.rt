@@ -11,8 +11,9 @@ use bsc_connections::{LiveError, Monitor, Note, Pace};
 use std::alloc::Allocator;
 use std::io::Write;
 
-/// Prints what happens to a terminal, and ends the run when its connection is closed. If the terminal
-/// is asked to end, the run ends once it is in control mode; if it is asked again, at once.
+/// Prints what happens to a terminal, and ends the run when its connection is closed. If the
+/// terminal is asked to end, the run ends once it is in control mode; if it is asked again, at
+/// once.
 #[derive(Drop)]
 pub struct TerminalWatch<'a, A: Allocator, T: Drop, W, D> {
     /// Prints the records and the trace.

@@ -15,8 +15,8 @@ const SLOW: u64 = 50;
 
 /// Writes the last lines of the report of a control station: the time of its slowest answer in
 /// hundredths of the time-out, if an answer was heard whose time counts, and that the time-out
-/// should be longer if that is 50 or more; then that the line is trusted, or the first reason why it
-/// is not. After an error a part of them may have been written.
+/// should be longer if that is 50 or more; then that the line is trusted, or the first reason why
+/// it is not. After an error a part of them may have been written.
 pub fn write_trust<W: Write>(trust: &Trust, out: &mut W) -> Result<(), PrintError>
     ensures ok { OnOk result (Appends (W.contents out.old) (W.contents out.new)
         (trust_report trust.now)) }

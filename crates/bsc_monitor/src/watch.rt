@@ -146,8 +146,8 @@ impl<'a, A: Allocator + Copy, T: Timer + Drop, W: Write, D: Write> Watch<'a, A, 
         }
     }
 
-    /// Prints that this terminal has not answered, in a trace with the time. Prints nothing if there
-    /// is none.
+    /// Prints that this terminal has not answered, in a trace with the time. Prints nothing if
+    /// there is none.
     pub(crate) fn tell_unanswered(&mut self, terminal: Option<usize>) -> Result<(), LiveError>
         ensures records { output_of W.contents self.new ≡ output_of W.contents self.old }
         ensures trace { OnOk result (ShowsUnanswered terminal (trace_of D.contents self.old)
@@ -192,8 +192,8 @@ impl<'a, A: Allocator + Copy, T: Timer + Drop, W: Write, D: Write> Watch<'a, A, 
         write_distrust(why, self.errors)
     }
 
-    /// Writes the start of a line that tells of no event: in a trace the line that is held back, and
-    /// the time.
+    /// Writes the start of a line that tells of no event: in a trace the line that is held back,
+    /// and the time.
     fn write_start(&mut self) -> Result<(), PrintError>
         ensures records { output_of W.contents self.new ≡ output_of W.contents self.old }
         ensures trace { OnOk result (BeginsLine (trace_of D.contents self.old)

@@ -8,8 +8,8 @@ use std::time::{Clock, Duration};
 /// The time since which whatever is read next may have lain unread. It begins with the first wait,
 /// when a wait ends before which nothing was there to read, at each time-out, and when the station
 /// sends something in time, since its peers send nothing more before they have heard that or a
-/// time-out has passed. So while a station is held up, all that its peers repeat meanwhile grows old
-/// with what it heard.
+/// time-out has passed. So while a station is held up, all that its peers repeat meanwhile grows
+/// old with what it heard.
 #[derive(Clone, Copy)]
 pub(crate) struct Unread {
     /// What is left of the time after which what the station sends is late; None before the first

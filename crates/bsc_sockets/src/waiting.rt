@@ -96,8 +96,8 @@ impl<'a, N: Net + Clock, A: Allocator + Copy> Sockets<'a, N, A> {
         is_overdue
     }
 
-    /// As `within`, but asks the system first. If nothing has arrived by then, whatever ends the wait
-    /// has not lain unread.
+    /// As `within`, but asks the system first. If nothing has arrived by then, whatever ends the
+    /// wait has not lain unread.
     fn asked_within(&mut self, time: Duration, sought: Sought) -> Result<Awaited, LiveError>
         ensures answer { IfOk result
             (IsAnswer self.new.settings.allowed self.new.places self.new.newcomer) }
@@ -211,7 +211,8 @@ impl<'a, N: Net + Clock, A: Allocator + Copy> Sockets<'a, N, A> {
     /// Returns the event of the peer that has connected: `NotAllowed` if it may not.
     fn newcomer_event(&self) -> Awaited
         requires { IsSome self.now.newcomer }
-        ensures answer { IsAnswer self.now.settings.allowed self.now.places self.now.newcomer result }
+        ensures answer { IsAnswer self.now.settings.allowed self.now.places
+            self.now.newcomer result }
         ensures stops { stops_in result ≡ 0 }
     {
         match &self.newcomer {

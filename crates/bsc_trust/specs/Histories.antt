@@ -13,10 +13,10 @@ use Rattle.bsc_trust.specs.Trust.{new_trust, admits, after_joined, after_closed,
 use Rattle.bsc_trust.specs.Trust.{after_heard, after_ignored, after_withheld, time_taken}
 use Rattle.bsc_trust.specs.Trust.{time_since}
 
--- What happens to a control station: it sends something at a time; it withholds something at a time,
--- since that would have been late; a transmission arrives, while this terminal is called, if one is,
--- on the connection at a place, with a content and at a time; a connection begins at a place, with
--- this peer; or the connection at a place is closed.
+-- What happens to a control station: it sends something at a time; it withholds something at a
+-- time, since that would have been late; a transmission arrives, while this terminal is called, if
+-- one is, on the connection at a place, with a content and at a time; a connection begins at a
+-- place, with this peer; or the connection at a place is closed.
 pub data Event : Type 0 where
   Sends : ℕ → Event
   Withholds : ℕ → Event

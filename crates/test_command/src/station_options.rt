@@ -1,5 +1,5 @@
-//! What the options for the end of a station, its framing and its peers change. The octets are those
-//! of docs/PROTOCOL.md.
+//! What the options for the end of a station, its framing and its peers change. The octets are
+//! those of docs/PROTOCOL.md.
 
 use crate::machine::{Asking, Case, Due, SILENT, Scene, Watched, first_unlike};
 use crate::stations::{CONNECTING, CONTROLLING, RECORDS, SHARING};

@@ -152,7 +152,8 @@ const TRACES: &[Watched] = &[
     },
 ];
 
-/// Without `--trace` only the close of the connection is told. Given three times it is as given twice.
+/// Without `--trace` only the close of the connection is told. Given three times it is as given
+/// twice.
 #[test]
 fn a_trace_has_idle_polls_if_it_is_asked_for_twice(rt: HostRuntime) -> Result<(), Fail> {
     assert_eq!(rt; first_unlike(rt.alloc(), TRACES), None);

@@ -111,8 +111,8 @@ fn offer_each_way<A: Allocator>(line: &mut Line<A>) -> Result<(), LineError> {
 }
 
 /// The event of this number. For thirteen events transmissions are carried, and for forty, which is
-/// long enough for the most tries, they are lost; after 700 events, one in nine is heard as a broken
-/// text. Silence passes while nothing is pending.
+/// long enough for the most tries, they are lost; after 700 events, one in nine is heard as a
+/// broken text. Silence passes while nothing is pending.
 fn event_of(step: usize, is_pending: bool) -> Event<'static> {
     if !is_pending {
         return Silence;

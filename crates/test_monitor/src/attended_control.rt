@@ -105,9 +105,8 @@ fn attend_control(
     attend_and_last(control, &mut connections, &mut waiter, watch)
 }
 
-/// Does the same for a control station with one record for terminal 0, and writes its report without
-/// the records that arrived.
-/// Returns the standing of its channels.
+/// Does the same for a control station with one record for terminal 0, and writes its report
+/// without the records that arrived. Returns the standing of its channels.
 fn attend_and_report(
     alloc: Global,
     attended: &Attended,

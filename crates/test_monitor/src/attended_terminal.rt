@@ -38,16 +38,16 @@ const ALL: Printing = Printing {
     trace: Tracing::All,
 };
 
-/// The octets that a terminal reads, and the waits before them: octets to read for each `r`, and that
-/// it is asked to end for each `s`.
+/// The octets that a terminal reads, and the waits before them: octets to read for each `r`, and
+/// that it is asked to end for each `s`.
 #[derive(Clone, Copy)]
 struct Attended {
     octets: &'static [u8],
     steps: &'static [u8],
 }
 
-/// Attends a terminal over such a connection. Returns the fault for which the connection was closed,
-/// if there was one.
+/// Attends a terminal over such a connection. Returns the fault for which the connection was
+/// closed, if there was one.
 fn attend_terminal<W: Write>(
     alloc: Global,
     terminal: &mut LineTerminal<Global>,
@@ -65,8 +65,8 @@ fn attend_terminal<W: Write>(
     Ok(watch.closed())
 }
 
-/// Does the same for terminal 0 with one record to send, and writes its report with the records that
-/// arrived.
+/// Does the same for terminal 0 with one record to send, and writes its report with the records
+/// that arrived.
 fn attend_and_report(
     alloc: Global,
     printing: Printing,

@@ -281,8 +281,8 @@ fn after_last(alloc: Global) -> Result<([bool; 4], bool), Fail> {
     Ok((answers, last.trust().distrust().is_some()))
 }
 
-/// A control station that has ended awaits the answer of the terminal that it called last. An answer
-/// of another one does not end it.
+/// A control station that has ended awaits the answer of the terminal that it called last. An
+/// answer of another one does not end it.
 #[test]
 fn the_last_answer_is_that_of_the_last_call(rt: HostRuntime) -> Result<(), Fail> {
     assert_eq!(rt; after_last(rt.alloc())?, ([false, true, true, false], true));

@@ -48,8 +48,8 @@ fn silent(pieces: &'static [Piece]) -> Connection<Pieces, Expecting, SocketRecor
     Connection::new(Pieces { pieces }, Expecting { rest: &[] })
 }
 
-/// Neither an answer nor what follows a silence is written when it is late. The monitor is told, and
-/// the waiter is told that both were handled, and that what was heard had an answer.
+/// Neither an answer nor what follows a silence is written when it is late. The monitor is told,
+/// and the waiter is told that both were handled, and that what was heard had an answer.
 #[test]
 fn what_is_late_is_withheld(rt: HostRuntime) -> Result<(), Fail> {
     const FIRST: Awaited = Awaited::Octets { connection: 0 };

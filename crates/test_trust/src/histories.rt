@@ -161,8 +161,8 @@ const LATE_REPLIES: History = History {
     share: Some(10),
 };
 
-/// A late reply that is withheld ends no trust, nor does what is sent after it: the terminal asks for
-/// the reply again, or a time-out passes.
+/// A late reply that is withheld ends no trust, nor does what is sent after it: the terminal asks
+/// for the reply again, or a time-out passes.
 const WITHHELD_REPLIES: History = History {
     shared: false,
     given: &[],

@@ -42,7 +42,8 @@ impl<A: Allocator> Line<A> {
         codes: &[u8],
     ) -> Result<(), LineError>
         ensures does { Does (event.OfferFor terminal select codes.entry) self.old result self.new }
-        ensures steps { StepsAs (event.OfferFor terminal select codes.entry) self.old result self.new }
+        ensures steps { StepsAs (event.OfferFor terminal select codes.entry)
+            self.old result self.new }
         ensures line { IsLine self.new }
     {
         self.each_steps();
