@@ -75,13 +75,23 @@ quiet_of silence (Some standing) = silence - standing.since
 abbrev pub quiet_at : StandingsValue → ℕ → ℕ
 quiet_at standings place = quiet_of standings.silence (slice_get standings.places place)
 
+-- At the first place nobody has answered for no more silence than at the second; and if it is as
+-- much, and the peer of the second is a station of the line, that of the first is one too.
+abbrev pub IsNoQuieter : StandingsValue → ℕ → ℕ → Type 0
+IsNoQuieter standings first second =
+    (quiet_at standings first ≤ quiet_at standings second)
+    × (quiet_at standings first ≡ quiet_at standings second
+    → is_known standings second ≡ true → is_known standings first ≡ true)
+
 -- Of this many places the one where nobody has answered for the most silence, if that is at least
--- this much; none if it is less at each of them.
-abbrev pub IsQuietest : (ℕ → ℕ) → ℕ → ℕ → Option ℕ → Type 0
-IsQuietest quiet places least None = (place : ℕ) → place < places → quiet place < least
-IsQuietest quiet places least (Some found) =
-    (found < places) × (least ≤ quiet found)
-    × ((place : ℕ) → place < places → quiet place ≤ quiet found)
+-- this much; none if it is less at each of them. It is one whose peer is no station of the line if
+-- there is such a one among those of the most silence.
+abbrev pub IsQuietest : StandingsValue → ℕ → ℕ → Option ℕ → Type 0
+IsQuietest standings places least None =
+    (place : ℕ) → place < places → quiet_at standings place < least
+IsQuietest standings places least (Some found) =
+    (found < places) × (least ≤ quiet_at standings found)
+    × ((place : ℕ) → place < places → IsNoQuieter standings place found)
 
 -- Whether the time of the time-out begins anew after this. If peers may connect, a transmission
 -- that the station does not answer counts only if it has answered one at that place before.

@@ -202,7 +202,7 @@ impl<'a, N: Net + Clock, A: Allocator + Copy> Waiter<Reading, Writing<'a, N, A>>
     ghost use Rattle.bsc_connections.specs.declared.awaited.Pace.TheVariants.{AtOnce};
     ghost use Rattle.bsc_sockets.specs.Answers.{IsAnswer, newcomer_may};
     ghost use Rattle.bsc_sockets.specs.Ready.{without_place};
-    ghost use Rattle.bsc_sockets.specs.Standings.{IsQuietest, is_known, moves_time_out, quiet_at};
+    ghost use Rattle.bsc_sockets.specs.Standings.{IsQuietest, is_known, moves_time_out};
     ghost use Rattle.bsc_sockets.specs.Standings.{standings_after, standings_value, time_after};
     ghost use Rattle.bsc_sockets.specs.Stopping.{stops_in, times_told};
     ghost use Rattle.bsc_sockets.specs.Times.{IsKept};
@@ -249,7 +249,7 @@ impl<'a, N: Net + Clock, A: Allocator + Copy> Waiter<Reading, Writing<'a, N, A>>
 
     ghost may_replace = { λ waiter named.
         let standings = standings_value waiter.standings in
-        IsQuietest (quiet_at standings) (length standings.places)
+        IsQuietest standings (length standings.places)
         (as_nanos waiter.settings.replace_after) named };
 
     fn wait(&mut self) -> Result<Awaited, LiveError> {

@@ -1,10 +1,11 @@
 //! The peers of the connections, and for how long nobody has answered at each place.
 
-ghost use Rattle.std.specs.Prelude.{◌≡◌, ◌+◌, ◌^◌, ◌-◌, min, false, length, slice_get, option_map};
-ghost use Rattle.std.specs.Prelude.{IfOk};
+ghost use Rattle.std.specs.Prelude.{◌≡◌, ◌+◌, ◌^◌, ◌-◌, min, true, false, length, slice_get};
+ghost use Rattle.std.specs.Prelude.{IfOk, option_map};
 ghost use Rattle.std.specs.Duration.{as_nanos};
-ghost use Rattle.bsc_sockets.specs.Standings.{IsQuietest, after_answer, after_joining, is_known};
-ghost use Rattle.bsc_sockets.specs.Standings.{new_standings, peer_of, quiet_at, standings_value};
+ghost use Rattle.bsc_sockets.specs.Standings.{IsNoQuieter, IsQuietest, after_answer, after_joining};
+ghost use Rattle.bsc_sockets.specs.Standings.{is_known, new_standings, peer_of, quiet_at};
+ghost use Rattle.bsc_sockets.specs.Standings.{standings_value};
 
 use std::alloc::{AllocError, Allocator};
 use std::net::SocketAddr;
@@ -123,10 +124,24 @@ impl<A: Allocator> Standings<A> {
         }
     }
 
+    /// Whether the station has answered nothing for more silence from the first place than from the
+    /// second; if for the same, whether only the peer at the second is a station of the line.
+    fn is_quieter(&self, first: usize, second: usize) -> bool
+        ensures quieter { result ≡ true → IsNoQuieter (standings_value self.now) second first }
+        ensures no_quieter { result ≡ false → IsNoQuieter (standings_value self.now) first second }
+    {
+        let (quiet, other) = (self.quiet(first), self.quiet(second));
+        if quiet != other {
+            return other < quiet;
+        }
+        !self.is_known(first) && self.is_known(second)
+    }
+
     /// Returns the place from which the station has answered nothing for the most silence, if that
-    /// is at least this time; the first of several.
+    /// is at least this time. Of several it is the first whose peer is no station of the line, or
+    /// the first if there is no such one.
     pub(crate) fn quietest(&self, least: Duration) -> Option<usize>
-        ensures { IsQuietest (quiet_at (standings_value self.now)) (length self.now.places.items)
+        ensures { IsQuietest (standings_value self.now) (length self.now.places.items)
             (as_nanos least) result }
     {
         if self.places.is_empty() {
@@ -134,7 +149,7 @@ impl<A: Allocator> Standings<A> {
         }
         let mut best = 0;
         'places: for place in 1..self.places.len() {
-            if self.quiet(best) < self.quiet(place) {
+            if self.is_quieter(place, best) {
                 best = place;
             }
         }

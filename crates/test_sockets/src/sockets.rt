@@ -85,31 +85,47 @@ fn a_station_and_its_peers_meet(rt: HostRuntime) -> Result<(), Fail> {
     play(&rt, rt.alloc(), MEETINGS)
 }
 
-const REPLACED: &[Encounter] = &[Encounter {
-    shows: "the connection that nobody answers on for two time-outs may be replaced, unless closed",
-    peers: 2,
-    begins: false,
-    acts: &[
-        Replaceable(None),
-        Waits(Awaited::TimeOut),
-        Replaceable(None),
-        Answers(0),
-        Waits(Awaited::TimeOut),
-        Replaceable(Some(1)),
-        Comes,
-        Waits(Awaited::Newcomer),
-        Sends(1, b"lost"),
-        LetsGo(1),
-        Joins(1, true),
-        Replaceable(None),
-        Sends(2, b"here"),
-        Waits(Awaited::Octets { connection: 1 }),
-        Reads(1, Ok(b"here")),
-        NothingLeft(1),
-        Waits(Awaited::TimeOut),
-        Replaceable(Some(0)),
-    ],
-}];
+const REPLACED: &[Encounter] = &[
+    Encounter {
+        shows: "the connection that nobody answers on for two time-outs may be replaced, unless \
+            closed",
+        peers: 2,
+        begins: false,
+        acts: &[
+            Replaceable(None),
+            Waits(Awaited::TimeOut),
+            Replaceable(None),
+            Answers(0),
+            Waits(Awaited::TimeOut),
+            Replaceable(Some(1)),
+            Comes,
+            Waits(Awaited::Newcomer),
+            Sends(1, b"lost"),
+            LetsGo(1),
+            Joins(1, true),
+            Replaceable(None),
+            Sends(2, b"here"),
+            Waits(Awaited::Octets { connection: 1 }),
+            Reads(1, Ok(b"here")),
+            NothingLeft(1),
+            Waits(Awaited::TimeOut),
+            Replaceable(Some(0)),
+        ],
+    },
+    Encounter {
+        shows: "of two connections without an answer for as long, the one that never had one may \
+            be replaced",
+        peers: 2,
+        begins: false,
+        acts: &[
+            Replaceable(None),
+            Answers(0),
+            Waits(Awaited::TimeOut),
+            Waits(Awaited::TimeOut),
+            Replaceable(Some(1)),
+        ],
+    },
+];
 
 #[test]
 fn a_connection_without_answers_is_replaced(rt: HostRuntime) -> Result<(), Fail> {
