@@ -44,9 +44,8 @@ impl DeviceFault {
             ErrorKind::ConnectionAborted => DeviceFault::Aborted,
             ErrorKind::BrokenPipe => DeviceFault::BrokenPipe,
             ErrorKind::TimedOut => DeviceFault::TimedOut,
-            ErrorKind::HostUnreachable
-            | ErrorKind::NetworkUnreachable
-            | ErrorKind::NetworkDown => DeviceFault::Unreachable,
+            ErrorKind::HostUnreachable | ErrorKind::NetworkUnreachable | ErrorKind::NetworkDown =>
+                DeviceFault::Unreachable,
             _ => DeviceFault::Other,
         }
     }
