@@ -36,7 +36,7 @@ trace_of contents w =
     record { tracing = w.printing.trace; held = w.held; contents = contents w.errors.now }
 
 -- The line for an event of this station at this time is printed, if there is one: without a trace
--- only for a peer that joins, leaves or is refused.
+-- only for a peer that joins, leaves or is refused, and for something that was withheld.
 abbrev pub ShowsIn : Tracing → Calls → Who → ℕ → Note → Trace → Trace → Type 0
 ShowsIn Off calls me time note old new =
     ShowsChange note old.contents new.contents × (new.held ≡ old.held)
