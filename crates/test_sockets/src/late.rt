@@ -1,5 +1,7 @@
 //! What would be sent late is withheld.
 
+ghost use Rattle.std.specs.Prelude.{◌≡◌};
+
 use crate::meeting;
 use crate::memory::Piece::Octets;
 use crate::memory::{Expecting, NOT_TOLD, Piece, Pieces, Told};
