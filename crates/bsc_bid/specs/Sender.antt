@@ -163,6 +163,11 @@ cut_phase (Held end alternation) = Idle
 cut_phase Idle = Idle
 cut_phase (InDoubt count) = InDoubt count
 
+-- The sender of a station that begins again: no bid is in progress and both counters are at 0. An
+-- unanswered block is in doubt.
+abbrev pub restarted_sender : SenderValue → SenderValue
+restarted_sender s = with_phase (with_counts s 0 0) (cut_phase s.phase)
+
 -- Whether a block may have arrived or not, and the sender no longer asks.
 abbrev pub is_in_doubt : Phase → Bool
 is_in_doubt (InDoubt count) = true

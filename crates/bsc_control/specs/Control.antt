@@ -5,7 +5,8 @@ use Rattle.bsc_frame.specs.declared.message.Message.{Message}
 use Rattle.bsc_bid.specs.Setup.{SetupValue}
 use Rattle.bsc_bid.specs.Terminal.{TerminalValue}
 use Rattle.bsc_control.specs.declared.task.Task.{Task}
-use Rattle.bsc_control.specs.Peer.{PeerValue, no_peer, IsPeer}
+use Rattle.bsc_control.specs.declared.task.Task.TheVariants.{AtRest}
+use Rattle.bsc_control.specs.Peer.{PeerValue, no_peer, IsPeer, restarted_peer}
 
 -- a control station: its settings, its poll list, the place of the present entry, what it does
 -- there, the failures in a row and the WACKs that answered the present call, and what it keeps for
@@ -48,6 +49,18 @@ peer c = peer_at c (current c)
 
 abbrev pub with_current : ControlValue → PeerValue → ControlValue
 with_current c p = with_peer c (current c) p
+
+-- the control station after it began again: at rest at the first entry of the poll list, with the
+-- counters at 0
+abbrev pub restarted : ControlValue → ControlValue
+restarted c =
+    record c {
+      place = 0;
+      task = AtRest;
+      failures = 0;
+      wacks = 0;
+      peers = map restarted_peer c.peers;
+    }
 
 -- nothing is sent
 abbrev pub quiet_step : ControlValue → ControlStep

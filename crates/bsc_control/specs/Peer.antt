@@ -1,6 +1,7 @@
 -- What the control station keeps for one terminal.
 use Rattle.std.specs.Prelude.{◌≡◌, ℕ, Bool, false, not, nat_eq, List, [], ◌∷◌, ◌++◌, length}
-use Rattle.std.specs.Prelude.{slice_index_or, slice_set, replicate, All, if◌then◌else◌, Option}
+use Rattle.std.specs.Prelude.{slice_index_or, slice_set, replicate, map, All, if◌then◌else◌}
+use Rattle.std.specs.Prelude.{Option}
 use Rattle.bsc_frame.specs.declared.message.Heard.{Heard}
 use Rattle.bsc_spool.specs.Queue.{QueueValue, waiting}
 use Rattle.bsc_spool.specs.Spool.{SpoolValue}
@@ -8,7 +9,8 @@ use Rattle.bsc_bid.specs.declared.phase.Phase.TheVariants.{Idle}
 use Rattle.bsc_frame.specs.declared.reply.Reply.{Reply}
 use Rattle.bsc_bid.specs.Ready.{IsReady}
 use Rattle.bsc_bid.specs.Receiver.{ReceiverValue, Receives, new_receiver, sends_interrupt}
-use Rattle.bsc_bid.specs.Sender.{SenderValue, SenderStep, is_in_doubt, release_step}
+use Rattle.bsc_bid.specs.Sender.{SenderValue, SenderStep, restarted_sender, is_in_doubt}
+use Rattle.bsc_bid.specs.Sender.{release_step}
 use Rattle.bsc_bid.specs.Setup.{SetupValue}
 use Rattle.bsc_bid.specs.Terminal.{TerminalValue, IsTerminal}
 use Rattle.std.specs.Prelude.{true}
@@ -74,6 +76,20 @@ new_outbound setup =
     record {
       sender = record { setup = setup; phase = Idle; failures = 0; wacks = 0 };
       queue = record { format = setup.format; offered = []; known = 0 };
+    }
+
+-- the sending side of a control station that began again
+abbrev pub restarted_outbound : OutboundValue → OutboundValue
+restarted_outbound o = record o { sender = restarted_sender o.sender }
+
+-- what a control station that began again keeps for a terminal: the records that arrived, those
+-- that it has to send, and its doubts
+abbrev pub restarted_peer : PeerValue → PeerValue
+restarted_peer p =
+    record p {
+      urgent = false;
+      receiver = new_receiver true;
+      outbounds = map restarted_outbound p.outbounds;
     }
 
 -- nothing to send, nothing received, and the urgent flag down

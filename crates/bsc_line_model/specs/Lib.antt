@@ -6,6 +6,7 @@ pub mod Terminals
 pub mod Trust
 pub mod Carries
 pub mod Offers
+pub mod Restarts
 pub mod Runs
 pub mod Stays
 pub mod Kept

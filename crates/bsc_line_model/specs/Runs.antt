@@ -14,7 +14,7 @@ use Rattle.bsc_line_model.specs.declared.event.Event.{Event}
 use Rattle.bsc_line_model.specs.declared.event.Event.TheVariants.{OfferAt, OfferFor, Carry}
 use Rattle.bsc_line_model.specs.declared.event.Event.TheVariants.{CarryEach, CarrySent, Silence}
 use Rattle.bsc_line_model.specs.declared.event.Event.TheVariants.{Ready, UrgentAt, UrgentFor}
-use Rattle.bsc_line_model.specs.declared.event.Event.TheVariants.{Release}
+use Rattle.bsc_line_model.specs.declared.event.Event.TheVariants.{Release, Restart}
 use Rattle.bsc_line_model.specs.Line.{LineValue, terminal_count}
 use Rattle.bsc_line_model.specs.Hearing.{heard_in, heard_at, octets_in}
 use Rattle.bsc_line_model.specs.Kept.{IsLine}
@@ -22,6 +22,7 @@ use Rattle.bsc_line_model.specs.Terminals.{line_owner}
 use Rattle.bsc_line_model.specs.Carries.{IsCarriedBy, IsCarriedDown, OwnerActs}
 use Rattle.bsc_line_model.specs.Offers.{OffersAt, OffersFor, Sets, ready_set, urgent_set_at}
 use Rattle.bsc_line_model.specs.Offers.{urgent_set_for, Releases}
+use Rattle.bsc_line_model.specs.Restarts.{Restarts}
 
 -- the pending transmission is heard as `hear` says
 pub record CarriesAs (hear : Transmission → Heard) (old new : LineValue) : Type 0 where
@@ -91,6 +92,7 @@ Does (Ready t ready) old result new = Sets old t (ready_set old t ready) result 
 Does (UrgentAt t) old result new = Sets old t (urgent_set_at old t) result new
 Does (UrgentFor t) old result new = Sets old t (urgent_set_for old t) result new
 Does (Release t way) old result new = Releases old t way result new
+Does (Restart party) old result new = Restarts old party result new
 
 -- the event is accepted, and a run of the rest continues from the line that it leaves
 pub record GoesOn (event : Event) (old : LineValue) (Rest : LineValue → Type 0) : Type 0 where

@@ -10,6 +10,7 @@ use Rattle.bsc_tributary.specs.Kept.{IsTributary, KeepsSetupAndMode}
 use Rattle.bsc_control.specs.Control.{ControlValue, peer_at, with_peer}
 use Rattle.bsc_control.specs.Peer.{offered_to, with_outbound, outbound_released}
 use Rattle.bsc_control.specs.Kept.{IsControl, outbound_of}
+use Rattle.bsc_line_model.specs.declared.transmission.Speaker.{Speaker}
 use Rattle.bsc_line_model.specs.declared.transmission.Speaker.TheVariants.{Control}
 use Rattle.bsc_line_model.specs.declared.transmission.Transmission.{Transmission}
 use Rattle.bsc_line_model.specs.Line.{LineValue, terminal_at, terminal_count, with_terminal}
@@ -17,7 +18,8 @@ use Rattle.bsc_line_model.specs.Line.{with_control}
 use Rattle.bsc_line_model.specs.Carries.{IsCarriedDown, IsCarriedUp}
 use Rattle.bsc_line_model.specs.Offers.{full_length, select_count, count_from, count_to}
 use Rattle.bsc_line_model.specs.Runs.{PassesSilence}
-use Rattle.bsc_line_model.specs.Kept.{IsLine, IsNewLine}
+use Rattle.bsc_line_model.specs.Restarts.{IsParty, with_restarted, restarted}
+use Rattle.bsc_line_model.specs.Kept.{IsLine, IsNewLine, AreStations}
 
 -- a new line keeps the invariant
 abbrev pub NewLineStays : Type 0
@@ -94,3 +96,10 @@ ReleaseToStays =
     s < select_count l t → IsControl c →
     c ≡ with_peer l.control t (with_outbound (peer_at l.control t) s
     (outbound_released (outbound_of l.control t s) (count_to l t s))) → IsLine (with_control l c)
+
+-- a station begins again
+abbrev pub RestartStays : Type 0
+RestartStays =
+    (l : LineValue) (party : Speaker) → IsLine l → IsParty l party →
+    AreStations (with_restarted l party).control (with_restarted l party).terminals →
+    IsLine (restarted l party)

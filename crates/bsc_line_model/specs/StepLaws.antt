@@ -1,5 +1,5 @@
 -- What every event of a line keeps.
-use Rattle.std.specs.Prelude.{◌≡◌, ◌<◌, ◌++◌, ◌&&◌, ℕ, List, [], ◌∷◌, IsTrue, is_some, nat_eq}
+use Rattle.std.specs.Prelude.{◌≡◌, ◌⊎◌, ◌<◌, ◌++◌, ◌&&◌, ℕ, List, [], ◌∷◌, IsTrue, is_some, nat_eq}
 use Rattle.std.specs.Prelude.{Result, Ok, Err, OnOk, IfErr, if◌then◌else◌}
 use Rattle.bsc_frame.specs.declared.message.Message.{Message}
 use Rattle.bsc_frame.specs.declared.message.Heard.{Heard}
@@ -9,7 +9,7 @@ use Rattle.bsc_bid.specs.Setup.{SetupValue}
 use Rattle.bsc_bid.specs.Terminal.{TerminalValue}
 use Rattle.bsc_tributary.specs.Tributary.{holds}
 use Rattle.bsc_control.specs.declared.task.Replied.{Replied}
-use Rattle.bsc_control.specs.declared.task.Task.TheVariants.{Polling}
+use Rattle.bsc_control.specs.declared.task.Task.TheVariants.{AtRest, Polling}
 use Rattle.bsc_directory.specs.declared.way.Way.{Way}
 use Rattle.bsc_directory.specs.declared.way.Way.TheVariants.{FromTerminal, ToTerminal}
 use Rattle.bsc_control.specs.Control.{current}
@@ -19,7 +19,7 @@ use Rattle.bsc_line_model.specs.declared.event.Event.{Event}
 use Rattle.bsc_line_model.specs.declared.event.Event.TheVariants.{OfferAt, OfferFor, Carry}
 use Rattle.bsc_line_model.specs.declared.event.Event.TheVariants.{CarryEach, CarrySent, Silence}
 use Rattle.bsc_line_model.specs.declared.event.Event.TheVariants.{Ready, UrgentAt, UrgentFor}
-use Rattle.bsc_line_model.specs.declared.event.Event.TheVariants.{Release}
+use Rattle.bsc_line_model.specs.declared.event.Event.TheVariants.{Release, Restart}
 use Rattle.bsc_line_model.specs.Line.{LineValue, terminal_at, terminal_count, IsChannel, channel_of}
 use Rattle.bsc_line_model.specs.Hearing.{all_hear}
 use Rattle.bsc_line_model.specs.Terminals.{answer_of}
@@ -53,6 +53,7 @@ offered_by (Ready u ready) t way = []
 offered_by (UrgentAt u) t way = []
 offered_by (UrgentFor u) t way = []
 offered_by (Release u mine) t way = []
+offered_by (Restart party) t way = []
 
 -- the records that are offered on a channel grow by the accepted offers of it, trusted or not, and
 -- by nothing else
@@ -102,11 +103,12 @@ pub record IsPolled (l : LineValue) (t : ℕ) : Type 0 where
   pub replied : Replied
   pub task : l.control.task ≡ Polling replied
 
--- a terminal of a trusted line holds the line only while the control station polls it
+-- a terminal of a trusted line holds the line only while the control station polls it, or while the
+-- control station is at rest since it began again
 abbrev pub HoldsWhilePolled : Type 0
 HoldsWhilePolled =
     (l : LineValue) (t : ℕ) → IsLine l → IsTrue l.trusted → t < terminal_count l
-    → IsTrue (holds (terminal_at l t).mode) → IsPolled l t
+    → IsTrue (holds (terminal_at l t).mode) → IsPolled l t ⊎ (l.control.task ≡ AtRest)
 
 -- on a trusted line, no release is refused with CountMismatch
 abbrev pub NeverMismatches : Type 0

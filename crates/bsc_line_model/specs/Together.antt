@@ -22,16 +22,22 @@ use Rattle.bsc_control.specs.Table.{select_address}
 use Rattle.bsc_line_model.specs.declared.transmission.Speaker.{Speaker}
 use Rattle.bsc_line_model.specs.declared.transmission.Speaker.TheVariants.{Control, Terminal}
 use Rattle.bsc_line_model.specs.declared.transmission.Transmission.{Transmission}
+use Rattle.bsc_line_model.specs.Transmission.{speaker_of}
 use Rattle.bsc_line_model.specs.Line.{LineValue, terminal_in, IsChannel, channel_of, phase_of}
 
--- no bid from the terminal is in progress, and the channel is sound
+-- the channel from the terminal is sound, whether or not its sender still asks
 abbrev pub RestsUp : PeerValue → TributaryValue → Type 0
 RestsUp p x = IsResting x.sender.phase x.queue p.spool.records
 
--- no bid to the terminal's selection address s is in progress, and the channel is sound
+-- the channel to the terminal's selection address s is sound, whether or not its sender still asks
 abbrev pub RestsDown : PeerValue → TributaryValue → ℕ → Type 0
 RestsDown p x s =
     IsResting (outbound_at p s).sender.phase (outbound_at p s).queue (spool_at x.spools s).records
+
+-- the channels from and to this terminal are sound; its other end takes no part in a bid
+pub record Rests (p : PeerValue) (x : TributaryValue) : Type 0 where
+  pub up : RestsUp p x
+  pub down : (s : ℕ) → s < length p.outbounds → RestsDown p x s
 
 -- no bid with this terminal is in progress, and its channels are sound
 pub record HasNoBid (p : PeerValue) (x : TributaryValue) : Type 0 where
@@ -91,10 +97,11 @@ IsSelectedWith None enquired called = Unit {0}
 IsSelectedWith (Some sent) enquired called =
     IsSelectedBy sent.speaker sent.message enquired called
 
--- if ENQ was sent last, the terminal is fresh
-abbrev pub IsFreshAfter : Bool → TributaryValue → ℕ → Type 0
-IsFreshAfter true x s = IsFresh x s
-IsFreshAfter false x s = Unit {0}
+-- if ENQ was sent last, the terminal is fresh, or it began again since, and all terminals are in
+-- control mode
+abbrev pub IsFreshAfter : Bool → TributaryValue → ℕ → List TributaryValue → Type 0
+IsFreshAfter true x s ts = IsFresh x s ⊎ AllInControlMode ts
+IsFreshAfter false x s ts = Unit {0}
 
 -- the message under way in a bid to terminal e
 abbrev pub FliesDownBy : Speaker → Message → ℕ → Flight → Type 0
@@ -125,6 +132,26 @@ pub record IsInBidDown (pending : Option Transmission) (p : PeerValue) (e s : �
   pub bid : InBid (outbound_at p s).sender.phase (outbound_at p s).queue x.receiver.alternation
       x.receiver.last (spool_at x.spools s).records flight
 
+-- what the control station sends in a bid
+abbrev pub IsSentInBid : Message → Type 0
+IsSentInBid (m.Text t) = Unit {0}
+IsSentInBid m.Enq = Unit {0}
+IsSentInBid _ = ⊥
+
+-- what may be pending after the other end of a bid of the control station began again: nothing, or
+-- a transmission of the control station, which nobody answers
+abbrev pub IsUnheard : Option Transmission → Type 0
+IsUnheard None = Unit {0}
+IsUnheard (Some sent) = (sent.speaker ≡ Control) × IsSentInBid sent.message
+
+-- the terminal to which the control station sends began again: it is in control mode, as all others
+-- are, and takes no part in the bid any more
+pub record IsLeftByReceiver (pending : Option Transmission) (p : PeerValue) (x : TributaryValue)
+    (ts : List TributaryValue) : Type 0 where
+  pub modes : AllInControlMode ts
+  pub rests : Rests p x
+  pub unheard : IsUnheard pending
+
 -- a bid of terminal e is in progress
 pub record IsInBidUp (pending : Option Transmission) (p : PeerValue) (e : ℕ) (x : TributaryValue)
     : Type 0 where
@@ -135,10 +162,13 @@ pub record IsInBidUp (pending : Option Transmission) (p : PeerValue) (e : ℕ) (
   pub bid : InBid x.sender.phase x.queue p.receiver.alternation p.receiver.last
       p.spool.records flight
 
--- the message that is pending in a poll that no text has answered: the call, if no reply was sent,
--- or EOT, if all are in control mode
+-- the message that is pending in a poll in which no bid is in progress: the call, if no reply was
+-- sent; a reply to a terminal that began again since, if all are in control mode; or EOT, if all are
+-- in control mode
 abbrev pub IsPolledBy : Speaker → Message → Replied → PeerValue → ℕ → List TributaryValue → Type 0
-IsPolledBy Control w replied p e ts = (w ≡ m.Call p.terminal.poll) × (replied ≡ Nothing)
+IsPolledBy Control w replied p e ts =
+    ((w ≡ m.Call p.terminal.poll) × (replied ≡ Nothing))
+    ⊎ ((r : Reply) × (w ≡ m.Reply r) × AllInControlMode ts)
 IsPolledBy (Terminal t) w replied p e ts = (t ≡ e) × (w ≡ m.Eot) × AllInControlMode ts
 
 abbrev pub IsPolledWith :
@@ -152,12 +182,14 @@ pub record IsSelecting (pending : Option Transmission) (c : ControlValue)
   pub no_bids : NoBids c ts
   pub with_pending : IsSelectedWith pending enquired
       (selected (peer c) (current c) s (terminal_in ts (current c)) ts)
-  pub fresh : IsFreshAfter enquired (terminal_in ts (current c)) s
+  pub fresh : IsFreshAfter enquired (terminal_in ts (current c)) s ts
 
 pub record IsSending (pending : Option Transmission) (c : ControlValue)
     (ts : List TributaryValue) (s : ℕ) : Type 0 where
   pub others : NoOtherBids c ts (current c)
-  pub bid : IsInBidDown pending (peer c) (current c) s (terminal_in ts (current c))
+  pub present :
+      IsInBidDown pending (peer c) (current c) s (terminal_in ts (current c))
+      ⊎ IsLeftByReceiver pending (peer c) (terminal_in ts (current c)) ts
 
 pub record IsPolling (pending : Option Transmission) (c : ControlValue)
     (ts : List TributaryValue) (replied : Replied) : Type 0 where
@@ -167,11 +199,12 @@ pub record IsPolling (pending : Option Transmission) (c : ControlValue)
       × IsPolledWith pending replied (peer c) (current c) ts)
       ⊎ IsInBidUp pending (peer c) (current c) (terminal_in ts (current c))
 
+-- the control station is at rest, from its start or since it began again: it sent nothing; a
+-- terminal may still send, and all channels are sound
 pub record IsAtStart (pending : Option Transmission) (c : ControlValue)
     (ts : List TributaryValue) : Type 0 where
-  pub nothing : pending ≡ None
-  pub no_bids : NoBids c ts
-  pub modes : AllInControlMode ts
+  pub silent : speaker_of pending ≢ Some Control
+  pub rests : (t : ℕ) → t < length ts → Rests (peer_at c t) (terminal_in ts t)
 
 abbrev pub InTask : Task → Option Transmission → ControlValue → List TributaryValue → Type 0
 InTask AtRest pending c ts = IsAtStart pending c ts

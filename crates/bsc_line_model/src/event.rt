@@ -1,5 +1,6 @@
 //! The events of a line.
 
+use crate::transmission::Speaker;
 use bsc_control::Way;
 
 /// One event of a line: one call of a method of it. Terminals are counted from 0, and so are the
@@ -58,5 +59,11 @@ pub enum Event<'a> {
     Release {
         terminal: usize,
         way: Way,
+    },
+
+    /// A station begins again with its records and its doubts only. What it sent and nobody has
+    /// heard yet is lost.
+    Restart {
+        party: Speaker,
     },
 }

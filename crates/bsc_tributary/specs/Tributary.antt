@@ -17,7 +17,8 @@ use Rattle.bsc_frame.specs.Replies.{reply_in}
 use Rattle.bsc_bid.specs.Receiver.{ReceiverValue, ReceiverStep, Rooms, new_receiver, first_reply}
 use Rattle.bsc_bid.specs.Receiver.{heard_step, rooms_left, sends_interrupt}
 use Rattle.bsc_bid.specs.Sender.{SenderValue, SenderStep, with_phase, begin_step, reply_step}
-use Rattle.bsc_bid.specs.Sender.{silence_step, cut_phase, is_in_doubt, release_step}
+use Rattle.bsc_bid.specs.Sender.{silence_step, cut_phase, restarted_sender, is_in_doubt}
+use Rattle.bsc_bid.specs.Sender.{release_step}
 use Rattle.bsc_tributary.specs.declared.called.Called.{Called}
 use Rattle.bsc_tributary.specs.declared.called.Called.TheVariants.{Polling, Selection, Other}
 use Rattle.bsc_tributary.specs.declared.mode.Mode.{Mode}
@@ -198,6 +199,18 @@ after_release t count =
     record t {
       sender = (release_step t.sender t.queue count).sender;
       queue = (release_step t.sender t.queue count).queue;
+    }
+
+-- the terminal after it began again: in control mode, ready and not urgent. It keeps the records
+-- that it has to send and those that arrived, and an unanswered block is in doubt.
+abbrev pub restarted : TributaryValue → TributaryValue
+restarted t =
+    record t {
+      mode = Control;
+      ready = true;
+      urgent = false;
+      sender = restarted_sender t.sender;
+      receiver = new_receiver true;
     }
 
 -- whether a terminal in this mode is in control mode
