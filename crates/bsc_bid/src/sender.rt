@@ -11,7 +11,8 @@ ghost use Rattle.bsc_bid.specs.Act.{Enq};
 ghost use Rattle.bsc_bid.specs.Sender.{with_phase, with_counts, begin_step, sent_next, accepted};
 ghost use Rattle.bsc_bid.specs.Sender.{Tells};
 ghost use Rattle.bsc_bid.specs.Sender.{failed, delayed, unanswered_step, held_step, reply_step};
-ghost use Rattle.bsc_bid.specs.Sender.{silence_step, cut_phase, is_in_doubt, release_step};
+ghost use Rattle.bsc_bid.specs.Sender.{silence_step, cut_phase, restarted_sender, is_in_doubt};
+ghost use Rattle.bsc_bid.specs.Sender.{release_step};
 
 use crate::alternation::Alternation;
 use crate::answer::Answer;
@@ -166,6 +167,18 @@ impl Sender {
             Phase::Unanswered { block } => self.phase = Phase::InDoubt { count: block.count },
             Phase::Held { .. } => self.phase = Phase::Idle,
         }
+    }
+
+    /// Begins again, as after the end of the process: no bid is in progress and both counters are
+    /// at 0. An unanswered block is in doubt, a held sender is idle, and a doubt remains.
+    pub fn restart(&mut self)
+        ensures state { self.new ≡ restarted_sender self.old }
+        ensures rests { IsAtRest self.new.phase }
+        ensures ready { (q : QueueValue) → IsReady self.old q → IsReady self.new q }
+    {
+        self.cut_off();
+        self.failures = 0;
+        self.wacks = 0;
     }
 
     /// Returns whether there is a block of which it is not known whether it arrived.
