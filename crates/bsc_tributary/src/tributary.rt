@@ -9,7 +9,7 @@ ghost use Rattle.bsc_bid.specs.Terminal.{HasDistinctAddresses};
 ghost use Rattle.bsc_bid.specs.Sender.{release_step, is_in_doubt};
 ghost use Rattle.bsc_tributary.specs.Tributary.{without_line, poll_step, selection_step};
 ghost use Rattle.bsc_tributary.specs.Tributary.{mode_left, message_left, after_release, holds};
-ghost use Rattle.bsc_tributary.specs.Tributary.{is_control_mode, spool_at};
+ghost use Rattle.bsc_tributary.specs.Tributary.{is_control_mode, restarted, spool_at};
 ghost use Rattle.bsc_tributary.specs.Kept.{IsTributary, IsNewTerminal, KeepsSetupAndMode};
 ghost use Rattle.bsc_tributary.specs.Kept.{IsHearing, IsNoCall};
 
@@ -149,6 +149,20 @@ impl<A: Allocator> Tributary<A> {
         ensures same { KeepsSetupAndMode self.old self.new }
     {
         self.sender.release(count, &mut self.queue)
+    }
+
+    /// Begins again, as after the end of the process: the terminal is in control mode, ready and
+    /// not urgent, and an unanswered block is in doubt. It keeps its addresses and settings, the
+    /// records that it has to send, a doubt, and the records that arrived.
+    pub fn restart(&mut self)
+        ensures state { self.new ≡ restarted self.old }
+        ensures tributary { IsTributary self.new }
+    {
+        self.sender.restart();
+        self.mode = Mode::Control;
+        self.ready = true;
+        self.urgent = false;
+        self.receiver = Receiver::new();
     }
 
     /// Returns the queue: the records that were offered, and how many of them are known to have
