@@ -24,7 +24,7 @@ use Rattle.bsc_bid.specs.Sender.{SenderValue, SenderStep, unmoved, text_of, begi
 use Rattle.bsc_bid.specs.Sender.{failed, delayed, unanswered_step, held_step, answered_step}
 use Rattle.bsc_bid.specs.Sender.{reply_step, silence_in}
 use Rattle.bsc_bid.specs.Channel.{channel, IsSound}
-use Rattle.bsc_bid.specs.Fair.{IsTextMessage, IsCallCutShort, IsFairlyHeard}
+use Rattle.bsc_bid.specs.Fair.{IsFairlyHeard}
 use Rattle.bsc_bid.specs.Bid.{IsFairTo, reply_message, answered, unless_quiet}
 use Rattle.bsc_bid.specs.OneBid.{MovesAtSender}
 use Rattle.bsc_bid.specs.Agreement.{Flight, Still, Outward, Back, IsReplyBefore, NotLanded, Agree}

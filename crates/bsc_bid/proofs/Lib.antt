@@ -8,6 +8,7 @@ pub mod Hearing
 pub mod Keeping
 pub mod Offers
 pub mod Readiness
+pub mod Restarting
 pub mod ReceiverSteps
 pub mod Resting
 pub mod Selecting

@@ -7,6 +7,7 @@ pub mod Steps
 pub mod Replacing
 pub mod Noise
 pub mod Controls
+pub mod Restarting
 pub mod Reached
 pub mod NewControls
 pub mod Present

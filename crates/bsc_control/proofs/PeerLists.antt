@@ -1,6 +1,7 @@
 -- What a change of one element keeps of a list.
 use Rattle.std.proofs.Common.{◌≡◌, ◌≢◌, ℕ, zero, suc, ◌≤◌, List, [], ◌∷◌, length, map}
-use Rattle.std.proofs.Common.{get_or, set, refl, ap, arith}
+use Rattle.std.proofs.Common.{◌+◌, ◌<◌, ◌++◌, take, drop, get_or, set, refl, sym, ◌∙◌, ap, subst, arith}
+use Rattle.std.proofs.lemmas.List.Edits.{map_over_more}
 
 -- an element is replaced by one at which the function has the same value: so it has at each place
 pub value_kept_by_set : {X B : Type 0} (f : X → B) (xs : List X) (i j : ℕ) (y d : X) → f y ≡ f (get_or xs i d)
@@ -41,3 +42,11 @@ holds_after_set P (x ∷ xs) (suc i) y d new past others zero = others 0 (λ e. 
 holds_after_set P (x ∷ xs) (suc i) y d new past others (suc j) =
     holds_after_set (λ k z. P (suc k) z) xs i y d new (λ le. past (omega (arith, le)))
     (λ k ne. others (suc k) (λ e. ne (omega (arith, e)))) j
+
+-- a loop that writes f x over each element x writes the element at i
+pub map_with_one_more : {X : Type 0} (f : X → X) (xs ys zs : List X) (i : ℕ) (x y : X)
+    → i < length zs → zs ≡ xs → ys ≡ map f (take i xs) ++ drop i xs → x ≡ get_or ys i x
+    → y ≡ f (get_or ys i x) → set ys i y ≡ map f (take (i + 1) xs) ++ drop (i + 1) xs
+map_with_one_more f xs ys zs i x y within all so_far read written =
+    ap (set ys i) (written ∙ ap f (sym read))
+    ∙ map_over_more f xs ys i x (subst (λ (l : List _). i < length l) all within) so_far read

@@ -6,6 +6,7 @@ ghost use Rattle.bsc_bid.specs.Sender.{is_in_doubt, release_step};
 ghost use Rattle.bsc_directory.specs.declared.way.Way.{Way as WayValue};
 ghost use Rattle.bsc_directory.specs.Addresses.{IsAddressOf};
 ghost use Rattle.bsc_control.specs.Control.{ControlValue, terminals, peer_at, with_peer};
+ghost use Rattle.bsc_control.specs.Control.{restarted};
 ghost use Rattle.bsc_control.specs.Kept.{IsControl, IsNewControl, outbound_of};
 ghost use Rattle.bsc_directory.specs.Refusals.{IsAccepted, IsRefused};
 ghost use Rattle.bsc_control.specs.Peer.{with_outbound, outbound_released, offered_to};
@@ -214,6 +215,17 @@ impl<A: Allocator> Control<A> {
         let peer = &mut procedure.peers[terminal];
         let outbound = &mut peer.outbounds[way.select()];
         outbound.release(count)
+    }
+
+    /// Begins again, as after the end of the process: the station is at rest at the first entry of
+    /// the poll list, with its counters at 0 and no urgent flag up, and its next silence makes the
+    /// first call. It keeps its settings, poll list and terminals, the records that it has to send,
+    /// its doubts, and the records that arrived; an unanswered block is in doubt.
+    pub fn restart(&mut self)
+        ensures state { self.new ≡ restarted self.old }
+        ensures control { IsControl self.new }
+    {
+        self.procedure.restart();
     }
 
     /// Returns the queue of a selection address: the records offered for it, and how many of them

@@ -7,7 +7,7 @@ ghost use Rattle.bsc_bid.specs.Act.{message_for, outcome_of};
 ghost use Rattle.bsc_frame.specs.Replies.{reply_in};
 ghost use Rattle.bsc_bid.specs.Sender.{begin_step, reply_step, silence_step, release_step};
 ghost use Rattle.bsc_control.specs.Peer.{OutboundValue, IsOutbound, outbound_after, new_outbound};
-ghost use Rattle.bsc_control.specs.Peer.{outbound_released, is_selectable};
+ghost use Rattle.bsc_control.specs.Peer.{outbound_released, restarted_outbound, is_selectable};
 
 use bsc_bid::{Outcome, ReleaseError, Sender, Setup};
 use bsc_block::Record;
@@ -120,5 +120,12 @@ impl<A: Allocator> Outbound<A> {
         ensures outbound { IsOutbound self.new }
     {
         self.sender.release(count, &mut self.queue)
+    }
+
+    /// Begins again: no bid is in progress, and an unanswered block is in doubt.
+    pub(crate) fn restart(&mut self)
+        ensures { self.new ≡ restarted_outbound self.old }
+    {
+        self.sender.restart();
     }
 }

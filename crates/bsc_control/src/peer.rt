@@ -1,8 +1,9 @@
 //! What the control station keeps for one terminal.
 
-ghost use Rattle.std.specs.Prelude.{◌≡◌, ◌≤◌, false, Some, length, IfOk, position};
+ghost use Rattle.std.specs.Prelude.{◌≡◌, ◌≤◌, false, Some, length, map, IfOk, position};
 ghost use Rattle.bsc_control.specs.CallOrder.{way_from};
 ghost use Rattle.bsc_control.specs.Peer.{PeerValue, IsPeer, PeerReceives, IsNewPeer, is_selectable};
+ghost use Rattle.bsc_control.specs.Peer.{restarted_outbound, restarted_peer};
 
 use crate::outbound::Outbound;
 use bsc_bid::{Receiver, Setup, Terminal};
@@ -100,6 +101,25 @@ impl<A: Allocator> Peer<A> {
             self.urgent = false;
         }
         reply
+    }
+
+    /// Begins again with the records and the doubts: the urgent flag is down, the receiver is as
+    /// new, and no bid is in progress.
+    pub(crate) fn restart(&mut self)
+        ensures { self.new ≡ restarted_peer self.old }
+    {
+        self.urgent = false;
+        self.receiver = Receiver::new();
+        restart_outbounds(&mut self.outbounds);
+    }
+}
+
+/// Lets the sending side of each selection address begin again.
+fn restart_outbounds<A: Allocator>(outbounds: &mut Vec<Outbound<A>, A>)
+    ensures { outbounds.new.items ≡ map restarted_outbound outbounds.old.items }
+{
+    for outbound in outbounds.iter_mut() {
+        outbound.restart();
     }
 }
 

@@ -3,6 +3,7 @@
 
 mod calling;
 mod polling;
+mod restarting;
 mod selecting;
 mod sending;
 

@@ -4,6 +4,7 @@ mod carries;
 mod lengths;
 mod offers;
 mod releases;
+mod restarts;
 mod runs;
 mod silences;
 mod steps;

@@ -4,6 +4,7 @@ ghost use Rattle.std.specs.Prelude.{◌≡◌, None, Option, IfSome, is_some, le
 ghost use Rattle.bsc_frame.specs.declared.message.Message.{Message as MessageValue};
 ghost use Rattle.bsc_frame.specs.declared.message.Heard.TheVariants as h;
 ghost use Rattle.bsc_line_model.specs.declared.transmission.Transmission.{Transmission as TransmissionValue};
+ghost use Rattle.bsc_line_model.specs.Restarts.{pending_without};
 ghost use Rattle.bsc_line_model.specs.Terminals.{EachHears, EachKeeps, first_answer};
 ghost use Rattle.bsc_line_model.specs.Transmission.{sent_by, speaker_of};
 ghost use Rattle.bsc_line.specs.Hearings.{hearing_of};
@@ -81,6 +82,17 @@ impl Pending {
             self.second.speaker()
         } else {
             self.first.speaker()
+        }
+    }
+
+    /// Loses the pending transmission if this station sent it.
+    pub(crate) fn lose(&mut self, party: Speaker)
+        ensures { self.new ≡ pending_without party self.old }
+    {
+        if self.in_second {
+            self.second.lose(party);
+        } else {
+            self.first.lose(party);
         }
     }
 

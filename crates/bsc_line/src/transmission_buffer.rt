@@ -2,6 +2,7 @@
 
 ghost use Rattle.std.specs.Prelude.{◌≡◌, is_some, None, Option};
 ghost use Rattle.bsc_frame.specs.declared.message.Message.{Message as MessageValue};
+ghost use Rattle.bsc_line_model.specs.Restarts.{pending_without};
 ghost use Rattle.bsc_line_model.specs.Transmission.{sent_by, speaker_of};
 
 use bsc_bid::Station;
@@ -69,6 +70,15 @@ impl TransmissionBuffer {
             Some(self.speaker)
         } else {
             None
+        }
+    }
+
+    /// Removes the transmission if this station sent it.
+    pub(crate) fn lose(&mut self, party: Speaker)
+        ensures { self.new ≡ pending_without party self.old }
+    {
+        if self.speaker == party {
+            self.message.clear();
         }
     }
 

@@ -10,26 +10,18 @@ use Rattle.bsc_bid.specs.declared.outcome.Outcome.{Outcome}
 use Rattle.bsc_frame.specs.declared.message.Message.{Message}
 use Rattle.bsc_bid.specs.declared.alternation.Alternation.{Alternation}
 use Rattle.bsc_bid.specs.declared.phase.Phase.{Phase}
-use Rattle.bsc_bid.specs.declared.phase.Phase.TheVariants.{Idle, Unanswered, Held, InDoubt}
 use Rattle.bsc_frame.specs.declared.reply.Reply.{Reply}
 use Rattle.bsc_bid.specs.EachStep.{StepKeeps}
-use Rattle.bsc_bid.specs.Ready.{IsGoing, IsAtRest, FitsAct}
+use Rattle.bsc_bid.specs.Ready.{IsGoing, FitsAct}
 use Rattle.bsc_bid.specs.Setup.{SetupValue}
 use Rattle.bsc_bid.specs.Sender.{SenderValue, SenderStep, SenderAnswer, Tells, sent_next}
-use Rattle.bsc_bid.specs.Sender.{reply_step, silence_step, cut_phase}
+use Rattle.bsc_bid.specs.Sender.{reply_step, silence_step}
 use Rattle.bsc_bid.proofs.Fitting.{fits_reply, fits_silence}
 use Rattle.bsc_bid.proofs.Keeping.{keeps_reply, keeps_silence}
 use Rattle.bsc_tributary.specs.declared.mode.Mode.{Mode}
 use Rattle.bsc_tributary.specs.declared.mode.Mode.TheVariants.{Control, Receiving, Sending}
 use Rattle.bsc_tributary.specs.Tributary.{mode_left, mode_after, message_left, message_of_act}
 use Rattle.bsc_tributary.specs.Kept.{SuitsMode}
-
--- a phase that was cut off is at rest
-pub is_at_rest_cut_phase : (p : Phase) → IsAtRest (cut_phase p)
-is_at_rest_cut_phase Idle = tt
-is_at_rest_cut_phase (Unanswered b) = tt
-is_at_rest_cut_phase (Held end alternation) = tt
-is_at_rest_cut_phase (InDoubt count) = tt
 
 -- the mode by the outcome of a method of the sender is the mode by its act
 pub mode_told : (mode left : Mode) (s : SenderValue) (q : QueueValue) (outcome : Outcome)

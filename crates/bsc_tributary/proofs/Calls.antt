@@ -14,13 +14,14 @@ use Rattle.bsc_frame.specs.declared.reply.Reply.{Reply}
 use Rattle.bsc_bid.specs.Ready.{IsReady, IsAtRest}
 use Rattle.bsc_bid.specs.Receiver.{ReceiverValue, new_receiver, first_reply}
 use Rattle.bsc_bid.specs.Sender.{SenderStep, begin_step, is_in_doubt}
+use Rattle.bsc_bid.proofs.Restarting.{is_at_rest_cut_phase}
 use Rattle.bsc_tributary.specs.declared.mode.Mode.{Mode}
 use Rattle.bsc_tributary.specs.declared.mode.Mode.TheVariants.{Receiving}
 use Rattle.bsc_tributary.specs.Tributary.{TributaryValue, TributaryStep, spool_at, empty_spool}
 use Rattle.bsc_tributary.specs.Tributary.{answer_step, without_line, mode_after, message_of_act}
 use Rattle.bsc_tributary.specs.Tributary.{act_step, poll_step, selection_step}
 use Rattle.bsc_tributary.specs.Kept.{IsTributary}
-use Rattle.bsc_tributary.proofs.Acts.{FollowsFrom, follows_sent_next, is_at_rest_cut_phase}
+use Rattle.bsc_tributary.proofs.Acts.{FollowsFrom, follows_sent_next}
 use Rattle.bsc_tributary.proofs.Stays.{stays_act_step, stays_flags}
 use Rattle.bsc_bid.proofs.Resting.{idle_at_rest}
 

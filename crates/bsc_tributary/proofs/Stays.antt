@@ -9,11 +9,12 @@ use Rattle.bsc_bid.specs.Setup.{SetupValue, IsSetup}
 use Rattle.bsc_bid.specs.Terminal.{TerminalValue, IsTerminal, HasDistinctAddresses}
 use Rattle.bsc_bid.specs.Receiver.{ReceiverValue}
 use Rattle.bsc_bid.specs.Sender.{SenderValue, SenderStep, with_phase, cut_phase}
+use Rattle.bsc_bid.proofs.Restarting.{is_at_rest_cut_phase}
 use Rattle.bsc_tributary.specs.declared.mode.Mode.{Mode}
 use Rattle.bsc_tributary.specs.declared.mode.Mode.TheVariants.{Control}
 use Rattle.bsc_tributary.specs.Tributary.{TributaryValue, mode_after}
 use Rattle.bsc_tributary.specs.Kept.{IsTributary, SuitsMode}
-use Rattle.bsc_tributary.proofs.Acts.{FollowsFrom, is_at_rest_cut_phase}
+use Rattle.bsc_tributary.proofs.Acts.{FollowsFrom}
 
 -- the line is taken from the terminal
 pub stays_without_line : (t : TributaryValue) (sender : SenderValue) → IsTributary t →

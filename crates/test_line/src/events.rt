@@ -1,7 +1,7 @@
 //! The events and records of the exchanges.
 
 use bsc_control::Way;
-use bsc_line::Event;
+use bsc_line::{Event, Speaker};
 
 /// No records.
 pub(crate) const NONE: &[&[u8]] = &[];
@@ -54,4 +54,19 @@ pub(crate) const RELEASE_FROM: Event<'static> = Event::Release {
 pub(crate) const RELEASE_TO: Event<'static> = Event::Release {
     terminal: 0,
     way: Way::ToTerminal(0),
+};
+
+/// The control station begins again.
+pub(crate) const RESTART_CONTROL: Event<'static> = Event::Restart {
+    party: Speaker::Control,
+};
+
+/// Terminal 0 begins again.
+pub(crate) const RESTART_FIRST: Event<'static> = Event::Restart {
+    party: Speaker::Terminal(0),
+};
+
+/// Terminal 1 begins again.
+pub(crate) const RESTART_SECOND: Event<'static> = Event::Restart {
+    party: Speaker::Terminal(1),
 };

@@ -31,6 +31,8 @@ mod polling;
 #[cfg(test)]
 mod refusals;
 #[cfg(test)]
+mod restarts;
+#[cfg(test)]
 mod rounds;
 #[cfg(test)]
 mod runs;

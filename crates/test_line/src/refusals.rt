@@ -112,6 +112,12 @@ const AT_NO_TERMINAL: &[(Event<'static>, Then<'static>)] = &[
         },
         Refused(LineError::NoSuchTerminal),
     ),
+    (
+        Event::Restart {
+            party: Terminal(64),
+        },
+        Refused(LineError::NoSuchTerminal),
+    ),
 ];
 
 /// Events for the last possible terminal.
@@ -140,6 +146,12 @@ const AT_LAST_TERMINAL: &[(Event<'static>, Then<'static>)] = &[
     ),
     (Event::UrgentAt { terminal: 63 }, Done),
     (Event::UrgentFor { terminal: 63 }, Done),
+    (
+        Event::Restart {
+            party: Terminal(63),
+        },
+        Done,
+    ),
 ];
 
 /// Events for a selection address that the terminal does not have: terminal 0 has two, terminal 1

@@ -74,6 +74,7 @@ impl<A: Allocator> Line<A> {
             Event::UrgentAt { terminal } => self.set_urgent_at(*terminal),
             Event::UrgentFor { terminal } => self.set_urgent_for(*terminal),
             Event::Release { terminal, way } => self.release(*terminal, *way),
+            Event::Restart { party } => self.restart(*party),
         }
     }
 
