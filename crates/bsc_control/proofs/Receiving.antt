@@ -1,5 +1,5 @@
 -- What a receiver leaves at the present terminal is what the table says.
-use Rattle.std.proofs.Common.{◌≡◌, ℕ, ◌<◌, true, length, set, Option, sym, ap, ◌∙◌, subst, refl}
+use Rattle.std.proofs.Common.{◌≡◌, ℕ, ◌<◌, true, length, Option, sym, ap, ◌∙◌, subst, refl}
 use Rattle.std.proofs.lemmas.List.{get_or-set_same}
 use Rattle.std.specs.Prelude.{slice_set, option_map}
 use Rattle.bsc_frame.specs.declared.message.Message.{Message}
@@ -10,7 +10,7 @@ use Rattle.bsc_frame.specs.declared.reply.Reply.{Reply}
 use Rattle.bsc_bid.specs.Receiver.{ReceiverStep, Rooms, heard_step, rooms_left}
 use Rattle.bsc_control.specs.declared.task.Replied.{Replied}
 use Rattle.bsc_control.specs.declared.task.Task.TheVariants.{Polling}
-use Rattle.bsc_control.specs.Control.{ControlValue, ControlStep, current, peer, peer_at}
+use Rattle.bsc_control.specs.Control.{ControlValue, current, peer, peer_at}
 use Rattle.bsc_control.specs.Peer.{PeerValue, PeerReceives, no_peer}
 use Rattle.bsc_control.specs.Table.{IsReceived, polling_step, receive_step, rooms_after}
 use Rattle.bsc_control.specs.Table.{replied_after}

@@ -1,10 +1,9 @@
 -- A control station that begins again is one.
-use Rattle.std.proofs.Common.{◌≡◌, ℕ, ◌<◌, List, length, map, get_or, refl, sym, ◌∙◌, ap, subst}
+use Rattle.std.proofs.Common.{◌≡◌, ℕ, ◌<◌, length, map, get_or, refl, sym, ◌∙◌, ap, subst}
 use Rattle.std.proofs.Math.ListN.{get_or-map}
 use Rattle.std.proofs.lemmas.List.{length-map}
 use Rattle.std.proofs.lemmas.Simd.{map-map}
 use Rattle.bsc_bid.specs.Ready.{IsAtRest}
-use Rattle.bsc_bid.specs.Terminal.{TerminalValue}
 use Rattle.bsc_bid.proofs.Restarting.{is_at_rest_cut_phase}
 use Rattle.bsc_control.specs.Control.{ControlValue, peer_at, terminals, restarted}
 use Rattle.bsc_control.specs.Kept.{HasSettings, IsControl, outbound_of}
