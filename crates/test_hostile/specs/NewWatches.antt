@@ -1,11 +1,13 @@
 -- The state of a watch of a new line.
 use Rattle.std.specs.Prelude.{◌≡◌, ◌++◌, ℕ, zero, suc, true, false, List, [], ◌∷◌, length}
-use Rattle.std.specs.Prelude.{slice_index_or, None}
+use Rattle.std.specs.Prelude.{slice_index_or, replicate, None}
 use Rattle.bsc_bid.specs.Terminal.{TerminalValue}
 use Rattle.bsc_bid.specs.Setup.{SetupValue}
 use Rattle.bsc_directory.specs.declared.way.Way.{Way}
 use Rattle.bsc_directory.specs.declared.way.Way.TheVariants.{FromTerminal, ToTerminal}
+use Rattle.bsc_directory.specs.declared.limits.TheConstants.{MAX_TERMINALS}
 use Rattle.bsc_control.specs.Peer.{no_peer}
+use Rattle.test_hostile.specs.declared.aside.Aside.{Aside}
 use Rattle.test_hostile.specs.declared.channel.Channel.{Channel}
 use Rattle.test_hostile.specs.declared.tally.Tally.{Tally}
 use Rattle.test_hostile.specs.declared.watch.LineWatch.{LineWatch}
@@ -52,6 +54,7 @@ no_tally =
       learned = 0;
       doubts = 0;
       releases = 0;
+      restarts = 0;
       calls = 0;
       texts = 0;
       enquiries = 0;
@@ -60,8 +63,12 @@ no_tally =
       interrupts = 0;
     }
 
--- nothing is pending, no channel is addressed, every transmission was heard fairly and alike by all
--- terminals, and nothing has been counted
+-- no station has taken part yet
+abbrev pub all_aside : Aside
+all_aside = record { control = true; terminals = replicate MAX_TERMINALS true }
+
+-- nothing is pending, no channel is addressed, no station has taken part, every transmission was
+-- heard fairly and alike by all terminals, and nothing has been counted
 pub record IsNewWatch (settings : SetupValue) (given : List TerminalValue) (w : LineWatch)
     : Type 0 where
   pub setup : w.setup ≡ settings
@@ -71,4 +78,5 @@ pub record IsNewWatch (settings : SetupValue) (given : List TerminalValue) (w : 
   pub trusted : w.trusted ≡ true
   pub alike : w.alike ≡ true
   pub addressed : w.addressed ≡ None
+  pub aside : w.aside ≡ all_aside
   pub tally : w.tally ≡ no_tally

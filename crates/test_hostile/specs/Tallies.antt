@@ -32,6 +32,7 @@ sum_of a b =
       learned = capped_sum a.learned b.learned;
       doubts = capped_sum a.doubts b.doubts;
       releases = capped_sum a.releases b.releases;
+      restarts = capped_sum a.restarts b.restarts;
       calls = capped_sum a.calls b.calls;
       texts = capped_sum a.texts b.texts;
       enquiries = capped_sum a.enquiries b.enquiries;
@@ -57,6 +58,7 @@ answered t (Err why) = refused_by t why
 abbrev pub done_by : Tally → Effect → Tally
 done_by t (effect.Offered at way) = record t { offers = one_more t.offers }
 done_by t (effect.Released at way) = record t { releases = one_more t.releases }
+done_by t (effect.Restarted party) = record t { restarts = one_more t.restarts }
 done_by t _ = t
 
 -- the counts after a channel changed from the first view to the second

@@ -10,6 +10,7 @@
 //! trust and the refusals of events are this project's own.
 #![tactic(auto)]
 
+mod aside;
 mod broken;
 mod channel;
 mod fairness;

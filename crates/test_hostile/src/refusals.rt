@@ -35,6 +35,15 @@ pub(crate) fn refusal<A: Allocator>(
         | Event::UrgentAt { terminal }
         | Event::UrgentFor { terminal } => missing(line, terminal, Way::FromTerminal),
         Event::Release { terminal, way } => release_refusal(line, terminal, way),
+        Event::Restart { party } => no_party(line, party),
+    }
+}
+
+/// `NoSuchTerminal` unless the station is one of the line.
+fn no_party<A: Allocator>(line: &Line<A>, party: Speaker) -> Option<LineError> {
+    match party {
+        Speaker::Control => None,
+        Speaker::Terminal(terminal) => missing(line, terminal, Way::FromTerminal),
     }
 }
 

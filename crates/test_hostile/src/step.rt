@@ -1,5 +1,6 @@
 //! What an event may do to a channel.
 
+use crate::aside::{Aside, sender_of};
 use crate::broken::Broken;
 use crate::channel::View;
 use crate::heard::{Hearing, Kind, kind_at};
@@ -17,6 +18,9 @@ pub(crate) enum Effect {
 
     /// The doubt of this channel was ended.
     Released { terminal: usize, way: Way },
+
+    /// This station began again.
+    Restarted { party: Speaker },
 
     /// A silence passed.
     Silence,
@@ -44,6 +48,7 @@ pub(crate) fn effect_of(event: &Event<'_>, speaker: Option<Speaker>) -> Effect {
             way: Way::ToTerminal(select),
         },
         Event::Release { terminal, way } => Effect::Released { terminal, way },
+        Event::Restart { party } => Effect::Restarted { party },
         Event::Silence => Effect::Silence,
         Event::Carry { .. } | Event::CarryEach { .. } | Event::CarrySent => carried(speaker),
         Event::Ready { .. } | Event::UrgentAt { .. } | Event::UrgentFor { .. } => Effect::Nothing,
@@ -87,8 +92,15 @@ const STAYS: May = May {
     release: false,
 };
 
-/// What an event with this effect may do to the channel, given what the stations heard.
-pub(crate) fn allowed(effect: Effect, hearings: &[Hearing], terminal: usize, way: Way) -> May {
+/// What an event with this effect may do to the channel, given what the stations heard and which
+/// of them took no part before it.
+pub(crate) fn allowed(
+    effect: Effect,
+    hearings: &[Hearing],
+    aside: &Aside,
+    terminal: usize,
+    way: Way,
+) -> May {
     match effect {
         Effect::Nothing => STAYS,
         Effect::Offered {
@@ -105,12 +117,19 @@ pub(crate) fn allowed(effect: Effect, hearings: &[Hearing], terminal: usize, way
             release: at == terminal && on == way,
             ..STAYS
         },
-        Effect::Silence => May {
-            doubt: true,
+        Effect::Restarted { party } => May {
+            doubt: party == sender_of(terminal, way) && !aside.has(party),
             ..STAYS
         },
-        Effect::Down => may_down(kind_at(hearings, terminal), way),
-        Effect::Up => may_up(kind_at(hearings, 0), way),
+        Effect::Silence => May {
+            doubt: !aside.has(sender_of(terminal, way)),
+            ..STAYS
+        },
+        Effect::Down if !aside.has(Speaker::Terminal(terminal)) => {
+            may_down(kind_at(hearings, terminal), way)
+        }
+        Effect::Up if !aside.has(Speaker::Control) => may_up(kind_at(hearings, 0), way),
+        Effect::Down | Effect::Up => STAYS,
     }
 }
 

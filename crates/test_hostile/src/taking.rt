@@ -26,5 +26,6 @@ pub(crate) fn take<A: Allocator>(line: &mut Line<A>, event: &Event<'_>) -> Resul
         Event::UrgentAt { terminal } => line.set_urgent_at(*terminal),
         Event::UrgentFor { terminal } => line.set_urgent_for(*terminal),
         Event::Release { terminal, way } => line.release(*terminal, *way),
+        Event::Restart { party } => line.restart(*party),
     }
 }

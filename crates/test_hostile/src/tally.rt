@@ -43,6 +43,9 @@ pub struct Tally {
     /// The doubts that were ended by a release.
     pub releases: u64,
 
+    /// How often a station began again.
+    pub restarts: u64,
+
     /// The calls, texts, ENQ, NAK, WACK and RVI that were sent.
     pub calls: u64,
     pub texts: u64,
@@ -89,6 +92,7 @@ impl Tally {
         match effect {
             Effect::Offered { .. } => add(&mut self.offers),
             Effect::Released { .. } => add(&mut self.releases),
+            Effect::Restarted { .. } => add(&mut self.restarts),
             _ => {}
         }
     }
@@ -139,6 +143,7 @@ impl Tally {
         self.learned = self.learned.saturating_add(other.learned);
         self.doubts = self.doubts.saturating_add(other.doubts);
         self.releases = self.releases.saturating_add(other.releases);
+        self.restarts = self.restarts.saturating_add(other.restarts);
         self.calls = self.calls.saturating_add(other.calls);
         self.texts = self.texts.saturating_add(other.texts);
         self.enquiries = self.enquiries.saturating_add(other.enquiries);

@@ -5,5 +5,6 @@ mod fixtures;
 mod hearings;
 mod memory;
 mod named;
+mod restarts;
 mod texts;
 mod unseen;

@@ -11,6 +11,7 @@ ghost use Rattle.test_hostile.specs.NewWatches.{new_channel, channels_of, IsNewW
 ghost use Rattle.test_hostile.specs.Watches.{tally_of, first_doubt, HasSeen};
 ghost use Rattle.test_hostile.specs.Tallies.{SameAnswers};
 
+use crate::aside::{Aside, sender_of};
 use crate::broken::Broken;
 use crate::channel::{Channel, View};
 use crate::fairness::is_fair;
@@ -47,6 +48,8 @@ pub struct LineWatch {
     alike: bool,
     // The channel named by the last call that all terminals heard whole.
     addressed: Option<(usize, Way)>,
+    // The stations that have taken no part since they began.
+    aside: Aside,
     hearings: Hearings,
     tally: Tally,
 }
@@ -135,6 +138,7 @@ impl LineWatch {
             trusted: true,
             alike: true,
             addressed: None,
+            aside: Aside::all(),
             hearings: Hearings::new(),
             tally: Tally::default(),
         })
@@ -246,6 +250,7 @@ impl LineWatch {
         self.see_trust(line, event, effect)?;
         self.see_channels(line, event, effect)?;
         self.see_addressed(event, effect);
+        self.see_aside(effect);
         self.see_soundness()?;
         self.see_pending(line, effect)
     }
@@ -287,12 +292,11 @@ impl LineWatch {
         if !self.trusted {
             return Ok(());
         }
-        let addressed = self.addressed;
+        let (addressed, aside) = (self.addressed, &self.aside);
         if self.channels.iter().all(|channel| {
-            is_sound(
-                channel.view,
-                addressed == Some((channel.terminal, channel.way)),
-            )
+            let (terminal, way) = (channel.terminal, channel.way);
+            let in_use = addressed == Some((terminal, way)) && !aside.has(sender_of(terminal, way));
+            is_sound(channel.view, in_use)
         }) {
             Ok(())
         } else {

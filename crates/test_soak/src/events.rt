@@ -93,6 +93,7 @@ impl Events {
             10 => Ok(Next::Event(self.flag())),
             RELEASE => Ok(Next::Event(self.release(doubtful))),
             12 => Ok(Next::Event(self.any_turn())),
+            13 => Ok(Next::Event(self.restart())),
             _ => self.turn(pending),
         }
     }
@@ -185,6 +186,16 @@ impl Events {
             Way::ToTerminal(select)
         };
         Event::Release { terminal, way }
+    }
+
+    /// A station begins again: the control station, or any terminal.
+    fn restart(&mut self) -> Event<'_> {
+        let party = if self.random.one_in(3) {
+            Speaker::Control
+        } else {
+            Speaker::Terminal(self.terminal())
+        };
+        Event::Restart { party }
     }
 
     /// An event that ignores what is pending.

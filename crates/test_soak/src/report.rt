@@ -3,7 +3,7 @@
 use test_hostile::Tally;
 
 /// The names of the numbers of a report, in the order in which they are printed.
-const NAMES: [&str; 19] = [
+const NAMES: [&str; 20] = [
     "events",
     "lines",
     "lines not trusted",
@@ -17,6 +17,7 @@ const NAMES: [&str; 19] = [
     "blocks known",
     "doubts",
     "releases",
+    "restarts",
     "calls",
     "texts",
     "ENQ",
@@ -55,7 +56,7 @@ impl Report {
     }
 
     /// The numbers, in the order of [`NAMES`].
-    fn numbers(&self) -> [u64; 19] {
+    fn numbers(&self) -> [u64; 20] {
         let tally = &self.tally;
         [
             self.played,
@@ -71,6 +72,7 @@ impl Report {
             tally.learned,
             tally.doubts,
             tally.releases,
+            tally.restarts,
             tally.calls,
             tally.texts,
             tally.enquiries,

@@ -8,6 +8,9 @@ use std::test::Fail;
 use test_alloc::Refusing;
 use test_fixtures::lines::{setup, two_terminals};
 
+/// The number of channels of the line.
+const CHANNELS: usize = 4;
+
 /// A line with a watch on it. Short functions own it and lend it to the functions that play on it.
 /// No memory is refused to the line, so that no offer may fail with `Memory`.
 #[derive(Drop)]
@@ -51,6 +54,16 @@ impl Watched {
         }
         self.repeat(1, &Event::Silence)?;
         self.repeat(place, &Event::CarrySent)
+    }
+
+    /// Ends each doubt.
+    pub(crate) fn release_each(&mut self) -> Result<(), Broken> {
+        for _ in 0..CHANNELS {
+            if let Some((terminal, way)) = self.watch.doubtful() {
+                let _ = self.play(&Event::Release { terminal, way })?;
+            }
+        }
+        Ok(())
     }
 
     /// Plays this many events: what is pending is heard as it was sent, or a silence passes if

@@ -3,7 +3,7 @@
 use crate::Broken;
 use crate::tests::exchanges::POLLED;
 use crate::tests::fixtures::Watched;
-use bsc_line::Event;
+use bsc_line::{Event, Speaker};
 use std::alloc::Global;
 use std::test::Fail;
 
@@ -24,6 +24,16 @@ const AS_EOT: Event<'static> = Event::Carry {
 /// What is pending is lost.
 const LOST: Event<'static> = Event::Carry { heard: None };
 
+/// Terminal 0 begins again.
+const RESTART_FIRST: Event<'static> = Event::Restart {
+    party: Speaker::Terminal(0),
+};
+
+/// The control station begins again.
+const RESTART_CONTROL: Event<'static> = Event::Restart {
+    party: Speaker::Control,
+};
+
 /// The number of the pending transmission, an event that is played without the watch, the event
 /// after it, and what the watch reports at the latter.
 const CASES: &[(usize, Event<'static>, Event<'static>, Broken)] = &[
@@ -34,6 +44,10 @@ const CASES: &[(usize, Event<'static>, Event<'static>, Broken)] = &[
     (2, Event::CarrySent, URGENT_AT, Broken::Known),
     (2, AS_EOT, URGENT_AT, Broken::Trust),
     (4, Event::CarrySent, Event::CarrySent, Broken::Pending),
+    (1, RESTART_FIRST, URGENT_AT, Broken::Doubt),
+    (2, RESTART_FIRST, RESTART_CONTROL, Broken::Doubt),
+    (3, RESTART_FIRST, URGENT_AT, Broken::Pending),
+    (0, RESTART_CONTROL, URGENT_AT, Broken::Pending),
 ];
 
 /// What the watch reports of an event after another one was played without it.

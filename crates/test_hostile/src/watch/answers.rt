@@ -114,6 +114,34 @@ impl LineWatch {
         }
     }
 
+    /// Stores which stations take no part after the event: one that began again takes none, and
+    /// loses what it sent; a terminal takes part again once it hears a call.
+    pub(crate) fn see_aside(&mut self, effect: Effect)
+        ensures { SameBasis self.old self.new }
+    {
+        match effect {
+            Effect::Restarted { party } => {
+                self.aside.set(party, true);
+                if speaker_of(&self.sent) == Some(party) {
+                    self.sent = None;
+                }
+            }
+            Effect::Down => self.call_each(),
+            _ => {}
+        }
+    }
+
+    /// Lets each terminal that heard a call take part.
+    fn call_each(&mut self)
+        ensures { SameBasis self.old self.new }
+    {
+        for (terminal, hearing) in self.hearings.as_slice().iter().enumerate() {
+            if hearing.kind == Kind::Call {
+                self.aside.set(Speaker::Terminal(terminal), false);
+            }
+        }
+    }
+
     /// Checks that what is pending may be pending after the event.
     pub(crate) fn see_pending<A: Allocator>(
         &mut self,
@@ -135,6 +163,10 @@ impl LineWatch {
             return Err(Broken::Pending);
         }
         if let Some(next) = &next {
+            if self.aside.has(next.speaker) && next.kind != Kind::Call {
+                return Err(Broken::Pending);
+            }
+            self.aside.set(next.speaker, false);
             self.tally.count_sent(next.kind);
         }
         self.sent = next;
@@ -201,11 +233,14 @@ impl LineWatch {
     }
 
     /// Whether this station may answer a terminal: the control station may, if it heard more than
-    /// noise.
+    /// noise and has made a call.
     fn may_answer_up(&self, next: Option<Speaker>) -> bool {
         match next {
             None => true,
-            Some(Speaker::Control) => kind_at(self.hearings.as_slice(), 0) != Kind::Noise,
+            Some(Speaker::Control) => {
+                kind_at(self.hearings.as_slice(), 0) != Kind::Noise
+                    && !self.aside.has(Speaker::Control)
+            }
             Some(Speaker::Terminal(_)) => false,
         }
     }

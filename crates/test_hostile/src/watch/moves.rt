@@ -3,6 +3,7 @@
 ghost use Rattle.test_hostile.specs.Tallies.{SameAnswers};
 ghost use Rattle.test_hostile.specs.Watches.{SameBasis};
 
+use crate::aside::Aside;
 use crate::broken::Broken;
 use crate::channel::{Channel, View, look, offered_on, spooled_on};
 use crate::heard::Hearing;
@@ -25,6 +26,7 @@ struct Step<'a> {
     trusted: bool,
     alike: bool,
     addressed: Option<(usize, Way)>,
+    aside: &'a Aside,
 }
 
 impl LineWatch {
@@ -48,6 +50,7 @@ impl LineWatch {
             trusted: self.trusted,
             alike: self.alike,
             addressed: self.addressed,
+            aside: &self.aside,
         };
         see_each(line, &step, &mut self.channels, &mut self.tally)
     }
@@ -98,7 +101,8 @@ fn see_channel<A: Allocator>(
     let Some(after) = look(line, channel.terminal, channel.way) else {
         return Err(Broken::Channel);
     };
-    let may = allowed(step.effect, step.hearings, channel.terminal, channel.way);
+    let (terminal, way) = (channel.terminal, channel.way);
+    let may = allowed(step.effect, step.hearings, step.aside, terminal, way);
     check(before, after, may)?;
     if after == before {
         return Ok(());
