@@ -10,7 +10,7 @@ use Rattle.bsc_bid.specs.Channel.{channel, Offer, Learn}
 use Rattle.bsc_tributary.specs.Tributary.{TributaryValue, spool_at}
 use Rattle.bsc_directory.specs.declared.way.Way.{Way}
 use Rattle.bsc_directory.specs.declared.way.Way.TheVariants.{FromTerminal, ToTerminal}
-use Rattle.bsc_control.specs.Control.{ControlValue, peer_at}
+use Rattle.bsc_control.specs.Control.{peer_at}
 use Rattle.bsc_control.specs.Kept.{outbound_of}
 use Rattle.bsc_line_model.specs.declared.transmission.Speaker.{Speaker}
 use Rattle.bsc_line_model.specs.declared.transmission.Speaker.TheVariants.{Control, Terminal}
@@ -20,8 +20,8 @@ use Rattle.bsc_line_model.specs.declared.event.Event.TheVariants.{OfferAt, Offer
 use Rattle.bsc_line_model.specs.declared.event.Event.TheVariants.{CarryEach, CarrySent, Silence}
 use Rattle.bsc_line_model.specs.declared.event.Event.TheVariants.{Ready, UrgentAt, UrgentFor}
 use Rattle.bsc_line_model.specs.declared.event.Event.TheVariants.{Release, Restart}
-use Rattle.bsc_line_model.specs.Line.{LineValue, terminal_in, terminal_at}
-use Rattle.bsc_line_model.specs.Line.{with_terminal, channel_of}
+use Rattle.bsc_line_model.specs.Line.{LineValue, terminal_at}
+use Rattle.bsc_line_model.specs.Line.{with_terminal}
 use Rattle.bsc_line_model.specs.Terminals.{line_owner}
 use Rattle.bsc_line_model.specs.Hearing.{heard_in, heard_at, octets_in}
 use Rattle.bsc_line_model.specs.Carries.{IsCarriedBy, TerminalActsAlone, ControlActsAlone}

@@ -1,6 +1,6 @@
 -- The control station sends to a terminal that began again: nobody hears it, and its sender asks
 -- until it gives up.
-use Rattle.std.proofs.Common.{◌≡◌, ◌≢◌, ◌⊎◌, inl, inr, ℕ, ◌<◌, List, length, Option, None, Some, refl}
+use Rattle.std.proofs.Common.{◌≡◌, ◌⊎◌, inl, inr, ℕ, ◌<◌, List, length, Option, None, Some, refl}
 use Rattle.std.proofs.Common.{sym, ◌∙◌, ap, subst, arith, true}
 use Rattle.std.proofs.lemmas.List.{length-set}
 use Rattle.bsc_frame.specs.declared.message.Message.{Message}
@@ -11,7 +11,6 @@ use Rattle.bsc_bid.specs.Act as a
 use Rattle.bsc_bid.specs.Agreement.{IsResting}
 use Rattle.bsc_bid.specs.Sender.{SenderStep, silence_step}
 use Rattle.bsc_bid.specs.Fair.{IsFairlyHeard}
-use Rattle.bsc_bid.specs.Station.{StaysQuiet}
 use Rattle.bsc_tributary.specs.declared.mode.Mode.TheVariants.{Control, Receiving, Sending as Sends}
 use Rattle.bsc_tributary.specs.Tributary.{TributaryValue, spool_at}
 use Rattle.bsc_tributary.specs.Kept.{IsNoCall}

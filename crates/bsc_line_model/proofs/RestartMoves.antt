@@ -1,13 +1,13 @@
 -- No channel moves when a station begins again.
-use Rattle.std.proofs.Common.{◌≡◌, ℕ, ◌<◌, ap, ◌∙◌, subst, sym, refl, arith, length, Ok}
-use Rattle.bsc_bid.specs.Channel.{Channel, channel}
+use Rattle.std.proofs.Common.{◌<◌, ap, ◌∙◌, subst, sym, refl, length, Ok}
+use Rattle.bsc_bid.specs.Channel.{channel}
 use Rattle.bsc_tributary.specs.Tributary.{spool_at, restarted as restarted_tributary}
 use Rattle.bsc_directory.specs.declared.way.Way.TheVariants.{FromTerminal, ToTerminal}
-use Rattle.bsc_control.specs.Peer.{PeerValue, OutboundValue, outbound_at, restarted_peer}
+use Rattle.bsc_control.specs.Peer.{PeerValue, OutboundValue, outbound_at}
 use Rattle.bsc_control.specs.Control.{peer_at}
 use Rattle.bsc_line_model.specs.declared.transmission.Speaker.{Speaker}
 use Rattle.bsc_line_model.specs.declared.transmission.Speaker.TheVariants.{Control, Terminal}
-use Rattle.bsc_line_model.specs.Line.{LineValue, terminal_at, terminal_count}
+use Rattle.bsc_line_model.specs.Line.{LineValue, terminal_at}
 use Rattle.bsc_line_model.specs.Restarts.{restarted, with_restarted, Restarts, IsParty}
 use Rattle.bsc_line_model.specs.Kept.{IsLine}
 use Rattle.bsc_line_model.specs.ChannelSteps.{MovesNothing}

@@ -1,16 +1,15 @@
 -- A station begins again: the stations fit together afterwards.
 use Rattle.std.proofs.Common.{◌≡◌, ◌≢◌, ◌⊎◌, inl, inr, ℕ, ◌<◌, Bool, true, false, nat_eq, List, length}
-use Rattle.std.proofs.Common.{Option, None, Some, map, slice_set, refl, sym, ◌∙◌, ap, subst, arith}
-use Rattle.std.proofs.Common.{get_or-set_other, get_or-set_same, IsTrue, if◌then◌else◌}
+use Rattle.std.proofs.Common.{Option, None, Some, slice_set, refl, sym, ◌∙◌, ap, subst, arith}
+use Rattle.std.proofs.Common.{get_or-set_other, get_or-set_same}
 use Rattle.std.proofs.lemmas.Bool.Decides.{nat_tests}
 use Rattle.std.proofs.lemmas.List.{length-set, length-map, get_or-map}
 use Rattle.bsc_frame.specs.declared.message.Message.{Message}
 use Rattle.bsc_frame.specs.declared.message.Message.TheVariants as m
-use Rattle.bsc_frame.specs.declared.reply.Reply.{Reply}
 use Rattle.bsc_frame.specs.declared.reply.Reply.TheVariants.{Ack0, Nak, Wack}
 use Rattle.bsc_bid.specs.Agreement.{Flight, InBid, IsResting}
 use Rattle.bsc_tributary.specs.declared.mode.Mode.{Mode}
-use Rattle.bsc_tributary.specs.declared.mode.Mode.TheVariants.{Control, Sending as Sends}
+use Rattle.bsc_tributary.specs.declared.mode.Mode.TheVariants.{Control}
 use Rattle.bsc_tributary.specs.Tributary.{TributaryValue, spool_at, restarted as restarted_tributary}
 use Rattle.bsc_control.specs.declared.task.Replied.{Replied}
 use Rattle.bsc_control.specs.declared.task.Task.{Task}
@@ -25,13 +24,13 @@ use Rattle.bsc_line_model.specs.declared.transmission.Speaker.{Speaker}
 use Rattle.bsc_line_model.specs.declared.transmission.Speaker.TheVariants as sp
 use Rattle.bsc_line_model.specs.declared.transmission.Transmission.{Transmission}
 use Rattle.bsc_line_model.specs.Transmission.{speaker_of}
-use Rattle.bsc_line_model.specs.Line.{LineValue, terminal_in, no_terminal}
-use Rattle.bsc_line_model.specs.Restarts.{is_same_party, pending_without, IsParty}
-use Rattle.bsc_line_model.specs.Kept.{IsTuned, AreTuned, AreStations, IsLine}
+use Rattle.bsc_line_model.specs.Line.{terminal_in, no_terminal}
+use Rattle.bsc_line_model.specs.Restarts.{is_same_party, pending_without}
+use Rattle.bsc_line_model.specs.Kept.{IsTuned, AreTuned, AreStations}
 use Rattle.bsc_line_model.specs.BidLaws.{BidLaws}
 use Rattle.bsc_line_model.specs.Stays.{RestartStays}
-use Rattle.bsc_line_model.specs.Together.{RestsDown, Rests, HasNoBid, NoBids, NoOtherBids}
-use Rattle.bsc_line_model.specs.Together.{AllInControlMode, IsFresh, IsFreshAfter, IsAnswer, Selected}
+use Rattle.bsc_line_model.specs.Together.{Rests, HasNoBid, NoBids, NoOtherBids}
+use Rattle.bsc_line_model.specs.Together.{AllInControlMode, IsFresh, IsFreshAfter, IsAnswer}
 use Rattle.bsc_line_model.specs.Together.{selected, IsSelectedBy, IsSelectedWith, IsInBidDown}
 use Rattle.bsc_line_model.specs.Together.{IsInBidUp, IsUnheard, IsLeftByReceiver, FliesDown, FliesUp}
 use Rattle.bsc_line_model.specs.Together.{IsPolledBy, IsPolledWith, IsSending, IsPolling, InTask}

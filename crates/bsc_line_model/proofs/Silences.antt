@@ -9,7 +9,7 @@ use Rattle.bsc_bid.specs.Sender.{SenderStep, silence_step}
 use Rattle.bsc_bid.specs.Agreement.{Flight, Still, InBid}
 use Rattle.bsc_bid.specs.EachStep.{SenderAgrees}
 use Rattle.bsc_tributary.specs.declared.mode.Mode.{Mode}
-use Rattle.bsc_tributary.specs.declared.mode.Mode.TheVariants.{Control, Receiving, Sending as Sends}
+use Rattle.bsc_tributary.specs.declared.mode.Mode.TheVariants.{Control, Sending as Sends}
 use Rattle.bsc_tributary.specs.Tributary.{TributaryValue, TributaryStep}
 use Rattle.bsc_tributary.specs.Tributary.{silence_in as terminal_silence, act_step}
 use Rattle.bsc_tributary.specs.Tributary.{ActsOnSilence as TerminalActs}

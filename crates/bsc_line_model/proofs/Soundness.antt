@@ -1,22 +1,18 @@
 -- If the stations fit together, each channel is sound.
-use Rattle.std.proofs.Common.{inl, inr, ℕ, ◌<◌, List, length, Option, sym, subst, arith}
+use Rattle.std.proofs.Common.{ℕ, ◌<◌, List, length, sym, subst, arith}
 use Rattle.bsc_bid.specs.Channel.{channel, IsSound}
 use Rattle.bsc_bid.specs.Terminal.{TerminalValue}
 use Rattle.bsc_tributary.specs.Tributary.{TributaryValue, spool_at}
-use Rattle.bsc_control.specs.declared.task.Task.{Task}
-use Rattle.bsc_control.specs.declared.task.Task.TheVariants.{AtRest, Selecting, Sending, Polling}
 use Rattle.bsc_directory.specs.declared.way.Way.{Way}
 use Rattle.bsc_directory.specs.declared.way.Way.TheVariants.{FromTerminal, ToTerminal}
 use Rattle.bsc_control.specs.Peer.{PeerValue, IsPeer, no_peer, outbound_at}
-use Rattle.bsc_control.specs.Control.{ControlValue, peer_at, peer, current}
-use Rattle.bsc_line_model.specs.declared.transmission.Transmission.{Transmission}
+use Rattle.bsc_control.specs.Control.{ControlValue, peer_at}
 use Rattle.bsc_line_model.specs.Line.{LineValue, terminal_in, terminal_at, IsWay, channel_of}
 use Rattle.bsc_line_model.specs.Line.{phase_of}
 use Rattle.bsc_line_model.specs.Kept.{AreStations}
 use Rattle.bsc_line_model.specs.Together.{Rests, AreTogether, AreSound}
 use Rattle.bsc_line_model.proofs.Resting.{rests_in_task}
 use Rattle.bsc_line_model.specs.BidLaws.{BidLaws}
-use Rattle.bsc_line_model.proofs.Stations.{same_or_not}
 
 -- soundness of a channel between a terminal and what the control station keeps for it
 abbrev IsSoundWith : PeerValue → TributaryValue → Way → Type 0
