@@ -17,6 +17,7 @@ pub mod LeftAlone
 pub mod Silences
 pub mod Likeness
 pub mod Restarting
+pub mod TerminalRestarts
 pub mod Soundness
 pub mod ChannelMoves
 pub mod DownMoves

@@ -4,7 +4,7 @@ use Rattle.bsc_line_model.proofs.EachEvent.{setups_kept_by_carry_up, silence_sta
 use Rattle.bsc_line_model.proofs.EachEvent.{offer_at_stays, ready_stays, urgent_at_stays}
 use Rattle.bsc_line_model.proofs.EachEvent.{release_from_stays, offer_for_stays, urgent_for_stays}
 use Rattle.bsc_line_model.proofs.EachEvent.{release_to_stays}
-use Rattle.bsc_line_model.proofs.Restarting.{restart_stays}
+use Rattle.bsc_line_model.proofs.TerminalRestarts.{restart_stays}
 use Rattle.bsc_line_model.proofs.laws.each_event.Goals as goal
 
 pub returns-clause-new_line : goal.returns-clause-new_line
