@@ -11,7 +11,7 @@ use Rattle.bsc_frame.specs.declared.reply.Reply.TheVariants.{Ack0}
 use Rattle.bsc_bid.specs.declared.phase.Phase.{Phase}
 use Rattle.bsc_bid.specs.declared.phase.Phase.TheVariants.{Idle, Unanswered, Held, InDoubt}
 use Rattle.bsc_bid.specs.Sender.{SenderValue, SenderStep, ReleaseStep, begin_step, silence_in}
-use Rattle.bsc_bid.specs.Sender.{released, release_in, failed, cut_phase}
+use Rattle.bsc_bid.specs.Sender.{released, release_in, cut_phase}
 use Rattle.bsc_bid.specs.Act.{Act}
 use Rattle.bsc_bid.specs.Act as a
 use Rattle.bsc_bid.specs.Ready.{AreWaiting}

@@ -234,12 +234,12 @@ together_like c ts d us (Sending s) pending there k h =
             | inl b ↦ inl (bid_down_like pending (peer_at c e) (terminal_in ts e) (peer_at d e)
                 (terminal_in us e) e s (k.like e there) b)
             | inr left ↦ inr (record {
-                modes = modes_like c ts d us k left.modes;
-                rests =
-                    rests_like (peer_at c e) (terminal_in ts e) (peer_at d e) (terminal_in us e)
-                    (k.like e there) left.rests;
-                unheard = left.unheard;
-              })
+              modes = modes_like c ts d us k left.modes;
+              rests =
+                  rests_like (peer_at c e) (terminal_in ts e) (peer_at d e) (terminal_in us e)
+                  (k.like e there) left.rests;
+              unheard = left.unheard;
+            })
           ]);
     }
 together_like c ts d us (Polling replied) pending there k h =

@@ -137,4 +137,3 @@ stations_again c ts stations is =
             setup = was.setup;
           };
     }
-

@@ -36,7 +36,6 @@ use Rattle.bsc_line_model.proofs.Stations.{current_terminal_there}
 use Rattle.bsc_line_model.proofs.SendingDown.{others_in_control}
 use Rattle.bsc_line_model.proofs.Resting.{rests_of_no_bid, rests_of_bid_down, rests_of_bid_up}
 use Rattle.bsc_line_model.proofs.Resting.{rests_in_task}
-
 use Rattle.bsc_line_model.proofs.Restarting.{own_is_lost, other_stays, still_not_of_control}
 use Rattle.bsc_line_model.proofs.Restarting.{rests_restarted, no_bid_restarted, stations_again}
 use Rattle.bsc_line_model.proofs.Restarting.{together_after_control_restart}
