@@ -53,8 +53,8 @@ pub fn one_bid()
 /// - the sender is told of a silence, a bid begins, a record is offered, or a doubt is released;
 /// - what was on its way is lost.
 ///
-/// If the other end takes no part in the bid any more, since it began again, the channel stays sound
-/// through silences, offers, and the moment at which the station of the sender begins again, too.
+/// Once the other end takes no part in the bid any more, because it began again, the channel is
+/// sound, and a silence, an offer, and a restart of the sender's own station keep it so.
 ///
 /// In addition, a sender whose bid is over is at rest, a sender that stays quiet stays in its
 /// phase, and the channel is sound while the ends agree. No step of a sender changes its settings,

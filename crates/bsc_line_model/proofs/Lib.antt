@@ -58,3 +58,4 @@ pub mod DelaysGrow
 pub mod FairRuns
 pub mod Numbers
 pub mod Examples
+pub mod RestartExamples

@@ -162,8 +162,8 @@ pub record IsInBidUp (pending : Option Transmission) (p : PeerValue) (e : ℕ) (
       p.spool.records flight
 
 -- the message that is pending in a poll in which no bid is in progress: the call, if no reply was
--- sent; a reply to a terminal that began again since, if all are in control mode; or EOT, if all are
--- in control mode
+-- sent; a reply to a terminal that began again since, if all are in control mode; or EOT, if all
+-- are in control mode
 abbrev pub IsPolledBy : Speaker → Message → Replied → PeerValue → ℕ → List TributaryValue → Type 0
 IsPolledBy Control w replied p e ts =
     ((w ≡ m.Call p.terminal.poll) × (replied ≡ Nothing))
