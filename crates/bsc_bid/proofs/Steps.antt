@@ -1,23 +1,29 @@
 -- Each single step of a bid keeps the agreement of its ends.
 use Rattle.std.proofs.Common.{◌≡◌, ◌⊎◌, inl, inr, ℕ, ◌≤◌, List, length, take, refl, sym, subst}
-use Rattle.std.proofs.Common.{arith}
+use Rattle.std.proofs.Common.{arith, Bool, true, false, ◌+◌, nat_lt, if◌then◌else◌}
 use Rattle.bsc_frame.specs.declared.message.Message.{Message}
 use Rattle.bsc_frame.specs.declared.message.Message.TheVariants as m
-use Rattle.bsc_spool.specs.Queue.{QueueValue, queue_of, IsQueue}
+use Rattle.bsc_spool.specs.Queue.{QueueValue, queue_of, IsQueue, waiting}
 use Rattle.bsc_bid.specs.declared.alternation.Alternation.{Alternation}
 use Rattle.bsc_bid.specs.declared.alternation.Alternation.TheVariants.{Even}
 use Rattle.bsc_frame.specs.declared.reply.Reply.{Reply}
 use Rattle.bsc_frame.specs.declared.reply.Reply.TheVariants.{Ack0}
 use Rattle.bsc_bid.specs.declared.phase.Phase.{Phase}
-use Rattle.bsc_bid.specs.declared.phase.Phase.TheVariants.{Idle, InDoubt}
+use Rattle.bsc_bid.specs.declared.phase.Phase.TheVariants.{Idle, Unanswered, Held, InDoubt}
 use Rattle.bsc_bid.specs.Sender.{SenderValue, SenderStep, ReleaseStep, begin_step, silence_in}
-use Rattle.bsc_bid.specs.Sender.{released, release_in}
+use Rattle.bsc_bid.specs.Sender.{released, release_in, cut_phase}
+use Rattle.bsc_bid.specs.Act.{Act}
+use Rattle.bsc_bid.specs.Act as a
+use Rattle.bsc_bid.specs.Ready.{AreWaiting}
+use Rattle.bsc_frame.specs.declared.text.End.{End}
+use Rattle.bsc_frame.specs.declared.text.End.TheVariants.{Etb, Etx}
 use Rattle.bsc_bid.specs.Fair.{IsTextMessage}
 use Rattle.bsc_bid.specs.Bid.{answered}
 use Rattle.bsc_bid.specs.Agreement.{IsResting}
 use Rattle.bsc_bid.specs.EachStep.{SenderAgrees, ReleaseAgrees, HearingAgrees, AnsweringAgrees}
 use Rattle.bsc_bid.specs.EachStep.{SilenceAgrees, BeginAgrees, OfferAgrees, OfferKeepsRest}
-use Rattle.bsc_bid.specs.EachStep.{ReleaseKeepsRest, AgreementIsSound, LossAgrees}
+use Rattle.bsc_bid.specs.EachStep.{ReleaseKeepsRest, SilenceKeepsRest, RestartKeepsRest}
+use Rattle.bsc_bid.specs.EachStep.{AgreementRests, AgreementIsSound, LossAgrees}
 use Rattle.bsc_bid.specs.EachStep.{OutwardIsTextOrEnq, ReplyIsLast}
 use Rattle.bsc_bid.proofs.Hearing.{IsSenders, outward_is_from_sender, receiver_keeps}
 use Rattle.bsc_bid.proofs.Answering.{still_on, back_last, sender_keeps}
@@ -25,7 +31,7 @@ use Rattle.bsc_bid.proofs.Landing.{Leaves, at_same}
 use Rattle.bsc_bid.proofs.Answering.{silence_keeps, begin_keeps}
 use Rattle.bsc_bid.proofs.Offers.{not_longer, bid_offered, resting_offered}
 use Rattle.bsc_bid.proofs.Fitting.{Fits, fits_heard, fits_silence, fits_begin}
-use Rattle.bsc_bid.proofs.Turning.{LawsBelow, at_rest_after_end, sound_by}
+use Rattle.bsc_bid.proofs.Turning.{LawsBelow, at_rest_after_end, sound_by, bid_continues}
 use Rattle.bsc_bid.proofs.Blocks.{released_by}
 
 sender_agrees_after_step : (s : SenderValue) (q : QueueValue) (alternation : Alternation) (last : Reply)
@@ -95,6 +101,73 @@ release_by s q k spooled p e h long =
 pub release_keeps_rest : ReleaseKeepsRest
 release_keeps_rest s q k spooled e h =
     release_by s q k spooled s.phase e h (not_longer spooled q.offered h.sound.front)
+
+-- a block that was unanswered is in doubt, and the sender that was held asks no more
+few_enough : (k n : ℕ) (end : End) → AreWaiting k end n → k ≤ n
+few_enough k n Etb h = omega (arith, h)
+few_enough k n Etx h = h
+
+cut_rests : (phase : Phase) (q : QueueValue) (spooled : List (List ℕ)) → IsResting phase q spooled
+    → IsResting (cut_phase phase) q spooled
+cut_rests Idle q spooled h = h
+cut_rests (InDoubt k) q spooled h = h
+cut_rests (Held end x) q spooled h =
+    record {
+      queue = h.queue;
+      counts = tt;
+      sound =
+          record { front = h.sound.front; known = h.sound.known; spooled = h.sound.spooled };
+    }
+cut_rests (Unanswered b) q spooled h =
+    record {
+      queue = h.queue;
+      counts = few_enough b.count (length (waiting q)) b.end h.counts;
+      sound = record {
+        front = h.sound.front;
+        known = h.sound.known;
+        spooled = h.sound.spooled;
+      };
+    }
+
+pub restart_keeps_rest : RestartKeepsRest
+restart_keeps_rest s q spooled h = cut_rests s.phase q spooled h
+
+-- one more failure: the sender asks again, or gives up
+failed_rests : (s : SenderValue) (q : QueueValue) (phase : Phase) (spooled : List (List ℕ))
+    (act : Act) (over : Bool) → s.phase ≡ phase → IsResting phase q spooled →
+    let t : SenderValue = record s { failures = s.failures + 1 } in
+    let step : SenderStep =
+    if over then record { sender = record t { phase = cut_phase phase }; queue = q; act = a.Over }
+    else record { sender = t; queue = q; act = act } in
+    IsResting step.sender.phase step.queue spooled
+failed_rests s q phase spooled act true is h = cut_rests phase q spooled h
+failed_rests s q phase spooled act false is h =
+    subst (λ (k : Phase). IsResting k q spooled) (sym is) h
+
+silent_rests : (s : SenderValue) (q : QueueValue) (phase : Phase) (spooled : List (List ℕ))
+    → s.phase ≡ phase → IsResting phase q spooled
+    → IsResting (silence_in s q phase).sender.phase (silence_in s q phase).queue spooled
+silent_rests s q Idle spooled is h =
+    subst (λ (k : Phase). IsResting k q spooled) (sym is) h
+silent_rests s q (InDoubt k) spooled is h =
+    subst (λ (j : Phase). IsResting j q spooled) (sym is) h
+silent_rests s q (Held end x) spooled is h =
+    failed_rests s q (Held end x) spooled a.Enq (nat_lt s.setup.tries (s.failures + 1)) is h
+silent_rests s q (Unanswered b) spooled is h =
+    failed_rests s q (Unanswered b) spooled a.Enq (nat_lt s.setup.tries (s.failures + 1)) is h
+
+pub silence_keeps_rest : SilenceKeepsRest
+silence_keeps_rest s q spooled h = silent_rests s q s.phase spooled refl h
+
+pub agreement_rests : AgreementRests
+agreement_rests phase q alternation last spooled f i =
+    record {
+      queue = i.queue;
+      counts = i.counts;
+      sound =
+          sound_by phase q alternation last spooled f
+          (bid_continues phase q alternation last spooled f i);
+    }
 
 pub agreement_is_sound : AgreementIsSound
 agreement_is_sound phase q alternation last spooled f h =

@@ -104,7 +104,7 @@ pub record InBid (phase : Phase) (q : QueueValue) (alternation : Alternation) (l
   pub counts : CountsOn phase (length (waiting q))
   pub agree : Agree phase q alternation last spooled f
 
--- No bid continues, and the channel is sound.
+-- The channel is sound, and the other end takes no part in a bid, whether or not the sender asks.
 pub record IsResting (phase : Phase) (q : QueueValue) (spooled : List (List ℕ)) : Type 0 where
   pub queue : IsQueue q
   pub counts : CountsOn phase (length (waiting q))

@@ -16,7 +16,7 @@ use Rattle.bsc_bid.specs.declared.phase.Phase.{Phase}
 use Rattle.bsc_bid.specs.declared.phase.Phase.TheVariants.{Idle, InDoubt}
 use Rattle.bsc_bid.specs.Setup.{SetupValue}
 use Rattle.bsc_bid.specs.Sender.{SenderValue, SenderStep, ReleaseStep, begin_step, reply_step}
-use Rattle.bsc_bid.specs.Sender.{silence_step, release_step}
+use Rattle.bsc_bid.specs.Sender.{silence_step, release_step, restarted_sender}
 use Rattle.bsc_bid.specs.Receiver.{ReceiverValue, ReceiverStep, Rooms}
 use Rattle.bsc_bid.specs.Ready.{IsAtRest, FitsAct}
 use Rattle.bsc_bid.specs.Channel.{channel, IsSound}
@@ -103,6 +103,25 @@ ReleaseKeepsRest =
     (s : SenderValue) (q : QueueValue) (k : ℕ) (spooled : List (List ℕ)) → s.phase ≡ InDoubt k
     → IsResting (InDoubt k) q spooled
     → ReleaseAgrees (release_step s q (length spooled)) spooled
+
+-- A silence comes to the sender, whether or not the other end takes part in the bid.
+abbrev pub SilenceKeepsRest : Type 0
+SilenceKeepsRest =
+    (s : SenderValue) (q : QueueValue) (spooled : List (List ℕ)) → IsResting s.phase q spooled
+    → IsResting (silence_step s q).sender.phase (silence_step s q).queue spooled
+
+-- The station of the sender begins again.
+abbrev pub RestartKeepsRest : Type 0
+RestartKeepsRest =
+    (s : SenderValue) (q : QueueValue) (spooled : List (List ℕ)) → IsResting s.phase q spooled
+    → IsResting (restarted_sender s).phase q spooled
+
+-- The other end takes no part in the bid any more: the channel stays sound.
+abbrev pub AgreementRests : Type 0
+AgreementRests =
+    (phase : Phase) (q : QueueValue) (alternation : Alternation) (last : Reply)
+    (spooled : List (List ℕ)) (f : Flight) → InBid phase q alternation last spooled f
+    → IsResting phase q spooled
 
 -- If the ends agree, the channel is sound.
 abbrev pub AgreementIsSound : Type 0

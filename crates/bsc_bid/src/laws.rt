@@ -6,7 +6,8 @@ ghost use Rattle.bsc_bid.specs.OneBid.{SoundWithinTurns, EndsKnowing, DoubtsAtSi
 ghost use Rattle.bsc_bid.specs.OneBid.{ReleaseEndsDoubt, EndsSoon};
 ghost use Rattle.bsc_bid.specs.EachStep.{HearingAgrees, AnsweringAgrees, SilenceAgrees};
 ghost use Rattle.bsc_bid.specs.EachStep.{BeginAgrees, OfferAgrees, OfferKeepsRest};
-ghost use Rattle.bsc_bid.specs.EachStep.{ReleaseKeepsRest, AgreementIsSound, LossAgrees};
+ghost use Rattle.bsc_bid.specs.EachStep.{ReleaseKeepsRest, SilenceKeepsRest, RestartKeepsRest};
+ghost use Rattle.bsc_bid.specs.EachStep.{AgreementRests, AgreementIsSound, LossAgrees};
 ghost use Rattle.bsc_bid.specs.EachStep.{BidContinues, SendingGoesOn, OutwardIsTextOrEnq};
 ghost use Rattle.bsc_bid.specs.EachStep.{ReplyIsLast, ActsFit, StepsKeep};
 
@@ -52,6 +53,9 @@ pub fn one_bid()
 /// - the sender is told of a silence, a bid begins, a record is offered, or a doubt is released;
 /// - what was on its way is lost.
 ///
+/// Once the other end takes no part in the bid any more, because it began again, the channel is
+/// sound, and a silence, an offer, and a restart of the sender's own station keep it so.
+///
 /// In addition, a sender whose bid is over is at rest, a sender that stays quiet stays in its
 /// phase, and the channel is sound while the ends agree. No step of a sender changes its settings,
 /// or the format and the offered records of its queue.
@@ -63,6 +67,9 @@ pub fn each_step()
     ensures offer { OfferAgrees }
     ensures offer_at_rest { OfferKeepsRest }
     ensures release { ReleaseKeepsRest }
+    ensures silence_at_rest { SilenceKeepsRest }
+    ensures restart { RestartKeepsRest }
+    ensures rests { AgreementRests }
     ensures sound { AgreementIsSound }
     ensures loss { LossAgrees }
     ensures continues { BidContinues }

@@ -37,13 +37,13 @@ use Rattle.bsc_line_model.specs.Transmission.{sent_by}
 use Rattle.bsc_line_model.specs.Line.{terminal_in}
 use Rattle.bsc_line_model.specs.Kept.{AreStations}
 use Rattle.bsc_line_model.specs.Together.{HasNoBid, NoBids, NoOtherBids, IsFresh, IsAnswer}
-use Rattle.bsc_line_model.specs.Together.{IsSelecting, IsSending, IsPolling, IsInBidDown, IsInBidUp}
+use Rattle.bsc_line_model.specs.Together.{IsSelecting, IsSending, IsPolling, IsBidMessage, IsInBidUp}
 use Rattle.bsc_line_model.specs.Together.{FliesUp, InTask}
 use Rattle.bsc_line_model.specs.BidLaws.{BidLaws}
 use Rattle.bsc_control.proofs.Calls.{places, current_within_peers, next_call_within_peers}
 use Rattle.bsc_line_model.proofs.Stations.{current_terminal_there}
 use Rattle.bsc_line_model.proofs.Calling.{no_bids_after_call}
-use Rattle.bsc_line_model.proofs.SendingDown.{IsBidMessage, no_call_heard}
+use Rattle.bsc_line_model.proofs.SendingDown.{no_call_heard}
 use Rattle.bsc_line_model.proofs.SendingUp.{HasActed, control_acts_as_sender}
 use Rattle.bsc_line_model.proofs.SendingUp.{places_after_sender_step}
 use Rattle.bsc_line_model.proofs.SendingUp.{together_after_reply}
@@ -60,21 +60,24 @@ lost_selecting c ts pending s enquired h =
 lost_sending : (laws : BidLaws) (c : ControlValue) (ts : List TributaryValue)
     (pending : Option Transmission) (s : ℕ) → IsSending pending c ts s → IsSending None c ts s
 lost_sending laws c ts pending s h =
-    let b : IsInBidDown pending (peer c) (current c) s (terminal_in ts (current c)) = h.bid in
-    let x : TributaryValue = terminal_in ts (current c) in
-    let o : OutboundValue = outbound_at (peer c) s in
     record {
       others = h.others;
-      bid = record {
-        mode = b.mode;
-        up = b.up;
-        down = b.down;
-        flight = Still;
-        flies = refl;
-        bid =
-            laws.loss o.sender.phase o.queue x.receiver.alternation x.receiver.last
-            (spool_at x.spools s).records b.flight b.bid;
-      };
+      present = elim h.present [
+        | inl b ↦
+            (let x : TributaryValue = terminal_in ts (current c) in
+            let o : OutboundValue = outbound_at (peer c) s in
+            inl (record {
+              mode = b.mode;
+              up = b.up;
+              down = b.down;
+              flight = Still;
+              flies = refl;
+              bid =
+                  laws.loss o.sender.phase o.queue x.receiver.alternation x.receiver.last
+                  (spool_at x.spools s).records b.flight b.bid;
+            }))
+        | inr left ↦ inr (record { modes = left.modes; rests = left.rests; unheard = tt })
+      ];
     }
 
 lost_polling : (laws : BidLaws) (c : ControlValue) (ts : List TributaryValue)
@@ -101,7 +104,7 @@ lost_polling laws c ts pending replied h =
 
 pub task_stays_without_pending : (laws : BidLaws) (task : Task) (c : ControlValue) (ts : List TributaryValue)
     (pending : Option Transmission) → InTask task pending c ts → InTask task None c ts
-task_stays_without_pending laws AtRest c ts pending h = record { nothing = refl; no_bids = h.no_bids; modes = h.modes }
+task_stays_without_pending laws AtRest c ts pending h = record { silent = λ none. cc; rests = h.rests }
 task_stays_without_pending laws (Selecting s enquired) c ts pending h = lost_selecting c ts pending s enquired h
 task_stays_without_pending laws (Sending s) c ts pending h = lost_sending laws c ts pending s h
 task_stays_without_pending laws (Polling replied) c ts pending h = lost_polling laws c ts pending replied h
@@ -170,7 +173,7 @@ asks_again : (c : ControlValue) (ts : List TributaryValue) (s : ℕ) (over : Boo
     InTask new.control.task (sent_by sp.Control new.sent) new.control ts
 asks_again c ts s true stations all fresh = together_after_next_call c ts (Selection s) stations all
 asks_again c ts s false stations all fresh =
-    record { no_bids = all; with_pending = refl; fresh = fresh }
+    record { no_bids = all; with_pending = refl; fresh = inl fresh }
 
 -- a selection is answered
 pub selecting_answered : (laws : BidLaws) (c : ControlValue) (ts : List TributaryValue) (s t : ℕ)
@@ -317,8 +320,10 @@ together_after_hearing_terminal laws c d ts t w h out stations together fair row
     by_task : (task : Task) → c.task ≡ task
         → InTask task (Some (record { speaker = sp.Terminal t; message = w })) c ts
         → InTask d.task (sent_by sp.Control out) d ts
-    by_task AtRest is k = let no : Some (record { speaker = sp.Terminal t; message = w }) ≡ None =
-        k.nothing in absurd (cc)
+    by_task AtRest is k =
+        by_row AtRest is (subst (λ (z : Task). InTask z None c ts) (sym is)
+        (task_stays_without_pending laws AtRest c ts
+        (Some (record { speaker = sp.Terminal t; message = w })) k))
     by_task (Selecting s enquired) is k =
         elim (answer_whole_or_noise w (terminal_in ts (current c)) s ts h k.with_pending.1 fair) [
           | inl whole ↦
@@ -328,7 +333,11 @@ together_after_hearing_terminal laws c d ts t w h out stations together fair row
           | inr quiet ↦ noise quiet
         ]
     by_task (Sending s) is k =
-        by_row (Sending s) is (together_after_reply laws c ts s t w h stations is k fair)
+        elim k.present [
+          | inl b ↦ by_row (Sending s) is
+              (together_after_reply laws c ts s t w h stations is k.others b fair)
+          | inr left ↦ (let no : sp.Terminal t ≡ sp.Control = left.unheard.0 in absurd (cc))
+        ]
     by_task (Polling replied) is k =
         elim k.present [
           | inl q ↦

@@ -72,7 +72,7 @@ no_bids_after_poll_call c ts place failures there count no_bids =
       present = inl (
         subst (λ (q : PeerValue). HasNoBid q (terminal_in ts e)) (sym (replaced_peer c e d there))
             (no_bid_with_new_receiver p (terminal_in ts e) (no_bids e here)),
-        (ap (λ (q : PeerValue). m.Call q.terminal.poll) (sym (replaced_peer c e d there)), refl),
+        inl (ap (λ (q : PeerValue). m.Call q.terminal.poll) (sym (replaced_peer c e d there)), refl),
       );
     }
 

@@ -70,7 +70,7 @@ steps_back_after_missed_call x (Whole (m.Text z)) u out f row after = absurd f
 steps_back_after_missed_call x (Whole m.Enq) u out f row after = absurd f
 steps_back_after_missed_call x (Whole (m.Reply r)) u out f row after = absurd f
 
-nobody_answers : (old : List TributaryValue) (hears : ℕ → Heard) (new : List TributaryValue) (n : ℕ)
+pub nobody_answers : (old : List TributaryValue) (hears : ℕ → Heard) (new : List TributaryValue) (n : ℕ)
     → ((k : ℕ) → k < n → answer_of old hears new k ≡ None) → first_answer old hears new n ≡ None
 nobody_answers old hears new n f =
     no_answer_before_terminal old hears new n n (omega arith) (λ k less ne. f k less)

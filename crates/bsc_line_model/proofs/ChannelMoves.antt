@@ -14,12 +14,29 @@ use Rattle.bsc_directory.specs.declared.way.Way.{Way}
 use Rattle.bsc_directory.specs.declared.way.Way.TheVariants.{FromTerminal, ToTerminal}
 use Rattle.bsc_control.specs.Peer.{PeerValue, OutboundValue, no_peer, no_outbound, outbound_at}
 use Rattle.bsc_control.specs.Peer.{with_outbound, offered, offered_to, outbound_released}
-use Rattle.bsc_control.specs.Control.{peer_at, with_peer}
-use Rattle.bsc_line_model.specs.Line.{LineValue, no_terminal, terminal_at, terminal_count}
+use Rattle.bsc_control.specs.Control.{ControlValue, peer_at, with_peer}
+use Rattle.bsc_control.specs.Kept.{outbound_of}
+use Rattle.bsc_line_model.specs.Line.{LineValue, no_terminal, terminal_in, terminal_at, terminal_count}
 use Rattle.bsc_line_model.specs.Line.{with_terminal, with_control, channel_of}
 use Rattle.bsc_line_model.specs.Offers.{told}
 use Rattle.bsc_line_model.specs.ChannelSteps.{MovesOne, MovesNothing}
 use Rattle.bsc_line_model.proofs.Stations.{same_or_not}
+
+-- the channels do not depend on the pending transmission and on the trust
+abbrev pub same_stations : LineValue → LineValue → Type 0
+same_stations a b = (b.control ≡ a.control) × (b.terminals ≡ a.terminals)
+
+pub same_channels_of_same_stations : (a b : LineValue) (t : ℕ) (way : Way) → same_stations a b → channel_of b t way
+    ≡ channel_of a t way
+same_channels_of_same_stations a b t FromTerminal e =
+    ap (λ (ts : List TributaryValue). channel (terminal_in ts t).queue
+    (peer_at b.control t).spool.records) e.1
+    ∙ ap (λ (c : ControlValue). channel (terminal_at a t).queue (peer_at c t).spool.records) e.0
+same_channels_of_same_stations a b t (ToTerminal s) e =
+    ap (λ (ts : List TributaryValue). channel (outbound_of b.control t s).queue
+    (spool_at (terminal_in ts t).spools s).records) e.1
+    ∙ ap (λ (c : ControlValue). channel (outbound_of c t s).queue
+    (spool_at (terminal_at a t).spools s).records) e.0
 
 -- the terminal that was written, and another one
 written_terminal : (l : LineValue) (t : ℕ) (u : TributaryValue) → t < terminal_count l

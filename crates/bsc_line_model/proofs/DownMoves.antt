@@ -21,6 +21,7 @@ use Rattle.bsc_bid.specs.Agreement.{Flight, Outward, Back, InBid}
 use Rattle.bsc_bid.specs.OneBid.{MovesAtReceiver, MovesAtSender}
 use Rattle.bsc_bid.specs.EachStep.{ReceiverAgrees, SenderAgrees}
 use Rattle.bsc_tributary.specs.declared.mode.Mode.{Mode}
+use Rattle.bsc_tributary.specs.declared.mode.Mode.TheVariants.{Control, Receiving, Sending as Sends}
 use Rattle.bsc_tributary.specs.Tributary.{TributaryValue, TributaryStep, Hears, mode_step}
 use Rattle.bsc_tributary.specs.Tributary.{receive_step, rooms_after, spool_at, empty_spool}
 use Rattle.bsc_tributary.specs.Kept.{IsNoCall, Stores}
@@ -41,7 +42,8 @@ use Rattle.bsc_line_model.specs.Terminals.{answer_of}
 use Rattle.bsc_line_model.specs.Trust.{IsMissed, IsHeardFairly, is_call}
 use Rattle.bsc_line_model.specs.Carries.{IsCarriedDown}
 use Rattle.bsc_line_model.specs.Kept.{IsTuned, IsLine}
-use Rattle.bsc_line_model.specs.Together.{IsInBidDown, InTask}
+use Rattle.bsc_line_model.specs.Together.{AllInControlMode, IsInBidDown, InTask}
+use Rattle.bsc_line_model.proofs.Stations.{current_terminal_there}
 use Rattle.bsc_line_model.specs.BidLaws.{BidLaws}
 use Rattle.bsc_control.proofs.Calls.{places, current_within_peers}
 use Rattle.bsc_line_model.proofs.Tuning.{each_fairly}
@@ -88,18 +90,26 @@ pub record IsBidTo (pending : Option Transmission) (c : ControlValue)
   pub bid : IsInBidDown pending (peer c) (current c) select (terminal_in ts (current c))
 
 bid_of_pending_text : (task : Task) (t : TextValue) (c : ControlValue) (ts : List TributaryValue)
+    → (AllInControlMode ts → ⊥)
     → InTask task (Some (record { speaker = sp.Control; message = m.Text t })) c ts
     → IsBidTo (Some (record { speaker = sp.Control; message = m.Text t })) c ts
-bid_of_pending_text AtRest t c ts k = let sent : Transmission =
-    record { speaker = sp.Control; message = m.Text t } in let no : Some sent ≡ None = k.nothing in
-    absurd (cc)
-bid_of_pending_text (Selecting s true) t c ts k = let no : m.Text t ≡ m.Enq = k.with_pending in absurd (cc)
-bid_of_pending_text (Selecting s false) t c ts k = let no : m.Text t
+bid_of_pending_text AtRest t c ts out k = absurd (k.silent refl)
+bid_of_pending_text (Selecting s true) t c ts out k =
+    let no : m.Text t ≡ m.Enq = k.with_pending in absurd (cc)
+bid_of_pending_text (Selecting s false) t c ts out k = let no : m.Text t
     ≡ m.Call (select_address (peer c).terminal s) = k.with_pending in absurd (cc)
-bid_of_pending_text (Sending s) t c ts k = record { select = s; bid = k.bid }
-bid_of_pending_text (Polling replied) t c ts k =
+bid_of_pending_text (Sending s) t c ts out k =
     elim k.present [
-      | inl q ↦ (let no : m.Text t ≡ m.Call (peer c).terminal.poll = q.1.0 in absurd (cc))
+      | inl b ↦ record { select = s; bid = b }
+      | inr left ↦ absurd (out left.modes)
+    ]
+bid_of_pending_text (Polling replied) t c ts out k =
+    elim k.present [
+      | inl q ↦
+          elim q.1 [
+            | inl call ↦ (let no : m.Text t ≡ m.Call (peer c).terminal.poll = call.0 in absurd (cc))
+            | inr reply ↦ absurd (no_reply (m.Text t) reply.0 refl reply.1)
+          ]
       | inr b ↦ absurd (no_reply (m.Text t) b.flies.0 refl b.flies.1)
     ]
 
@@ -172,6 +182,20 @@ together_before_carry_down old new w hears k =
     subst (λ (o : Option Transmission). InTask old.control.task o old.control old.terminals)
     k.pending (k.line.together (was_trusted_down old new w hears k).0)
 
+-- a terminal that sends while a transmission of the control station is pending
+bid_of_hearing_terminal : (task : Task) (w : Message) (c : ControlValue) (ts : List TributaryValue)
+    (t : ℕ) → t < length ts → current c < length ts → (terminal_in ts t).mode ≡ Sends
+    → InTask task (Some (record { speaker = sp.Control; message = w })) c ts
+    → IsBidOf task (Some (record { speaker = sp.Control; message = w })) c ts t
+bid_of_hearing_terminal task w c ts t less there sends k =
+    elim (bid_of_sending_terminal task (Some (record { speaker = sp.Control; message = w })) c ts t
+    less there sends k) [
+      | inl bid ↦ bid
+      | inr rest ↦
+          absurd ((subst (λ (z : Task). InTask z
+          (Some (record { speaker = sp.Control; message = w })) c ts) rest k).silent refl)
+    ]
+
 -- the channel from a terminal
 down_moves_from : (laws : BidLaws) (old new : LineValue) (w : Message) (hears : ℕ → Heard) (t : ℕ)
     → HearsControl old new w hears → t < terminal_count old →
@@ -198,8 +222,9 @@ down_moves_from laws old new w hears t k less =
         was_trusted_down old new w hears k in
         let of : IsBidOf c.task (Some (record { speaker = sp.Control; message = w })) c
         old.terminals t =
-        bid_of_sending_terminal c.task (Some (record { speaker = sp.Control; message = w })) c old.terminals t less
-        l.mode (together_before_carry_down old new w hears k) in
+        bid_of_hearing_terminal c.task w c old.terminals t less
+        (current_terminal_there c old.terminals k.line.stations) l.mode
+        (together_before_carry_down old new w hears k) in
         let r : Reply = of.bid.flies.0 in
         let never : is_call w ≡ false = ap is_call of.bid.flies.1 ∙ reply_is_no_call r in
         let fair : IsFairlyHeard (m.Reply r) (hears t) =
@@ -265,6 +290,7 @@ down_moves_to laws old new w hears t s k less =
         let to : IsBidTo (Some (record { speaker = sp.Control; message = m.Text l.text })) c
         old.terminals =
         bid_of_pending_text c.task l.text c old.terminals
+        (λ modes. let both : Receiving s ≡ Control = sym l.receiving ∙ modes t less in cc)
         (subst (λ (v : Message). InTask c.task
         (Some (record { speaker = sp.Control; message = v })) c old.terminals) text
         (together_before_carry_down old new w hears k)) in

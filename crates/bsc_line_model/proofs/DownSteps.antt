@@ -21,7 +21,7 @@ use Rattle.bsc_bid.specs.Terminal.{TerminalValue}
 use Rattle.bsc_tributary.specs.declared.called.Called.{Called}
 use Rattle.bsc_tributary.specs.declared.called.Called.TheVariants.{Polling, Selection, Other}
 use Rattle.bsc_tributary.specs.declared.mode.Mode.{Mode}
-use Rattle.bsc_tributary.specs.declared.mode.Mode.TheVariants.{Control}
+use Rattle.bsc_tributary.specs.declared.mode.Mode.TheVariants.{Control, Receiving}
 use Rattle.bsc_tributary.specs.Called.{called_as}
 use Rattle.bsc_tributary.specs.Tributary.{TributaryValue, TributaryStep, Hears, mode_step}
 use Rattle.bsc_tributary.specs.Tributary.{quiet_step, rooms_after, spool_at}
@@ -126,9 +126,14 @@ not_landed pending p e s x b t is phase h =
       | inr n ↦ absurd n.flight
     ]
 
+-- a terminal that takes the next text to selection address s, and does not ask for the line
+pub record TakesBlocks (x : TributaryValue) (s : ℕ) : Type 0 where
+  pub mode : x.mode ≡ Receiving s
+  pub not_urgent : x.urgent ≡ false
+
 -- a text to selection address s is acknowledged
 pub text_down_is_acknowledged : (l new : LineValue) (s n : ℕ) (b : SentBlock) → IsGood l → IsInBlock l.control s n b
-    → (terminal_at l (current l.control)).urgent ≡ false → SameDelays l new →
+    → TakesBlocks (terminal_at l (current l.control)) s → SameDelays l new →
     let t : TextValue = text_of (outbound_at (peer l.control) s).queue b in
     (l.pending ≡ Some (record { speaker = sp.Control; message = m.Text t })
     → IsCarriedDown (m.Text t) (λ z. Whole (m.Text t)) l new
@@ -142,7 +147,12 @@ text_down_is_acknowledged l new s n b g i visit_ready delays is h =
     current_terminal_there l.control l.terminals g.line.stations in
     let sending : IsSending l.pending c l.terminals s =
     subst (λ (z : Task). InTask z l.pending c l.terminals) i.task g.together in
-    let bid : IsInBidDown l.pending (peer c) e s x = sending.bid in
+    let bid : IsInBidDown l.pending (peer c) e s x =
+    elim sending.present [
+      | inl b ↦ b
+      | inr left ↦ (let both : Receiving s ≡ Control = sym visit_ready.mode ∙ left.modes e there in
+          absurd (cc))
+    ] in
     let tuned : AreTuned l.addressed l.terminals = g.line.tuned g.trusted in
     let addressed : l.addressed ≡ Some (e, ToTerminal s) =
     subst (λ (z : Mode). IsTuned l.addressed e z) bid.mode (tuned e there) in
@@ -161,7 +171,7 @@ text_down_is_acknowledged l new s n b g i visit_ready delays is h =
     × TerminalStays e (ToTerminal s) e x (terminal_at new e) =
     takes_block e x (terminal_at new e)
     (answer_of l.terminals (λ z. Whole (m.Text t)) new.terminals e) s t b.alternation bid.mode
-    into visit_ready counted same.0 same.1 (h.terminals.each e there) in
+    into visit_ready.not_urgent counted same.0 same.1 (h.terminals.each e there) in
     answered_by_one e (ToTerminal s) (m.Text t) (m.Reply (ack b.alternation)) l new there h
     (λ z less differ.
     answers_nothing e (ToTerminal s) z (terminal_at l z) (terminal_at new z)

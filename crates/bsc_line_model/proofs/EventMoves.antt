@@ -10,7 +10,7 @@ use Rattle.bsc_bid.specs.Channel.{channel, Offer, Learn}
 use Rattle.bsc_tributary.specs.Tributary.{TributaryValue, spool_at}
 use Rattle.bsc_directory.specs.declared.way.Way.{Way}
 use Rattle.bsc_directory.specs.declared.way.Way.TheVariants.{FromTerminal, ToTerminal}
-use Rattle.bsc_control.specs.Control.{ControlValue, peer_at}
+use Rattle.bsc_control.specs.Control.{peer_at}
 use Rattle.bsc_control.specs.Kept.{outbound_of}
 use Rattle.bsc_line_model.specs.declared.transmission.Speaker.{Speaker}
 use Rattle.bsc_line_model.specs.declared.transmission.Speaker.TheVariants.{Control, Terminal}
@@ -19,9 +19,9 @@ use Rattle.bsc_line_model.specs.declared.event.Event.{Event}
 use Rattle.bsc_line_model.specs.declared.event.Event.TheVariants.{OfferAt, OfferFor, Carry}
 use Rattle.bsc_line_model.specs.declared.event.Event.TheVariants.{CarryEach, CarrySent, Silence}
 use Rattle.bsc_line_model.specs.declared.event.Event.TheVariants.{Ready, UrgentAt, UrgentFor}
-use Rattle.bsc_line_model.specs.declared.event.Event.TheVariants.{Release}
-use Rattle.bsc_line_model.specs.Line.{LineValue, terminal_in, terminal_at}
-use Rattle.bsc_line_model.specs.Line.{with_terminal, channel_of}
+use Rattle.bsc_line_model.specs.declared.event.Event.TheVariants.{Release, Restart}
+use Rattle.bsc_line_model.specs.Line.{LineValue, terminal_at}
+use Rattle.bsc_line_model.specs.Line.{with_terminal}
 use Rattle.bsc_line_model.specs.Terminals.{line_owner}
 use Rattle.bsc_line_model.specs.Hearing.{heard_in, heard_at, octets_in}
 use Rattle.bsc_line_model.specs.Carries.{IsCarriedBy, TerminalActsAlone, ControlActsAlone}
@@ -34,12 +34,13 @@ use Rattle.bsc_line_model.specs.ChannelSteps.{MovesOne, MovesNothing, MovesAddre
 use Rattle.bsc_line_model.specs.BidLaws.{BidLaws}
 use Rattle.bsc_line_model.proofs.Soundness.{peer_has_way}
 use Rattle.bsc_line_model.proofs.ChannelMoves.{no_move_of_same_terminal, no_move_of_same_peer}
-use Rattle.bsc_line_model.proofs.ChannelMoves.{offer_at_moves}
+use Rattle.bsc_line_model.proofs.ChannelMoves.{offer_at_moves, same_channels_of_same_stations}
 use Rattle.bsc_line_model.proofs.ChannelMoves.{offer_for_moves, release_from_moves}
 use Rattle.bsc_line_model.proofs.ChannelMoves.{release_to_moves}
 use Rattle.bsc_line_model.proofs.QueueSteps.{terminal_silent_queue}
 use Rattle.bsc_line_model.proofs.OutboundSteps.{outbound_silent_queue}
 use Rattle.bsc_line_model.proofs.Moving.{moves_addressed}
+use Rattle.bsc_line_model.proofs.RestartMoves.{restart_moves}
 use Rattle.bsc_line_model.proofs.DownMoves.{channels_move_by_carry_down}
 use Rattle.bsc_line_model.proofs.UpMoves.{up_moves}
 use Rattle.bsc_line_model.proofs.EachEvent.{peer_of_terminal}
@@ -83,22 +84,6 @@ control_silent old new is k t (ToTerminal s) there =
     (spool_at x.spools s).records) same
     ∙ ap (λ (q : QueueValue). channel q (spool_at (terminal_at old t).spools s).records)
     (outbound_silent_queue old.control new.control k.sent t s is.stations.control k.row)
-
--- the channels do not depend on the pending transmission and on the trust
-abbrev same_stations : LineValue → LineValue → Type 0
-same_stations a b = (b.control ≡ a.control) × (b.terminals ≡ a.terminals)
-
-same_channels_of_same_stations : (a b : LineValue) (t : ℕ) (way : Way) → same_stations a b → channel_of b t way
-    ≡ channel_of a t way
-same_channels_of_same_stations a b t FromTerminal e =
-    ap (λ (ts : List TributaryValue). channel (terminal_in ts t).queue
-    (peer_at b.control t).spool.records) e.1
-    ∙ ap (λ (c : ControlValue). channel (terminal_at a t).queue (peer_at c t).spool.records) e.0
-same_channels_of_same_stations a b t (ToTerminal s) e =
-    ap (λ (ts : List TributaryValue). channel (outbound_of b.control t s).queue
-    (spool_at (terminal_in ts t).spools s).records) e.1
-    ∙ ap (λ (c : ControlValue). channel (outbound_of c t s).queue
-    (spool_at (terminal_at a t).spools s).records) e.0
 
 terminal_silent : (old new : LineValue) (t : ℕ) → TerminalActsAlone t old new → MovesNothing old new
 terminal_silent old new t k u way there =
@@ -184,3 +169,4 @@ event_moves laws (Ready t ready) old new is d now = ready_moves old new t ready 
 event_moves laws (UrgentAt t) old new is d now = urgent_at_moves old new t d
 event_moves laws (UrgentFor t) old new is d now = urgent_for_moves old new t is d
 event_moves laws (Release t way) old new is d now = release_moves old new t way is d
+event_moves laws (Restart party) old new is d now = restart_moves old new party is d

@@ -1,5 +1,5 @@
 -- The terminal that sends on a trusted line is the polled one, and no count mismatches there.
-use Rattle.std.proofs.Common.{◌≡◌, inl, inr, ℕ, ◌+◌, ◌<◌, Bool, true, false, ◌==◌, ◌||◌, List}
+use Rattle.std.proofs.Common.{◌≡◌, ◌⊎◌, inl, inr, ℕ, ◌+◌, ◌<◌, Bool, true, false, ◌==◌, ◌||◌, List}
 use Rattle.std.proofs.Common.{length, IsTrue, Option, Err, refl, sym, ◌∙◌, ap, if◌then◌else◌}
 use Rattle.std.proofs.lemmas.Bool.{eqb-false}
 use Rattle.bsc_spool.specs.Queue.{QueueValue}
@@ -29,9 +29,10 @@ use Rattle.bsc_line_model.specs.Together.{IsInBidUp, InTask}
 use Rattle.bsc_line_model.specs.StepLaws.{IsPolled}
 use Rattle.bsc_line_model.specs.BidLaws.{BidLaws}
 use Rattle.bsc_line_model.proofs.Soundness.{sound_of_together}
-use Rattle.bsc_line_model.proofs.Stations.{same_or_not}
+use Rattle.bsc_line_model.proofs.Stations.{same_or_not, current_terminal_there}
+use Rattle.bsc_line_model.proofs.LeftAlone.{never_sends_in_bid_down}
 
--- terminal t sends: it is the polled one, and its bid is in progress
+-- terminal t sends: it is the polled one, and its bid is in progress with the control station
 pub record IsBidOf (task : Task) (pending : Option Transmission) (c : ControlValue)
     (ts : List TributaryValue) (t : ℕ) : Type 0 where
   pub terminal : t ≡ current c
@@ -40,22 +41,25 @@ pub record IsBidOf (task : Task) (pending : Option Transmission) (c : ControlVal
   pub bid : IsInBidUp pending (peer c) (current c) (terminal_in ts (current c))
 
 pub bid_of_sending_terminal : (task : Task) (pending : Option Transmission) (c : ControlValue)
-    (ts : List TributaryValue) (t : ℕ) → t < length ts → (terminal_in ts t).mode ≡ Sends
-    → InTask task pending c ts → IsBidOf task pending c ts t
-bid_of_sending_terminal AtRest pending c ts t less sends k = absurd ((k.no_bids t less).mode sends)
-bid_of_sending_terminal (Selecting s enquired) pending c ts t less sends k = absurd ((k.no_bids t less).mode sends)
-bid_of_sending_terminal (Sending s) pending c ts t less sends k =
+    (ts : List TributaryValue) (t : ℕ) → t < length ts → current c < length ts
+    → (terminal_in ts t).mode ≡ Sends → InTask task pending c ts
+    → IsBidOf task pending c ts t ⊎ (task ≡ AtRest)
+bid_of_sending_terminal AtRest pending c ts t less there sends k = inr refl
+bid_of_sending_terminal (Selecting s enquired) pending c ts t less there sends k =
+    absurd ((k.no_bids t less).mode sends)
+bid_of_sending_terminal (Sending s) pending c ts t less there sends k =
     elim (same_or_not t (current c)) [
-      | inl same ↦ (let both : Receiving s ≡ Sends = sym k.bid.mode
-          ∙ ap (λ (n : ℕ). (terminal_in ts n).mode) (sym same) ∙ sends in absurd (cc))
+      | inl same ↦ absurd (never_sends_in_bid_down pending c ts s k.present
+          (ap (λ (n : ℕ). (terminal_in ts n).mode) (sym same) ∙ sends) there)
       | inr differ ↦ absurd ((k.others t less differ).mode sends)
     ]
-bid_of_sending_terminal (Polling replied) pending c ts t less sends k =
+bid_of_sending_terminal (Polling replied) pending c ts t less there sends k =
     elim (same_or_not t (current c)) [
       | inl same ↦
           elim k.present [
             | inl q ↦ absurd (q.0.mode (ap (λ (n : ℕ). (terminal_in ts n).mode) (sym same) ∙ sends))
-            | inr b ↦ record { terminal = same; replied = replied; polling = refl; bid = b }
+            | inr b ↦
+                inl (record { terminal = same; replied = replied; polling = refl; bid = b })
           ]
       | inr differ ↦ absurd ((k.others t less differ).mode sends)
     ]
@@ -67,12 +71,14 @@ holder_sends Control h = absurd (cc)
 holder_sends (Receiving s) h = absurd (cc)
 
 pub holds_polled : (l : LineValue) (t : ℕ) → IsLine l → IsTrue l.trusted → t < terminal_count l
-    → IsTrue (holds (terminal_at l t).mode) → IsPolled l t
+    → IsTrue (holds (terminal_at l t).mode) → IsPolled l t ⊎ (l.control.task ≡ AtRest)
 holds_polled l t is now less holder =
-    let bid : IsBidOf l.control.task l.pending l.control l.terminals t =
-    bid_of_sending_terminal l.control.task l.pending l.control l.terminals t less
-    (holder_sends (terminal_at l t).mode holder) (is.together now) in
-    record { present = bid.terminal; replied = bid.replied; task = bid.polling }
+    elim (bid_of_sending_terminal l.control.task l.pending l.control l.terminals t less
+    (current_terminal_there l.control l.terminals is.stations)
+    (holder_sends (terminal_at l t).mode holder) (is.together now)) [
+      | inl bid ↦ inl (record { present = bid.terminal; replied = bid.replied; task = bid.polling })
+      | inr rest ↦ inr rest
+    ]
 
 -- if the channel is sound, its sender's doubt is released by the spooled count
 counts_match : (s : SenderValue) (q : QueueValue) (n : ℕ) (phase : Phase)

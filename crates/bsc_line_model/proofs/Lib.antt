@@ -3,6 +3,7 @@ pub mod Stations
 pub mod Carrying
 pub mod EachEvent
 pub mod SendingDown
+pub mod Resting
 pub mod Making
 pub mod Calling
 pub mod SendingUp
@@ -12,11 +13,15 @@ pub mod CallsHeard
 pub mod RepliesHeard
 pub mod AnswersHeard
 pub mod AllHear
+pub mod LeftAlone
 pub mod Silences
 pub mod Likeness
+pub mod Restarting
+pub mod TerminalRestarts
 pub mod Soundness
 pub mod ChannelMoves
 pub mod DownMoves
+pub mod RestartMoves
 pub mod EventMoves
 pub mod EventSteps
 pub mod HeardAlike
@@ -53,3 +58,4 @@ pub mod DelaysGrow
 pub mod FairRuns
 pub mod Numbers
 pub mod Examples
+pub mod RestartExamples

@@ -29,10 +29,10 @@ use Rattle.bsc_line_model.specs.declared.transmission.Speaker.{Speaker}
 use Rattle.bsc_line_model.specs.declared.transmission.Speaker.TheVariants as sp
 use Rattle.bsc_line_model.specs.declared.transmission.Transmission.{Transmission}
 use Rattle.bsc_line_model.specs.Line.{terminal_in, no_terminal}
-use Rattle.bsc_line_model.specs.Together.{HasNoBid, NoBids, NoOtherBids, RestsUp, RestsDown}
+use Rattle.bsc_line_model.specs.Together.{Rests, HasNoBid, NoBids, NoOtherBids, RestsUp, RestsDown}
 use Rattle.bsc_line_model.specs.Together.{AllInControlMode, IsFresh, IsFreshAfter, IsAnswer}
 use Rattle.bsc_line_model.specs.Together.{selected, IsSelectedBy, IsSelectedWith, IsInBidDown, IsInBidUp}
-use Rattle.bsc_line_model.specs.Together.{IsPolledBy, IsPolledWith, InTask}
+use Rattle.bsc_line_model.specs.Together.{IsLeftByReceiver, IsPolledBy, IsPolledWith, InTask}
 use Rattle.bsc_line_model.specs.BidLaws.{BidLaws}
 use Rattle.bsc_line_model.proofs.Stations.{same_or_not}
 
@@ -62,6 +62,14 @@ pub record AreLike (c : ControlValue) (ts : List TributaryValue) (d : ControlVal
   pub count : length us ≡ length ts
   pub like : (t : ℕ) → t < length ts
       → IsLike (peer_at c t) (terminal_in ts t) (peer_at d t) (terminal_in us t)
+
+rests_like : (p : PeerValue) (x : TributaryValue) (q : PeerValue) (u : TributaryValue)
+    → IsLike p x q u → Rests p x → Rests q u
+rests_like p x q u k h =
+    record {
+      up = k.rests_up h.up;
+      down = λ s less. k.rests_down s (h.down s (omega (arith, k.outbounds)));
+    }
 
 no_bid_like : (p : PeerValue) (x : TributaryValue) (q : PeerValue) (u : TributaryValue)
     → IsLike p x q u → HasNoBid p x → HasNoBid q u
@@ -104,9 +112,12 @@ fresh_like p x q u s k h =
     }
 
 fresh_after_like : (p : PeerValue) (x : TributaryValue) (q : PeerValue) (u : TributaryValue) (s : ℕ)
-    (enquired : Bool) → IsLike p x q u → IsFreshAfter enquired x s → IsFreshAfter enquired u s
-fresh_after_like p x q u s true k h = fresh_like p x q u s k h
-fresh_after_like p x q u s false k h = tt
+    (ts us : List TributaryValue) (enquired : Bool) → IsLike p x q u
+    → (AllInControlMode ts → AllInControlMode us) → IsFreshAfter enquired x s ts
+    → IsFreshAfter enquired u s us
+fresh_after_like p x q u s ts us true k modes (inl h) = inl (fresh_like p x q u s k h)
+fresh_after_like p x q u s ts us true k modes (inr h) = inr (modes h)
+fresh_after_like p x q u s ts us false k modes h = tt
 
 answer_like : (w : Message) (p : PeerValue) (x : TributaryValue) (q : PeerValue)
     (u : TributaryValue) (s : ℕ) (ts us : List TributaryValue) → IsLike p x q u
@@ -144,8 +155,10 @@ polled_by_like : (speaker : Speaker) (w : Message) (replied : Replied) (p q : Pe
     (ts us : List TributaryValue) → q.terminal ≡ p.terminal
     → (AllInControlMode ts → AllInControlMode us) → IsPolledBy speaker w replied p e ts
     → IsPolledBy speaker w replied q e us
-polled_by_like sp.Control w replied p q e ts us k modes h =
-    (h.0 ∙ ap (λ (t : TerminalValue). m.Call t.poll) (sym k), h.1)
+polled_by_like sp.Control w replied p q e ts us k modes (inl h) =
+    inl (h.0 ∙ ap (λ (t : TerminalValue). m.Call t.poll) (sym k), h.1)
+polled_by_like sp.Control w replied p q e ts us k modes (inr h) =
+    inr (h.0, h.1, modes h.2)
 polled_by_like (sp.Terminal t) w replied p q e ts us k modes h = (h.0, h.1, modes h.2)
 
 polled_like : (pending : Option Transmission) (replied : Replied) (p q : PeerValue) (e : ℕ)
@@ -187,10 +200,11 @@ pub together_like : (c : ControlValue) (ts : List TributaryValue) (d : ControlVa
     → AreLike c ts d us → InTask task pending c ts → InTask task pending d us
 together_like c ts d us AtRest pending there k h =
     record {
-      nothing = h.nothing;
-      no_bids = no_bids_like c ts d us k h.no_bids;
-      modes =
-          modes_like c ts d us k h.modes;
+      silent = h.silent;
+      rests = λ t less.
+          let before : t < length ts = omega (arith, k.count) in
+          rests_like (peer_at c t) (terminal_in ts t) (peer_at d t) (terminal_in us t)
+          (k.like t before) (h.rests t before);
     }
 together_like c ts d us (Selecting s enquired) pending there k h =
     let e : ℕ = current c in
@@ -205,18 +219,28 @@ together_like c ts d us (Selecting s enquired) pending there k h =
           (selected_like pending enquired (peer_at c e) (terminal_in ts e) (peer_at d e)
           (terminal_in us e) e s ts us like (modes_like c ts d us k) h.with_pending);
       fresh =
-          subst (λ (n : ℕ). IsFreshAfter enquired (terminal_in us n) s) (sym k.current)
-          (fresh_after_like (peer_at c e) (terminal_in ts e) (peer_at d e) (terminal_in us e) s
-          enquired like h.fresh);
+          subst (λ (n : ℕ). IsFreshAfter enquired (terminal_in us n) s us) (sym k.current)
+          (fresh_after_like (peer_at c e) (terminal_in ts e) (peer_at d e) (terminal_in us e) s ts us
+          enquired like (modes_like c ts d us k) h.fresh);
     }
 together_like c ts d us (Sending s) pending there k h =
     let e : ℕ = current c in
     record {
       others = others_like c ts d us k h.others;
-      bid =
-          subst (λ (n : ℕ). IsInBidDown pending (peer_at d n) n s (terminal_in us n))
-          (sym k.current) (bid_down_like pending (peer_at c e) (terminal_in ts e) (peer_at d e)
-          (terminal_in us e) e s (k.like e there) h.bid);
+      present =
+          subst (λ (n : ℕ). IsInBidDown pending (peer_at d n) n s (terminal_in us n)
+          ⊎ IsLeftByReceiver pending (peer_at d n) (terminal_in us n) us) (sym k.current)
+          (elim h.present [
+            | inl b ↦ inl (bid_down_like pending (peer_at c e) (terminal_in ts e) (peer_at d e)
+                (terminal_in us e) e s (k.like e there) b)
+            | inr left ↦ inr (record {
+              modes = modes_like c ts d us k left.modes;
+              rests =
+                  rests_like (peer_at c e) (terminal_in ts e) (peer_at d e) (terminal_in us e)
+                  (k.like e there) left.rests;
+              unheard = left.unheard;
+            })
+          ]);
     }
 together_like c ts d us (Polling replied) pending there k h =
     let e : ℕ = current c in

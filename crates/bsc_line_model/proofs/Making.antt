@@ -23,6 +23,7 @@ use Rattle.bsc_line_model.specs.Line.{terminal_in, line_of}
 use Rattle.bsc_line_model.specs.Kept.{AreStations, IsTuned, IsLine, AreNewTerminals}
 use Rattle.bsc_tributary.specs.Kept.{IsNewTerminal}
 use Rattle.bsc_line_model.proofs.Stations.{peer_terminal}
+use Rattle.bsc_line_model.proofs.Resting.{rests_of_no_bid}
 
 -- a channel with nothing to send and nothing received
 empty_rests : (phase : Phase) (q : QueueValue) (spooled : List (List ℕ)) → IsQueue q → phase ≡ Idle
@@ -110,9 +111,9 @@ new_line setup given poll_list c ts trusted new is made =
       together = λ now.
           subst (λ (k : Task). InTask k None c ts) (sym new.task)
           (record {
-            nothing = refl;
-            no_bids = no_bids_on_new_line setup given poll_list c ts new is made;
-            modes = λ t less. let before : t < length given = omega (arith, made.count) in
-                (made.each t before).mode;
+            silent = λ none. cc;
+            rests = λ t less.
+                rests_of_no_bid (peer_at c t) (terminal_in ts t)
+                (no_bids_on_new_line setup given poll_list c ts new is made t less);
           });
     }

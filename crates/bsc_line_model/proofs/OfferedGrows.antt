@@ -10,7 +10,7 @@ use Rattle.bsc_frame.specs.declared.message.Heard.{Heard}
 use Rattle.bsc_frame.specs.declared.message.Heard.TheVariants.{Whole}
 use Rattle.bsc_bid.specs.Terminal.{TerminalValue}
 use Rattle.bsc_bid.specs.Channel.{Channel, Offer, Learn}
-use Rattle.bsc_tributary.specs.Tributary.{TributaryValue, after_release}
+use Rattle.bsc_tributary.specs.Tributary.{TributaryValue, after_release, restarted}
 use Rattle.bsc_spool.specs.Queue.{with_offered}
 use Rattle.bsc_directory.specs.declared.way.Way.{Way}
 use Rattle.bsc_directory.specs.declared.way.Way.TheVariants.{FromTerminal, ToTerminal}
@@ -23,7 +23,7 @@ use Rattle.bsc_line_model.specs.declared.event.Event.{Event}
 use Rattle.bsc_line_model.specs.declared.event.Event.TheVariants.{OfferAt, OfferFor, Carry}
 use Rattle.bsc_line_model.specs.declared.event.Event.TheVariants.{CarryEach, CarrySent, Silence}
 use Rattle.bsc_line_model.specs.declared.event.Event.TheVariants.{Ready, UrgentAt, UrgentFor}
-use Rattle.bsc_line_model.specs.declared.event.Event.TheVariants.{Release}
+use Rattle.bsc_line_model.specs.declared.event.Event.TheVariants.{Release, Restart}
 use Rattle.bsc_line_model.specs.Hearing.{heard_in, octets_in, heard_at}
 use Rattle.bsc_line_model.specs.Line.{LineValue, terminal_in, terminal_at, terminal_count, IsWay}
 use Rattle.bsc_line_model.specs.Line.{IsChannel}
@@ -38,6 +38,7 @@ use Rattle.bsc_line_model.proofs.Stations.{same_or_not, one_changed}
 use Rattle.bsc_line_model.proofs.EventMoves.{offer_at_event, offer_for_event, ready_moves}
 use Rattle.bsc_line_model.proofs.EventMoves.{urgent_at_moves, urgent_for_moves, silence_moves}
 use Rattle.bsc_line_model.proofs.EventMoves.{release_moves}
+use Rattle.bsc_line_model.proofs.RestartMoves.{restart_moves}
 
 -- nothing is offered
 none_offered : (old new : LineValue) (t : ℕ) (way : Way) → offered_on new t way
@@ -188,6 +189,8 @@ grows_by_offers (UrgentFor u) old new line d t way is =
 grows_by_offers (Release u mine) old new line d t way is =
     none_offered old new t way (learn_offered old new u mine t way
     (release_moves old new u mine line d) is)
+grows_by_offers (Restart party) old new line d t way is =
+    nothing_offered old new t way (restart_moves old new party line d) is
 
 -- the terminals keep their addresses
 pub record SameTerminals (old new : LineValue) : Type 0 where
@@ -266,6 +269,11 @@ same_terminals (UrgentAt t) old new d =
     (ap (λ (l : LineValue). l.terminals) d.1)
 same_terminals (UrgentFor t) old new d = all_same old new (ap (λ (l : LineValue). l.terminals) d.1)
 same_terminals (Release t way) old new d = release_same old new t way d
+same_terminals (Restart Control) old new d =
+    all_same old new (ap (λ (l : LineValue). l.terminals) d.1)
+same_terminals (Restart (Terminal t)) old new d =
+    one_same old new t (restarted (terminal_at old t)) d.0 refl
+    (ap (λ (l : LineValue). l.terminals) d.1)
 
 -- also over two events
 pub same_terminals_in_turn : (old mid new : LineValue) → SameTerminals old mid

@@ -24,10 +24,11 @@ use Rattle.bsc_line_model.specs.declared.transmission.Transmission.{Transmission
 use Rattle.bsc_line_model.specs.declared.error.LineError.{LineError}
 use Rattle.bsc_line_model.specs.declared.error.LineError.TheVariants as e
 use Rattle.bsc_line_model.specs.declared.event.Event.{Event}
+use Rattle.bsc_line_model.specs.Restarts.{restarted, Restarts}
 use Rattle.bsc_line_model.specs.declared.event.Event.TheVariants.{OfferAt, OfferFor, Carry}
 use Rattle.bsc_line_model.specs.declared.event.Event.TheVariants.{CarryEach, CarrySent, Silence}
 use Rattle.bsc_line_model.specs.declared.event.Event.TheVariants.{Ready, UrgentAt, UrgentFor}
-use Rattle.bsc_line_model.specs.declared.event.Event.TheVariants.{Release}
+use Rattle.bsc_line_model.specs.declared.event.Event.TheVariants.{Release, Restart}
 use Rattle.bsc_line_model.specs.Hearing.{heard_in, octets_in}
 use Rattle.bsc_line_model.specs.Line.{LineValue, no_terminal, terminal_at, with_terminal}
 use Rattle.bsc_line_model.specs.Line.{with_control}
@@ -145,6 +146,11 @@ releases_refused old t way e.Memory new d = release_refused old t way e.Memory n
 releases_refused old t way e.NotInDoubt new d = release_refused old t way e.NotInDoubt new d
 releases_refused old t way e.CountMismatch new d = release_refused old t way e.CountMismatch new d
 
+restart_refused : (old : LineValue) (party : Speaker) (why : LineError) (new : LineValue)
+    → Restarts old party (Err why) new → new ≡ old
+restart_refused old party e.NoSuchTerminal new d = d.1
+restart_refused old party _ new d = absurd d
+
 pub nothing_changed : (event : Event) (old new : LineValue) (why : LineError)
     → Does event old (Err why) new → new ≡ old
 nothing_changed (OfferAt t x) old new why d = offer_at_refused old t x.now why new d
@@ -158,6 +164,7 @@ nothing_changed (Ready t ready) old new why d = set_refused old t (ready_set old
 nothing_changed (UrgentAt t) old new why d = set_refused old t (urgent_set_at old t) why new d
 nothing_changed (UrgentFor t) old new why d = set_refused old t (urgent_set_for old t) why new d
 nothing_changed (Release t way) old new why d = releases_refused old t way why new d
+nothing_changed (Restart party) old new why d = restart_refused old party why new d
 
 -- trust only falls
 carry_trusted : (old new : LineValue) (speaker : Speaker) (w : Message) (h : Heard)
@@ -182,6 +189,10 @@ release_trusted old new t FromTerminal k now = sym (ap (λ (l : LineValue). l.tr
 release_trusted old new t (ToTerminal s) k now = sym (ap (λ (l : LineValue). l.trusted) k.becomes)
     ∙ now
 
+restart_trusted : (l : LineValue) (party : Speaker) → (restarted l party).trusted ≡ l.trusted
+restart_trusted l Control = refl
+restart_trusted l (Terminal t) = refl
+
 pub was_trusted : (event : Event) (old new : LineValue) → Does event old (Ok tt) new
     → IsTrue new.trusted → IsTrue old.trusted
 was_trusted (OfferAt t x) old new d now = sym (ap (λ (l : LineValue). l.trusted) d.2) ∙ now
@@ -195,3 +206,5 @@ was_trusted (Ready t ready) old new d now = sym (ap (λ (l : LineValue). l.trust
 was_trusted (UrgentAt t) old new d now = sym (ap (λ (l : LineValue). l.trusted) d.1) ∙ now
 was_trusted (UrgentFor t) old new d now = sym (ap (λ (l : LineValue). l.trusted) d.1) ∙ now
 was_trusted (Release t way) old new d now = release_trusted old new t way d now
+was_trusted (Restart party) old new d now =
+    sym (ap (λ (l : LineValue). l.trusted) d.1 ∙ restart_trusted old party) ∙ now

@@ -289,5 +289,5 @@ selecting_enquired c old addressed hears new s there stations tuned no_bids fres
           no_bids_if_none_with_each c new e (no_other_bids_after_one_hears c old hears new e each.count one
           (λ t less differ. no_bids t less)) answers.0;
       with_pending = rw (one.first) answers.2;
-      fresh = answers.1;
+      fresh = inl answers.1;
     }

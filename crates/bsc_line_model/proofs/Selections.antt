@@ -28,7 +28,14 @@ use Rattle.bsc_control.specs.Table.{Hears, select_address}
 use Rattle.bsc_line_model.specs.declared.transmission.Speaker.TheVariants as sp
 use Rattle.bsc_line_model.specs.declared.error.Stopped.{Stopped}
 use Rattle.bsc_line_model.specs.Transmission.{sent_by}
-use Rattle.bsc_line_model.specs.Line.{LineValue, terminal_at}
+use Rattle.bsc_line_model.specs.Line.{LineValue, terminal_at, terminal_in}
+use Rattle.bsc_line_model.specs.declared.transmission.Transmission.{Transmission}
+use Rattle.bsc_line_model.specs.Together.{IsSelecting, IsSending, InTask}
+use Rattle.bsc_line_model.proofs.LeftAlone.{bid_of_answering_terminal}
+use Rattle.bsc_tributary.specs.declared.mode.Mode.TheVariants.{Receiving}
+use Rattle.bsc_tributary.specs.Tributary.{TributaryValue}
+use Rattle.bsc_control.specs.declared.task.Task.{Task}
+use Rattle.bsc_control.specs.declared.task.Task.TheVariants.{Selecting, Sending}
 use Rattle.bsc_line_model.specs.Carries.{IsCarriedUp}
 use Rattle.bsc_line_model.specs.Rounds.{block_count}
 use Rattle.bsc_control.proofs.Calls.{current_within_peers}
@@ -39,7 +46,7 @@ use Rattle.bsc_line_model.proofs.Staying.{Stays, ControlStays, terminals_same, t
 use Rattle.bsc_line_model.proofs.Staying.{stays_then}
 use Rattle.bsc_line_model.proofs.DownControl.{HasCalled, SendsDown, EndsDown, GoesOnDown}
 use Rattle.bsc_line_model.proofs.DownControl.{begins_bid_down, block_known_after_ack}
-use Rattle.bsc_line_model.proofs.DownSteps.{OneAnswers, text_down_is_acknowledged}
+use Rattle.bsc_line_model.proofs.DownSteps.{OneAnswers, TakesBlocks, text_down_is_acknowledged}
 use Rattle.bsc_line_model.proofs.DownSteps.{selection_call_is_answered}
 use Rattle.bsc_line_model.proofs.OutboundSteps.{selected_outbound_exists, sending_outbound_exists}
 use Rattle.bsc_line_model.proofs.Walking.{IsGood, good_places, Walks, Stepped, one_step}
@@ -111,6 +118,7 @@ pub record Exchanged (e place s n : ℕ) (old new : LineValue) : Type 0 where
   pub sent : Option Message
   pub pending : new.pending ≡ sent_by sp.Control sent
   pub goes_on : GoesOnDown new.control sent place s n
+  pub mode : (terminal_at new e).mode ≡ Receiving s
   pub stays : Stays e (ToTerminal s) old new
 
 -- a text of a bid to a selection address is pending
@@ -119,9 +127,39 @@ pub record SendsBlocks (l : LineValue) (place s n : ℕ) : Type 0 where
   pub pending : l.pending ≡ sent_by sp.Control sent
   pub sends : SendsDown l.control sent place s n
 
+-- how the stations fit together, by the task and what is pending
+together_as : (c : ControlValue) (l : LineValue) (task : Task) (pending : Option Transmission)
+    → IsGood l → l.control ≡ c → c.task ≡ task → l.pending ≡ pending
+    → InTask task pending c l.terminals
+together_as c l task pending g same is waits =
+    subst (λ (o : Option Transmission). InTask task o c l.terminals) waits
+    (subst (λ (z : Task). InTask z l.pending c l.terminals) is
+    (subst (λ (d : ControlValue). InTask d.task l.pending d l.terminals) same g.together))
+
+-- a terminal whose answer is pending receives: in a bid, and after it was selected
+receives_while_answering : (c : ControlValue) (l : LineValue) (s from : ℕ) (w : Message)
+    → IsGood l → l.control ≡ c → c.task ≡ Sending s
+    → l.pending ≡ Some (record { speaker = sp.Terminal from; message = w })
+    → (terminal_at l (current c)).mode ≡ Receiving s
+receives_while_answering c l s from w g same task is =
+    let sending : IsSending (Some (record { speaker = sp.Terminal from; message = w })) c
+    l.terminals s =
+    together_as c l (Sending s) _ g same task is in
+    (bid_of_answering_terminal c l.terminals from w s sending).mode
+
+receives_once_selected : (c : ControlValue) (l : LineValue) (s from : ℕ) → IsGood l
+    → l.control ≡ c → c.task ≡ Selecting s false
+    → l.pending ≡ Some (record { speaker = sp.Terminal from; message = msg.Reply Ack0 })
+    → (terminal_at l (current c)).mode ≡ Receiving s
+receives_once_selected c l s from g same task is =
+    let selecting : IsSelecting
+    (Some (record { speaker = sp.Terminal from; message = msg.Reply Ack0 })) c l.terminals s false =
+    together_as c l (Selecting s false) _ g same task is in
+    selecting.with_pending.1.0.mode
+
 exchange_of_one_block : (laws : VisitLaws) (at m : ℕ) (l new : LineValue) (r : Result (Unit {0}) Stopped)
     (s n : ℕ) → IsGood l → SendsBlocks l l.control.place s n
-    → (terminal_at l (current l.control)).urgent ≡ false → Walks at (suc (suc m)) l r new →
+    → TakesBlocks (terminal_at l (current l.control)) s → Walks at (suc (suc m)) l r new →
     Comes (Exchanged (current l.control) l.control.place s n l) m r new
 exchange_of_one_block laws at m l new r s n g h visit_ready w =
     let c : ControlValue = l.control in
@@ -149,6 +187,12 @@ exchange_of_one_block laws at m l new r s n g h visit_ready w =
     let heard : Hears c (Whole (msg.Reply (ack b.alternation))) two.mid.control up.sent =
     subst (λ (d : ControlValue). Hears d (Whole (msg.Reply (ack b.alternation)))
     two.mid.control up.sent) answered.control up.control in
+    let receives : (terminal_at one.mid e).mode ≡ Receiving s =
+    receives_while_answering c one.mid s e (msg.Reply (ack b.alternation)) one.good answered.control
+    h.sends.in_block.task answered.pending in
+    let still_receives : (terminal_at two.mid e).mode ≡ Receiving s =
+    subst (λ (ts : List TributaryValue). (terminal_in ts e).mode ≡ Receiving s) (sym up.terminals)
+    receives in
     let select : s < length (peer c).outbounds =
     sending_outbound_exists c s g.line.stations.control h.sends.in_block.task in
     let ready : IsOutbound o = outbound_ready l s g select in
@@ -166,6 +210,7 @@ exchange_of_one_block laws at m l new r s n g h visit_ready w =
         sent = up.sent;
         pending = up.pending;
         goes_on = learnt.0;
+        mode = still_receives;
         stays =
             record {
               control = learnt.1;
@@ -180,14 +225,14 @@ exchange_of_one_block laws at m l new r s n g h visit_ready w =
 
 exchange_of_block_at_entry : (laws : VisitLaws) (at m e place : ℕ) (l new : LineValue)
     (r : Result (Unit {0}) Stopped) (s n : ℕ) → IsGood l → current l.control ≡ e → l.control.place
-    ≡ place → SendsBlocks l place s n → (terminal_at l e).urgent ≡ false
+    ≡ place → SendsBlocks l place s n → TakesBlocks (terminal_at l e) s
     → Walks at (suc (suc m)) l r new →
     Comes (Exchanged e place s n l) m r new
 exchange_of_block_at_entry laws at m e place l new r s n g is here h visit_ready w =
     subst (λ (p : ℕ). Comes (Exchanged e p s n l) m r new) here
     (subst (λ (z : ℕ). Comes (Exchanged z l.control.place s n l) m r new) is
     (exchange_of_one_block laws at m l new r s n g (subst (λ (p : ℕ). SendsBlocks l p s n) (sym here) h)
-    (subst (λ (z : ℕ). (terminal_at l z).urgent ≡ false) (sym is) visit_ready) w))
+    (subst (λ (z : ℕ). TakesBlocks (terminal_at l z) s) (sym is) visit_ready) w))
 
 -- a channel that moved before, too
 done_since : (e place s : ℕ) (a b c : LineValue) → Stays e (ToTerminal s) a b
@@ -205,7 +250,7 @@ done_since e place s a b c x y =
 -- n + 1 blocks, two transmissions for each
 pub selection_delivers_all_blocks : (laws : VisitLaws) (n at m count e place : ℕ) (l new : LineValue)
     (r : Result (Unit {0}) Stopped) (s : ℕ) → IsGood l → current l.control ≡ e → l.control.place
-    ≡ place → SendsBlocks l place s n → (terminal_at l e).urgent ≡ false → count ≡ 2 * (n + 1) + m
+    ≡ place → SendsBlocks l place s n → TakesBlocks (terminal_at l e) s → count ≡ 2 * (n + 1) + m
     → Walks at count l r new →
     Comes (IsSelectionDone e place s l) m r new
 selection_delivers_all_blocks laws zero at m count e place l new r s g is here h visit_ready number w =
@@ -242,7 +287,11 @@ selection_delivers_all_blocks laws (suc n) at m count e place l new r s g is her
     (current_of_same_place l.control x.line.control y.stays.control.poll_list (sends.place_is ∙ sym here)
     ∙ is) sends.place_is
     (record { sent = y.sent; pending = y.pending; sends = sends })
-    ((y.stays.terminals.terminals e there).urgent visit_ready) refl x.rest in
+    (record {
+      mode = y.mode;
+      not_urgent =
+          (y.stays.terminals.terminals e there).urgent visit_ready.not_urgent;
+    }) refl x.rest in
     record {
       at = z.at;
       line = z.line;
@@ -288,6 +337,10 @@ selection_delivers_blocks laws n at m count l new r s g h ready visit_ready numb
     begins_bid_down laws.cuts c two.mid.control up.sent s n false
     (current_within_peers c (good_places l g)) select
     h.called.task (outbound_ready l s g select).queue number heard in
+    let receives : (terminal_at two.mid e).mode ≡ Receiving s =
+    subst (λ (ts : List TributaryValue). (terminal_in ts e).mode ≡ Receiving s) (sym up.terminals)
+    (receives_once_selected c one.mid s e one.good answered.control h.called.task answered.pending)
+    in
     let stays : Stays e (ToTerminal s) l two.mid =
     record {
       control = begun.1;
@@ -300,9 +353,12 @@ selection_delivers_blocks laws n at m count l new r s g h ready visit_ready numb
     selection_delivers_all_blocks laws n (at + 1 + 1) m (2 * (n + 1) + m) e c.place two.mid new r s two.good
     (current_of_same_place c two.mid.control begun.1.poll_list begun.0.place_is) begun.0.place_is
     (record { sent = up.sent; pending = up.pending; sends = begun.0 })
-    ((stays.terminals.terminals e
-    (current_terminal_there l.control l.terminals g.line.stations)).urgent visit_ready) refl
-    two.rest in
+    (record {
+      mode = receives;
+      not_urgent =
+          (stays.terminals.terminals e
+          (current_terminal_there l.control l.terminals g.line.stations)).urgent visit_ready;
+    }) refl two.rest in
     record {
       at = z.at;
       line = z.line;

@@ -10,7 +10,7 @@ use Rattle.bsc_frame.specs.declared.message.Heard.TheVariants.{Whole, Failed, No
 use Rattle.bsc_spool.specs.Spool.{SpoolValue}
 use Rattle.bsc_frame.specs.declared.reply.Reply.{Reply}
 use Rattle.bsc_bid.specs.Receiver.{ReceiverStep, Rooms, heard_step}
-use Rattle.bsc_bid.specs.Fair.{IsFairlyHeard, IsTextMessage, IsCallCutShort}
+use Rattle.bsc_bid.specs.Fair.{IsFairlyHeard, IsCallCutShort}
 use Rattle.bsc_bid.specs.Agreement.{Flight, Outward, InBid, IsResting, reply_flight}
 use Rattle.bsc_bid.specs.EachStep.{ReceiverAgrees}
 use Rattle.bsc_tributary.specs.declared.mode.Mode.{Mode}
@@ -30,15 +30,11 @@ use Rattle.bsc_line_model.specs.Line.{terminal_in}
 use Rattle.bsc_line_model.specs.Terminals.{answer_of, EachHears, EachKeeps, or_first, first_answer}
 use Rattle.bsc_line_model.specs.Trust.{EachOf}
 use Rattle.bsc_line_model.specs.Kept.{IsTuned, AreTuned, AreStations}
-use Rattle.bsc_line_model.specs.Together.{HasNoBid, IsInBidDown, FliesDown, IsSending}
+use Rattle.bsc_line_model.specs.Together.{HasNoBid, NoOtherBids, IsInBidDown, IsBidMessage, FliesDown, IsSending}
 use Rattle.bsc_line_model.specs.BidLaws.{BidLaws}
 use Rattle.bsc_line_model.proofs.Stations.{receiving_into}
 
--- a text or ENQ
-abbrev pub IsBidMessage : Message → Type 0
-IsBidMessage w = IsTextMessage w ⊎ (w ≡ m.Enq)
-
--- such a message is not cut short
+-- a text or ENQ is not cut short
 pub never_cut : (w v : Message) → IsBidMessage w → IsCallCutShort w v → ⊥
 never_cut (m.Call z) v (inl b) f = b
 never_cut (m.Call z) v (inr b) f = absurd (cc)
@@ -210,15 +206,14 @@ pub bid_down_continues : (laws : BidLaws) (c : ControlValue) (old : List Tributa
     (addressed : Option (ℕ × Way)) (s : ℕ) (w : Message) (hears : ℕ → Heard)
     (new : List TributaryValue) → current c < length old →
     AreStations c old → AreTuned addressed old
-    → IsSending (Some (record { speaker = sp.Control; message = w })) c old s
-    → EachOf (length old) (λ t. IsFairlyHeard w (hears t)) →
+    → NoOtherBids c old (current c)
+    → IsInBidDown (Some (record { speaker = sp.Control; message = w })) (peer c) (current c) s
+    (terminal_in old (current c)) → EachOf (length old) (λ t. IsFairlyHeard w (hears t)) →
     EachHears old hears new → EachKeeps old hears new
     → IsSending (first_answer old hears new (length old)) c new s
-bid_down_continues laws c old addressed s w hears new there stations tuned sending fair each keeps =
+bid_down_continues laws c old addressed s w hears new there stations tuned others b fair each keeps =
     let e : ℕ = current c in
     let x : TributaryValue = terminal_in old e in
-    let b : IsInBidDown (Some (record { speaker = sp.Control; message = w })) (peer c) e s x =
-    sending.bid in
     let bid : IsBidMessage w =
     laws.outward (outbound_at (peer c) s).sender.phase (outbound_at (peer c) s).queue
     x.receiver.alternation x.receiver.last (spool_at x.spools s).records w
@@ -238,11 +233,11 @@ bid_down_continues laws c old addressed s w hears new there stations tuned sendi
           let before : t < length old = omega (arith, each.count) in
           subst (λ (y : TributaryValue). HasNoBid (peer_at c t) y)
           (sym (one.others t before differ))
-          (sending.others t before differ);
-      bid =
-          subst (λ (q : Option Transmission). IsInBidDown q (peer c) e s (terminal_in new e))
+          (others t before differ);
+      present =
+          inl (subst (λ (q : Option Transmission). IsInBidDown q (peer c) e s (terminal_in new e))
           (sym one.first)
           (receiver_down_heard_text laws (peer c) e s w (hears e) x (terminal_in new e)
           (answer_of old hears new e) into b bid (fair e there) (each.each e there)
-          (keeps e there));
+          (keeps e there)));
     }

@@ -77,21 +77,21 @@ pub record HasActed (c : ControlValue) (ts : List TributaryValue) (s : ℕ) (ste
       (spool_at (terminal_in ts (current c)).spools s).records (sent_flight step.act)
   pub ended : IsEnded step.act step.sender.phase
 
-peer_is : (c : ControlValue) (s : ℕ) (step : SenderStep) → current c < length c.peers
+pub peer_is : (c : ControlValue) (s : ℕ) (step : SenderStep) → current c < length c.peers
     → peer (after_step c s step) ≡ with_outbound (peer c) s (outbound_after step)
 peer_is c s step there =
     get_or-set_same c.peers (current c) (with_outbound (peer c) s (outbound_after step)) no_peer
     there
 
-replaced_outbound : (p : PeerValue) (s : ℕ) (o : OutboundValue) → s < length p.outbounds
+pub replaced_outbound : (p : PeerValue) (s : ℕ) (o : OutboundValue) → s < length p.outbounds
     → outbound_at (with_outbound p s o) s ≡ o
 replaced_outbound p s o there = get_or-set_same p.outbounds s o no_outbound there
 
-other_outbound_kept : (p : PeerValue) (s k : ℕ) (o : OutboundValue) → k ≢ s
+pub other_outbound_kept : (p : PeerValue) (s k : ℕ) (o : OutboundValue) → k ≢ s
     → outbound_at (with_outbound p s o) k ≡ outbound_at p k
 other_outbound_kept p s k o differ = get_or-set_other p.outbounds s k o no_outbound differ
 
-no_other_bids_after_step : (c : ControlValue) (ts : List TributaryValue) (s : ℕ) (step : SenderStep)
+pub no_other_bids_after_step : (c : ControlValue) (ts : List TributaryValue) (s : ℕ) (step : SenderStep)
     → NoOtherBids c ts (current c) → NoOtherBids (after_step c s step) ts (current c)
 no_other_bids_after_step c ts s step no_bids t less differ =
     subst (λ (q : PeerValue). HasNoBid q (terminal_in ts t))
@@ -132,9 +132,9 @@ bid_continues_after_step c ts s step pending f h flies bid =
     } in
     record {
       others = no_other_bids_after_step c ts s step h.others;
-      bid =
-          subst (λ (q : PeerValue). IsInBidDown pending q e s x) (sym (peer_is c s step h.there))
-          made;
+      present =
+          inl (subst (λ (q : PeerValue). IsInBidDown pending q e s x)
+          (sym (peer_is c s step h.there)) made);
     }
 
 -- the bid is over: none is in progress
@@ -236,22 +236,22 @@ going_in_bid (Held end x) q alternation last spooled f i = tt
 -- the sender of the control station made a step in its bid: what the station then does
 pub together_after_sender_step : (laws : BidLaws) (c : ControlValue) (ts : List TributaryValue) (s : ℕ)
     (pending : Option Transmission) (step : SenderStep) (after : After) → AreStations c ts → c.task
-    ≡ Sending s → IsSending pending c ts s →
+    ≡ Sending s → NoOtherBids c ts (current c)
+    → IsInBidDown pending (peer c) (current c) s (terminal_in ts (current c)) →
     SenderAgrees (outbound_at (peer c) s).queue (terminal_in ts (current c)).receiver.alternation
     (terminal_in ts (current c)).receiver.last
     (spool_at (terminal_in ts (current c)).spools s).records step →
     FitsAct step.act (outbound_at (peer c) s).sender.phase step.sender.phase →
     InTask (bid_step c s step after).control.task
     (sent_by sp.Control (bid_step c s step after).sent) (bid_step c s step after).control ts
-together_after_sender_step laws c ts s pending step after stations task sending agrees fits =
-    let b : IsInBidDown pending (peer c) (current c) s (terminal_in ts (current c)) = sending.bid in
+together_after_sender_step laws c ts s pending step after stations task others b agrees fits =
     let suits : IsInBid (peer c) s =
     subst (λ (t : Task). SuitsTask t (peer c)) task stations.control.orderly.suits in
     let there : current c < length c.peers = current_within_peers c (places c stations.control.entries) in
     let has : HasActed c ts s step = record {
       there = there;
       select = suits.there;
-      others = sending.others;
+      others = others;
       mode = b.mode;
       up = b.up;
       down = b.down;
@@ -269,15 +269,14 @@ together_after_sender_step laws c ts s pending step after stations task sending 
 -- the control station hears the terminal's reply, or noise
 pub together_after_reply : (laws : BidLaws) (c : ControlValue) (ts : List TributaryValue) (s t : ℕ)
     (w : Message) (h : Heard) → AreStations c ts → c.task ≡ Sending s
-    → IsSending (Some (record { speaker = sp.Terminal t; message = w })) c ts s → IsFairlyHeard w h
-    →
+    → NoOtherBids c ts (current c)
+    → IsInBidDown (Some (record { speaker = sp.Terminal t; message = w })) (peer c) (current c) s
+    (terminal_in ts (current c)) → IsFairlyHeard w h →
     let step : SenderStep =
     reply_step (outbound_at (peer c) s).sender (outbound_at (peer c) s).queue (reply_in h) in
     let new : ControlStep = bid_step c s step (after_bid s (reply_in h)) in
     InTask new.control.task (sent_by sp.Control new.sent) new.control ts
-together_after_reply laws c ts s t w h stations task sending fair =
-    let b : IsInBidDown (Some (record { speaker = sp.Terminal t; message = w })) (peer c)
-    (current c) s (terminal_in ts (current c)) = sending.bid in
+together_after_reply laws c ts s t w h stations task others b fair =
     let x : TributaryValue = terminal_in ts (current c) in
     let o : OutboundValue = outbound_at (peer c) s in
     let r : Reply = b.flies.1.0 in
@@ -288,21 +287,20 @@ together_after_reply laws c ts s t w h stations task sending fair =
     let heard : IsFairlyHeard (m.Reply r) h =
     subst (λ (v : Message). IsFairlyHeard v h) b.flies.1.1 fair in
     together_after_sender_step laws c ts s (Some (record { speaker = sp.Terminal t; message = w }))
-    (reply_step o.sender o.queue (reply_in h)) (after_bid s (reply_in h)) stations task
-    sending
+    (reply_step o.sender o.queue (reply_in h)) (after_bid s (reply_in h)) stations task others b
     (laws.answering o.sender o.queue x.receiver.alternation x.receiver.last
     (spool_at x.spools s).records (Some r) (Some h) bid heard)
     (laws.fits.reply o.sender o.queue (reply_in h))
 
 -- the control station acts on a silence
 pub times_out_down : (laws : BidLaws) (c : ControlValue) (ts : List TributaryValue) (s : ℕ)
-    → AreStations c ts → c.task ≡ Sending s → IsSending None c ts s →
+    → AreStations c ts → c.task ≡ Sending s → NoOtherBids c ts (current c)
+    → IsInBidDown None (peer c) (current c) s (terminal_in ts (current c)) →
     let step : SenderStep =
     silence_step (outbound_at (peer c) s).sender (outbound_at (peer c) s).queue in
     let new : ControlStep = bid_step c s step (Selection s) in
     InTask new.control.task (sent_by sp.Control new.sent) new.control ts
-times_out_down laws c ts s stations task sending =
-    let b : IsInBidDown None (peer c) (current c) s (terminal_in ts (current c)) = sending.bid in
+times_out_down laws c ts s stations task others b =
     let x : TributaryValue = terminal_in ts (current c) in
     let o : OutboundValue = outbound_at (peer c) s in
     let bid : InBid o.sender.phase o.queue x.receiver.alternation x.receiver.last
@@ -310,7 +308,7 @@ times_out_down laws c ts s stations task sending =
     subst (λ (f : Flight). InBid o.sender.phase o.queue x.receiver.alternation x.receiver.last
     (spool_at x.spools s).records f) b.flies b.bid in
     together_after_sender_step laws c ts s None (silence_step o.sender o.queue) (Selection s) stations task
-    sending
+    others b
     (laws.silence o.sender o.queue x.receiver.alternation x.receiver.last
     (spool_at x.spools s).records (laws.continues o.sender.phase o.queue x.receiver.alternation
     x.receiver.last (spool_at x.spools s).records Still bid))

@@ -9,7 +9,7 @@ use Rattle.bsc_bid.specs.Sender.{SenderStep, silence_step}
 use Rattle.bsc_bid.specs.Agreement.{Flight, Still, InBid}
 use Rattle.bsc_bid.specs.EachStep.{SenderAgrees}
 use Rattle.bsc_tributary.specs.declared.mode.Mode.{Mode}
-use Rattle.bsc_tributary.specs.declared.mode.Mode.TheVariants.{Control, Receiving, Sending as Sends}
+use Rattle.bsc_tributary.specs.declared.mode.Mode.TheVariants.{Control, Sending as Sends}
 use Rattle.bsc_tributary.specs.Tributary.{TributaryValue, TributaryStep}
 use Rattle.bsc_tributary.specs.Tributary.{silence_in as terminal_silence, act_step}
 use Rattle.bsc_tributary.specs.Tributary.{ActsOnSilence as TerminalActs}
@@ -28,17 +28,19 @@ use Rattle.bsc_line_model.specs.declared.transmission.Speaker.TheVariants as sp
 use Rattle.bsc_line_model.specs.Transmission.{sent_by}
 use Rattle.bsc_line_model.specs.Line.{terminal_in, no_terminal}
 use Rattle.bsc_line_model.specs.Kept.{IsTuned, AreTuned, AreStations}
-use Rattle.bsc_line_model.specs.Together.{HasNoBid, NoBids, NoOtherBids, AllInControlMode}
+use Rattle.bsc_line_model.specs.Together.{Rests, HasNoBid, NoBids, NoOtherBids, AllInControlMode}
 use Rattle.bsc_line_model.specs.Together.{IsSelecting, IsPolling, IsInBidUp, IsPolledWith, InTask}
 use Rattle.bsc_line_model.specs.BidLaws.{BidLaws}
 use Rattle.bsc_control.proofs.Calls.{places, current_within_peers}
-use Rattle.bsc_line_model.proofs.Stations.{same_or_not, current_terminal_there}
+use Rattle.bsc_line_model.proofs.Stations.{same_or_not, one_changed, current_terminal_there}
 use Rattle.bsc_line_model.proofs.Calling.{no_bids_after_poll_call}
 use Rattle.bsc_line_model.proofs.SendingDown.{others_in_control}
 use Rattle.bsc_line_model.proofs.SendingUp.{keeps_going, going_in_bid, times_out_down}
 use Rattle.bsc_line_model.proofs.ActingUp.{HasActedUp, bid_up_after_act, present_terminal_after_act}
 use Rattle.bsc_line_model.proofs.CallsHeard.{no_bids_if_none_with_each}
 use Rattle.bsc_line_model.proofs.AnswersHeard.{StepsTo, together_after_next_call}
+use Rattle.bsc_line_model.proofs.LeftAlone.{times_out_alone, never_sends_in_bid_down}
+use Rattle.bsc_line_model.specs.Transmission.{speaker_of}
 
 -- a selection is called again, or given up after too many tries
 selects_again : (c : ControlValue) (ts : List TributaryValue) (s : ℕ) (enquired over : Bool)
@@ -96,11 +98,22 @@ silent_control laws c d ts out stations nobody together row = by_task c.task ref
 
     by_task : (task : Task) → c.task ≡ task → InTask task None c ts
         → InTask d.task (sent_by sp.Control out) d ts
-    by_task AtRest is k = by_row AtRest is (together_after_next_call c ts Start stations k.no_bids)
+    by_task AtRest is k =
+        by_row AtRest is (together_after_next_call c ts Start stations
+        (λ t less. record {
+          mode = nobody t less;
+          up = (k.rests t less).up;
+          down = (k.rests t less).down;
+        }))
     by_task (Selecting s enquired) is k =
         by_row (Selecting s enquired) is (selects_again c ts s enquired
         (nat_lt c.setup.tries (c.failures + 1)) stations is k)
-    by_task (Sending s) is k = by_row (Sending s) is (times_out_down laws c ts s stations is k)
+    by_task (Sending s) is k =
+        by_row (Sending s) is
+        (elim k.present [
+          | inl b ↦ times_out_down laws c ts s stations is k.others b
+          | inr left ↦ times_out_alone laws c ts s stations is k.others left
+        ])
     by_task (Polling Nothing) is k =
         by_row (Polling Nothing) is (polls_again c ts (nat_lt c.setup.tries (c.failures + 1))
         stations (no_bids Nothing k))
@@ -169,6 +182,24 @@ times_out_up laws c ts addressed u out replied there tuned others b row =
           (present_terminal_after_act p e u out replied us acted modes);
     }
 
+-- a terminal that sends acts on a silence while the control station is at rest
+acts_up_at_rest : (laws : BidLaws) (p : PeerValue) (x u : TributaryValue) (out : Option Message)
+    → x.mode ≡ Sends → Rests p x → TerminalActs x u out → Rests p u
+acts_up_at_rest laws p x u out sends rests row =
+    let becomes : record { tributary = u; sent = out }
+    ≡ act_step x (silence_step x.sender x.queue) = row
+    ∙ ap (λ (n : Mode). terminal_silence x n) sends in
+    subst (λ (o : TributaryStep). Rests p o.tributary) (sym becomes)
+    (record {
+      up = laws.silence_at_rest x.sender x.queue p.spool.records rests.up;
+      down = rests.down;
+    })
+
+not_from_control : (t : ℕ) (out : Option Message)
+    → speaker_of (sent_by (sp.Terminal t) out) ≢ Some sp.Control
+not_from_control t None is = cc
+not_from_control t (Some w) is = cc
+
 pub silent_terminal : (laws : BidLaws) (c : ControlValue) (ts : List TributaryValue)
     (addressed : Option (ℕ × Way)) (t : ℕ) (u : TributaryValue) (out : Option Message)
     → AreStations c ts → t < length ts → AreTuned addressed ts → (terminal_in ts t).mode ≡ Sends
@@ -183,12 +214,19 @@ silent_terminal laws c ts addressed t u out stations less tuned sends together r
 
     by_task : (task : Task) → InTask task None c ts
         → InTask task (sent_by (sp.Terminal t) out) c (slice_set ts t u)
-    by_task AtRest k = absurd ((k.no_bids t less).mode sends)
+    by_task AtRest k =
+        record {
+          silent = not_from_control t out;
+          rests =
+              one_changed (λ n y. Rests (peer_at c n) y) ts t u less
+              (acts_up_at_rest laws (peer_at c t) (terminal_in ts t) u out sends (k.rests t less)
+              row) k.rests;
+        }
     by_task (Selecting s enquired) k = absurd ((k.no_bids t less).mode sends)
     by_task (Sending s) k =
         elim (same_or_not t (current c)) [
-          | inl same ↦ (let both : Receiving s ≡ Sends = sym k.bid.mode
-              ∙ ap (λ (n : ℕ). (terminal_in ts n).mode) (sym same) ∙ sends in absurd (cc))
+          | inl same ↦ absurd (never_sends_in_bid_down None c ts s k.present
+              (ap (λ (n : ℕ). (terminal_in ts n).mode) (sym same) ∙ sends) there)
           | inr differ ↦ absurd ((k.others t less differ).mode sends)
         ]
     by_task (Polling replied) k =

@@ -40,6 +40,7 @@ use Rattle.bsc_line_model.specs.BidLaws.{BidLaws}
 use Rattle.bsc_control.proofs.Calls.{places, current_within_peers}
 use Rattle.bsc_line_model.proofs.OutboundSteps.{LearnsDown, outbound_queue}
 use Rattle.bsc_line_model.proofs.DownMoves.{text_sent, if_lands, if_learns}
+use Rattle.bsc_line_model.proofs.LeftAlone.{bid_of_answering_terminal}
 use Rattle.bsc_line_model.proofs.Moving.{MovesIfAddressed, EachMoves}
 
 -- the control station of a line hears a terminal's message
@@ -198,7 +199,7 @@ up_moves_to laws old new from w h t s k =
         subst (λ (z : Task). InTask z (Some (record { speaker = sp.Terminal from; message = w })) c
         old.terminals) l.task (together_up old new from w h k) in
         let b : IsInBidDown (Some (record { speaker = sp.Terminal from; message = w })) (peer c) e s
-        x = sending.bid in
+        x = bid_of_answering_terminal c old.terminals from w s sending in
         let r : Reply = b.flies.1.0 in
         let bid : InBid o.sender.phase o.queue x.receiver.alternation x.receiver.last spooled
         (Back r) =

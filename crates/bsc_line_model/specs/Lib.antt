@@ -19,3 +19,4 @@ pub mod Octets
 pub mod Rounds
 pub mod TurnedBits
 pub mod Examples
+pub mod RestartExamples

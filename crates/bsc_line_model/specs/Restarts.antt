@@ -1,5 +1,5 @@
 -- What it does to a line that a station begins again.
-use Rattle.std.specs.Prelude.{◌≡◌, ◌<◌, ◌≤◌, ℕ, nat_eq, Bool, true, false, Option, None, Some}
+use Rattle.std.specs.Prelude.{◌≡◌, ◌<◌, ◌≤◌, nat_eq, Bool, true, false, Option, None, Some}
 use Rattle.std.specs.Prelude.{Result, Ok, Err, if◌then◌else◌}
 use Rattle.bsc_tributary.specs.Tributary.{restarted as restarted_tributary}
 use Rattle.bsc_control.specs.Control.{restarted as restarted_control}

@@ -6,20 +6,22 @@ use Rattle.bsc_spool.specs.Queue.{with_offered}
 use Rattle.bsc_bid.specs.Setup.{SetupValue}
 use Rattle.bsc_bid.specs.Terminal.{TerminalValue}
 use Rattle.bsc_tributary.specs.Tributary.{TributaryValue, after_release}
+use Rattle.bsc_tributary.specs.Tributary.{restarted as restarted_tributary}
 use Rattle.bsc_tributary.specs.Kept.{IsTributary, KeepsSetupAndMode}
 use Rattle.bsc_control.specs.Control.{ControlValue, peer_at, with_peer}
+use Rattle.bsc_control.specs.Control.{restarted as restarted_control}
 use Rattle.bsc_control.specs.Peer.{offered_to, with_outbound, outbound_released}
 use Rattle.bsc_control.specs.Kept.{IsControl, outbound_of}
 use Rattle.bsc_line_model.specs.declared.transmission.Speaker.{Speaker}
-use Rattle.bsc_line_model.specs.declared.transmission.Speaker.TheVariants.{Control}
+use Rattle.bsc_line_model.specs.declared.transmission.Speaker.TheVariants.{Control, Terminal}
 use Rattle.bsc_line_model.specs.declared.transmission.Transmission.{Transmission}
 use Rattle.bsc_line_model.specs.Line.{LineValue, terminal_at, terminal_count, with_terminal}
 use Rattle.bsc_line_model.specs.Line.{with_control}
 use Rattle.bsc_line_model.specs.Carries.{IsCarriedDown, IsCarriedUp}
 use Rattle.bsc_line_model.specs.Offers.{full_length, select_count, count_from, count_to}
 use Rattle.bsc_line_model.specs.Runs.{PassesSilence}
-use Rattle.bsc_line_model.specs.Restarts.{IsParty, with_restarted, restarted}
-use Rattle.bsc_line_model.specs.Kept.{IsLine, IsNewLine, AreStations}
+use Rattle.bsc_line_model.specs.Restarts.{IsParty, restarted}
+use Rattle.bsc_line_model.specs.Kept.{IsLine, IsNewLine}
 
 -- a new line keeps the invariant
 abbrev pub NewLineStays : Type 0
@@ -97,9 +99,13 @@ ReleaseToStays =
     c ≡ with_peer l.control t (with_outbound (peer_at l.control t) s
     (outbound_released (outbound_of l.control t s) (count_to l t s))) → IsLine (with_control l c)
 
+-- the station is one of its type once it began again
+abbrev pub IsStationAgain : LineValue → Speaker → Type 0
+IsStationAgain l Control = IsControl (restarted_control l.control)
+IsStationAgain l (Terminal t) = IsTributary (restarted_tributary (terminal_at l t))
+
 -- a station begins again
 abbrev pub RestartStays : Type 0
 RestartStays =
-    (l : LineValue) (party : Speaker) → IsLine l → IsParty l party →
-    AreStations (with_restarted l party).control (with_restarted l party).terminals →
+    (l : LineValue) (party : Speaker) → IsLine l → IsParty l party → IsStationAgain l party →
     IsLine (restarted l party)

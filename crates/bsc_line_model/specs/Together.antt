@@ -9,6 +9,7 @@ use Rattle.bsc_frame.specs.declared.reply.Reply.{Reply}
 use Rattle.bsc_frame.specs.declared.reply.Reply.TheVariants.{Ack0, Nak, Wack}
 use Rattle.bsc_bid.specs.Agreement.{Flight, Still, Outward, Back, InBid, IsResting}
 use Rattle.bsc_bid.specs.Channel.{IsSound}
+use Rattle.bsc_bid.specs.Fair.{IsTextMessage}
 use Rattle.bsc_tributary.specs.declared.mode.Mode.TheVariants as mode
 use Rattle.bsc_tributary.specs.Tributary.{TributaryValue, spool_at}
 use Rattle.bsc_control.specs.declared.task.Task.{Task}
@@ -132,17 +133,15 @@ pub record IsInBidDown (pending : Option Transmission) (p : PeerValue) (e s : �
   pub bid : InBid (outbound_at p s).sender.phase (outbound_at p s).queue x.receiver.alternation
       x.receiver.last (spool_at x.spools s).records flight
 
--- what the control station sends in a bid
-abbrev pub IsSentInBid : Message → Type 0
-IsSentInBid (m.Text t) = Unit {0}
-IsSentInBid m.Enq = Unit {0}
-IsSentInBid _ = ⊥
+-- what a sender sends in a bid: a text or ENQ
+abbrev pub IsBidMessage : Message → Type 0
+IsBidMessage w = IsTextMessage w ⊎ (w ≡ m.Enq)
 
 -- what may be pending after the other end of a bid of the control station began again: nothing, or
 -- a transmission of the control station, which nobody answers
 abbrev pub IsUnheard : Option Transmission → Type 0
 IsUnheard None = Unit {0}
-IsUnheard (Some sent) = (sent.speaker ≡ Control) × IsSentInBid sent.message
+IsUnheard (Some sent) = (sent.speaker ≡ Control) × IsBidMessage sent.message
 
 -- the terminal to which the control station sends began again: it is in control mode, as all others
 -- are, and takes no part in the bid any more
@@ -163,8 +162,8 @@ pub record IsInBidUp (pending : Option Transmission) (p : PeerValue) (e : ℕ) (
       p.spool.records flight
 
 -- the message that is pending in a poll in which no bid is in progress: the call, if no reply was
--- sent; a reply to a terminal that began again since, if all are in control mode; or EOT, if all are
--- in control mode
+-- sent; a reply to a terminal that began again since, if all are in control mode; or EOT, if all
+-- are in control mode
 abbrev pub IsPolledBy : Speaker → Message → Replied → PeerValue → ℕ → List TributaryValue → Type 0
 IsPolledBy Control w replied p e ts =
     ((w ≡ m.Call p.terminal.poll) × (replied ≡ Nothing))

@@ -6,7 +6,7 @@ ghost use Rattle.bsc_line_model.specs.Line.{LineValue};
 ghost use Rattle.bsc_line_model.specs.Stays.{NewLineStays, DownStays, UpStays, SilenceStays};
 ghost use Rattle.bsc_line_model.specs.Stays.{OfferAtStays, ReadyStays, UrgentAtStays};
 ghost use Rattle.bsc_line_model.specs.Stays.{ReleaseFromStays, OfferForStays, UrgentForStays};
-ghost use Rattle.bsc_line_model.specs.Stays.{ReleaseToStays};
+ghost use Rattle.bsc_line_model.specs.Stays.{ReleaseToStays, RestartStays};
 ghost use Rattle.bsc_line_model.specs.EveryRun.{RunsKeepLine};
 ghost use Rattle.bsc_line_model.specs.StepLaws.{EachStepsChannels, EachEventSteps, GrowsByOffers};
 ghost use Rattle.bsc_line_model.specs.StepLaws.{RefusedChangesNothing, TrustOnlyFalls};
@@ -17,6 +17,9 @@ ghost use Rattle.bsc_line_model.specs.Examples.{FirstLands, NoDoubleLands, NoGap
 ghost use Rattle.bsc_line_model.specs.Examples.{NoOtherLands, NoTwoMove, NoDoubleArrives};
 ghost use Rattle.bsc_line_model.specs.Examples.{NoGapArrives, NoOtherArrives, NoneIsKnownEarly};
 ghost use Rattle.bsc_line_model.specs.Examples.{NoneReachesOther, VisitBegins};
+ghost use Rattle.bsc_line_model.specs.RestartExamples.{RestartDoubts, DoubtIsRight};
+ghost use Rattle.bsc_line_model.specs.RestartExamples.{NoDoubtIsForgotten, NoBlockIsSentAgain};
+ghost use Rattle.bsc_line_model.specs.RestartExamples.{NoTextIsHeardLate};
 ghost use Rattle.bsc_line_model.specs.Headline.{RunsKeepRecords};
 ghost use Rattle.bsc_line_model.specs.Octets.{AllFairInOctets, FairInOctets};
 ghost use Rattle.bsc_line_model.specs.Rounds.{RunsDeliverVisit, RunsDeliverRound, SeesLast};
@@ -30,7 +33,7 @@ use bsc_block::laws::cut_into_blocks;
 use bsc_frame::laws::{one_bit, one_reading, reading};
 use bsc_tributary::laws::own_addresses;
 
-/// Every event leaves a line that keeps its invariant.
+/// Every event leaves a line that keeps its invariant, also one by which a station begins again.
 pub fn each_event()
     ensures new_line { NewLineStays }
     ensures down { DownStays }
@@ -43,6 +46,7 @@ pub fn each_event()
     ensures offer_for { OfferForStays }
     ensures urgent_for { UrgentForStays }
     ensures release_to { ReleaseToStays }
+    ensures restart { RestartStays }
 {
     own_addresses();
     bid_laws();
@@ -86,8 +90,9 @@ pub fn every_run()
     ensures { RunsKeepLine }
 {}
 
-/// On a trusted line, a terminal holds the line only while the control station polls it, and no
-/// release is refused with `CountMismatch`.
+/// On a trusted line, a terminal holds the line only while the control station polls it, or while
+/// the control station has made no call since it began again; and no release is refused with
+/// `CountMismatch`.
 pub fn line_holder()
     ensures holder { HoldsWhilePolled }
     ensures count { NeverMismatches }
@@ -140,10 +145,10 @@ pub fn new_channels()
     ensures { NewChannelsAreEmpty }
 {}
 
-/// The main promise of a line. If the line is still trusted, whatever its events were, the records
-/// that arrived on each channel are the first of those that were offered on it, in order and each
-/// once; the sending end counts none as delivered that did not arrive; and no record reaches a
-/// terminal that is not addressed.
+/// The main promise of a line. If the line is still trusted, whatever its events were and whichever
+/// stations began again, the records that arrived on each channel are the first of those that were
+/// offered on it, in order and each once; the sending end counts none as delivered that did not
+/// arrive; and no record reaches a terminal that is not addressed.
 pub fn headline()
     ensures { RunsKeepRecords }
 {
@@ -191,6 +196,18 @@ pub fn wrong_arrivals()
     ensures other_arrives { NoOtherArrives }
     ensures known_early { NoneIsKnownEarly }
     ensures reaches_other { NoneReachesOther }
+{}
+
+/// What a station must not do as it begins again, shown on values. A terminal begins again with its
+/// text pending: it is in doubt, and the text is lost. One that forgot its doubt would count records
+/// wrongly, and one that sent its unanswered block again would double them. So would one whose text
+/// stayed pending, once its doubt is released with the count of before.
+pub fn wrong_restarts()
+    ensures doubts { RestartDoubts }
+    ensures right { DoubtIsRight }
+    ensures forgets { NoDoubtIsForgotten }
+    ensures sends_again { NoBlockIsSentAgain }
+    ensures heard_late { NoTextIsHeardLate }
 {}
 
 /// There is a line on which a visit of the first entry begins, and so a round.

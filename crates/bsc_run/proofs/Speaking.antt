@@ -1,7 +1,7 @@
 -- An accepted event keeps the number of terminals, and the sender of the pending transmission after
 -- it belongs to the line.
 use Rattle.std.proofs.Common.{◌≡◌, ◌≤◌, ℕ, zero, suc, List, length, Option, None, Some, Ok, sym}
-use Rattle.std.proofs.Common.{◌∙◌, ap, subst, arith}
+use Rattle.std.proofs.Common.{◌∙◌, ap, subst, arith, Bool, true, false, if◌then◌else◌}
 use Rattle.std.proofs.lemmas.List.{length-set}
 use Rattle.bsc_frame.specs.declared.message.Message.{Message}
 use Rattle.bsc_frame.specs.declared.message.Heard.{Heard}
@@ -17,13 +17,14 @@ use Rattle.bsc_line_model.specs.declared.event.Event.{Event}
 use Rattle.bsc_line_model.specs.declared.event.Event.TheVariants.{OfferAt, OfferFor, Carry}
 use Rattle.bsc_line_model.specs.declared.event.Event.TheVariants.{CarryEach, CarrySent, Silence}
 use Rattle.bsc_line_model.specs.declared.event.Event.TheVariants.{Ready, UrgentAt, UrgentFor}
-use Rattle.bsc_line_model.specs.declared.event.Event.TheVariants.{Release}
+use Rattle.bsc_line_model.specs.declared.event.Event.TheVariants.{Release, Restart}
 use Rattle.bsc_line_model.specs.Line.{LineValue, terminal_count, terminal_at}
 use Rattle.bsc_line_model.specs.Transmission.{sent_by}
 use Rattle.bsc_line_model.specs.Hearing.{heard_at}
 use Rattle.bsc_line_model.specs.Terminals.{or_first, first_answer, answer_of, line_owner}
 use Rattle.bsc_line_model.specs.Carries.{IsCarriedBy, OwnerActs}
 use Rattle.bsc_line_model.specs.Offers.{ReleasesWay}
+use Rattle.bsc_line_model.specs.Restarts.{is_same_party, pending_without}
 use Rattle.bsc_line_model.specs.Kept.{IsLine, IsNewLine}
 use Rattle.bsc_line_model.specs.Runs.{Does}
 use Rattle.bsc_run.specs.Crossing.{connection_count}
@@ -58,6 +59,9 @@ count_kept (Ready t ready) old new d = ap terminal_count d.1 ∙ length-set old.
 count_kept (UrgentAt t) old new d = ap terminal_count d.1 ∙ length-set old.terminals t _
 count_kept (UrgentFor t) old new d = ap terminal_count d.1
 count_kept (Release t way) old new d = release_count old t way new d
+count_kept (Restart Control) old new d = ap terminal_count d.1
+count_kept (Restart (Terminal t)) old new d =
+    ap terminal_count d.1 ∙ length-set old.terminals t _
 
 -- the sender belongs to the line
 or_first_there : (l : LineValue) (a b : Option Transmission) → IsSpeakerThere l a
@@ -105,6 +109,15 @@ release_there : (old : LineValue) (t : ℕ) (way : Way) (new : LineValue)
 release_there old t FromTerminal new r = ap (λ (l : LineValue). l.pending) r.becomes
 release_there old t (ToTerminal s) new r = ap (λ (l : LineValue). l.pending) r.becomes
 
+pending_there : (l : LineValue) (party : Speaker) (p : Option Transmission) → IsSpeakerThere l p
+    → IsSpeakerThere l (pending_without party p)
+pending_there l party None h = h
+pending_there l party (Some sent) h = unless_same (is_same_party party sent.speaker)
+  where
+    unless_same : (same : Bool) → IsSpeakerThere l (if same then None else Some sent)
+    unless_same true = tt
+    unless_same false = h
+
 speaker_there : (e : Event) (old new : LineValue) → Does e old (Ok tt) new
     → IsSpeakerThere old old.pending → IsSpeakerThere old new.pending
 speaker_there (OfferAt t codes) old new d h =
@@ -127,6 +140,9 @@ speaker_there (UrgentFor t) old new d h =
     there_by old new.pending old.pending (ap (λ (l : LineValue). l.pending) d.1) h
 speaker_there (Release t way) old new d h =
     there_by old new.pending old.pending (release_there old t way new d) h
+speaker_there (Restart party) old new d h =
+    there_by old new.pending (pending_without party old.pending)
+    (ap (λ (l : LineValue). l.pending) d.1) (pending_there old party old.pending h)
 
 -- a line with the same number of terminals has the same stations
 station_moved : (old new : LineValue) (s : Speaker) → terminal_count new ≡ terminal_count old

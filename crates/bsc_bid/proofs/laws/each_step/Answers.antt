@@ -1,7 +1,8 @@
 -- What each step of a bid keeps, from the lemmas about its steps and the laws of blocks and queues.
 use Rattle.bsc_bid.proofs.Steps.{hearing_agrees, answering_agrees, silence_agrees}
 use Rattle.bsc_bid.proofs.Steps.{begin_agrees, offer_agrees, offer_keeps_rest}
-use Rattle.bsc_bid.proofs.Steps.{release_keeps_rest, agreement_is_sound, loss_agrees}
+use Rattle.bsc_bid.proofs.Steps.{release_keeps_rest, silence_keeps_rest, restart_keeps_rest}
+use Rattle.bsc_bid.proofs.Steps.{agreement_rests, agreement_is_sound, loss_agrees}
 use Rattle.bsc_bid.proofs.Steps.{outward_is_text_or_enq, reply_is_last}
 use Rattle.bsc_bid.proofs.Fitting.{fits_begin, fits_reply, fits_silence}
 use Rattle.bsc_bid.proofs.Keeping.{keeps_begin, keeps_reply, keeps_silence}
@@ -37,6 +38,15 @@ returns-clause-offer_at_rest c = offer_keeps_rest (laws_of_calls_below c)
 
 pub returns-clause-release : goal.returns-clause-release
 returns-clause-release c = release_keeps_rest
+
+pub returns-clause-silence_at_rest : goal.returns-clause-silence_at_rest
+returns-clause-silence_at_rest c = silence_keeps_rest
+
+pub returns-clause-restart : goal.returns-clause-restart
+returns-clause-restart c = restart_keeps_rest
+
+pub returns-clause-rests : goal.returns-clause-rests
+returns-clause-rests c = agreement_rests
 
 pub returns-clause-sound : goal.returns-clause-sound
 returns-clause-sound c = agreement_is_sound

@@ -4,6 +4,7 @@ use Rattle.bsc_line_model.proofs.EachEvent.{setups_kept_by_carry_up, silence_sta
 use Rattle.bsc_line_model.proofs.EachEvent.{offer_at_stays, ready_stays, urgent_at_stays}
 use Rattle.bsc_line_model.proofs.EachEvent.{release_from_stays, offer_for_stays, urgent_for_stays}
 use Rattle.bsc_line_model.proofs.EachEvent.{release_to_stays}
+use Rattle.bsc_line_model.proofs.TerminalRestarts.{restart_stays}
 use Rattle.bsc_line_model.proofs.laws.each_event.Goals as goal
 
 pub returns-clause-new_line : goal.returns-clause-new_line
@@ -45,3 +46,6 @@ returns-clause-urgent_for c = urgent_for_stays
 
 pub returns-clause-release_to : goal.returns-clause-release_to
 returns-clause-release_to c = release_to_stays c.bid_laws.ensures
+
+pub returns-clause-restart : goal.returns-clause-restart
+returns-clause-restart c = restart_stays c.bid_laws.ensures
