@@ -122,6 +122,13 @@ impl Sender {
         }
     }
 
+    /// Its station begins again.
+    pub fn restart(&mut self) {
+        self.cut_off();
+        self.tries = 0;
+        self.waits = 0;
+    }
+
     /// Ends the doubt by the other end's count.
     pub fn release(&mut self, count: usize) -> Result<(), ReleaseError> {
         let Phase::InDoubt { count: doubtful } = self.phase else {

@@ -74,6 +74,21 @@ impl Control {
         self.peers[terminal].urgent = true;
     }
 
+    /// Begins again with its records and its doubts.
+    pub fn restart(&mut self) {
+        self.place = 0;
+        self.task = Task::AtRest;
+        self.tries = 0;
+        self.waits = 0;
+        for peer in &mut self.peers {
+            peer.urgent = false;
+            peer.receiver = Receiver::new();
+            for outbound in &mut peer.outbounds {
+                outbound.sender.restart();
+            }
+        }
+    }
+
     /// Hears a transmission, and gives what it sends.
     pub fn hear(&mut self, heard: &Heard) -> Option<Message> {
         match self.task {

@@ -211,6 +211,18 @@ impl Line {
         Ok(())
     }
 
+    /// A station begins again; what it sent and nobody heard is lost.
+    pub fn restart(&mut self, party: Speaker) -> Result<(), LineError> {
+        match party {
+            Speaker::Control => self.control.restart(),
+            Speaker::Terminal(terminal) => self.terminal(terminal)?.restart(),
+        }
+        if self.sent.as_ref().is_some_and(|(speaker, _)| *speaker == party) {
+            self.sent = None;
+        }
+        Ok(())
+    }
+
     /// Ends a doubt by the count of the other end's spool.
     pub fn release(&mut self, terminal: usize, way: Way) -> Result<(), LineError> {
         self.terminal(terminal)?;

@@ -123,6 +123,7 @@ impl Script {
                 self.line.release(terminal, way)
             }
             6 if self.random.one_in(8) => self.any_turn(),
+            7 if self.random.one_in(4) => self.restart(terminal),
             _ => self.turn(),
         }
     }
@@ -163,6 +164,16 @@ impl Script {
             1 => self.line.set_urgent_at(terminal),
             _ => self.line.set_urgent_for(terminal),
         }
+    }
+
+    /// The control station or this terminal begins again.
+    fn restart(&mut self, terminal: usize) -> Result<(), LineError> {
+        let party = if self.random.one_in(3) {
+            Speaker::Control
+        } else {
+            Speaker::Terminal(terminal)
+        };
+        self.line.restart(party)
     }
 
     /// What is pending is carried or lost, or a silence passes, also at a wrong time.

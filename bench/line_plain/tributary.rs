@@ -50,6 +50,15 @@ impl Tributary {
         self.urgent = true;
     }
 
+    /// Begins again with its records and its doubt.
+    pub fn restart(&mut self) {
+        self.mode = Mode::Control;
+        self.ready = true;
+        self.urgent = false;
+        self.sender.restart();
+        self.receiver = Receiver::new();
+    }
+
     pub fn spool(&self, select: usize) -> &Spool {
         &self.spools[select]
     }

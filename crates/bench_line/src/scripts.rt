@@ -131,6 +131,13 @@ impl Script {
                     self.turn()
                 }
             }
+            7 => {
+                if self.random.one_in(4) {
+                    Ok(self.restart(terminal))
+                } else {
+                    self.turn()
+                }
+            }
             _ => self.turn(),
         }
     }
@@ -190,6 +197,16 @@ impl Script {
             Way::ToTerminal(select)
         };
         self.line.release(terminal, way)
+    }
+
+    /// The control station or this terminal begins again.
+    fn restart(&mut self, terminal: usize) -> Result<(), LineError> {
+        let party = if self.random.one_in(3) {
+            Speaker::Control
+        } else {
+            Speaker::Terminal(terminal)
+        };
+        self.line.restart(party)
     }
 
     /// What is pending is carried or lost, or a silence passes, even if the line has to refuse it.
