@@ -2,8 +2,10 @@
 //! doubt is released.
 
 use crate::channels::Has::{Delivered, InDoubt, Waiting};
-use crate::events::{HI, NONE, OFFER_AT, OFFER_FOR, RELEASE_FROM, RELEASE_TO, URGENT_AT};
-use crate::events::{RESTART_CONTROL, RESTART_FIRST, RESTART_SECOND, URGENT_FOR};
+use crate::events::{
+    HI, NONE, OFFER_AT, OFFER_FOR, RELEASE_FROM, RELEASE_TO, RESTART_CONTROL, RESTART_FIRST,
+    RESTART_SECOND, URGENT_AT, URGENT_FOR,
+};
 use crate::fixtures::{TWO, TWO_WITH_ONE_TRY};
 use crate::play::Then::{Done, Quiet, Refused, Sent};
 use crate::play::{Exchange, Left, Part, passes_each};
@@ -158,10 +160,7 @@ const SELECTED_RELEASED: Part<'static> = Part {
     steps: &[
         (RELEASE_TO, Done),
         (RELEASE_TO, Refused(LineError::NotInDoubt)),
-        (
-            Silence,
-            Sent(&[(Control, CALL_POLL_A), (Terminal(0), EOT)]),
-        ),
+        (Silence, Sent(&[(Control, CALL_POLL_A), (Terminal(0), EOT)])),
     ],
     trusted: true,
     left: &[(0, ToTerminal(0), Delivered(HI))],
