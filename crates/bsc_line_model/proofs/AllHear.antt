@@ -25,7 +25,7 @@ use Rattle.bsc_line_model.specs.BidLaws.{BidLaws}
 use Rattle.bsc_line_model.proofs.Stations.{current_terminal_there}
 use Rattle.bsc_line_model.proofs.Tuning.{NamesOwn, each_fairly}
 use Rattle.bsc_line_model.proofs.SendingDown.{bid_down_continues}
-use Rattle.bsc_line_model.proofs.LeftAlone.{left_alone_unheard, selecting_unheard, polling_unheard}
+use Rattle.bsc_line_model.proofs.UnheardBids.{text_unheard, selecting_unheard, polling_unheard}
 use Rattle.bsc_line_model.proofs.CallsHeard.{selecting_heard}
 use Rattle.bsc_line_model.proofs.CallsMissed.{selecting_missed, polling_missed}
 use Rattle.bsc_line_model.proofs.CallsHeard.{polling_heard, no_bids_if_none_with_each}
@@ -89,7 +89,7 @@ together_after_hearing_control names laws c old before after w hears new station
               bid_down_continues laws c old before s w hears new there stations tuned k.others b
               (each_fairly w (length old) hears (bid_no_call w bid) fair) each keeps)
           | inr left ↦
-              left_alone_unheard c old s w hears new there left.unheard.1 k.others left.modes
+              text_unheard c old s w hears new there left.unheard.1 k.others left.modes
               left.rests
               (each_fairly w (length old) hears (bid_no_call w left.unheard.1) fair) each keeps
         ]

@@ -30,7 +30,7 @@ use Rattle.bsc_line_model.specs.StepLaws.{IsPolled}
 use Rattle.bsc_line_model.specs.BidLaws.{BidLaws}
 use Rattle.bsc_line_model.proofs.Soundness.{sound_of_together}
 use Rattle.bsc_line_model.proofs.Stations.{same_or_not, current_terminal_there}
-use Rattle.bsc_line_model.proofs.LeftAlone.{never_sends_in_bid_down}
+use Rattle.bsc_line_model.proofs.UnheardBids.{never_sends_in_bid_down}
 
 -- terminal t sends: it is the polled one, and its bid is in progress with the control station
 pub record IsBidOf (task : Task) (pending : Option Transmission) (c : ControlValue)

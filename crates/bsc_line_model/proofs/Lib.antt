@@ -13,7 +13,7 @@ pub mod CallsHeard
 pub mod RepliesHeard
 pub mod AnswersHeard
 pub mod AllHear
-pub mod LeftAlone
+pub mod UnheardBids
 pub mod Silences
 pub mod Likeness
 pub mod Restarting

@@ -31,7 +31,7 @@ use Rattle.bsc_line_model.specs.Transmission.{sent_by}
 use Rattle.bsc_line_model.specs.Line.{LineValue, terminal_at, terminal_in}
 use Rattle.bsc_line_model.specs.declared.transmission.Transmission.{Transmission}
 use Rattle.bsc_line_model.specs.Together.{IsSelecting, IsSending, InTask}
-use Rattle.bsc_line_model.proofs.LeftAlone.{bid_of_answering_terminal}
+use Rattle.bsc_line_model.proofs.UnheardBids.{bid_of_answering_terminal}
 use Rattle.bsc_tributary.specs.declared.mode.Mode.TheVariants.{Receiving}
 use Rattle.bsc_tributary.specs.Tributary.{TributaryValue}
 use Rattle.bsc_control.specs.declared.task.Task.{Task}

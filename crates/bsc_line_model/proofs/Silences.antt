@@ -39,7 +39,7 @@ use Rattle.bsc_line_model.proofs.SendingUp.{keeps_going, going_in_bid, times_out
 use Rattle.bsc_line_model.proofs.ActingUp.{HasActedUp, bid_up_after_act, present_terminal_after_act}
 use Rattle.bsc_line_model.proofs.CallsHeard.{no_bids_if_none_with_each}
 use Rattle.bsc_line_model.proofs.AnswersHeard.{StepsTo, together_after_next_call}
-use Rattle.bsc_line_model.proofs.LeftAlone.{times_out_alone, never_sends_in_bid_down}
+use Rattle.bsc_line_model.proofs.UnheardBids.{times_out_unheard, never_sends_in_bid_down}
 use Rattle.bsc_line_model.specs.Transmission.{speaker_of}
 
 -- a selection is called again, or given up after too many tries
@@ -112,7 +112,7 @@ silent_control laws c d ts out stations nobody together row = by_task c.task ref
         by_row (Sending s) is
         (elim k.present [
           | inl b ↦ times_out_down laws c ts s stations is k.others b
-          | inr left ↦ times_out_alone laws c ts s stations is k.others left
+          | inr left ↦ times_out_unheard laws c ts s stations is k.others left
         ])
     by_task (Polling Nothing) is k =
         by_row (Polling Nothing) is (polls_again c ts (nat_lt c.setup.tries (c.failures + 1))

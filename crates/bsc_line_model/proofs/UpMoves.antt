@@ -40,7 +40,7 @@ use Rattle.bsc_line_model.specs.BidLaws.{BidLaws}
 use Rattle.bsc_control.proofs.Calls.{places, current_within_peers}
 use Rattle.bsc_line_model.proofs.OutboundSteps.{LearnsDown, outbound_queue}
 use Rattle.bsc_line_model.proofs.DownMoves.{text_sent, if_lands, if_learns}
-use Rattle.bsc_line_model.proofs.LeftAlone.{bid_of_answering_terminal}
+use Rattle.bsc_line_model.proofs.UnheardBids.{bid_of_answering_terminal}
 use Rattle.bsc_line_model.proofs.Moving.{MovesIfAddressed, EachMoves}
 
 -- the control station of a line hears a terminal's message

@@ -90,13 +90,13 @@ no_other_bids_unheard c old hears new count nobody others t less differ =
     (others t before differ)
 
 -- the text or ENQ of the control station is heard by nobody
-pub left_alone_unheard : (c : ControlValue) (old : List TributaryValue) (s : ℕ) (w : Message)
+pub text_unheard : (c : ControlValue) (old : List TributaryValue) (s : ℕ) (w : Message)
     (hears : ℕ → Heard) (new : List TributaryValue) → current c < length old → IsBidMessage w
     → NoOtherBids c old (current c) → AllInControlMode old
     → Rests (peer c) (terminal_in old (current c))
     → EachOf (length old) (λ t. IsFairlyHeard w (hears t)) → EachHears old hears new
     → EachKeeps old hears new → IsSending (first_answer old hears new (length old)) c new s
-left_alone_unheard c old s w hears new there bid others modes rests fair each keeps =
+text_unheard c old s w hears new there bid others modes rests fair each keeps =
     let nobody : NobodyHears old hears new =
     nobody_hears old hears new modes (λ t less. no_call_heard w (hears t) bid (fair t less))
     keeps in
@@ -168,7 +168,7 @@ rests_after_step p s o x there rests rest =
     }
 
 -- the control station's sender made a step, and the terminal takes no part in the bid
-record ActsAlone (c : ControlValue) (ts : List TributaryValue) (s : ℕ) (step : SenderStep) : Type 0
+record ActsUnheard (c : ControlValue) (ts : List TributaryValue) (s : ℕ) (step : SenderStep) : Type 0
   where
     there : current c < length c.peers
     select : s < length (peer c).outbounds
@@ -178,29 +178,29 @@ record ActsAlone (c : ControlValue) (ts : List TributaryValue) (s : ℕ) (step :
     rest : IsResting step.sender.phase step.queue
         (spool_at (terminal_in ts (current c)).spools s).records
 
-rests_alone : (c : ControlValue) (ts : List TributaryValue) (s : ℕ) (step : SenderStep)
-    → ActsAlone c ts s step → Rests (peer (after_step c s step)) (terminal_in ts (current c))
-rests_alone c ts s step h =
+rests_unheard : (c : ControlValue) (ts : List TributaryValue) (s : ℕ) (step : SenderStep)
+    → ActsUnheard c ts s step → Rests (peer (after_step c s step)) (terminal_in ts (current c))
+rests_unheard c ts s step h =
     subst (λ (q : PeerValue). Rests q (terminal_in ts (current c)))
     (sym (peer_is c s step h.there))
     (rests_after_step (peer c) s (outbound_after step) (terminal_in ts (current c)) h.select h.rests
     h.rest)
 
-sends_alone : (c : ControlValue) (ts : List TributaryValue) (s : ℕ) (step : SenderStep)
-    (pending : Option Transmission) → ActsAlone c ts s step → IsUnheard pending
+sends_unheard : (c : ControlValue) (ts : List TributaryValue) (s : ℕ) (step : SenderStep)
+    (pending : Option Transmission) → ActsUnheard c ts s step → IsUnheard pending
     → IsSending pending (record (after_step c s step) { task = Sending s }) ts s
-sends_alone c ts s step pending h unheard =
+sends_unheard c ts s step pending h unheard =
     record {
       others = no_other_bids_after_step c ts s step h.others;
       present =
-          inr (record { modes = h.modes; rests = rests_alone c ts s step h; unheard = unheard });
+          inr (record { modes = h.modes; rests = rests_unheard c ts s step h; unheard = unheard });
     }
 
-no_bids_alone : (c : ControlValue) (ts : List TributaryValue) (s : ℕ) (step : SenderStep)
-    → current c < length ts → ActsAlone c ts s step → NoBids (after_step c s step) ts
-no_bids_alone c ts s step within h =
+no_bids_after_unheard : (c : ControlValue) (ts : List TributaryValue) (s : ℕ) (step : SenderStep)
+    → current c < length ts → ActsUnheard c ts s step → NoBids (after_step c s step) ts
+no_bids_after_unheard c ts s step within h =
     let rests : Rests (peer (after_step c s step)) (terminal_in ts (current c)) =
-    rests_alone c ts s step h in
+    rests_unheard c ts s step h in
     no_bids_if_none_with_each (after_step c s step) ts (current c)
     (no_other_bids_after_step c ts s step h.others)
     (record {
@@ -209,33 +209,33 @@ no_bids_alone c ts s step within h =
       down = rests.down;
     })
 
-acts_alone : (c : ControlValue) (ts : List TributaryValue) (s : ℕ) (step : SenderStep)
-    (after : After) (act : Act) → ActsAlone c ts s step → c.task ≡ Sending s → AreStations c ts
+acts_unheard : (c : ControlValue) (ts : List TributaryValue) (s : ℕ) (step : SenderStep)
+    (after : After) (act : Act) → ActsUnheard c ts s step → c.task ≡ Sending s → AreStations c ts
     → HasPlaces (after_step c s step) →
     InTask (act_step (after_step c s step) s act after).control.task
     (sent_by sp.Control (act_step (after_step c s step) s act after).sent)
     (act_step (after_step c s step) s act after).control ts
-acts_alone c ts s step after (a.Send text) h task stations entries =
-    sends_alone c ts s step (Some (record { speaker = sp.Control; message = m.Text text })) h
+acts_unheard c ts s step after (a.Send text) h task stations entries =
+    sends_unheard c ts s step (Some (record { speaker = sp.Control; message = m.Text text })) h
     (refl, inl tt)
-acts_alone c ts s step after a.Enq h task stations entries =
-    sends_alone c ts s step (Some (record { speaker = sp.Control; message = m.Enq })) h
+acts_unheard c ts s step after a.Enq h task stations entries =
+    sends_unheard c ts s step (Some (record { speaker = sp.Control; message = m.Enq })) h
     (refl, inr refl)
-acts_alone c ts s step after a.Over h task stations entries =
+acts_unheard c ts s step after a.Over h task stations entries =
     let d : ControlValue = after_step c s step in
     let peers : length d.peers ≡ length ts =
     length-set c.peers (current c) (with_outbound (peer c) s (outbound_after step))
     ∙ stations.count in
     no_bids_after_call d ts (next_call d after).place (next_call d after).way
     (next_call_within_peers d after entries) peers
-    (no_bids_alone c ts s step (current_terminal_there c ts stations) h)
-acts_alone c ts s step after a.Quiet h task stations entries =
+    (no_bids_after_unheard c ts s step (current_terminal_there c ts stations) h)
+acts_unheard c ts s step after a.Quiet h task stations entries =
     let d : ControlValue = after_step c s step in
     let same : record d { task = Sending s } ≡ d =
     ap (λ (t : Task). record d { task = t }) (sym task) in
     subst (λ (t : Task). InTask t None d ts) (sym task)
     (subst (λ (k : ControlValue). IsSending None k ts s) same
-    (sends_alone c ts s step None h tt))
+    (sends_unheard c ts s step None h tt))
 
 -- the terminal to which the control station sends does not send
 pub never_sends_in_bid_down : (pending : Option Transmission) (c : ControlValue)
@@ -260,20 +260,20 @@ bid_of_answering_terminal c ts from w s k =
     ]
 
 -- a silence: the control station asks again, or gives up
-pub times_out_alone : (laws : BidLaws) (c : ControlValue) (ts : List TributaryValue) (s : ℕ)
+pub times_out_unheard : (laws : BidLaws) (c : ControlValue) (ts : List TributaryValue) (s : ℕ)
     → AreStations c ts → c.task ≡ Sending s → NoOtherBids c ts (current c)
     → IsLeftByReceiver None (peer c) (terminal_in ts (current c)) ts →
     let step : SenderStep =
     silence_step (outbound_at (peer c) s).sender (outbound_at (peer c) s).queue in
     let new : ControlStep = bid_step c s step (Selection s) in
     InTask new.control.task (sent_by sp.Control new.sent) new.control ts
-times_out_alone laws c ts s stations task others left =
+times_out_unheard laws c ts s stations task others left =
     let o : OutboundValue = outbound_at (peer c) s in
     let step : SenderStep = silence_step o.sender o.queue in
     let x : TributaryValue = terminal_in ts (current c) in
     let suits : IsInBid (peer c) s =
     subst (λ (t : Task). SuitsTask t (peer c)) task stations.control.orderly.suits in
-    let alone : ActsAlone c ts s step = record {
+    let unheard : ActsUnheard c ts s step = record {
       there = current_within_peers c (places c stations.control.entries);
       select = suits.there;
       others = others;
@@ -283,5 +283,5 @@ times_out_alone laws c ts s stations task others left =
           laws.silence_at_rest o.sender o.queue (spool_at x.spools s).records
           (left.rests.down s suits.there);
     } in
-    acts_alone c ts s step (Selection s) step.act alone task stations
+    acts_unheard c ts s step (Selection s) step.act unheard task stations
     (places_after_sender_step c s step (places c stations.control.entries))
