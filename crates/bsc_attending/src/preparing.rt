@@ -82,6 +82,8 @@ fn control_station<R: Read, F: Files>(
     ensures station { IfOk result (IsStationOf config.now Role.Control
         (map string_bytes words.now.offers.items) (R.remaining input.old)
         (R.remaining input.new)) }
+    ensures peers { length config.now.terminals < peers.terminals →
+        result ≡ Err (AttendingError.Options OptionError.NoPeer) }
     ensures refused { IfErr result (HasNoControl config.now peers.terminals
         (map string_bytes words.now.offers.items) (R.remaining input.old)) }
 {
@@ -107,6 +109,8 @@ fn terminal<R: Read, F: Files>(
     ensures station { IfOk result (IsStationOf config.now (Role.Terminal number)
         (map string_bytes words.now.offers.items) (R.remaining input.old)
         (R.remaining input.new)) }
+    ensures number { length config.now.terminals ≤ number →
+        result ≡ Err (AttendingError.Options OptionError.NoTerminal) }
     ensures refused { IfErr result (HasNoTerminal config.now number
         (map string_bytes words.now.offers.items) (R.remaining input.old)) }
 {
