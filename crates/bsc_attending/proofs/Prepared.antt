@@ -40,16 +40,32 @@ pub has_failed : (w : AskedWords) (input : Option (List ℕ)) (settings : Settin
     → IfErr result (HasFailedEarly w input)
 has_failed w input s read a admitted (Ok done) early = tt
 has_failed w input s read a admitted (Err (attending.Options why)) early = inr (record {
-  settings = s; read = read; admission = a; admitted = admitted; unprepared = early tt;
+  settings = s;
+  read = read;
+  admission = a;
+  admitted = admitted;
+  unprepared = early tt;
 })
 has_failed w input s read a admitted (Err (attending.Text error)) early = record {
-  settings = s; read = read; admission = a; admitted = admitted; unprepared = early tt;
+  settings = s;
+  read = read;
+  admission = a;
+  admitted = admitted;
+  unprepared = early tt;
 }
 has_failed w input s read a admitted (Err (attending.Config error)) early = record {
-  settings = s; read = read; admission = a; admitted = admitted; unprepared = early tt;
+  settings = s;
+  read = read;
+  admission = a;
+  admitted = admitted;
+  unprepared = early tt;
 }
 has_failed w input s read a admitted (Err (attending.Offer path error)) early = record {
-  settings = s; read = read; admission = a; admitted = admitted; unprepared = early tt;
+  settings = s;
+  read = read;
+  admission = a;
+  admitted = admitted;
+  unprepared = early tt;
 }
 has_failed w input s read a admitted (Err (attending.Connections error)) early = tt
 has_failed w input s read a admitted (Err (attending.Closed error)) early = tt
