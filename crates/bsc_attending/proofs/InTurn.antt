@@ -1,8 +1,8 @@
--- Texts in turn: one more text, and all of them.
+-- Texts in turn: one more text, all of them, and one that fails.
 use Rattle.std.proofs.Common.{◌≡◌, ◌<◌, ◌≤◌, ◌+◌, ◌++◌, ℕ, List, [], ◌∷◌, take, map, length}
 use Rattle.std.proofs.Common.{get_or, sym, subst, ap, refl, ◌∙◌}
-use Rattle.std.proofs.lemmas.List.{take_more, take_all, map-append}
-use Rattle.bsc_attending.specs.Offering.{InTurn}
+use Rattle.std.proofs.lemmas.List.{take_more, take_all, take-map, map-append, length-map, get_or-map}
+use Rattle.bsc_attending.specs.Offering.{InTurn, FailsInTurn}
 
 -- texts in turn, and then one more
 pub in_turn_last : {S : Type 0} (Changes : List ℕ → S → S → Type 0) (texts : List (List ℕ))
@@ -29,3 +29,15 @@ module _ {S T : Type 0} (Changes : List ℕ → S → S → Type 0) (f : T → L
       → InTurn Changes (map f (take i texts)) old new → InTurn Changes (map f texts) old new
   in_turn_all texts i old new past done =
       subst (λ first. InTurn Changes (map f first) old new) (take_all i texts past) done
+
+  -- a text fails after those before it
+  pub fails_in_turn : (Fails : List ℕ → S → Type 0) (texts : List T) (i : ℕ) (d : T) (old mid : S)
+      → i < length texts → InTurn Changes (map f (take i texts)) old mid
+      → Fails (f (get_or texts i d)) mid → FailsInTurn Changes Fails (map f texts) old
+  fails_in_turn Fails texts i d old mid below done fails = record {
+    place = i;
+    within = subst (λ n. i < n) (sym (length-map texts f)) below;
+    mid = mid;
+    before = subst (λ first. InTurn Changes first old mid) (sym (take-map f i texts)) done;
+    fails = subst (λ text. Fails text mid) (sym (get_or-map f texts i d [] below)) fails;
+  }

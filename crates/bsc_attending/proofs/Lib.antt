@@ -1,1 +1,2 @@
 mod InTurn
+mod Prepared

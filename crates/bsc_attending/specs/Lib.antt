@@ -2,4 +2,5 @@ pub mod Errors
 pub mod Ending
 pub mod Framings
 pub mod Offering
+pub mod Preparing
 pub mod Wanted

@@ -1,14 +1,16 @@
 //! The records that a station has to send.
 
-ghost use Rattle.std.specs.Prelude.{◌≡◌, ◌≢◌, IfErr, IfOk, OnOk, codes, map, string_bytes};
+ghost use Rattle.std.specs.Prelude.{◌≡◌, ◌≢◌, IfErr, IfOk, List, OnOk, Option, codes, map, ℕ};
+ghost use Rattle.std.specs.Prelude.{string_bytes};
 ghost use Rattle.bsc_attending.specs.Errors.{IsOfferError};
-ghost use Rattle.bsc_attending.specs.Offering.{AddsAllLines, AddsLines, AreLinesAt};
-ghost use Rattle.bsc_attending.specs.Offering.{OffersAllLines, OffersLines};
+ghost use Rattle.bsc_attending.specs.Offering.{AddsAllLines, AddsLines, AddsNoLines, AreLinesAt};
+ghost use Rattle.bsc_attending.specs.Offering.{HasNoRecords, HasWrongLine, IsOfferRefused};
+ghost use Rattle.bsc_attending.specs.Offering.{OffersAllLines, OffersLines, OffersNoLines};
 ghost use Rattle.bsc_block.specs.Blocks.{AreShort};
 
 use crate::AttendingError;
 use bsc_bid::Setup;
-use bsc_block::Record;
+use bsc_block::{Record, RecordError};
 use bsc_control::Control;
 use bsc_input::{Files, read_text};
 use bsc_monitor::{LineTerminal, OfferError, offer_at_terminal, offer_for_terminal, read_records};
@@ -16,17 +18,18 @@ use bsc_options::{Offer, OptionError, offer_of};
 use std::alloc::Global;
 use std::io::Read;
 
-/// Returns the error for a text with a line that is not a record.
-fn offer_error(alloc: Global, path: &str, error: OfferError) -> AttendingError
-    ensures { IsOfferError result }
+/// Returns the error for the text at this path, of which the line with this number is not a record.
+fn offer_error(alloc: Global, path: &str, line: u64, why: RecordError) -> AttendingError
+    ensures error { IsOfferError result }
+    ensures refused { (full : ℕ) (input : Option (List ℕ)) →
+        HasWrongLine full path.now input (OfferError.Refused line why) →
+        HasNoRecords full path.now input result }
 {
     let Ok(path) = String::from_str(alloc, path) else {
         return AttendingError::Memory;
     };
-    match error {
-        OfferError::Refused { .. } => AttendingError::Offer { path, error },
-        OfferError::Memory => AttendingError::Memory,
-    }
+    let error = OfferError::Refused { line, why };
+    AttendingError::Offer { path, error }
 }
 
 /// Returns the records on the lines of the text at this path.
@@ -38,6 +41,8 @@ fn records_at<R: Read, F: Files>(
     files: &mut F,
 ) -> Result<Vec<Record>, AttendingError>
     ensures error { IfErr result IsOfferError }
+    ensures refused { IfErr result
+        (HasNoRecords setup.format.full path.now (R.remaining input.old)) }
     ensures are_lines { IfOk result
         (λ records. AreLinesAt path.now (R.remaining input.old) records.items) }
     ensures unasked { path.now ≢ codes "-" → input.new ≡ input.old }
@@ -46,7 +51,8 @@ fn records_at<R: Read, F: Files>(
     let text = read_text(alloc, path, input, files)?;
     match read_records(alloc, &text, setup.format().full()) {
         Ok(records) => Ok(records),
-        Err(error) => Err(offer_error(alloc, path, error)),
+        Err(OfferError::Refused { line, why }) => Err(offer_error(alloc, path, line, why)),
+        Err(OfferError::Memory) => Err(AttendingError::Memory),
     }
 }
 
@@ -61,9 +67,10 @@ pub(crate) fn offer_all_at_terminal<R: Read, F: Files>(
 ) -> Result<(), AttendingError>
     requires { terminal.old.tributary.queue.format ≡ setup.format }
     ensures error { IfErr result IsOfferError }
-    ensures offers { OnOk result (AddsAllLines R.remaining (map string_bytes offers.now)
-        (input.old, terminal.old.tributary.queue.offered)
-        (input.new, terminal.new.tributary.queue.offered)) }
+    ensures offers { OnOk result (AddsAllLines (map string_bytes offers.now)
+        (R.remaining input.old, terminal.old) (R.remaining input.new, terminal.new)) }
+    ensures refused { IfErr result
+        (AddsNoLines (map string_bytes offers.now) (R.remaining input.old, terminal.old)) }
 {
     'offers: for path in offers {
         add_lines(alloc, path.as_str(), setup, terminal, input, files)?;
@@ -83,8 +90,10 @@ fn add_lines<R: Read, F: Files>(
     requires { terminal.old.tributary.queue.format ≡ setup.format }
     ensures error { IfErr result IsOfferError }
     ensures format { terminal.new.tributary.queue.format ≡ setup.format }
-    ensures adds { OnOk result (AddsLines R.remaining path.now input.old input.new
-        terminal.old.tributary.queue.offered terminal.new.tributary.queue.offered) }
+    ensures adds { OnOk result (AddsLines path.now (R.remaining input.old) (R.remaining input.new)
+        terminal.old terminal.new) }
+    ensures refused { IfErr result
+        (HasNoRecords setup.format.full path.now (R.remaining input.old)) }
 {
     let records = records_at(alloc, path, setup, input, files)?;
     match offer_at_terminal(terminal, records) {
@@ -102,8 +111,10 @@ pub(crate) fn offer_all_for_terminals<R: Read, F: Files>(
     files: &mut F,
 ) -> Result<(), AttendingError>
     ensures error { IfErr result IsOfferError }
-    ensures offers { OnOk result (OffersAllLines R.remaining (map string_bytes offers.now)
-        (input.old, control.old) (input.new, control.new)) }
+    ensures offers { OnOk result (OffersAllLines (map string_bytes offers.now)
+        (R.remaining input.old, control.old) (R.remaining input.new, control.new)) }
+    ensures refused { IfErr result
+        (OffersNoLines (map string_bytes offers.now) (R.remaining input.old, control.old)) }
 {
     'offers: for text in offers {
         offer_for(alloc, text.as_str(), control, input, files)?;
@@ -120,8 +131,10 @@ fn offer_for<R: Read, F: Files>(
     files: &mut F,
 ) -> Result<(), AttendingError>
     ensures error { IfErr result IsOfferError }
-    ensures offers { OnOk result
-        (OffersLines R.remaining text.now input.old input.new control.old control.new) }
+    ensures offers { OnOk result (OffersLines text.now (R.remaining input.old)
+        (R.remaining input.new) control.old control.new) }
+    ensures refused { IfErr result
+        (IsOfferRefused text.now (R.remaining input.old) control.old) }
 {
     let Some(offer) = offer_of(text) else {
         let error = OptionError::OfferForm;

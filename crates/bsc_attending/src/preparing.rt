@@ -1,8 +1,13 @@
 //! Prepares the station of a configuration with the records that it has to send: everything that is
 //! read before a connection is made.
 
-ghost use Rattle.std.specs.Prelude.{◌≡◌, ◌<◌, ◌≤◌, Err, IfErr, length};
+ghost use Rattle.std.specs.Prelude.{◌≡◌, ◌≢◌, ◌<◌, ◌≤◌, Err, IfErr, IfOk, codes, length, map};
+ghost use Rattle.std.specs.Prelude.{string_bytes};
+ghost use Rattle.bsc_asked.specs.StationWords.{asked_words};
 ghost use Rattle.bsc_attending.specs.Errors.{IsPreparingError};
+ghost use Rattle.bsc_attending.specs.Preparing.{HasConfig, HasNoConfig, HasNoControl};
+ghost use Rattle.bsc_attending.specs.Preparing.{HasNoTerminal, IsPrepared, IsStationOf};
+ghost use Rattle.bsc_attending.specs.Preparing.{IsUnprepared};
 
 use crate::AttendingError;
 use crate::offering::{offer_all_at_terminal, offer_all_for_terminals};
@@ -34,14 +39,33 @@ pub(crate) fn prepare<R: Read, F: Files>(
     input: &mut R,
     files: &mut F,
 ) -> Result<Prepared, AttendingError>
-    ensures { IfErr result IsPreparingError }
+    ensures error { IfErr result IsPreparingError }
+    ensures prepared { IfOk result (IsPrepared (asked_words words.now) role
+        (R.remaining input.old) (R.remaining input.new)) }
+    ensures unprepared { IfErr result (IsUnprepared (asked_words words.now) role peers.terminals
+        (R.remaining input.old)) }
 {
-    let text = read_text(alloc, words.config.as_str(), input, files)?;
-    let config = read_config(alloc, &text)?;
+    let config = config_at(alloc, words.config.as_str(), input, files)?;
     match role {
         Role::Control => control_station(alloc, words, &config, peers, input, files),
         Role::Terminal { number } => terminal(alloc, words, &config, number, input, files),
     }
+}
+
+/// Reads the configuration at a path.
+fn config_at<R: Read, F: Files>(
+    alloc: Global,
+    path: &str,
+    input: &mut R,
+    files: &mut F,
+) -> Result<Config, AttendingError>
+    ensures error { IfErr result IsPreparingError }
+    ensures config { IfOk result (HasConfig path.now (R.remaining input.old)) }
+    ensures refused { IfErr result (HasNoConfig path.now (R.remaining input.old)) }
+    ensures unasked { path.now ≢ codes "-" → input.new ≡ input.old }
+{
+    let text = read_text(alloc, path, input, files)?;
+    Ok(read_config(alloc, &text)?)
 }
 
 /// Returns the control station with its records. Each terminal for which an address is given has to
@@ -55,8 +79,13 @@ fn control_station<R: Read, F: Files>(
     files: &mut F,
 ) -> Result<Prepared, AttendingError>
     ensures error { IfErr result IsPreparingError }
+    ensures station { IfOk result (IsStationOf config.now Role.Control
+        (map string_bytes words.now.offers.items) (R.remaining input.old)
+        (R.remaining input.new)) }
     ensures peers { length config.now.terminals < peers.terminals →
         result ≡ Err (AttendingError.Options OptionError.NoPeer) }
+    ensures refused { IfErr result (HasNoControl config.now peers.terminals
+        (map string_bytes words.now.offers.items) (R.remaining input.old)) }
 {
     if peers.terminals > config.terminals() {
         let error = OptionError::NoPeer;
@@ -77,8 +106,13 @@ fn terminal<R: Read, F: Files>(
     files: &mut F,
 ) -> Result<Prepared, AttendingError>
     ensures error { IfErr result IsPreparingError }
+    ensures station { IfOk result (IsStationOf config.now (Role.Terminal number)
+        (map string_bytes words.now.offers.items) (R.remaining input.old)
+        (R.remaining input.new)) }
     ensures number { length config.now.terminals ≤ number →
         result ≡ Err (AttendingError.Options OptionError.NoTerminal) }
+    ensures refused { IfErr result (HasNoTerminal config.now number
+        (map string_bytes words.now.offers.items) (R.remaining input.old)) }
 {
     if number >= config.terminals() {
         let error = OptionError::NoTerminal;

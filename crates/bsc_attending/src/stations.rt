@@ -1,10 +1,12 @@
 //! One station of a line: prepares it, makes its connections, and attends it until it ends.
 
 ghost use Rattle.std.specs.Prelude.{◌≡◌, IfErr};
+ghost use Rattle.bsc_asked.specs.StationWords.{asked_words};
 ghost use Rattle.bsc_options.specs.Settings.{place_value, settings_value};
 ghost use Rattle.bsc_attending.specs.Ending.{IsConcluded, JoinsFirst};
 ghost use Rattle.bsc_attending.specs.Errors.{IsEarly, IsLate, IsPrintFault, control_outcome_of};
 ghost use Rattle.bsc_attending.specs.Errors.{outcome_of};
+ghost use Rattle.bsc_attending.specs.Preparing.{HasFailedEarly, IsUnprepared};
 ghost use Rattle.bsc_attending.specs.Wanted.{is_listening, wanted_value, wants};
 ghost use Rattle.bsc_trust.specs.Trust.{new_trust};
 
@@ -83,6 +85,8 @@ pub fn station<R: Read, H: Files + Network, W: Write>(
     out: &mut W,
 ) -> Result<(), AttendingError>
     ensures early { IfErr result (λ error. IsEarly error → out.new ≡ out.old) }
+    ensures failed { IfErr result
+        (HasFailedEarly (asked_words words.now) (R.remaining input.old)) }
 {
     let settings = read_settings(words)?;
     let admission = read_admission(words)?;
@@ -103,6 +107,9 @@ fn prepare_and_run<R: Read, H: Files + Network, W: Write>(
     out: &mut W,
 ) -> Result<(), AttendingError>
     ensures early { IfErr result (λ error. IsEarly error → out.new ≡ out.old) }
+    ensures failed { IfErr result (λ error. IsEarly error →
+        IsUnprepared (asked_words words.now) options.entry.settings.role
+        options.entry.admission.peers.terminals (R.remaining input.old) error) }
 {
     let (role, peers) = (options.settings.role, options.admission.peers);
     let mut prepared = prepare(alloc, words, role, peers, input, machine)?;

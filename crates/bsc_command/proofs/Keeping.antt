@@ -189,7 +189,7 @@ module _ {S : Type 0} (contents remaining : S → Option (List ℕ)) where
   work_failed_kept show f given a b c p k = lines_kept f Units given a b c p k
   work_failed_kept (run config script check) f given a b c p k =
       failed_run_kept f check (record { config = config; script = script; input = given }) a b c p k
-  work_failed_kept (station words) f given a b c p k = tt
+  work_failed_kept (station words) f given a b c p k = p
 
   pub fault_kept : (words : List Text) (f : Fault) (given a b c : Option (List ℕ))
       → IsFaultAt contents remaining words f given a b → Keeps b c

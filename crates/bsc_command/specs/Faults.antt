@@ -1,5 +1,5 @@
 -- The faults of the command.
-use Rattle.std.specs.Prelude.{◌≡◌, ◌≢◌, ◌⊎◌, ℕ, if◌then◌else◌}
+use Rattle.std.specs.Prelude.{◌≡◌, ◌≢◌, ◌⊎◌, ℕ, Bool, true, false, if◌then◌else◌}
 use Rattle.clap.specs.Words.{kind_of}
 use Rattle.clap.specs.declared.error.Error.{Error}
 use Rattle.clap.specs.declared.error.kind.ErrorKind.{ErrorKind}
@@ -54,6 +54,19 @@ abbrev pub IsPrintFault : Fault → Type 0
 IsPrintFault Output = Unit {0}
 IsPrintFault OutOfMemory = Unit {0}
 IsPrintFault _ = ⊥
+
+-- Whether a station could not print the records that arrived.
+abbrev pub is_unprinted : Fault → Bool
+is_unprinted (Attending attending.Unprinted) = true
+is_unprinted _ = false
+
+-- The faults that are told only if the output was flushed: all but those of printing, and that of a
+-- station that could not print its records, of which the output fault is known already.
+abbrev pub IsToldFlushed : Fault → Type 0
+IsToldFlushed Output = ⊥
+IsToldFlushed OutOfMemory = ⊥
+IsToldFlushed (Attending attending.Unprinted) = ⊥
+IsToldFlushed _ = Unit {0}
 
 -- The fault for arguments that `clap` refuses. Out of memory and wrong usage are separate faults.
 pub record IsWordsFault (error : Error) (fault : Fault) : Type 0 where

@@ -2,21 +2,25 @@
 use Rattle.std.specs.Prelude.{◌≡◌, ◌⊎◌, ℕ, Bool, List, [], Option, None, IfSome, IsSomeAnd}
 use Rattle.clap.specs.Words.{HasKind, Text as WordText, kind_of}
 use Rattle.clap.specs.declared.error.Error.{Error}
+use Rattle.bsc_asked.specs.StationWords.{AskedWords}
 use Rattle.bsc_asked.specs.Asked.{AskedValue, names, name, show, run, station}
+use Rattle.bsc_attending.specs.Preparing.{HasFailedEarly}
+use Rattle.bsc_attending.specs.declared.error.AttendingError.TheVariants as attending
 use Rattle.bsc_input.specs.Hexadecimal.{octets_of}
 use Rattle.bsc_print.specs.Names.{Prints, name_line}
 use Rattle.bsc_print.specs.declared.printed.Detail.{Detail}
 use Rattle.bsc_print.specs.declared.printed.Detail.TheVariants.{Name, Units}
 use Rattle.bsc_naming.specs.Inputs.{HasStopped, PrintsInput}
 use Rattle.bsc_naming.specs.declared.error.NamingError.TheVariants.{NotHexadecimal}
+use Rattle.bsc_options.specs.declared.error.OptionError.{OptionError}
 use Rattle.bsc_run.specs.Crossing.{streams_of}
 use Rattle.bsc_running.specs.Running.{HasFailed, IsRunDone, TextPaths}
 use Rattle.bsc_running.specs.declared.error.RunningError.TheVariants.{BothStandardInput}
 use Rattle.bsc_words.specs.CommandLine.{IsHelp, asked_of, faults_at}
 use Rattle.bsc_command.specs.declared.fault.Fault.{Fault}
-use Rattle.bsc_command.specs.declared.fault.Fault.TheVariants.{Naming, Running, Usage}
+use Rattle.bsc_command.specs.declared.fault.Fault.TheVariants.{Naming, Running, Attending, Usage}
 use Rattle.bsc_command.specs.Faults.{IsNameFault, IsNamesFault, IsPrintFault, IsRunFault}
-use Rattle.bsc_command.specs.Faults.{IsStationFault, IsUsage}
+use Rattle.bsc_command.specs.Faults.{IsStationFault, IsUsage, options_kind}
 
 -- What a fault of naming one transmission says: its text is not hexadecimal.
 abbrev pub HasFailedName : Fault → List ℕ → Type 0
@@ -31,6 +35,15 @@ abbrev pub HasFailedLines : Fault → Detail → Option (List ℕ) → Option (L
 HasFailedLines (Naming error) detail input old new =
     IfSome input (λ octets. HasStopped detail error octets old new)
 HasFailedLines fault detail input old new = Unit {0}
+
+-- What a fault of a station says that comes before it makes its connections. Wrong usage is that
+-- options are refused, and is of the kind of the reason.
+abbrev pub HasFailedStation : Fault → AskedWords → Option (List ℕ) → Type 0
+HasFailedStation (Attending error) words input = HasFailedEarly words input error
+HasFailedStation (Usage error) words input =
+    (why : OptionError) × (kind_of error ≡ options_kind why)
+    × HasFailedEarly words input (attending.Options why)
+HasFailedStation fault words input = Unit {0}
 
 -- For the streams of a run's cable, `contents` is what was written to a stream, and `remaining` is
 -- what is left to read from it.
@@ -63,7 +76,7 @@ module _ {S : Type 0} (contents remaining : S → Option (List ℕ)) where
   HasFailedAs show fault input old new = HasFailedLines fault Units input old new
   HasFailedAs (run config script check) fault input old new =
       HasFailedRun fault check (record { config = config; script = script; input = input }) old new
-  HasFailedAs (station words) fault input old new = Unit {0}
+  HasFailedAs (station words) fault input old new = HasFailedStation fault words input
 
 -- The faults of this work.
 abbrev pub IsFaultOf : AskedValue → Fault → Type 0

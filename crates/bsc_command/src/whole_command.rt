@@ -1,11 +1,11 @@
 //! The whole command, from the command line to the exit status.
 
 ghost use Rattle.std.specs.Prelude.{◌≡◌, ◌≢◌, ◌⊎◌, [], map, string_bytes};
-ghost use Rattle.std.specs.Prelude.{Err, IfErr, IfOk, IsOkAnd, Ok, OnOk};
+ghost use Rattle.std.specs.Prelude.{Err, IfErr, IfOk, IsOkAnd, Ok, OnOk, true};
 ghost use Rattle.std.specs.Io.Buffered.{writer_buffer, writer_contents};
 ghost use Rattle.std.specs.Io.KnownBytes.{Keeps};
 ghost use Rattle.bsc_command.specs.declared.fault.Fault.{Fault as FaultValue};
-ghost use Rattle.bsc_command.specs.Faults.{IsPrintFault, status_of};
+ghost use Rattle.bsc_command.specs.Faults.{IsPrintFault, IsToldFlushed, is_unprinted, status_of};
 ghost use Rattle.bsc_command.specs.Program.{IsFaultAt, IsObeyed};
 
 use crate::help::help_or_fault;
@@ -75,7 +75,9 @@ fn obey_given<R: Read, H: Files + Cables + Network, W: Write>(
 }
 
 /// Returns whether a station could not print the records that arrived.
-fn is_unprinted(fault: &Fault) -> bool {
+fn is_unprinted(fault: &Fault) -> bool
+    ensures { result ≡ is_unprinted fault.now }
+{
     match fault {
         Fault::Attending { error } => match error {
             AttendingError::Unprinted => true,
@@ -95,6 +97,8 @@ fn flush_after<W: Write + Drop>(
     ensures ok { OnOk result (outcome ≡ Ok tt) }
     ensures flushed { OnOk result (writer_buffer out.new ≡ []) }
     ensures fault { IfErr result (λ fault. IsPrintFault fault ⊎ (outcome ≡ Err fault)) }
+    ensures unprinted { IfErr outcome (λ fault. is_unprinted fault ≡ true → result ≡ outcome) }
+    ensures told { IfErr result (λ fault. IsToldFlushed fault → writer_buffer out.new ≡ []) }
 {
     match (out.flush(), outcome) {
         (Ok(()), outcome) => outcome,

@@ -6,7 +6,7 @@ use Rattle.bsc_attending.proofs.offering.offer_all_at_terminal.Given as goal
 abbrev pub invariant-offers : goal.invariant-offers
 invariant-offers g l = record {
   format : l.terminal.tributary.queue.format ≡ l.setup.format;
-  added : AddsAllLines g.R.Read.remaining (map string_bytes (take l.path-index l.offers))
-      (l.initial.input, l.initial.terminal.tributary.queue.offered)
-      (l.input, l.terminal.tributary.queue.offered);
+  added : AddsAllLines (map string_bytes (take l.path-index l.offers))
+      (g.R.Read.remaining l.initial.input, l.initial.terminal)
+      (g.R.Read.remaining l.input, l.terminal);
 }

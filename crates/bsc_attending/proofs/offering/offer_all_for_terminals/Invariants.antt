@@ -5,5 +5,6 @@ use Rattle.bsc_attending.proofs.offering.offer_all_for_terminals.Given as goal
 
 abbrev pub invariant-offers : goal.invariant-offers
 invariant-offers g l =
-    OffersAllLines g.R.Read.remaining (map string_bytes (take l.text-index l.offers))
-    (l.initial.input, l.initial.control) (l.input, l.control)
+    OffersAllLines (map string_bytes (take l.text-index l.offers))
+    (g.R.Read.remaining l.initial.input, l.initial.control)
+    (g.R.Read.remaining l.input, l.control)

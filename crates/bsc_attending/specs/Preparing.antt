@@ -1,0 +1,161 @@
+-- What is read before a station makes its connections: its station of the configuration, with its
+-- records; and what an error says of that.
+use Rattle.std.specs.Prelude.{◌≡◌, ◌≢◌, ◌⊎◌, ◌≤◌, ◌<◌, ℕ, List, length, slice_index_or, Option}
+use Rattle.std.specs.Prelude.{Ok, Err, codes}
+use Rattle.bsc_asked.specs.StationWords.{AskedWords}
+use Rattle.bsc_config.specs.Answers.{IsRefusedFor, Says}
+use Rattle.bsc_config.specs.Settings.{ConfigValue}
+use Rattle.bsc_control.specs.Control.{ControlValue}
+use Rattle.bsc_control.specs.Kept.{IsNewControl}
+use Rattle.bsc_control.specs.Peer.{no_peer}
+use Rattle.bsc_input.specs.Texts.{IsReadError, IsTextAt}
+use Rattle.bsc_monitor.specs.LineTerminal.{LineTerminalValue}
+use Rattle.bsc_options.specs.Admission.{IsAdmission}
+use Rattle.bsc_options.specs.Settings.{SettingsValue, settings_in}
+use Rattle.bsc_options.specs.declared.admission.Admission.{Admission}
+use Rattle.bsc_options.specs.declared.error.OptionError.{OptionError}
+use Rattle.bsc_options.specs.declared.error.OptionError.TheVariants as option
+use Rattle.bsc_options.specs.declared.settings.Role.{Role}
+use Rattle.bsc_options.specs.declared.settings.Role.TheVariants as role
+use Rattle.bsc_tributary.specs.Kept.{IsNewTerminal}
+use Rattle.bsc_attending.specs.Offering.{AddsAllLines, AddsNoLines, OffersAllLines, OffersNoLines}
+use Rattle.bsc_attending.specs.declared.error.AttendingError.{AttendingError}
+use Rattle.bsc_attending.specs.declared.error.AttendingError.TheVariants as attending
+use Rattle.bsc_attending.specs.declared.preparing.Prepared.{Prepared}
+use Rattle.bsc_attending.specs.declared.preparing.Prepared.TheVariants as prepared
+
+-- The text at a path is this configuration.
+pub record HasConfig (path : List ℕ) (input : Option (List ℕ)) (config : ConfigValue) : Type 0 where
+  pub text : List ℕ
+  pub text_is : IsTextAt path input text
+  pub says : Says text config
+
+-- What an error says of the configuration at a path: its text could not be read, or is refused.
+abbrev pub HasNoConfig : List ℕ → Option (List ℕ) → AttendingError → Type 0
+HasNoConfig path input (attending.Text error) = IsReadError path input error
+HasNoConfig path input (attending.Config error) =
+    (text : List ℕ) × IsTextAt path input text × IsRefusedFor text error
+HasNoConfig path input attending.Memory = Unit {0}
+HasNoConfig path input _ = ⊥
+
+-- The control station of the configuration, to which the records of all offers were offered.
+pub record IsControlOf (config : ConfigValue) (offers : List (List ℕ))
+    (input after : Option (List ℕ)) (control : ControlValue) : Type 0 where
+  pub fresh : ControlValue
+  pub new : IsNewControl config.setup config.terminals config.poll_list fresh
+  pub offered : OffersAllLines offers (input, fresh) (after, control)
+
+-- The terminal of the configuration with this number, with the records of all offers.
+pub record IsTerminalOf (config : ConfigValue) (number : ℕ) (offers : List (List ℕ))
+    (input after : Option (List ℕ)) (terminal : LineTerminalValue) : Type 0 where
+  pub fresh : LineTerminalValue
+  pub numbered : fresh.number ≡ number
+  pub new : IsNewTerminal config.setup
+      (slice_index_or config.terminals number no_peer.terminal) fresh.tributary
+  pub offered : AddsAllLines offers (input, fresh) (after, terminal)
+
+-- The station that the options select, with its records.
+abbrev pub IsStationOf : ConfigValue → Role → List (List ℕ) → Option (List ℕ) → Option (List ℕ)
+    → Prepared → Type 0
+IsStationOf config role.Control offers input after (prepared.Control control) =
+    IsControlOf config offers input after control
+IsStationOf config (role.Terminal number) offers input after (prepared.Terminal terminal) =
+    IsTerminalOf config number offers input after terminal
+IsStationOf config role offers input after prepared = ⊥
+
+-- The records of the new control station are refused, with this error.
+pub record IsControlRefused (config : ConfigValue) (offers : List (List ℕ))
+    (input : Option (List ℕ)) (error : AttendingError) : Type 0 where
+  pub fresh : ControlValue
+  pub new : IsNewControl config.setup config.terminals config.poll_list fresh
+  pub refused : OffersNoLines offers (input, fresh) error
+
+-- The records of the new terminal are refused, with this error.
+pub record IsTerminalRefused (config : ConfigValue) (number : ℕ) (offers : List (List ℕ))
+    (input : Option (List ℕ)) (error : AttendingError) : Type 0 where
+  pub there : number < length config.terminals
+  pub fresh : LineTerminalValue
+  pub numbered : fresh.number ≡ number
+  pub new : IsNewTerminal config.setup
+      (slice_index_or config.terminals number no_peer.terminal) fresh.tributary
+  pub refused : AddsNoLines offers (input, fresh) error
+
+-- What an error says of the control station of a configuration, where addresses are given for
+-- terminals below `peers`.
+abbrev pub HasNoControl : ConfigValue → ℕ → List (List ℕ) → Option (List ℕ) → AttendingError
+    → Type 0
+HasNoControl config peers offers input (attending.Options option.NoPeer) =
+    length config.terminals < peers
+HasNoControl config peers offers input attending.Memory = Unit {0}
+HasNoControl config peers offers input error =
+    (peers ≤ length config.terminals) × IsControlRefused config offers input error
+
+-- What an error says of the terminal of a configuration with this number.
+abbrev pub HasNoTerminal : ConfigValue → ℕ → List (List ℕ) → Option (List ℕ) → AttendingError
+    → Type 0
+HasNoTerminal config number offers input (attending.Options option.NoTerminal) =
+    length config.terminals ≤ number
+HasNoTerminal config number offers input error =
+    IsTerminalRefused config number offers input error
+
+-- What an error says of the station that the options select.
+abbrev pub HasNoStation : ConfigValue → Role → ℕ → List (List ℕ) → Option (List ℕ)
+    → AttendingError → Type 0
+HasNoStation config role.Control peers offers input error =
+    HasNoControl config peers offers input error
+HasNoStation config (role.Terminal number) peers offers input error =
+    HasNoTerminal config number offers input error
+
+-- The configuration was read, and `middle` was left of standard input. Nothing of it is read unless
+-- the path is `-`.
+pub record ReadsConfig (path : List ℕ) (input middle : Option (List ℕ))
+    (config : ConfigValue) : Type 0 where
+  pub read : HasConfig path input config
+  pub unasked : path ≢ codes "-" → middle ≡ input
+
+-- The configuration of the words was read, and the station was prepared with its records.
+pub record IsPrepared (w : AskedWords) (role : Role) (input after : Option (List ℕ))
+    (prepared : Prepared) : Type 0 where
+  pub config : ConfigValue
+  pub middle : Option (List ℕ)
+  pub reads : ReadsConfig w.config input middle config
+  pub station : IsStationOf config role w.offers middle after prepared
+
+-- The configuration was read, and then the station was refused, with this error.
+pub record IsStationRefused (w : AskedWords) (role : Role) (peers : ℕ) (input : Option (List ℕ))
+    (error : AttendingError) : Type 0 where
+  pub config : ConfigValue
+  pub middle : Option (List ℕ)
+  pub reads : ReadsConfig w.config input middle config
+  pub refused : HasNoStation config role peers w.offers middle error
+
+-- The configuration or the station is refused, with this error.
+abbrev pub IsUnprepared : AskedWords → Role → ℕ → Option (List ℕ) → AttendingError → Type 0
+IsUnprepared w role peers input error =
+    HasNoConfig w.config input error ⊎ IsStationRefused w role peers input error
+
+-- The options could be read, and then the station could not be prepared, with this error.
+pub record IsUnpreparedFor (w : AskedWords) (input : Option (List ℕ)) (error : AttendingError)
+    : Type 0 where
+  pub settings : SettingsValue
+  pub read : settings_in w ≡ Ok settings
+  pub admission : Admission
+  pub admitted : IsAdmission w (Ok admission)
+  pub unprepared : IsUnprepared w settings.role admission.peers.terminals input error
+
+-- The options are refused for this reason: their settings, or after them the peers.
+abbrev pub IsRefusedBy : AskedWords → OptionError → Type 0
+IsRefusedBy w why =
+    (settings_in w ≡ Err why)
+    ⊎ ((settings : SettingsValue) × (settings_in w ≡ Ok settings) × IsAdmission w (Err why))
+
+-- What an error says that comes before connections are made. The options are read first, then the
+-- configuration, and then the records.
+abbrev pub HasFailedEarly : AskedWords → Option (List ℕ) → AttendingError → Type 0
+HasFailedEarly w input (attending.Options why) =
+    IsRefusedBy w why ⊎ IsUnpreparedFor w input (attending.Options why)
+HasFailedEarly w input (attending.Text error) = IsUnpreparedFor w input (attending.Text error)
+HasFailedEarly w input (attending.Config error) = IsUnpreparedFor w input (attending.Config error)
+HasFailedEarly w input (attending.Offer path error) =
+    IsUnpreparedFor w input (attending.Offer path error)
+HasFailedEarly w input _ = Unit {0}
