@@ -1,6 +1,6 @@
 -- The main promise of a line that is still trusted, whatever its events were and whichever stations
--- began again: the records that arrived on a channel are the first of those that were offered on it,
--- in order and each once; the sending end counts none as delivered that did not arrive; and no
+-- began again: the records that arrived on a channel are the first of those that were offered on
+-- it, in order and each once; the sending end counts none as delivered that did not arrive; and no
 -- record reaches a terminal that is not addressed.
 use Rattle.std.specs.Prelude.{◌≡◌, ◌⊎◌, ◌≤◌, ◌++◌, ℕ, suc, IsTrue, List, [], ◌∷◌, length}
 use Rattle.std.specs.Prelude.{take, slice_get, Some, Result, Ok, Err}

@@ -11,7 +11,8 @@ use Rattle.bsc_bid.specs.declared.alternation.Alternation.TheVariants.{Odd}
 use Rattle.bsc_bid.specs.declared.phase.SentBlock.{SentBlock}
 use Rattle.bsc_bid.specs.declared.phase.Phase.{Phase}
 use Rattle.bsc_bid.specs.declared.phase.Phase.TheVariants.{Idle, Unanswered, InDoubt}
-use Rattle.bsc_bid.specs.Sender.{SenderValue, with_phase, text_of, begin_step, release_step, released}
+use Rattle.bsc_bid.specs.Sender.{SenderValue, with_phase, text_of, begin_step, release_step}
+use Rattle.bsc_bid.specs.Sender.{released}
 use Rattle.bsc_bid.specs.Receiver.{new_receiver, heard_step}
 use Rattle.bsc_tributary.specs.declared.mode.Mode.{Mode}
 use Rattle.bsc_tributary.specs.declared.mode.Mode.TheVariants as mode

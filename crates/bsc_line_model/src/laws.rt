@@ -198,10 +198,10 @@ pub fn wrong_arrivals()
     ensures reaches_other { NoneReachesOther }
 {}
 
-/// What a station must not do as it begins again, shown on values. A terminal begins again with its
-/// text pending: it is in doubt, and the text is lost. One that forgot its doubt would count records
-/// wrongly, and one that sent its unanswered block again would double them. So would one whose text
-/// stayed pending, once its doubt is released with the count of before.
+/// What a station must not do as it begins again, shown on values. A terminal begins again while
+/// its text is pending: it is in doubt, and the text is lost. One that forgot its doubt would count
+/// records wrongly, and one that sent its unanswered block again would double them. So would one
+/// whose text stayed pending, once its doubt is released with the count of before.
 pub fn wrong_restarts()
     ensures doubts { RestartDoubts }
     ensures right { DoubtIsRight }
