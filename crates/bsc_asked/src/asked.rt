@@ -15,6 +15,13 @@ pub enum Asked {
     /// texts.
     Show,
 
+    /// Draw the ladder of the trace on standard input: in ASCII characters only, or in box-drawing
+    /// characters; and in this width.
+    Chart {
+        ascii: bool,
+        width: Option<String>,
+    },
+
     /// Run a line with this configuration and the events of this script. Both are paths; `-` is
     /// standard input. With `check` both are only read and checked.
     Run {

@@ -5,7 +5,14 @@ use Rattle.std.specs.Prelude.{IfSome}
 use Rattle.std.specs.Io.KnownBytes.{Keeps}
 use Rattle.std.proofs.KnownBytes.{Appends-kept, Keeps-trans}
 use Rattle.clap.specs.Words.{Text}
-use Rattle.bsc_asked.specs.Asked.{AskedValue, names, name, show, run, station}
+use Rattle.bsc_asked.specs.Asked.{AskedValue, names, name, show, chart, run, station}
+use Rattle.bsc_chart.specs.Asked.{HasFailed as HasFailedDrawing, drawing_of}
+use Rattle.bsc_chart.specs.Inputs.{DrawsInput, HasStopped as HasStoppedDrawing}
+use Rattle.bsc_chart.specs.Inputs.{StopsAt as StopsDrawingAt, is_misspelt as is_misread, values_of}
+use Rattle.bsc_chart.specs.Ladders.{ladder_text}
+use Rattle.bsc_chart.specs.declared.error.ChartError.{ChartError}
+use Rattle.bsc_chart.specs.declared.error.ChartError.TheVariants as drawing
+use Rattle.bsc_chart.specs.declared.text.Drawing.{Drawing}
 use Rattle.bsc_frame.specs.declared.message.Heard.{Heard}
 use Rattle.bsc_input.specs.Hexadecimal.{octets_of}
 use Rattle.bsc_input.specs.Lines.{lines_of}
@@ -26,8 +33,8 @@ use Rattle.bsc_running.specs.declared.error.RunningError.TheVariants as running
 use Rattle.bsc_words.specs.CommandLine.{asked_of}
 use Rattle.bsc_command.specs.declared.fault.Fault.{Fault}
 use Rattle.bsc_command.specs.declared.fault.Fault.TheVariants as fault
-use Rattle.bsc_command.specs.Program.{HasFailedAs, HasFailedLines, HasFailedRun, IsDone, IsFaultAt}
-use Rattle.bsc_command.specs.Program.{IsObeyed}
+use Rattle.bsc_command.specs.Program.{HasFailedAs, HasFailedChart, HasFailedLines, HasFailedRun}
+use Rattle.bsc_command.specs.Program.{IsCharted, IsDone, IsFaultAt, IsObeyed}
 
 prints_kept : (named : Heard → List ℕ) (octets : List ℕ) (a b c : Option (List ℕ))
     → Prints named octets a b → Keeps b c → Prints named octets a c
@@ -88,11 +95,89 @@ lines_kept : (f : Fault) (detail : Detail) (given a b c : Option (List ℕ))
 lines_kept (fault.Naming error) detail None a b c p k = tt
 lines_kept (fault.Naming error) detail (Some octets) a b c p k =
     stopped_kept error detail octets a b c p k
+lines_kept (fault.Charting error) detail given a b c p k = tt
 lines_kept (fault.Running error) detail given a b c p k = tt
 lines_kept (fault.Attending error) detail given a b c p k = tt
 lines_kept fault.Output detail given a b c p k = tt
 lines_kept fault.OutOfMemory detail given a b c p k = tt
 lines_kept (fault.Usage error) detail given a b c p k = tt
+
+draws_kept : (d : Drawing) (octets : List ℕ) (a b c : Option (List ℕ))
+    → DrawsInput d octets a b → Keeps b c → DrawsInput d octets a c
+draws_kept d octets a b c p k = record {
+  right = p.right;
+  drawn = Appends-kept a b c (ladder_text d (values_of (lines_of octets))) p.drawn k;
+}
+
+drawing_kept : (d : Option Drawing) (octets : List ℕ) (a b c : Option (List ℕ))
+    → IsSomeAnd d (λ d. DrawsInput d octets a b) → Keeps b c
+    → IsSomeAnd d (λ d. DrawsInput d octets a c)
+drawing_kept None octets a b c p k = absurd p
+drawing_kept (Some d) octets a b c p k = draws_kept d octets a b c p k
+
+charted_kept : (ascii : Bool) (width input a b c : Option (List ℕ))
+    → IsCharted ascii width input a b → Keeps b c → IsCharted ascii width input a c
+charted_kept ascii width None a b c p k = tt
+charted_kept ascii width (Some octets) a b c p k =
+    drawing_kept (drawing_of ascii width) octets a b c p k
+
+drawing_stop_kept : (is_fault : List ℕ → Bool) (d : Drawing) (n : ℕ) (octets : List ℕ)
+    (a b c : Option (List ℕ)) → StopsDrawingAt is_fault d n octets a b → Keeps b c
+    → StopsDrawingAt is_fault d n octets a c
+drawing_stop_kept is_fault d n octets a b c p k = record {
+  place = p.place;
+  counted = p.counted;
+  first = p.first;
+  reason = p.reason;
+  before =
+      Appends-kept a b c (ladder_text d (values_of (take p.place (lines_of octets)))) p.before k;
+}
+
+drawing_stopped_kept : (e : ChartError) (d : Drawing) (octets : List ℕ) (a b c : Option (List ℕ))
+    → HasStoppedDrawing d e octets a b → Keeps b c → HasStoppedDrawing d e octets a c
+drawing_stopped_kept (drawing.NotATraceAt n) d octets a b c p k =
+    drawing_stop_kept is_misread d n octets a b c p k
+drawing_stopped_kept (drawing.TooLongAt n) d octets a b c p k =
+    drawing_stop_kept is_too_long d n octets a b c p k
+drawing_stopped_kept drawing.Width d octets a b c p k = tt
+drawing_stopped_kept drawing.Input d octets a b c p k = record {
+  place = p.place;
+  before =
+      Appends-kept a b c (ladder_text d (values_of (take p.place (lines_of octets)))) p.before k;
+}
+drawing_stopped_kept drawing.Output d octets a b c p k = tt
+drawing_stopped_kept drawing.Memory d octets a b c p k = tt
+
+drawing_failed_kept : (d : Option Drawing) (e : ChartError) (octets : List ℕ)
+    (a b c : Option (List ℕ)) → HasFailedDrawing d e octets a b → Keeps b c
+    → HasFailedDrawing d e octets a c
+drawing_failed_kept d drawing.Width octets a b c p k = p
+drawing_failed_kept None (drawing.NotATraceAt n) octets a b c p k = tt
+drawing_failed_kept None (drawing.TooLongAt n) octets a b c p k = tt
+drawing_failed_kept None drawing.Input octets a b c p k = tt
+drawing_failed_kept None drawing.Output octets a b c p k = tt
+drawing_failed_kept None drawing.Memory octets a b c p k = tt
+drawing_failed_kept (Some d) (drawing.NotATraceAt n) octets a b c p k =
+    drawing_stopped_kept (drawing.NotATraceAt n) d octets a b c p k
+drawing_failed_kept (Some d) (drawing.TooLongAt n) octets a b c p k =
+    drawing_stopped_kept (drawing.TooLongAt n) d octets a b c p k
+drawing_failed_kept (Some d) drawing.Input octets a b c p k =
+    drawing_stopped_kept drawing.Input d octets a b c p k
+drawing_failed_kept (Some d) drawing.Output octets a b c p k = tt
+drawing_failed_kept (Some d) drawing.Memory octets a b c p k = tt
+
+chart_kept : (f : Fault) (ascii : Bool) (width given a b c : Option (List ℕ))
+    → HasFailedChart f ascii width given a b → Keeps b c
+    → HasFailedChart f ascii width given a c
+chart_kept (fault.Naming error) ascii width given a b c p k = tt
+chart_kept (fault.Charting error) ascii width None a b c p k = tt
+chart_kept (fault.Charting error) ascii width (Some octets) a b c p k =
+    drawing_failed_kept (drawing_of ascii width) error octets a b c p k
+chart_kept (fault.Running error) ascii width given a b c p k = tt
+chart_kept (fault.Attending error) ascii width given a b c p k = tt
+chart_kept fault.Output ascii width given a b c p k = tt
+chart_kept fault.OutOfMemory ascii width given a b c p k = tt
+chart_kept (fault.Usage error) ascii width given a b c p k = tt
 
 module _ {S : Type 0} (contents remaining : S → Option (List ℕ)) where
   has_run_kept : (paths : TextPaths) (result : Result (Unit {0}) RunError)
@@ -144,6 +229,7 @@ module _ {S : Type 0} (contents remaining : S → Option (List ℕ)) where
   done_kept (name text) input a b c p k = name_kept (octets_of text) a b c p k
   done_kept show None a b c p k = p
   done_kept show (Some octets) a b c p k = input_kept Units octets a b c p k
+  done_kept (chart ascii width) input a b c p k = charted_kept ascii width input a b c p k
   done_kept (run config script check) input a b c p k =
       run_kept check (record { config = config; script = script; input = input }) a b c p k
   done_kept (station words) input a b c p k = p
@@ -174,6 +260,7 @@ module _ {S : Type 0} (contents remaining : S → Option (List ℕ)) where
       → HasFailedRun contents remaining f check paths a b → Keeps b c
       → HasFailedRun contents remaining f check paths a c
   failed_run_kept (fault.Naming error) check paths a b c p k = tt
+  failed_run_kept (fault.Charting error) check paths a b c p k = tt
   failed_run_kept (fault.Running error) check paths a b c p k =
       failed_kept error check paths a b c p k
   failed_run_kept (fault.Attending error) check paths a b c p k = tt
@@ -187,6 +274,7 @@ module _ {S : Type 0} (contents remaining : S → Option (List ℕ)) where
   work_failed_kept names f given a b c p k = lines_kept f Name given a b c p k
   work_failed_kept (name text) f given a b c p k = p
   work_failed_kept show f given a b c p k = lines_kept f Units given a b c p k
+  work_failed_kept (chart ascii width) f given a b c p k = chart_kept f ascii width given a b c p k
   work_failed_kept (run config script check) f given a b c p k =
       failed_run_kept f check (record { config = config; script = script; input = given }) a b c p k
   work_failed_kept (station words) f given a b c p k = p

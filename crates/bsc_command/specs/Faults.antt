@@ -7,6 +7,8 @@ use Rattle.clap.specs.declared.error.kind.ErrorKind.TheVariants as kind
 use Rattle.bsc_attending.specs.declared.error.AttendingError.{AttendingError}
 use Rattle.bsc_attending.specs.declared.error.AttendingError.TheVariants as attending
 use Rattle.bsc_attending.specs.Errors.{IsEarly as IsEarlyAttending}
+use Rattle.bsc_chart.specs.declared.error.ChartError.{ChartError}
+use Rattle.bsc_chart.specs.declared.error.ChartError.TheVariants as chart
 use Rattle.bsc_naming.specs.Errors.{IsLineError, IsNameError}
 use Rattle.bsc_naming.specs.declared.error.NamingError.TheVariants as naming
 use Rattle.bsc_options.specs.Errors.{is_conflict}
@@ -17,7 +19,8 @@ use Rattle.bsc_running.specs.declared.error.RunningError.{RunningError}
 use Rattle.bsc_running.specs.declared.error.RunningError.TheVariants as running
 use Rattle.bsc_running.specs.Errors.{IsEarly as IsEarlyRunning}
 use Rattle.bsc_command.specs.declared.fault.Fault.{Fault}
-use Rattle.bsc_command.specs.declared.fault.Fault.TheVariants.{Naming, Running, Attending}
+use Rattle.bsc_command.specs.declared.fault.Fault.TheVariants.{Naming, Charting, Running}
+use Rattle.bsc_command.specs.declared.fault.Fault.TheVariants.{Attending}
 use Rattle.bsc_command.specs.declared.fault.Fault.TheVariants.{Output, OutOfMemory, Usage}
 
 -- The exit status for an error of a run: 3 if the line refused an event, otherwise 1.
@@ -90,6 +93,11 @@ abbrev pub IsRunningFault : RunningError → Fault → Type 0
 IsRunningFault running.BothStandardInput fault = IsUsageOf kind.ArgumentConflict fault
 IsRunningFault error fault = fault ≡ Running error
 
+-- The fault for a trace that was not drawn. A wrong width is wrong usage.
+abbrev pub IsChartFault : ChartError → Fault → Type 0
+IsChartFault chart.Width fault = IsUsageOf kind.InvalidValue fault
+IsChartFault error fault = fault ≡ Charting error
+
 -- The kind of wrong usage for refused options: they conflict or one is missing, or a value is
 -- wrong.
 abbrev pub options_kind : OptionError → ErrorKind
@@ -109,6 +117,11 @@ IsNameFault _ = ⊥
 abbrev pub IsNamesFault : Fault → Type 0
 IsNamesFault (Naming error) = IsLineError error
 IsNamesFault _ = ⊥
+
+-- The faults of drawing a trace.
+abbrev pub IsChartingFault : Fault → Type 0
+IsChartingFault (Charting error) = Unit {0}
+IsChartingFault fault = IsUsageOf kind.InvalidValue fault
 
 -- The faults of a run.
 abbrev pub IsRunFault : Fault → Type 0

@@ -3,9 +3,11 @@ use Rattle.std.specs.Prelude.{◌≡◌, ◌⊎◌, ℕ, Bool, List, [], Option,
 use Rattle.clap.specs.Words.{HasKind, Text as WordText, kind_of}
 use Rattle.clap.specs.declared.error.Error.{Error}
 use Rattle.bsc_asked.specs.StationWords.{AskedWords}
-use Rattle.bsc_asked.specs.Asked.{AskedValue, names, name, show, run, station}
+use Rattle.bsc_asked.specs.Asked.{AskedValue, names, name, show, chart, run, station}
 use Rattle.bsc_attending.specs.Preparing.{HasFailedEarly}
 use Rattle.bsc_attending.specs.declared.error.AttendingError.TheVariants as attending
+use Rattle.bsc_chart.specs.Asked.{HasFailed as HasFailedDrawing, drawing_of}
+use Rattle.bsc_chart.specs.Inputs.{DrawsInput}
 use Rattle.bsc_input.specs.Hexadecimal.{octets_of}
 use Rattle.bsc_print.specs.Names.{Prints, name_line}
 use Rattle.bsc_print.specs.declared.printed.Detail.{Detail}
@@ -18,9 +20,11 @@ use Rattle.bsc_running.specs.Running.{HasFailed, IsRunDone, TextPaths}
 use Rattle.bsc_running.specs.declared.error.RunningError.TheVariants.{BothStandardInput}
 use Rattle.bsc_words.specs.CommandLine.{IsHelp, asked_of, faults_at}
 use Rattle.bsc_command.specs.declared.fault.Fault.{Fault}
-use Rattle.bsc_command.specs.declared.fault.Fault.TheVariants.{Naming, Running, Attending, Usage}
-use Rattle.bsc_command.specs.Faults.{IsNameFault, IsNamesFault, IsPrintFault, IsRunFault}
-use Rattle.bsc_command.specs.Faults.{IsStationFault, IsUsage, options_kind}
+use Rattle.bsc_command.specs.declared.fault.Fault.TheVariants.{Naming, Charting, Running}
+use Rattle.bsc_command.specs.declared.fault.Fault.TheVariants.{Attending, Usage}
+use Rattle.bsc_command.specs.Faults.{IsChartingFault, IsNameFault, IsNamesFault}
+use Rattle.bsc_command.specs.Faults.{IsPrintFault, IsRunFault, IsStationFault, IsUsage}
+use Rattle.bsc_command.specs.Faults.{options_kind}
 
 -- What a fault of naming one transmission says: its text is not hexadecimal.
 abbrev pub HasFailedName : Fault → List ℕ → Type 0
@@ -45,6 +49,21 @@ HasFailedStation (Usage error) words input =
     × HasFailedEarly words input (attending.Options why)
 HasFailedStation fault words input = Unit {0}
 
+-- What a fault of drawing a trace says: the line with this number is the first that is wrong or too
+-- long, and the rows of the lines before it were written.
+abbrev pub HasFailedChart : Fault → Bool → Option (List ℕ) → Option (List ℕ)
+    → Option (List ℕ) → Option (List ℕ) → Type 0
+HasFailedChart (Charting error) ascii width input old new =
+    IfSome input (λ octets. HasFailedDrawing (drawing_of ascii width) error octets old new)
+HasFailedChart fault ascii width input old new = Unit {0}
+
+-- The ladder of the trace in the input was written as it was asked for.
+abbrev pub IsCharted : Bool → Option (List ℕ) → Option (List ℕ) → Option (List ℕ)
+    → Option (List ℕ) → Type 0
+IsCharted ascii width input old new =
+    IfSome input (λ octets. IsSomeAnd (drawing_of ascii width)
+    (λ drawing. DrawsInput drawing octets old new))
+
 -- For the streams of a run's cable, `contents` is what was written to a stream, and `remaining` is
 -- what is left to read from it.
 module _ {S : Type 0} (contents remaining : S → Option (List ℕ)) where
@@ -54,6 +73,7 @@ module _ {S : Type 0} (contents remaining : S → Option (List ℕ)) where
   IsDone (name text) input old new =
       IsSomeAnd (octets_of text) (λ octets. Prints name_line octets old new)
   IsDone show input old new = IfSome input (λ octets. PrintsInput Units octets old new)
+  IsDone (chart ascii width) input old new = IsCharted ascii width input old new
   IsDone (run config script check) input old new =
       IsRunDone (streams_of contents remaining) check
       (record { config = config; script = script; input = input }) old new
@@ -74,6 +94,8 @@ module _ {S : Type 0} (contents remaining : S → Option (List ℕ)) where
   HasFailedAs names fault input old new = HasFailedLines fault Name input old new
   HasFailedAs (name text) fault input old new = HasFailedName fault text
   HasFailedAs show fault input old new = HasFailedLines fault Units input old new
+  HasFailedAs (chart ascii width) fault input old new =
+      HasFailedChart fault ascii width input old new
   HasFailedAs (run config script check) fault input old new =
       HasFailedRun fault check (record { config = config; script = script; input = input }) old new
   HasFailedAs (station words) fault input old new = HasFailedStation fault words input
@@ -83,6 +105,7 @@ abbrev pub IsFaultOf : AskedValue → Fault → Type 0
 IsFaultOf names fault = IsNamesFault fault
 IsFaultOf (name text) fault = IsNameFault fault
 IsFaultOf show fault = IsNamesFault fault
+IsFaultOf (chart ascii width) fault = IsChartingFault fault
 IsFaultOf (run config script check) fault = IsRunFault fault
 IsFaultOf (station words) fault = IsStationFault fault
 

@@ -1,9 +1,11 @@
 //! The faults that end the command, with the text and the exit status of each.
 ghost use Rattle.std.specs.Prelude.{◌≡◌, ◌≢◌};
-ghost use Rattle.bsc_command.specs.Faults.{IsAttendingFault, IsRunningFault, IsUsageOf, status_of};
+ghost use Rattle.bsc_command.specs.Faults.{IsAttendingFault, IsChartFault, IsRunningFault, IsUsageOf};
 ghost use Rattle.bsc_command.specs.Faults.{attending_status_of, options_kind, running_status_of};
+ghost use Rattle.bsc_command.specs.Faults.{status_of};
 
 use bsc_attending::AttendingError;
+use bsc_chart::ChartError;
 use bsc_naming::NamingError;
 use bsc_options::OptionError;
 use bsc_run::RunError;
@@ -20,6 +22,10 @@ pub enum Fault {
     /// Not all names were printed.
     #[error(transparent)]
     Naming { error: NamingError },
+
+    /// Not all of a trace was drawn.
+    #[error(transparent)]
+    Charting { error: ChartError },
 
     /// A run failed.
     #[error(transparent)]
@@ -84,6 +90,19 @@ fn words_fault(alloc: Global, shown: Shown, kind: ErrorKind, why: &str) -> Fault
     ensures { IsUsageOf kind result }
 {
     Fault::from(wrong_words(alloc, shown, kind, why))
+}
+
+/// Returns the fault for a trace that was not drawn. A wrong width is wrong usage.
+pub(crate) fn chart_fault(alloc: Global, error: ChartError) -> Fault
+    ensures { IsChartFault error result }
+{
+    match error {
+        ChartError::Width => {
+            let why = "--width is not from 40 to 1000";
+            words_fault(alloc, Shown::Chart, ErrorKind::InvalidValue, why)
+        }
+        error => Fault::Charting { error },
+    }
 }
 
 /// Returns the fault for a failed run. Wrong arguments are wrong usage.

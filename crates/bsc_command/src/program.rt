@@ -1,13 +1,14 @@
 //! The work of the program, over any reader, writer and machine.
-ghost use Rattle.std.specs.Prelude.{◌≡◌, ℕ, OnOk, IfErr, List, true};
+ghost use Rattle.std.specs.Prelude.{◌≡◌, ℕ, OnOk, IfErr, List, option_map, string_bytes, true};
 ghost use Rattle.bsc_asked.specs.Asked.{asked as asked_now, name as name_asked, run as run_asked};
 ghost use Rattle.bsc_command.specs.Faults.{IsEarly};
 ghost use Rattle.bsc_command.specs.Program.{HasFailedAs, IsDone, IsFaultOf};
 
 use crate::Fault;
-use crate::fault::{attending_fault, running_fault};
+use crate::fault::{attending_fault, chart_fault, running_fault};
 use bsc_asked::Asked;
 use bsc_attending::{Network, station};
+use bsc_chart::{ChartWords, draw};
 use bsc_input::Files;
 use bsc_naming::{name, names, show};
 use bsc_running::{Cables, RunWords, run};
@@ -43,6 +44,16 @@ pub fn perform<R: Read, H: Files + Cables + Network, W: Write>(
         Asked::Names => Ok(names(alloc, input, out)?),
         Asked::Name(text) => Ok(name(alloc, text.as_str(), out)?),
         Asked::Show => Ok(show(alloc, input, out)?),
+        Asked::Chart { ascii, width } => {
+            let words = ChartWords {
+                ascii: *ascii,
+                width: width_text(width),
+            };
+            match draw(alloc, words, input, out) {
+                Ok(()) => Ok(()),
+                Err(error) => Err(chart_fault(alloc, error)),
+            }
+        }
         Asked::Run {
             config,
             script,
@@ -62,5 +73,15 @@ pub fn perform<R: Read, H: Files + Cables + Network, W: Write>(
             Ok(()) => Ok(()),
             Err(error) => Err(attending_fault(alloc, error)),
         },
+    }
+}
+
+/// Returns the width of a ladder as it was given.
+fn width_text(width: &Option<String>) -> Option<&str>
+    ensures { option_map (λ w. w.now) result ≡ option_map string_bytes width.now }
+{
+    match width {
+        Some(text) => Some(text.as_str()),
+        None => None,
     }
 }

@@ -9,4 +9,4 @@ mod error;
 mod naming;
 
 pub use error::NamingError;
-pub use naming::{name, names, show};
+pub use naming::{last_word, name, names, show};

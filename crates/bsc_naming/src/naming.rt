@@ -145,7 +145,7 @@ fn is_traced_line(line: &[u8]) -> bool
 }
 
 /// Returns the text after the last space of the line, or all of it if there is no space.
-fn last_word(line: &[u8]) -> &[u8]
+pub fn last_word(line: &[u8]) -> &[u8]
     ensures { result.now ≡ last_part (parts_at 32 line.now) }
 {
     let mut left = line;

@@ -2,11 +2,12 @@
 use Rattle.std.specs.Prelude.{◌≡◌, ◌⊎◌, List, [], ◌∷◌, true, Option, Some, None, codes}
 use Rattle.std.specs.Prelude.{if◌then◌else◌}
 use Rattle.std.specs.Str.{bytes_eq}
-use Rattle.clap.specs.Words.{App, Kinds, Row, Text, fault_of, new_app, subcommand_of}
+use Rattle.clap.specs.Words.{App, Kinds, Row, Text, fault_of, first_of, new_app, subcommand_of}
 use Rattle.clap.specs.declared.error.kind.ErrorKind.{ErrorKind}
 use Rattle.clap.specs.declared.error.kind.ErrorKind.TheVariants.{DisplayHelp, DisplayVersion}
-use Rattle.bsc_asked.specs.Asked.{AskedValue, names, name, show, run, station}
-use Rattle.bsc_words.specs.Options.{flag, is_true_text, required, value_at, with_rules, with_shapes}
+use Rattle.bsc_asked.specs.Asked.{AskedValue, names, name, show, chart, run, station}
+use Rattle.bsc_words.specs.Options.{flag, is_true_text, option, required, value_at, with_rules}
+use Rattle.bsc_words.specs.Options.{with_shapes}
 use Rattle.bsc_words.specs.StationWords.{station_app, words_in}
 
 -- `name HEX`.
@@ -16,6 +17,11 @@ name_app = with_rules (new_app (codes "name")) (required (codes "HEX") ∷ [])
 -- `show`.
 abbrev pub show_app : App
 show_app = new_app (codes "show")
+
+-- `chart`, with the flag `--ascii` and the option `--width`.
+abbrev pub chart_app : App
+chart_app =
+    with_rules (new_app (codes "chart")) (flag (codes "ascii") ∷ option (codes "width") ∷ [])
 
 -- `run CONFIG SCRIPT`, with the flag `--check`.
 abbrev pub run_app : App
@@ -31,11 +37,16 @@ program_app =
 -- The program with its commands.
 abbrev pub bscline_app : App
 bscline_app =
-    with_shapes program_app (name_app.top ∷ show_app.top ∷ run_app.top ∷ station_app.top ∷ [])
+    with_shapes program_app (name_app.top ∷ show_app.top ∷ chart_app.top ∷ run_app.top ∷ station_app.top ∷ [])
 
 -- The kinds of error that `clap` may return for the arguments; none if they are a command.
 unfoldable pub faults_at : List Text → Kinds
 faults_at words = fault_of bscline_app words
+
+-- A ladder: whether it is drawn in ASCII characters only, and its width.
+abbrev pub asked_chart : List Row → AskedValue
+asked_chart rows =
+    chart (is_true_text (value_at (codes "ascii") rows)) (first_of (codes "width") rows)
 
 -- A run: the paths of the configuration and the script, and whether they are only checked.
 abbrev pub asked_run : List Row → AskedValue
@@ -51,8 +62,9 @@ asked_station rows = station (words_in rows)
 abbrev pub asked_by : Text → List Row → AskedValue
 asked_by sub rows =
     if bytes_eq sub (codes "name") then name (value_at (codes "HEX") rows)
+    else (if bytes_eq sub (codes "chart") then asked_chart rows
     else (if bytes_eq sub (codes "run") then asked_run rows
-    else (if bytes_eq sub (codes "station") then asked_station rows else show))
+    else (if bytes_eq sub (codes "station") then asked_station rows else show)))
 
 -- The work for a command. Without a command it is naming the lines of standard input.
 abbrev pub asked_sub : Option (Text × List Row) → AskedValue

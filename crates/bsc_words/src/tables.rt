@@ -24,6 +24,27 @@ const SHOW: Subcommand = Subcommand {
     entries: &[],
 };
 
+/// Draws the ladder of a trace.
+pub(crate) const CHART: Subcommand = Subcommand {
+    name: "chart",
+    about: "Draw the trace on standard input as a ladder of stations",
+    example: "Example: bscline chart < examples/ladder/trace.txt",
+    entries: &[
+        Entry {
+            id: "ascii",
+            given: Flag,
+            value: "",
+            help: "Draw in ASCII characters only",
+        },
+        Entry {
+            id: "width",
+            given: Value,
+            value: "N",
+            help: "Cut records and messages to N characters a line, 40 to 1000, 80 unless given",
+        },
+    ],
+};
+
 /// Runs a whole line.
 pub(crate) const RUN: Subcommand = Subcommand {
     name: "run",
@@ -200,4 +221,4 @@ pub(crate) const STATION: Subcommand = Subcommand {
 };
 
 /// The commands, in the order of the help.
-pub(crate) const COMMANDS: &[Subcommand] = &[NAME, SHOW, RUN, STATION];
+pub(crate) const COMMANDS: &[Subcommand] = &[NAME, SHOW, CHART, RUN, STATION];

@@ -2,13 +2,13 @@
 ghost use Rattle.std.specs.Prelude.{◌≡◌, ◌⊎◌, [], map, IfOk, IfErr, OnOk};
 ghost use Rattle.clap.specs.Words.{HasKind, app_of, found_of, kind_of, rows_of, subcommand_rows_of};
 ghost use Rattle.bsc_asked.specs.Asked.{asked};
-ghost use Rattle.bsc_words.specs.CommandLine.{asked_of, asked_run, asked_station, asked_sub};
-ghost use Rattle.bsc_words.specs.CommandLine.{bscline_app, faults_at, program_app};
+ghost use Rattle.bsc_words.specs.CommandLine.{asked_chart, asked_of, asked_run, asked_station};
+ghost use Rattle.bsc_words.specs.CommandLine.{asked_sub, bscline_app, faults_at, program_app};
 
 use crate::entries::{Subcommand, command_of, with_subcommands};
 use crate::station_words::station_words;
-use crate::tables::{COMMANDS, RUN, STATION};
-use crate::values::{is_given, required_text};
+use crate::tables::{CHART, COMMANDS, RUN, STATION};
+use crate::values::{is_given, option_text, required_text};
 use bsc_asked::Asked;
 use clap::error::ErrorKind;
 use clap::{ArgMatches, Command, Error};
@@ -29,6 +29,16 @@ fn command_line<'a>(alloc: Global) -> Result<Command<'a>, AllocError>
     ensures { IfOk result (λ c. app_of c ≡ bscline_app) }
 {
     with_subcommands(alloc, program(alloc), COMMANDS)
+}
+
+/// Returns the ladder that the matches of `chart` ask for.
+fn chart_of(alloc: Global, matches: &ArgMatches<'_>) -> Result<Asked, AllocError>
+    ensures { IfOk result (λ w. asked w ≡ asked_chart (rows_of (found_of matches.now))) }
+{
+    Ok(Asked::Chart {
+        ascii: is_given(matches, "ascii"),
+        width: option_text(alloc, matches, "width")?,
+    })
 }
 
 /// Returns the run that the matches of `run` ask for.
@@ -57,6 +67,7 @@ fn work_of(alloc: Global, matches: &ArgMatches<'_>) -> Result<Asked, AllocError>
         None => Ok(Asked::Names),
         Some((sub, inner)) => match sub {
             "name" => Ok(Asked::Name(required_text(alloc, inner, "HEX")?)),
+            "chart" => chart_of(alloc, inner),
             "run" => run_of(alloc, inner),
             "station" => station_of(alloc, inner),
             _ => Ok(Asked::Show),
@@ -83,6 +94,9 @@ pub enum Shown {
     /// The program with the names of its commands.
     Program,
 
+    /// `chart`.
+    Chart,
+
     /// `run`.
     Run,
 
@@ -94,6 +108,7 @@ pub enum Shown {
 fn shown_command<'a>(alloc: Global, shown: Shown) -> Result<Command<'a>, AllocError> {
     match shown {
         Shown::Program => command_line(alloc),
+        Shown::Chart => named_command(alloc, &CHART, "bscline chart"),
         Shown::Run => named_command(alloc, &RUN, "bscline run"),
         Shown::Station => named_command(alloc, &STATION, "bscline station"),
     }

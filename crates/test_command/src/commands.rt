@@ -41,6 +41,44 @@ const CASES: &[Case] = &[
         },
     },
     Case {
+        words: Some(&["chart", "--ascii"]),
+        input: Some("+5 control sent EOT 1604\n+6 gone\n7 silence\n+8 silence\n"),
+        takes: true,
+        scene: SILENT,
+        due: Due {
+            out: "    time control            0\n       5 *- EOT ------------)\n       6 = gone\n",
+            errors: "bscline: line 3: not a line of a trace\n",
+            status: 1,
+            asking: None,
+        },
+    },
+    Case {
+        words: Some(&["chart"]),
+        input: Some(""),
+        takes: true,
+        scene: SILENT,
+        due: Due {
+            out: "",
+            errors: "",
+            status: 0,
+            asking: None,
+        },
+    },
+    Case {
+        words: Some(&["chart", "--width", "39"]),
+        input: Some("+5 silence\n"),
+        takes: true,
+        scene: SILENT,
+        due: Due {
+            out: "",
+            errors: "error: --width is not from 40 to 1000\n\n\
+            Usage: bscline chart [OPTIONS]\n\n\
+            For more information, try '--help'.\n",
+            status: 2,
+            asking: None,
+        },
+    },
+    Case {
         words: Some(&["--version"]),
         input: Some(""),
         takes: true,

@@ -91,6 +91,11 @@ sync: true, trace: 3 })",
     ),
     (&["bscline"], "Names"),
     (&["bscline", "show"], "Show"),
+    (&["bscline", "chart"], "Chart { ascii: false, width: None }"),
+    (
+        &["bscline", "chart", "--width", "100", "--ascii"],
+        "Chart { ascii: true, width: Some(\"100\") }",
+    ),
     (&["bscline", "name", "161610B0FF"], "Name(\"161610B0FF\")"),
     (&["bscline", "name", "16 04"], "Name(\"16 04\")"),
     (&["bscline", "name", ""], "Name(\"\")"),
@@ -114,6 +119,7 @@ Usage: bscline [COMMAND]
 Commands:
   name     Print the name of one transmission
   show     Print the names of standard input, with the units of texts
+  chart    Draw the trace on standard input as a ladder of stations
   run      Run a line over loopback sockets, and print what is on it
   station  Run one station of a line over TCP
   help     Print this message or the help of the given subcommand(s)
@@ -148,6 +154,19 @@ Options:
   -h, --help  Print help
 
 Example: echo 16 16 02 C8 49 19 83 9B FF | bscline show
+";
+
+/// The help of `chart`.
+const CHART_HELP: &str = "Draw the trace on standard input as a ladder of stations
+
+Usage: bscline chart [OPTIONS]
+
+Options:
+      --ascii      Draw in ASCII characters only
+      --width <N>  Cut records and messages to N characters a line, 40 to 1000, 80 unless given
+  -h, --help       Print help
+
+Example: bscline chart < examples/ladder/trace.txt
 ";
 
 /// The help of `run`.
@@ -212,6 +231,7 @@ const HELPED: &[Row] = &[
     (&["bscline", "help"], HELP),
     (&["bscline", "name", "-h"], NAME_HELP),
     (&["bscline", "help", "show"], SHOW_HELP),
+    (&["bscline", "chart", "--help"], CHART_HELP),
     (&["bscline", "run", "--help"], RUN_HELP),
     (&["bscline", "station", "--help"], STATION_HELP),
 ];

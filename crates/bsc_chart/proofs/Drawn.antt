@@ -1,0 +1,295 @@
+-- The ladder of the lines of an input so far.
+use Rattle.std.proofs.Common.{◌≡◌, ◌<◌, ◌≤◌, ℕ, ◌+◌, ◌||◌, ◌&&◌, not, map, List, [], ◌∷◌, ◌++◌, Bool}
+use Rattle.std.proofs.Common.{true, false, Option, Some, None, Result, Ok, Err, length, refl, sym, ap}
+use Rattle.std.proofs.Common.{subst, ◌∙◌, append_assoc, append-nil, length-append, arith, get_or, take}
+use Rattle.std.proofs.KnownBytes.{Appends-nil, Appends-trans}
+use Rattle.std.proofs.Math.Seq.{take-append_seam}
+use Rattle.std.proofs.lemmas.Bool.Decides.{nat_tests}
+use Rattle.std.proofs.lemmas.List.{map-append, take-map}
+use Rattle.std.specs.Io.KnownBytes.{Appends}
+use Rattle.std.specs.List.{flat_map}
+use Rattle.std.specs.Prelude.{IfErr, IfSome, OnOk, slice_index_or}
+use Rattle.std.specs.Str.Lines.{strip_carriage_return}
+use Rattle.bsc_input.specs.Lines.{lines_of, parts_of}
+use Rattle.bsc_input.specs.Parts.{before_octet}
+use Rattle.bsc_input.specs.Reading.{ReadsLine}
+use Rattle.bsc_input.specs.declared.input.InputError.{InputError}
+use Rattle.bsc_input.specs.declared.input.InputError.TheVariants as input
+use Rattle.bsc_input.specs.declared.reading.LineEnd.{LineEnd}
+use Rattle.bsc_input.specs.declared.reading.LineEnd.TheVariants.{LineFeed, InputEnd}
+use Rattle.bsc_input.proofs.LineParts.{first_part}
+use Rattle.bsc_naming.specs.Inputs.{is_too_long}
+use Rattle.bsc_naming.proofs.Lists.{NonePasses, NonePasses-more, position-append, position_none}
+use Rattle.bsc_trace.specs.Lines.{TraceValue}
+use Rattle.bsc_chart.specs.Errors.{IsWrongOrPrintError, input_error}
+use Rattle.bsc_chart.specs.Inputs.{DrawsFirst, DrawsInput, HasStopped, StopsAt, is_misspelt}
+use Rattle.bsc_chart.specs.Inputs.{is_refused, is_wrong, values_at, values_of}
+use Rattle.bsc_chart.specs.Ladders.{columns_after, columns_from, ladder_from, ladder_text, line_text}
+use Rattle.bsc_chart.specs.declared.error.ChartError.{ChartError}
+use Rattle.bsc_chart.specs.declared.error.ChartError.TheVariants as chart
+use Rattle.bsc_chart.specs.declared.text.Drawing.{Drawing}
+
+-- lists of values one after another
+columns_append : (columns : ℕ) (xs ys : List TraceValue)
+    → columns_from columns (xs ++ ys) ≡ columns_from (columns_from columns xs) ys
+columns_append columns [] ys = refl
+columns_append columns (x ∷ xs) ys = columns_append (columns_after columns x) xs ys
+
+ladder_append : (drawing : Drawing) (columns : ℕ) (xs ys : List TraceValue)
+    → ladder_from drawing columns (xs ++ ys)
+    ≡ ladder_from drawing columns xs ++ ladder_from drawing (columns_from columns xs) ys
+ladder_append drawing columns [] ys = refl
+ladder_append drawing columns (x ∷ xs) ys =
+    ap (λ text. line_text drawing columns x ++ text)
+    (ladder_append drawing (columns_after columns x) xs ys)
+    ∙ sym (append_assoc (line_text drawing columns x)
+    (ladder_from drawing (columns_after columns x) xs)
+    (ladder_from drawing (columns_from (columns_after columns x) xs) ys))
+
+values_append : (xs ys : List (List ℕ)) → values_of (xs ++ ys) ≡ values_of xs ++ values_of ys
+values_append [] ys = refl
+values_append (x ∷ xs) ys =
+    ap (λ vs. values_at x ++ vs) (values_append xs ys)
+    ∙ sym (append_assoc (values_at x) (values_of xs) (values_of ys))
+
+-- the first lines, of which the next one has this number, are not refused and their ladder was
+-- written; the others are left
+pub record HasDrawn (drawing : Drawing) (all left : List (List ℕ)) (number columns : ℕ)
+    (old new : Option (List ℕ)) : Type 0 where
+  pub done : List (List ℕ)
+  pub whole : all ≡ done ++ left
+  pub count : length done + 1 ≡ number
+  pub right : NonePasses is_refused done
+  pub columns_are : columns ≡ columns_from 0 (values_of (map strip_carriage_return done))
+  pub drawn : Appends old new (ladder_text drawing (values_of (map strip_carriage_return done)))
+
+-- the same of the lines of what a reader had and of what it has left, where these are known
+abbrev pub HasDrawnOf : Option (List ℕ) → Option (List ℕ) → Drawing → ℕ → ℕ → Option (List ℕ)
+    → Option (List ℕ) → Type 0
+HasDrawnOf None left drawing number columns old new = Unit {0}
+HasDrawnOf (Some all) None drawing number columns old new = ⊥
+HasDrawnOf (Some all) (Some left) drawing number columns old new =
+    HasDrawn drawing (parts_of all) (parts_of left) number columns old new
+
+pub drawn_none : (all : Option (List ℕ)) (drawing : Drawing) (a : Option (List ℕ))
+    → HasDrawnOf all all drawing 1 0 a a
+drawn_none None drawing a = tt
+drawn_none (Some all) drawing a = record {
+  done = [];
+  whole = refl;
+  count = refl;
+  right = tt;
+  columns_are = refl;
+  drawn = Appends-nil a;
+}
+
+get_or_seam : {X : Type 0} (xs : List X) (y : X) (ys : List X) (d : X)
+    → get_or (xs ++ y ∷ ys) (length xs) d ≡ y
+get_or_seam [] y ys d = refl
+get_or_seam (x ∷ xs) y ys d = get_or_seam xs y ys d
+
+first_lines : (octets : List ℕ) (done left : List (List ℕ)) → parts_of octets ≡ done ++ left
+    → take (length done) (lines_of octets) ≡ map strip_carriage_return done
+first_lines octets done left e =
+    take-map strip_carriage_return (length done) (parts_of octets)
+    ∙ ap (λ parts. map strip_carriage_return (take (length done) parts)) e
+    ∙ ap (map strip_carriage_return) (take-append_seam done left)
+
+-- lines by their length
+fits_by : (b : Bool) (wrong : Bool) → b ≡ false → wrong ≡ false → (b || wrong) ≡ false
+fits_by true wrong e f = cc
+fits_by false wrong e f = f
+
+long_by : (b : Bool) (wrong : Bool) → b ≡ true → (b || wrong) ≡ true
+long_by true wrong e = refl
+long_by false wrong e = cc
+
+wrong_by : (b : Bool) (wrong : Bool) → b ≡ false → wrong ≡ true
+    → ((b || wrong) ≡ true) × ((not b && wrong) ≡ true)
+wrong_by true wrong e f = cc
+wrong_by false wrong e f = (f, f)
+
+not_long : (part : List ℕ) → length part ≤ 1048576 → is_too_long part ≡ false
+not_long part h = grind (arith, nat_tests)
+
+long : (part : List ℕ) → 1048576 < length part → is_too_long part ≡ true
+long part h = grind (arith, nat_tests)
+
+module _ {drawing : Drawing} {n k : ℕ} {a b : Option (List ℕ)} where
+  has_drawn_more : (all : List (List ℕ)) (part line : List ℕ) (left : List (List ℕ)) (more : ℕ)
+      (c : Option (List ℕ)) → HasDrawn drawing all (part ∷ left) n k a b → length part ≤ 1048576
+      → line ≡ strip_carriage_return part → is_wrong line ≡ false
+      → more ≡ columns_from k (values_at line)
+      → Appends b c (ladder_from drawing k (values_at line))
+      → HasDrawn drawing all left (n + 1) more a c
+  has_drawn_more all part line left more c h fits same right grown p =
+      let before = values_of (map strip_carriage_return h.done) in
+      let now = values_at line in
+      let lines : map strip_carriage_return (h.done ++ part ∷ [])
+      ≡ map strip_carriage_return h.done ++ line ∷ [] =
+      map-append strip_carriage_return h.done (part ∷ [])
+      ∙ ap (λ l. map strip_carriage_return h.done ++ l ∷ []) (sym same) in
+      let one : values_of (line ∷ []) ≡ now = append-nil now in
+      let values : values_of (map strip_carriage_return (h.done ++ part ∷ [])) ≡ before ++ now =
+      ap values_of lines
+      ∙ values_append (map strip_carriage_return h.done) (line ∷ [])
+      ∙ ap (λ vs. before ++ vs) one in
+      record {
+        done = h.done ++ part ∷ [];
+        whole = h.whole ∙ sym (append_assoc h.done (part ∷ []) left);
+        count = omega (arith, length-append h.done (part ∷ []), h.count);
+        right =
+            NonePasses-more is_refused h.done part h.right
+            (fits_by (is_too_long part) (is_wrong (strip_carriage_return part))
+            (not_long part fits) (rw same at right));
+        columns_are =
+            grown ∙ ap (λ m. columns_from m now) h.columns_are
+            ∙ sym (columns_append 0 before now) ∙ ap (columns_from 0) (sym values);
+        drawn =
+            subst (λ vs. Appends a c (ladder_text drawing vs)) (sym values)
+            (subst (λ text. Appends a c text) (sym (ladder_append drawing 0 before now))
+            (Appends-trans a b c (ladder_text drawing before)
+            (ladder_from drawing (columns_from 0 before) now) h.drawn
+            (subst (λ m. Appends b c (ladder_from drawing m now)) h.columns_are p)));
+      }
+
+  -- the next line is refused
+  has_drawn_stop : (is_fault : List ℕ → Bool) (octets part : List ℕ) (left : List (List ℕ))
+      → HasDrawn drawing (parts_of octets) (part ∷ left) n k a b → is_refused part ≡ true
+      → is_fault part ≡ true → StopsAt is_fault drawing n octets a b
+  has_drawn_stop is_fault octets part left h refused fault = record {
+    place = length h.done;
+    counted = sym h.count;
+    first = rw h.whole (position-append is_refused h.done part left h.right refused);
+    reason =
+        ap (λ parts. is_fault (get_or parts (length h.done) [])) h.whole
+        ∙ ap is_fault (get_or_seam h.done part left []) ∙ fault;
+    before =
+        subst (λ lines. Appends a b (ladder_text drawing (values_of lines)))
+        (sym (first_lines octets h.done (part ∷ left) h.whole)) h.drawn;
+  }
+
+  -- no line is left
+  has_drawn_all : (octets : List ℕ) → HasDrawn drawing (parts_of octets) [] n k a b
+      → DrawsInput drawing octets a b
+  has_drawn_all octets h =
+      let all_done : parts_of octets ≡ h.done = h.whole ∙ append-nil h.done in
+      record {
+        right = rw all_done (position_none is_refused h.done h.right);
+        drawn =
+            subst (λ parts. Appends a b
+            (ladder_text drawing (values_of (map strip_carriage_return parts))))
+            (sym all_done) h.drawn;
+      }
+
+  has_drawn_first : (octets : List ℕ) (left : List (List ℕ))
+      → HasDrawn drawing (parts_of octets) left n k a b → DrawsFirst drawing octets a b
+  has_drawn_first octets left h = record {
+    place = length h.done;
+    before =
+        subst (λ lines. Appends a b (ladder_text drawing (values_of lines)))
+        (sym (first_lines octets h.done left h.whole)) h.drawn;
+  }
+
+-- the part is what was read of the lines that were left, and others may be left
+part_left : (old new : List ℕ) (end : LineEnd) (part : List ℕ)
+    → ReadsLine (Some old) (Some new) end part
+    → (left : List (List ℕ)) × (parts_of old ≡ part ∷ left)
+part_left old new LineFeed part e = (parts_of new, e)
+part_left old new InputEnd part e = ([], e.0)
+
+module _ (drawing : Drawing) (n k : ℕ) (a b c : Option (List ℕ)) where
+  -- a line that ends with a line feed was drawn
+  pub drawn_line : (given left next : Option (List ℕ)) (part line : List ℕ) (more : ℕ)
+      → HasDrawnOf given left drawing n k a b → ReadsLine left next LineFeed part
+      → length part ≤ 1048576 → line ≡ strip_carriage_return part → is_wrong line ≡ false
+      → more ≡ columns_from k (values_at line)
+      → Appends b c (ladder_from drawing k (values_at line))
+      → HasDrawnOf given next drawing (n + 1) more a c
+  drawn_line None left next part line more h read fits same right grown p = tt
+  drawn_line (Some all) None next part line more h read fits same right grown p = absurd h
+  drawn_line (Some all) (Some old) None part line more h read fits same right grown p =
+      absurd read
+  drawn_line (Some all) (Some old) (Some new) part line more h read fits same right grown p =
+      has_drawn_more (parts_of all) part line (parts_of new) more c
+      (subst (λ parts. HasDrawn drawing (parts_of all) parts n k a b) read h) fits same right
+      grown p
+
+  -- the last line was drawn
+  pub drawn_last : (given left next : Option (List ℕ)) (part line : List ℕ) (more : ℕ)
+      → HasDrawnOf given left drawing n k a b → ReadsLine left next InputEnd part
+      → length part ≤ 1048576 → line ≡ strip_carriage_return part → is_wrong line ≡ false
+      → more ≡ columns_from k (values_at line)
+      → Appends b c (ladder_from drawing k (values_at line))
+      → IfSome given (λ octets. DrawsInput drawing octets a c)
+  drawn_last None left next part line more h read fits same right grown p = tt
+  drawn_last (Some all) None next part line more h read fits same right grown p = absurd h
+  drawn_last (Some all) (Some old) None part line more h read fits same right grown p =
+      absurd read
+  drawn_last (Some all) (Some old) (Some new) part line more h read fits same right grown p =
+      has_drawn_all all (has_drawn_more (parts_of all) part line [] more c
+      (subst (λ parts. HasDrawn drawing (parts_of all) parts n k a b) read.0 h) fits same right
+      grown p)
+
+  -- a wrong line was not drawn
+  stopped_wrong : (given left next : Option (List ℕ)) (end : LineEnd) (part line : List ℕ)
+      → HasDrawnOf given left drawing n k a b → ReadsLine left next end part
+      → length part ≤ 1048576 → line ≡ strip_carriage_return part → is_wrong line ≡ true
+      → IfSome given (λ octets. StopsAt is_misspelt drawing n octets a b)
+  stopped_wrong None left next end part line h read fits same wrong = tt
+  stopped_wrong (Some all) None next end part line h read fits same wrong = absurd h
+  stopped_wrong (Some all) (Some old) None end part line h read fits same wrong = absurd read
+  stopped_wrong (Some all) (Some old) (Some new) end part line h read fits same wrong =
+      let found = part_left old new end part read in
+      let both =
+      wrong_by (is_too_long part) (is_wrong (strip_carriage_return part)) (not_long part fits)
+      (rw same at wrong) in
+      has_drawn_stop is_misspelt all part found.0
+      (subst (λ parts. HasDrawn drawing (parts_of all) parts n k a b) found.1 h) both.0 both.1
+
+  -- the next line is too long
+  stopped_long : (given left : Option (List ℕ)) → HasDrawnOf given left drawing n k a b
+      → IfSome left (λ octets. 1048576 < length (before_octet 10 octets))
+      → IfSome given (λ octets. StopsAt is_too_long drawing n octets a b)
+  stopped_long None left h more = tt
+  stopped_long (Some all) None h more = absurd h
+  stopped_long (Some all) (Some old) h more =
+      let found = first_part old in
+      let part = before_octet 10 old in
+      has_drawn_stop is_too_long all part found.0
+      (subst (λ parts. HasDrawn drawing (parts_of all) parts n k a b) found.1 h)
+      (long_by (is_too_long part) (is_wrong (strip_carriage_return part)) (long part more))
+      (long part more)
+
+  -- the next line was not read
+  pub stopped_first : (given left : Option (List ℕ)) → HasDrawnOf given left drawing n k a b
+      → IfSome given (λ octets. DrawsFirst drawing octets a b)
+  stopped_first None left h = tt
+  stopped_first (Some all) None h = absurd h
+  stopped_first (Some all) (Some old) h = has_drawn_first all (parts_of old) h
+
+  pub stopped_read : (given left : Option (List ℕ)) (e : InputError)
+      → HasDrawnOf given left drawing n k a b
+      → (e ≡ input.TooLong → IfSome left (λ octets. 1048576 < length (before_octet 10 octets)))
+      → IfSome given (λ octets. HasStopped drawing (input_error n e) octets a b)
+  stopped_read given left input.TooLong h more = stopped_long given left h (more refl)
+  stopped_read given left (input.Device why) h more = stopped_first given left h
+  stopped_read None left input.Memory h more = tt
+  stopped_read (Some all) left input.Memory h more = tt
+
+  -- the line that was read was not drawn, or in part
+  pub stopped_write : (given left next : Option (List ℕ)) (end : LineEnd) (part line : List ℕ)
+      (e : ChartError) → HasDrawnOf given left drawing n k a b → ReadsLine left next end part
+      → length part ≤ 1048576 → line ≡ strip_carriage_return part
+      → ((m : ℕ) → e ≡ chart.NotATraceAt m
+      → (m ≡ n) × (is_wrong line ≡ true) × (c ≡ b))
+      → IsWrongOrPrintError e → IfSome given (λ octets. HasStopped drawing e octets a c)
+  stopped_write given left next end part line (chart.NotATraceAt m) h read fits same wrong kind =
+      let told = wrong m refl in
+      rw (told.0, told.2) (stopped_wrong given left next end part line h read fits same told.1)
+  stopped_write None left next end part line e h read fits same wrong kind = tt
+  stopped_write (Some all) left next end part line (chart.TooLongAt m) h read fits same wrong kind = absurd kind
+  stopped_write (Some all) left next end part line chart.Width h read fits same wrong kind = tt
+  stopped_write (Some all) left next end part line chart.Input h read fits same wrong kind = absurd kind
+  stopped_write (Some all) left next end part line chart.Output h read fits same wrong kind = tt
+  stopped_write (Some all) left next end part line chart.Memory h read fits same wrong kind = tt

@@ -1,0 +1,32 @@
+-- The errors of drawing.
+use Rattle.std.specs.Prelude.{ℕ}
+use Rattle.bsc_input.specs.declared.input.InputError.{InputError}
+use Rattle.bsc_input.specs.declared.input.InputError.TheVariants as input
+use Rattle.bsc_print.specs.declared.error.PrintError.{PrintError}
+use Rattle.bsc_print.specs.declared.error.PrintError.TheVariants as print
+use Rattle.bsc_chart.specs.declared.error.ChartError.{ChartError}
+use Rattle.bsc_chart.specs.declared.error.ChartError.TheVariants.{NotATraceAt, TooLongAt, Width}
+use Rattle.bsc_chart.specs.declared.error.ChartError.TheVariants.{Input, Output, Memory}
+
+-- The error for a failure to print.
+abbrev pub print_error : PrintError → ChartError
+print_error print.Output = Output
+print_error print.Memory = Memory
+
+-- The errors of drawing one of many lines.
+abbrev pub IsWrongOrPrintError : ChartError → Type 0
+IsWrongOrPrintError (NotATraceAt line) = Unit {0}
+IsWrongOrPrintError Output = Unit {0}
+IsWrongOrPrintError Memory = Unit {0}
+IsWrongOrPrintError _ = ⊥
+
+-- The error for the line with this number if it could not be read.
+abbrev pub input_error : ℕ → InputError → ChartError
+input_error number input.TooLong = TooLongAt number
+input_error number (input.Device why) = Input
+input_error number input.Memory = Memory
+
+-- The errors of drawing many lines.
+abbrev pub IsLineError : ChartError → Type 0
+IsLineError Width = ⊥
+IsLineError _ = Unit {0}

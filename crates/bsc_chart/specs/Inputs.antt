@@ -1,0 +1,69 @@
+-- The ladder of the trace in a whole input.
+use Rattle.std.specs.Prelude.{◌≡◌, ℕ, ◌+◌, ◌&&◌, ◌||◌, not, Bool, true, List, [], take}
+use Rattle.std.specs.Prelude.{position, slice_index_or, is_none, Option, Some, None}
+use Rattle.std.specs.Prelude.{if◌then◌else◌}
+use Rattle.std.specs.Io.KnownBytes.{Appends}
+use Rattle.std.specs.List.{flat_map}
+use Rattle.std.specs.Option.{option_to_list}
+use Rattle.std.specs.Str.Lines.{strip_carriage_return}
+use Rattle.bsc_input.specs.Lines.{is_blank, lines_of, parts_of}
+use Rattle.bsc_naming.specs.Inputs.{is_too_long}
+use Rattle.bsc_trace.specs.Lines.{TraceValue, value_of}
+use Rattle.bsc_chart.specs.Ladders.{ladder_text}
+use Rattle.bsc_chart.specs.declared.error.ChartError.{ChartError}
+use Rattle.bsc_chart.specs.declared.error.ChartError.TheVariants.{NotATraceAt, TooLongAt, Input}
+use Rattle.bsc_chart.specs.declared.text.Drawing.{Drawing}
+
+-- The value of a line: none if it is blank.
+abbrev pub values_at : List ℕ → List TraceValue
+values_at line = if is_blank line then [] else option_to_list (value_of line)
+
+-- The values of lines, in order.
+abbrev pub values_of : List (List ℕ) → List TraceValue
+values_of lines = flat_map values_at lines
+
+-- Whether a line is wrong: it is neither blank nor a line of a trace.
+abbrev pub is_wrong : List ℕ → Bool
+is_wrong line = not (is_blank line) && is_none (value_of line)
+
+-- Whether the text between two line feeds is not too long, and a wrong line without one carriage
+-- return at its end.
+abbrev pub is_misspelt : List ℕ → Bool
+is_misspelt part = not (is_too_long part) && is_wrong (strip_carriage_return part)
+
+-- Whether it is refused: it is too long, or a wrong line.
+abbrev pub is_refused : List ℕ → Bool
+is_refused part = is_too_long part || is_wrong (strip_carriage_return part)
+
+-- No line of the input is refused, and the ladder of all of them was written.
+pub record DrawsInput (drawing : Drawing) (input : List ℕ) (old new : Option (List ℕ))
+    : Type 0 where
+  pub right : position is_refused (parts_of input) ≡ None
+  pub drawn : Appends old new (ladder_text drawing (values_of (lines_of input)))
+
+-- The line with this number, counted from 1, is the first of the input that is refused, and it is
+-- so for this reason. The ladder of the lines before it was written, and nothing else.
+pub record StopsAt (is_fault : List ℕ → Bool) (drawing : Drawing) (number : ℕ) (input : List ℕ)
+    (old new : Option (List ℕ)) : Type 0 where
+  pub place : ℕ
+  pub counted : number ≡ place + 1
+  pub first : position is_refused (parts_of input) ≡ Some place
+  pub reason : is_fault (slice_index_or (parts_of input) place []) ≡ true
+  pub before : Appends old new (ladder_text drawing (values_of (take place (lines_of input))))
+
+-- The ladder of some first lines of the input was written, and nothing else.
+pub record DrawsFirst (drawing : Drawing) (input : List ℕ) (old new : Option (List ℕ))
+    : Type 0 where
+  pub place : ℕ
+  pub before : Appends old new (ladder_text drawing (values_of (take place (lines_of input))))
+
+-- What an error says of the input and of the output. Of an error while a line was written it says
+-- nothing.
+abbrev pub HasStopped : Drawing → ChartError → List ℕ → Option (List ℕ) → Option (List ℕ)
+    → Type 0
+HasStopped drawing (NotATraceAt number) input old new =
+    StopsAt is_misspelt drawing number input old new
+HasStopped drawing (TooLongAt number) input old new =
+    StopsAt is_too_long drawing number input old new
+HasStopped drawing Input input old new = DrawsFirst drawing input old new
+HasStopped drawing _ input old new = Unit {0}

@@ -1,0 +1,60 @@
+-- The ladder of a trace, as text: for each line one row, in order.
+use Rattle.std.specs.Prelude.{ℕ, ◌+◌, ◌-◌, nat_lt, List, [], ◌∷◌, ◌++◌, if◌then◌else◌}
+use Rattle.bsc_ladder.specs.Texts.{header_text, row_text}
+use Rattle.bsc_ladder.specs.declared.row.Course.{Course}
+use Rattle.bsc_ladder.specs.declared.row.Course.TheVariants.{ToAll, ToOne, From}
+use Rattle.bsc_ladder.specs.declared.text.Layout.{Layout}
+use Rattle.bsc_chart.specs.Rows.{row_of}
+use Rattle.bsc_chart.specs.declared.text.Drawing.{Drawing}
+use Rattle.bsc_trace.specs.Lines.{TraceValue, transmission, silence, told}
+
+-- How many columns there are up to this one, at most 255. A trace has columns below 100.
+abbrev pub columns_up_to : ℕ → ℕ
+columns_up_to column = if nat_lt column 255 then column + 1 else 255
+
+-- How many columns beside that of the control station a transmission needs.
+abbrev pub course_columns : Course → ℕ
+course_columns ToAll = 1
+course_columns (ToOne column) = columns_up_to column
+course_columns (From column) = columns_up_to column
+
+abbrev pub needed_columns : TraceValue → ℕ
+needed_columns (transmission time course fate octets) = course_columns course
+needed_columns (silence time) = 1
+needed_columns (told time text) = 1
+
+-- The columns that a ladder with this many has after a line: it never has fewer than before.
+abbrev pub columns_after : ℕ → TraceValue → ℕ
+columns_after columns value =
+    if nat_lt columns (needed_columns value) then needed_columns value else columns
+
+-- The layout of a ladder with this many columns.
+abbrev pub layout_with : Drawing → ℕ → Layout
+layout_with drawing columns =
+    record { style = drawing.style; more = columns - 1; width = drawing.width }
+
+-- The labels of the columns, if there are more of them than before.
+abbrev pub labels_before : ℕ → TraceValue → List ℕ
+labels_before columns value =
+    if nat_lt columns (needed_columns value) then header_text (needed_columns value - 1) else []
+
+-- The text for a line, in a ladder with this many columns so far.
+abbrev pub line_text : Drawing → ℕ → TraceValue → List ℕ
+line_text drawing columns value =
+    labels_before columns value
+    ++ row_text (layout_with drawing (columns_after columns value)) (row_of value)
+
+-- The columns after some lines.
+abbrev pub columns_from : ℕ → List TraceValue → ℕ
+columns_from columns [] = columns
+columns_from columns (value ∷ values) = columns_from (columns_after columns value) values
+
+-- The text for some lines.
+abbrev pub ladder_from : Drawing → ℕ → List TraceValue → List ℕ
+ladder_from drawing columns [] = []
+ladder_from drawing columns (value ∷ values) =
+    line_text drawing columns value ++ ladder_from drawing (columns_after columns value) values
+
+-- The ladder of a trace.
+abbrev pub ladder_text : Drawing → List TraceValue → List ℕ
+ladder_text drawing values = ladder_from drawing 0 values

@@ -1,0 +1,5 @@
+pub mod Errors
+pub mod Rows
+pub mod Ladders
+pub mod Inputs
+pub mod Asked

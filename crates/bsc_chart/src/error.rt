@@ -1,0 +1,61 @@
+//! The reasons why a trace was not drawn.
+ghost use Rattle.std.specs.Prelude.{◌≡◌};
+
+use bsc_print::PrintError;
+use std::alloc::AllocError;
+use thiserror::Error;
+
+/// The reason why not all of a trace was drawn.
+#[derive(Clone, Copy, Debug, PartialEq, Eq, Error)]
+pub enum ChartError {
+    /// The line with this number, counted from 1, is the first that is neither blank nor a line of
+    /// a trace.
+    #[error("line {line}: not a line of a trace")]
+    NotATraceAt { line: u64 },
+
+    /// The line with this number, counted from 1, has more than
+    /// [`MAX_INPUT`](bsc_input::MAX_INPUT) octets. A carriage return at its end counts, its line
+    /// feed does not.
+    #[error("line {line}: too long")]
+    TooLongAt { line: u64 },
+
+    /// The width is not a number from 40 to 1000.
+    #[error("--width is not from 40 to 1000")]
+    Width,
+
+    /// The input could not be read: a read failed or was interrupted, or the lines are too many for
+    /// their numbers, 2^64 - 1 or more.
+    #[error("input fault")]
+    Input,
+
+    /// The writer did not accept the text.
+    #[error("output fault")]
+    Output,
+
+    /// An allocation failed.
+    #[error("out of memory")]
+    Memory,
+}
+
+impl From<AllocError> for ChartError {
+    ghost use Rattle.bsc_chart.specs.declared.error.ChartError.TheVariants.{Memory};
+
+    ghost from_gives = { λ _ error. error ≡ Memory };
+
+    fn from(_error: AllocError) -> ChartError {
+        ChartError::Memory
+    }
+}
+
+impl From<PrintError> for ChartError {
+    ghost use Rattle.bsc_chart.specs.Errors.{print_error};
+
+    ghost from_gives = { λ printed error. error ≡ print_error printed };
+
+    fn from(error: PrintError) -> ChartError {
+        match error {
+            PrintError::Output => ChartError::Output,
+            PrintError::Memory => ChartError::Memory,
+        }
+    }
+}

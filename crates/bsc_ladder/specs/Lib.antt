@@ -1,0 +1,4 @@
+pub mod Rows
+pub mod Glyphs
+pub mod Arrows
+pub mod Texts

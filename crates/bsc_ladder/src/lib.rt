@@ -1,0 +1,13 @@
+//! The ladder of a line: stations side by side, time downwards, an arrow for each transmission.
+//!
+//! The standard, GA27-3004, draws no ladder; the form is this project's own.
+#![tactic(auto)]
+
+mod arrows;
+mod glyphs;
+mod row;
+mod text;
+
+pub use glyphs::Style;
+pub use row::{Course, Fate, Row};
+pub use text::{Layout, write_header, write_row};

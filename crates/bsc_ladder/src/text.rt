@@ -1,0 +1,404 @@
+//! A ladder as text.
+ghost use Rattle.std.specs.Prelude.{◌≡◌, ◌+◌, ◌≤◌, OnOk, length};
+ghost use Rattle.std.specs.Io.KnownBytes.{Appends};
+ghost use Rattle.bsc_ladder.specs.Glyphs.{glyph_text, glyphs_text};
+ghost use Rattle.bsc_ladder.specs.Rows.{row_in, time_in};
+ghost use Rattle.bsc_ladder.specs.Texts.{arrow_column, arrow_columns, arrow_text, column_label};
+ghost use Rattle.bsc_ladder.specs.Texts.{fate_word, first_visible, header_text, lane_text};
+ghost use Rattle.bsc_ladder.specs.Texts.{arrived_lane, lost_from_lane, lost_to_lane, mark_text};
+ghost use Rattle.bsc_ladder.specs.Texts.{note_room as room_of, note_text, pause_column, row_text};
+ghost use Rattle.bsc_ladder.specs.Texts.{happening_text, name_text, pause_columns, pause_lane};
+ghost use Rattle.bsc_ladder.specs.Texts.{silence_text, time_text, visible, visible_code};
+ghost use Rattle.bsc_report.specs.Channels.{each_below};
+
+use crate::arrows::{arrives, at_control, at_station, before_station};
+use crate::glyphs::{Glyph, glyph_bytes};
+use crate::{Course, Fate, Row, Style};
+use bsc_print::{PrintError, put};
+use std::io::Write;
+
+/// The layout of a ladder as text.
+#[derive(Clone, Copy, Debug, PartialEq, Eq)]
+pub struct Layout {
+    /// The characters in which it is drawn.
+    pub style: Style,
+
+    /// The number of columns after that of the control station and the first one beside it.
+    pub more: u8,
+
+    /// The width in characters. Only notes and marks are cut to it.
+    pub width: usize,
+}
+
+/// Writes a glyph.
+fn put_glyph<W: Write>(style: Style, glyph: Glyph, out: &mut W) -> Result<(), PrintError>
+    ensures { OnOk result
+        (Appends (W.contents out.old) (W.contents out.new) (glyph_text style glyph)) }
+{
+    put(glyph_bytes(style, glyph), out)
+}
+
+/// Writes a glyph this many times.
+fn put_glyphs<W: Write>(
+    style: Style,
+    glyph: Glyph,
+    count: usize,
+    out: &mut W,
+) -> Result<(), PrintError>
+    ensures { OnOk result
+        (Appends (W.contents out.old) (W.contents out.new) (glyphs_text style glyph count)) }
+{
+    'glyphs: for place in 0..count {
+        put_glyph(style, glyph, out)?;
+    }
+    Ok(())
+}
+
+/// Writes characters, each that is not printable as a dot.
+fn put_visible<W: Write>(chars: &[u8], out: &mut W) -> Result<(), PrintError>
+    ensures { OnOk result
+        (Appends (W.contents out.old) (W.contents out.new) (visible chars.now)) }
+{
+    'chars: for &code in chars {
+        put(&[shown(code)], out)?;
+    }
+    Ok(())
+}
+
+/// Returns the character, or a dot if it is not printable.
+fn shown(code: u8) -> u8
+    ensures { result ≡ visible_code code }
+{
+    match code {
+        b' '..=b'~' => code,
+        _ => b'.',
+    }
+}
+
+/// Writes the first characters, at most this many.
+fn put_first<W: Write>(chars: &[u8], room: usize, out: &mut W) -> Result<(), PrintError>
+    ensures { OnOk result
+        (Appends (W.contents out.old) (W.contents out.new) (first_visible room chars.now)) }
+{
+    if chars.len() <= room {
+        return put_visible(chars, out);
+    }
+    put_visible(&chars[..room], out)
+}
+
+/// Writes a time at the right of its field.
+fn put_time<W: Write>(time: &[u8], out: &mut W) -> Result<(), PrintError>
+    ensures { OnOk result (Appends (W.contents out.old) (W.contents out.new) (time_text time.now)) }
+{
+    let count = 8usize.saturating_sub(time.len());
+    put_glyphs(Style::Ascii, Glyph::Space, count, out)?;
+    put(time, out)?;
+    put(b" ", out)
+}
+
+/// Writes the label of a column after the first.
+fn put_label<W: Write>(column: u8, out: &mut W) -> Result<(), PrintError>
+    ensures { OnOk result
+        (Appends (W.contents out.old) (W.contents out.new) (column_label column)) }
+{
+    let number = u16::from(column) + 1;
+    let written = if column < 9 {
+        write!(out, "   {number}")
+    } else {
+        write!(out, "  {number}")
+    };
+    match written {
+        Ok(()) => Ok(()),
+        Err(_) => Err(PrintError::Output),
+    }
+}
+
+/// Writes the labels of the columns after the first.
+fn put_labels<W: Write>(more: u8, out: &mut W) -> Result<(), PrintError>
+    ensures { OnOk result
+        (Appends (W.contents out.old) (W.contents out.new) (each_below column_label more)) }
+{
+    'labels: for column in 0..more {
+        put_label(column, out)?;
+    }
+    Ok(())
+}
+
+/// Writes the labels of the columns, of which this many come after the first.
+pub fn write_header<W: Write>(more: u8, out: &mut W) -> Result<(), PrintError>
+    ensures { OnOk result
+        (Appends (W.contents out.old) (W.contents out.new) (header_text more)) }
+{
+    put(b"    time control            0", out)?;
+    put_labels(more, out)?;
+    put(b"\n", out)?;
+    Ok(())
+}
+
+/// The transmission of a row.
+#[derive(Clone, Copy)]
+struct Drawn<'a> {
+    /// From where to where it went.
+    course: Course,
+
+    /// What became of it.
+    fate: Fate,
+
+    /// Its name.
+    name: &'a [u8],
+
+    /// The characters of its records.
+    note: &'a [u8],
+}
+
+/// Writes the name of a transmission between two spaces.
+fn put_name<W: Write>(name: &[u8], out: &mut W) -> Result<(), PrintError>
+    ensures { OnOk result
+        (Appends (W.contents out.old) (W.contents out.new) (name_text name.now)) }
+{
+    put(b" ", out)?;
+    put_visible(name, out)?;
+    put(b" ", out)
+}
+
+/// Writes what is between the control station and the first column, for a transmission that
+/// arrived.
+fn write_arrived<W: Write>(style: Style, name: &[u8], out: &mut W) -> Result<(), PrintError>
+    ensures { OnOk result
+        (Appends (W.contents out.old) (W.contents out.new) (arrived_lane style name.now)) }
+{
+    put_glyph(style, Glyph::Line, out)?;
+    put_name(name, out)?;
+    put_glyphs(style, Glyph::Line, 15usize.saturating_sub(name.len()), out)
+}
+
+/// Writes the same for one that the control station sent and that did not arrive.
+fn write_lost_to<W: Write>(
+    style: Style,
+    fate: Fate,
+    name: &[u8],
+    out: &mut W,
+) -> Result<(), PrintError>
+    ensures { OnOk result
+        (Appends (W.contents out.old) (W.contents out.new) (lost_to_lane style fate name.now)) }
+{
+    put_glyph(style, Glyph::Line, out)?;
+    put_name(name, out)?;
+    put_glyphs(style, Glyph::Line, 13usize.saturating_sub(name.len()), out)?;
+    put_glyph(style, Glyph::End { fate }, out)?;
+    put(b" ", out)
+}
+
+/// Writes the same for one that another station sent and that did not arrive.
+fn write_lost_from<W: Write>(
+    style: Style,
+    fate: Fate,
+    name: &[u8],
+    out: &mut W,
+) -> Result<(), PrintError>
+    ensures { OnOk result
+        (Appends (W.contents out.old) (W.contents out.new) (lost_from_lane style fate name.now)) }
+{
+    put(b" ", out)?;
+    put_glyph(style, Glyph::End { fate }, out)?;
+    put_name(name, out)?;
+    put_glyphs(style, Glyph::Line, 14usize.saturating_sub(name.len()), out)
+}
+
+/// Writes what is between the control station and the first column.
+fn write_lane<W: Write>(style: Style, drawn: &Drawn<'_>, out: &mut W) -> Result<(), PrintError>
+    ensures { OnOk result (Appends (W.contents out.old) (W.contents out.new)
+        (lane_text style drawn.now.course drawn.now.fate drawn.now.name.now)) }
+{
+    if arrives(drawn.fate) {
+        return write_arrived(style, drawn.name, out);
+    }
+    match drawn.course {
+        Course::From { .. } => write_lost_from(style, drawn.fate, drawn.name, out),
+        Course::ToAll | Course::ToOne { .. } => {
+            write_lost_to(style, drawn.fate, drawn.name, out)
+        }
+    }
+}
+
+/// Writes the part of an arrow before a column, and at it.
+fn write_column<W: Write>(
+    style: Style,
+    drawn: &Drawn<'_>,
+    column: u8,
+    out: &mut W,
+) -> Result<(), PrintError>
+    ensures { OnOk result (Appends (W.contents out.old) (W.contents out.new)
+        (arrow_column style drawn.now.course drawn.now.fate column)) }
+{
+    let before = before_station(drawn.course, drawn.fate, column);
+    put_glyphs(style, before, 3, out)?;
+    put_glyph(style, at_station(drawn.course, drawn.fate, column), out)
+}
+
+/// Writes the parts of an arrow in the columns after the first.
+fn write_columns<W: Write>(
+    style: Style,
+    more: u8,
+    drawn: &Drawn<'_>,
+    out: &mut W,
+) -> Result<(), PrintError>
+    ensures { OnOk result (Appends (W.contents out.old) (W.contents out.new)
+        (arrow_columns style drawn.now.course drawn.now.fate more)) }
+{
+    'columns: for place in 0..more {
+        write_column(style, drawn, place + 1, out)?;
+    }
+    Ok(())
+}
+
+/// Returns the word for what became of a transmission; empty if the head of its arrow tells it.
+fn word_of(fate: Fate) -> &'static [u8]
+    ensures { result.now ≡ fate_word fate }
+{
+    match fate {
+        Fate::Sent | Fate::Heard => b"",
+        Fate::Failed => b"  failed",
+        Fate::Turned => b"  turned",
+        Fate::Ignored => b"  ignored",
+        Fate::Lost => b"  lost",
+        Fate::Withheld => b"  withheld",
+    }
+}
+
+/// Returns the room for a note, in characters.
+fn note_room(layout: Layout, used: usize) -> usize
+    requires { used ≤ 16 }
+    ensures { result ≡ room_of layout used }
+{
+    let taken = 31 + 4 * usize::from(layout.more) + used;
+    layout.width.saturating_sub(taken)
+}
+
+/// Writes what became of a transmission, and the characters of its records.
+fn write_notes<W: Write>(layout: Layout, drawn: &Drawn<'_>, out: &mut W) -> Result<(), PrintError>
+    ensures { OnOk result (Appends (W.contents out.old) (W.contents out.new)
+        (note_text layout drawn.now.fate drawn.now.note.now)) }
+{
+    let word = word_of(drawn.fate);
+    put(word, out)?;
+    if drawn.note.is_empty() {
+        return put(b"\n", out);
+    }
+    put(b"  ", out)?;
+    put_first(drawn.note, note_room(layout, word.len()), out)?;
+    put(b"\n", out)
+}
+
+/// Writes the row for a transmission, without its time.
+fn write_arrow<W: Write>(layout: Layout, drawn: &Drawn<'_>, out: &mut W) -> Result<(), PrintError>
+    ensures { OnOk result (Appends (W.contents out.old) (W.contents out.new)
+        (arrow_text layout drawn.now.course drawn.now.fate drawn.now.name.now
+        drawn.now.note.now)) }
+{
+    let style = layout.style;
+    put_glyph(style, at_control(drawn.course, drawn.fate), out)?;
+    write_lane(style, drawn, out)?;
+    put_glyph(style, at_station(drawn.course, drawn.fate, 0), out)?;
+    write_columns(style, layout.more, drawn, out)?;
+    write_notes(layout, drawn, out)
+}
+
+/// Writes the part of a silence before a column, and at it.
+fn write_pause<W: Write>(style: Style, out: &mut W) -> Result<(), PrintError>
+    ensures { OnOk result
+        (Appends (W.contents out.old) (W.contents out.new) (pause_column style)) }
+{
+    put_glyphs(style, Glyph::Dash, 3, out)?;
+    put_glyph(style, Glyph::Pause, out)
+}
+
+/// Writes the parts of a silence in the columns after the first.
+fn write_pauses<W: Write>(layout: Layout, out: &mut W) -> Result<(), PrintError>
+    ensures { OnOk result
+        (Appends (W.contents out.old) (W.contents out.new) (pause_columns layout)) }
+{
+    'columns: for column in 0..layout.more {
+        write_pause(layout.style, out)?;
+    }
+    Ok(())
+}
+
+/// Writes what is between the control station and the first column in a silence.
+fn write_pause_lane<W: Write>(style: Style, out: &mut W) -> Result<(), PrintError>
+    ensures { OnOk result
+        (Appends (W.contents out.old) (W.contents out.new) (pause_lane style)) }
+{
+    put_glyph(style, Glyph::Dash, out)?;
+    put(b" silence ", out)?;
+    put_glyphs(style, Glyph::Dash, 8, out)
+}
+
+/// Writes the row for a silence, without its time.
+fn write_silence<W: Write>(layout: Layout, out: &mut W) -> Result<(), PrintError>
+    ensures { OnOk result
+        (Appends (W.contents out.old) (W.contents out.new) (silence_text layout)) }
+{
+    put_glyph(layout.style, Glyph::Pause, out)?;
+    write_pause_lane(layout.style, out)?;
+    put_glyph(layout.style, Glyph::Pause, out)?;
+    write_pauses(layout, out)?;
+    put(b"\n", out)?;
+    Ok(())
+}
+
+/// Writes the row for a mark, without its time.
+fn write_mark<W: Write>(layout: Layout, text: &[u8], out: &mut W) -> Result<(), PrintError>
+    ensures { OnOk result
+        (Appends (W.contents out.old) (W.contents out.new) (mark_text layout text.now)) }
+{
+    put_glyph(layout.style, Glyph::Dot, out)?;
+    put(b" ", out)?;
+    put_first(text, layout.width.saturating_sub(11), out)?;
+    put(b"\n", out)
+}
+
+/// Returns the time of a row.
+fn time_of<'a>(row: &Row<'a>) -> &'a [u8]
+    ensures { result.now ≡ time_in (row_in row.now) }
+{
+    match row {
+        Row::Arrow { time, .. } | Row::Silence { time } | Row::Mark { time, .. } => time,
+    }
+}
+
+/// Writes a row without its time.
+fn write_happening<W: Write>(layout: Layout, row: &Row<'_>, out: &mut W) -> Result<(), PrintError>
+    ensures { OnOk result (Appends (W.contents out.old) (W.contents out.new)
+        (happening_text layout (row_in row.now))) }
+{
+    match row {
+        Row::Arrow {
+            course,
+            fate,
+            name,
+            note,
+            ..
+        } => {
+            let drawn = Drawn {
+                course: *course,
+                fate: *fate,
+                name,
+                note,
+            };
+            write_arrow(layout, &drawn, out)
+        }
+        Row::Silence { .. } => write_silence(layout, out),
+        Row::Mark { text, .. } => write_mark(layout, text, out),
+    }
+}
+
+/// Writes a row: one line, with its time at the left and what happened at the right of it.
+pub fn write_row<W: Write>(layout: Layout, row: &Row<'_>, out: &mut W) -> Result<(), PrintError>
+    ensures { OnOk result
+        (Appends (W.contents out.old) (W.contents out.new) (row_text layout (row_in row.now))) }
+{
+    put_time(time_of(row), out)?;
+    write_happening(layout, row, out)?;
+    Ok(())
+}

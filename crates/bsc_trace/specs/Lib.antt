@@ -1,0 +1,3 @@
+pub mod Words
+pub mod Speaking
+pub mod Lines

@@ -1,0 +1,11 @@
+//! Reads the lines of a trace, as `bscline run --trace` and `bscline station --trace` print them.
+//!
+//! The transmissions are those of GA27-3004. The form of a trace is this project's own.
+#![tactic(auto)]
+
+mod line;
+mod octets;
+mod speaking;
+mod words;
+
+pub use line::{TraceLine, read_trace_line};

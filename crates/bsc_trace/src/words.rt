@@ -1,0 +1,78 @@
+//! The words of a line.
+ghost use Rattle.std.specs.Prelude.{◌≡◌, option_map};
+ghost use Rattle.std.specs.Char.{is_ascii_digit};
+ghost use Rattle.std.specs.List.{list_all};
+ghost use Rattle.std.specs.Str.{bytes_eq};
+ghost use Rattle.bsc_input.specs.Parts.{after_octet, before_octet};
+ghost use Rattle.bsc_trace.specs.Words.{column_in, fate_in, is_time as is_time_text};
+
+use bsc_input::split_at_first;
+use bsc_ladder::Fate;
+
+/// Whether the word consists of these characters.
+pub(crate) fn spells(word: &[u8], text: &str) -> bool
+    ensures { result ≡ bytes_eq word.now text.now }
+{
+    word == text.as_bytes()
+}
+
+/// Returns the first word, and the text after the space that follows it; `None` if there is no
+/// space.
+pub(crate) fn split_word(text: &[u8]) -> (&[u8], Option<&[u8]>)
+    ensures word { result.0.now ≡ before_octet 32 text.now }
+    ensures rest { option_map (λ rest. rest.now) result.1 ≡ after_octet 32 text.now }
+{
+    split_at_first(text, b' ')
+}
+
+/// Whether all characters are decimal digits.
+fn are_digits(word: &[u8]) -> bool
+    ensures { result ≡ list_all is_ascii_digit word.now }
+{
+    word.iter().all(|&octet| octet.is_ascii_digit())
+}
+
+/// Whether the word is a time: 1 to 20 decimal digits.
+pub(crate) fn is_time(word: &[u8]) -> bool
+    ensures { result ≡ is_time_text word.now }
+{
+    if word.is_empty() || 20 < word.len() {
+        return false;
+    }
+    are_digits(word)
+}
+
+/// Returns the number of a station beside the control station: one or two decimal digits, without a
+/// zero before another digit.
+pub(crate) fn read_column(word: &[u8]) -> Option<u8>
+    ensures { result ≡ column_in word.now }
+{
+    match word {
+        [unit] if unit.is_ascii_digit() => Some(*unit - b'0'),
+        [ten, unit] if *ten != b'0' && ten.is_ascii_digit() && unit.is_ascii_digit() => {
+            Some((*ten - b'0') * 10 + (*unit - b'0'))
+        }
+        _ => None,
+    }
+}
+
+/// Returns what became of a transmission, or `None` if the word does not say it.
+pub(crate) fn read_fate(word: &[u8]) -> Option<Fate>
+    ensures { result ≡ fate_in word.now }
+{
+    if spells(word, "sent") {
+        Some(Fate::Sent)
+    } else if spells(word, "heard") {
+        Some(Fate::Heard)
+    } else if spells(word, "turned") {
+        Some(Fate::Turned)
+    } else if spells(word, "ignored") {
+        Some(Fate::Ignored)
+    } else if spells(word, "lost") {
+        Some(Fate::Lost)
+    } else if spells(word, "withheld") {
+        Some(Fate::Withheld)
+    } else {
+        None
+    }
+}

@@ -1,0 +1,149 @@
+//! Traces, and the ladders that are drawn of them.
+
+use bsc_chart::{ChartError, ChartWords, draw};
+use std::alloc::Global;
+use std::test::Fail;
+
+/// A trace, the words, and the ladder.
+pub(crate) type Row = (&'static str, ChartWords<'static>, &'static str);
+
+/// In box-drawing characters, of the width that is taken if none is given.
+pub(crate) const BOXES: ChartWords<'static> = ChartWords {
+    ascii: false,
+    width: None,
+};
+
+/// In ASCII characters.
+const ASCII: ChartWords<'static> = ChartWords {
+    ascii: true,
+    width: None,
+};
+
+/// In ASCII characters, and as narrow as can be.
+const NARROW: ChartWords<'static> = ChartWords {
+    ascii: true,
+    width: Some("40"),
+};
+
+/// Each fate of what the control station and another station sent, to all and to one.
+const FATES: &str = "+0 listening at 127.0.0.1:2780
++12 control sent CALL B 161604ff1616c285ff
++15 terminal 1 heard TEXT ETX 2 161602c849191f0719831aff
++17 control heard ACK1 16161031ff
+
++18 control heard at 0 ACK1 16161031ff
++19 control lost at 1 ACK1 16161031ff
++20 control turned at 1 EOT 161604ff
++21 terminal 1 turned ENQ 161685ff
++22 terminal 1 heard FAILED 16160285ff
++23 terminal 0 lost NAK 161615ff
++24 control withheld ACK0 161610b0ff
++25 connection 0 ignored NOISE -
++26 terminal 1 turned NOISE ff
++3026 silence
++3027 terminal 0 has not answered
+";
+
+const IN_ASCII: &str = "    time control            0
+       0 = listening at 127.0.0.1:2780
+      12 *- CALL B ---------)
+    time control            0   1
+      15 <- TEXT ETX 2 -----+---*  |HI|
+      17 *- ACK1 ----------->--->
+      18 *- ACK1 ----------->   |
+      19 *- ACK1 ---------x |   |  lost
+      20 *- EOT ------------+---#  turned
+      21 #- ENQ ------------+---*  turned
+      22 ?- FAILED ---------+---*  failed
+      23 | x NAK -----------*   |  lost
+      24 *- ACK0 ---------! |   |  withheld
+      25 o- NOISE ----------*   |  ignored
+      26 ?- NOISE ----------+---*  failed
+    3026 :. silence ........:...:
+    3027 = terminal 0 has not answered
+";
+
+const IN_BOXES: &str = "    time control            0
+       0 ● listening at 127.0.0.1:2780
+      12 ├─ CALL B ─────────→
+    time control            0   1
+      15 ◀─ TEXT ETX 2 ─────┼───┤  |HI|
+      17 ├─ ACK1 ───────────▶───▶
+      18 ├─ ACK1 ───────────▶   │
+      19 ├─ ACK1 ─────────✕ │   │  lost
+      20 ├─ EOT ────────────┼───◈  turned
+      21 ◈─ ENQ ────────────┼───┤  turned
+      22 ◁─ FAILED ─────────┼───┤  failed
+      23 │ ✕ NAK ───────────┤   │  lost
+      24 ├─ ACK0 ─────────‖ │   │  withheld
+      25 ○─ NOISE ──────────┤   │  ignored
+      26 ◁─ NOISE ──────────┼───┤  failed
+    3026 ┊┄ silence ┄┄┄┄┄┄┄┄┊┄┄┄┊
+    3027 ● terminal 0 has not answered
+";
+
+/// Seven empty records, a message that is longer than a narrow line, and one with characters that a
+/// terminal obeys.
+const LONG: &str =
+    "+1 terminal 1 heard TEXT ETB 7 161602191f86191f86191f86191f86191f86191f8619970eff
++2 connection 0 from 127.0.0.1:40404 joined in place of one that did not answer
++123456789 a\tb\x1bc\u{e9}
+";
+
+const LONG_CUT: &str = "    time control            0   1
+       1 <- TEXT ETB 7 -----+---*  |||||
+       2 = connection 0 from 127.0.0.1:4
+123456789 = a.b.c..
+";
+
+const LONG_WHOLE: &str = "    time control            0   1
+       1 <- TEXT ETB 7 -----+---*  |||||||
+       2 = connection 0 from 127.0.0.1:40404 joined in place of one that did not
+123456789 = a.b.c..
+";
+
+/// The eleventh station, whose label has two digits.
+const MANY: &str = "+1 terminal 10 sent EOT 1604\n";
+
+const MANY_DRAWN: &str = "    time control            0   1   2   3   4   5   6   7   8   9  10
+       1 (- EOT ------------+---+---+---+---+---+---+---+---+---+---*
+";
+
+/// Ladders.
+const DRAWN: &[Row] = &[
+    (FATES, ASCII, IN_ASCII),
+    (FATES, BOXES, IN_BOXES),
+    (LONG, NARROW, LONG_CUT),
+    (LONG, ASCII, LONG_WHOLE),
+    (MANY, ASCII, MANY_DRAWN),
+    ("", BOXES, ""),
+    ("\n \r\n", BOXES, ""),
+];
+
+/// Draws a trace.
+pub(crate) fn drawn(
+    alloc: Global,
+    trace: &str,
+    words: ChartWords<'_>,
+) -> (Result<(), ChartError>, Vec<u8>) {
+    let mut out = Vec::new(alloc);
+    let result = draw(alloc, words, &mut trace.as_bytes(), &mut out);
+    (result, out)
+}
+
+/// The place of the first row with another ladder.
+fn first_wrong(alloc: Global) -> Option<usize> {
+    for (place, (trace, words, ladder)) in DRAWN.iter().enumerate() {
+        let (result, out) = drawn(alloc, trace, *words);
+        if result != Ok(()) || out.as_slice() != ladder.as_bytes() {
+            return Some(place);
+        }
+    }
+    None
+}
+
+#[test]
+fn traces_are_drawn(rt: HostRuntime) -> Result<(), Fail> {
+    assert_eq!(rt; first_wrong(rt.alloc()), None);
+    Ok(())
+}

@@ -1,0 +1,11 @@
+//! Tests of ladders: traces that are drawn, faults, widths, streams that fail, and refused growths.
+//!
+//! The transmissions are those of GA27-3004. Traces and ladders are this project's own.
+#![tactic(auto)]
+
+#[cfg(test)]
+mod faults;
+#[cfg(test)]
+mod growths;
+#[cfg(test)]
+mod ladders;
