@@ -159,18 +159,30 @@ impl LineWatch {
         }
         let addressed = if self.trusted { self.addressed } else { None };
         let next = read_pending(line, &self.channels, addressed)?;
-        if !self.may_follow(effect, speaker_of(&next)) {
+        if !self.may_follow(effect, speaker_of(&next)) || self.is_too_early(&next) {
             return Err(Broken::Pending);
         }
-        if let Some(next) = &next {
-            if self.aside.has(next.speaker) && next.kind != Kind::Call {
-                return Err(Broken::Pending);
-            }
-            self.aside.set(next.speaker, false);
-            self.tally.count_sent(next.kind);
-        }
+        self.count_sent(&next);
         self.sent = next;
         Ok(())
+    }
+
+    /// Whether a station sent this that has taken no part yet, and it is no call.
+    fn is_too_early(&self, next: &Option<Sent>) -> bool {
+        match next {
+            Some(next) => self.aside.has(next.speaker) && next.kind != Kind::Call,
+            None => false,
+        }
+    }
+
+    /// Counts what was sent; its sender takes part from now on.
+    fn count_sent(&mut self, sent: &Option<Sent>)
+        ensures { SameBasis self.old self.new }
+    {
+        if let Some(sent) = sent {
+            self.aside.set(sent.speaker, false);
+            self.tally.count_sent(sent.kind);
+        }
     }
 
     /// Whether this station may send next, after a silence or a transmission.
