@@ -1,14 +1,13 @@
 -- The ladder of the lines of an input so far.
 use Rattle.std.proofs.Common.{◌≡◌, ◌<◌, ◌≤◌, ℕ, ◌+◌, ◌||◌, ◌&&◌, not, map, List, [], ◌∷◌, ◌++◌, Bool}
-use Rattle.std.proofs.Common.{true, false, Option, Some, None, Result, Ok, Err, length, refl, sym, ap}
+use Rattle.std.proofs.Common.{true, false, Option, Some, None, length, refl, sym, ap}
 use Rattle.std.proofs.Common.{subst, ◌∙◌, append_assoc, append-nil, length-append, arith, get_or, take}
 use Rattle.std.proofs.KnownBytes.{Appends-nil, Appends-trans}
 use Rattle.std.proofs.Math.Seq.{take-append_seam}
 use Rattle.std.proofs.lemmas.Bool.Decides.{nat_tests}
 use Rattle.std.proofs.lemmas.List.{map-append, take-map}
 use Rattle.std.specs.Io.KnownBytes.{Appends}
-use Rattle.std.specs.List.{flat_map}
-use Rattle.std.specs.Prelude.{IfErr, IfSome, OnOk, slice_index_or}
+use Rattle.std.specs.Prelude.{IfSome}
 use Rattle.std.specs.Str.Lines.{strip_carriage_return}
 use Rattle.bsc_input.specs.Lines.{lines_of, parts_of}
 use Rattle.bsc_input.specs.Parts.{before_octet}

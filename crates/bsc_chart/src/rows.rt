@@ -1,8 +1,7 @@
 //! The rows of a trace.
-ghost use Rattle.std.specs.Prelude.{◌≡◌, IfOk, IfErr, OnOk};
+ghost use Rattle.std.specs.Prelude.{◌≡◌, IfOk, OnOk};
 ghost use Rattle.std.specs.Io.KnownBytes.{Appends};
 ghost use Rattle.std.specs.List.{flat_map};
-ghost use Rattle.bsc_frame.specs.Reading.{heard as heard_as};
 ghost use Rattle.bsc_ladder.specs.Texts.{row_text};
 ghost use Rattle.bsc_print.specs.Names.{name_of};
 ghost use Rattle.bsc_trace.specs.Lines.{value_in};

@@ -1,11 +1,11 @@
 //! The ladder that the words of the command ask for.
 ghost use Rattle.std.specs.Prelude.{◌≡◌, None, OnOk, IfErr, IfSome, IsSomeAnd, option_map};
-ghost use Rattle.bsc_options.specs.Numbers.{number_within as number_in_text};
 ghost use Rattle.bsc_chart.specs.Inputs.{DrawsInput};
-ghost use Rattle.bsc_chart.specs.Asked.{HasFailed, drawing_of, style_of, width_in, width_of};
+ghost use Rattle.bsc_chart.specs.Asked.{HasFailed, drawing_of, style_of, width_in};
 
 use crate::{ChartError, Drawing, chart};
 use bsc_ladder::Style;
+use bsc_options::number_within;
 use std::alloc::Allocator;
 use std::io::{Read, Write};
 
@@ -71,16 +71,5 @@ fn read_width(text: &str) -> Option<usize>
     match number_within(text, 40, 1000) {
         Some(width) => Some(width as usize),
         None => None,
-    }
-}
-
-/// Returns the number that a text spells, if it is from `least` to `most`: decimal digits, with or
-/// without one plus sign before them.
-fn number_within(text: &str, least: u64, most: u64) -> Option<u64>
-    ensures { result ≡ number_in_text least most text.now }
-{
-    match text.parse::<u64>() {
-        Ok(number) if least <= number && number <= most => Some(number),
-        _ => None,
     }
 }

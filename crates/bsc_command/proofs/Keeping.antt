@@ -1,7 +1,6 @@
 -- Work that succeeded, or that failed, stays so while the writer keeps its contents.
 use Rattle.std.proofs.Common.{ℕ, List, ◌++◌, Bool, true, false, Option, None, Some, Result, Ok, Err}
 use Rattle.std.proofs.Common.{IsSomeAnd, inl, inr, take}
-use Rattle.std.specs.Prelude.{IfSome}
 use Rattle.std.specs.Io.KnownBytes.{Keeps}
 use Rattle.std.proofs.KnownBytes.{Appends-kept, Keeps-trans}
 use Rattle.clap.specs.Words.{Text}

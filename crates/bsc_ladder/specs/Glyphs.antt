@@ -5,8 +5,8 @@ use Rattle.bsc_ladder.specs.declared.glyphs.Glyph.TheVariants as glyph
 use Rattle.bsc_ladder.specs.declared.glyphs.Style.{Style}
 use Rattle.bsc_ladder.specs.declared.glyphs.Style.TheVariants.{Boxes, Ascii}
 use Rattle.bsc_ladder.specs.declared.row.Fate.{Fate}
-use Rattle.bsc_ladder.specs.declared.row.Fate.TheVariants.{Sent, Heard, Failed, Turned, Ignored}
-use Rattle.bsc_ladder.specs.declared.row.Fate.TheVariants.{Lost, Withheld}
+use Rattle.bsc_ladder.specs.declared.row.Fate.TheVariants.{Heard, Failed, Turned, Ignored}
+use Rattle.bsc_ladder.specs.declared.row.Fate.TheVariants.{Withheld}
 
 -- The text of this style.
 abbrev pub either_text : Style → List ℕ → List ℕ → List ℕ

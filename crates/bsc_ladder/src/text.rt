@@ -1,5 +1,5 @@
 //! A ladder as text.
-ghost use Rattle.std.specs.Prelude.{◌≡◌, ◌+◌, ◌≤◌, OnOk, length};
+ghost use Rattle.std.specs.Prelude.{◌≡◌, ◌+◌, ◌≤◌, OnOk};
 ghost use Rattle.std.specs.Io.KnownBytes.{Appends};
 ghost use Rattle.bsc_ladder.specs.Glyphs.{glyph_text, glyphs_text};
 ghost use Rattle.bsc_ladder.specs.Rows.{row_in, time_in};

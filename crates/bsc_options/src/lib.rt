@@ -15,5 +15,6 @@ mod splitting;
 
 pub use admission::{Admission, GivenPeers, read_admission};
 pub use error::OptionError;
+pub use numbers::number_within;
 pub use offers::{Offer, offer_of};
 pub use settings::{Place, Role, StationSettings, Times, read_settings};

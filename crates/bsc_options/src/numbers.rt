@@ -5,7 +5,7 @@ ghost use Rattle.bsc_options.specs.Numbers.{number_within as number_in_text};
 
 /// Returns the number that a text spells, if it is from `least` to `most`: decimal digits, with or
 /// without one plus sign before them.
-pub(crate) fn number_within(text: &str, least: u64, most: u64) -> Option<u64>
+pub fn number_within(text: &str, least: u64, most: u64) -> Option<u64>
     ensures { result ≡ number_in_text least most text.now }
 {
     match text.parse::<u64>() {

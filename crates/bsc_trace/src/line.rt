@@ -1,7 +1,7 @@
 //! The lines of a trace.
 ghost use Rattle.std.specs.Prelude.{◌≡◌, IfOk, option_map};
 ghost use Rattle.bsc_trace.specs.Lines.{other_at, transmission_at, value_after, value_in, value_of};
-ghost use Rattle.bsc_trace.specs.Lines.{value_timed, value_told};
+ghost use Rattle.bsc_trace.specs.Lines.{value_timed};
 ghost use Rattle.bsc_trace.specs.Speaking.{spoken_in};
 
 use crate::octets::read_given;

@@ -1,5 +1,5 @@
 -- Shows that the loop draws the lines in order, up to the first that is refused.
-use Rattle.std.proofs.Common.{◌≡◌, Ok, Err, sym, ap, ◌∙◌, rules}
+use Rattle.std.proofs.Common.{◌≡◌, Err, ap, ◌∙◌, rules}
 use Rattle.std.specs.Str.Lines.{strip_carriage_return}
 use Rattle.bsc_chart.proofs.Drawn.{drawn_last, drawn_line, stopped_first, stopped_read}
 use Rattle.bsc_chart.proofs.Drawn.{stopped_write}

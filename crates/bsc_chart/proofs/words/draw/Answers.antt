@@ -1,6 +1,6 @@
 -- Shows that the errors of drawing are told, and that the width is none of them.
-use Rattle.std.proofs.Common.{◌≡◌, Err, Option, None, Some, sym, ap, subst, ◌∙◌}
-use Rattle.std.proofs.Common.{ℕ, List, Result, Ok, refl}
+use Rattle.std.proofs.Common.{◌≡◌, Err, Option, None, Some, sym, subst, ◌∙◌}
+use Rattle.std.proofs.Common.{ℕ, List, Result, Ok}
 use Rattle.std.specs.Prelude.{IfErr, IfSome}
 use Rattle.bsc_chart.specs.Asked.{HasFailed}
 use Rattle.bsc_chart.specs.Errors.{IsLineError}

@@ -1,9 +1,9 @@
 -- Shows that the flag and the width of a ladder have the values of their names in the matches.
-use Rattle.std.proofs.Common.{ap, ap₂, ◌≡◌, ◌∙◌, [], unwrap_or, codes, string_bytes, option_map}
-use Rattle.clap.specs.Words.{Text, first_value, found_of, rows_of}
+use Rattle.std.proofs.Common.{ap, ap₂, ◌≡◌, ◌∙◌, [], unwrap_or, codes}
+use Rattle.clap.specs.Words.{found_of}
 use Rattle.clap.proofs.WalkLemmas.{first_value-rows}
 use Rattle.bsc_asked.specs.Asked.{chart}
-use Rattle.bsc_words.specs.Options.{is_true_text, value_at}
+use Rattle.bsc_words.specs.Options.{is_true_text}
 use Rattle.bsc_words.proofs.words.chart_of.Goals as goal
 
 pub returns : goal.returns
