@@ -1,6 +1,7 @@
 //! The faults that end the command, with the text and the exit status of each.
 ghost use Rattle.std.specs.Prelude.{◌≡◌, ◌≢◌};
-ghost use Rattle.bsc_command.specs.Faults.{IsAttendingFault, IsChartFault, IsRunningFault, IsUsageOf};
+ghost use Rattle.bsc_command.specs.Faults.{IsAttendingFault, IsChartFault, IsRunningFault};
+ghost use Rattle.bsc_command.specs.Faults.{IsUsageOf};
 ghost use Rattle.bsc_command.specs.Faults.{attending_status_of, options_kind, running_status_of};
 ghost use Rattle.bsc_command.specs.Faults.{status_of};
 

@@ -46,8 +46,8 @@ pub enum TraceLine<'a, A: Allocator> {
 }
 
 /// Reads a line of a trace, without its line feed: `+`, a time of 1 to 20 digits, a space, and what
-/// was told. `None` if it is none, or if it is a transmission whose last word is neither hexadecimal
-/// text nor `-`.
+/// was told. Returns `None` if it is none, or if it is a transmission whose last word is neither
+/// hexadecimal text nor `-`. The error means out of memory for the octets.
 pub fn read_trace_line<A: Allocator + Copy>(
     alloc: A,
     line: &[u8],

@@ -37,7 +37,8 @@ program_app =
 -- The program with its commands.
 abbrev pub bscline_app : App
 bscline_app =
-    with_shapes program_app (name_app.top ∷ show_app.top ∷ chart_app.top ∷ run_app.top ∷ station_app.top ∷ [])
+    with_shapes program_app
+    (name_app.top ∷ show_app.top ∷ chart_app.top ∷ run_app.top ∷ station_app.top ∷ [])
 
 -- The kinds of error that `clap` may return for the arguments; none if they are a command.
 unfoldable pub faults_at : List Text → Kinds
