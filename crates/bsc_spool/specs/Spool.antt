@@ -1,5 +1,6 @@
 -- What contracts see of a spool.
-use Rattle.std.specs.Prelude.{ℕ, ◌+◌, ◌-◌, ◌^◌, Bool, List, min, if◌then◌else◌}
+use Rattle.std.specs.Prelude.{◌≡◌, ℕ, ◌+◌, ◌-◌, ◌^◌, Bool, List, [], ◌∷◌, ◌++◌, min}
+use Rattle.std.specs.Prelude.{if◌then◌else◌}
 
 -- The records that arrived, in order, whether seven more fit without allocating memory, and how
 -- often room was refused. Only contracts read the last one.
@@ -20,3 +21,9 @@ room_asked s answer =
       room = answer;
       delays = if answer then s.delays else with_delay s.delays;
     }
+
+-- The spool has one more record at its end. Room was not refused, and whether there is some now is
+-- left open.
+pub record GainsRecord (old : SpoolValue) (r : List ℕ) (new : SpoolValue) : Type 0 where
+  pub records : new.records ≡ old.records ++ r ∷ []
+  pub delays : new.delays ≡ old.delays

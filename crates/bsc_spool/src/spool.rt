@@ -1,9 +1,9 @@
 //! The receiving end of a channel. Room is made before a text is accepted, so that every accepted
 //! text is stored whole.
-ghost use Rattle.std.specs.Prelude.{◌≡◌, [], ◌++◌, true, false};
-ghost use Rattle.bsc_spool.specs.Spool.{room_asked};
+ghost use Rattle.std.specs.Prelude.{◌≡◌, [], ◌++◌, true, false, OnOk, OnErr, IfErr};
+ghost use Rattle.bsc_spool.specs.Spool.{room_asked, GainsRecord};
 
-use bsc_block::{Block, Records};
+use bsc_block::{Block, Record, Records};
 use std::alloc::Allocator;
 use std::marker::Model;
 
@@ -71,6 +71,20 @@ impl<A: Allocator> Spool<A> {
         ensures delays { self.new.delays ≡ self.old.delays }
     {
         self.records.append(block);
+    }
+
+    /// Adds a record that arrived at a spool of which this one is made again. Returns the record if
+    /// there is no memory for it; nothing is then changed. What arrives from the line is stored by
+    /// [`Spool::store`].
+    pub fn keep(&mut self, record: Record) -> Result<(), Record>
+        ensures ok { OnOk result (GainsRecord self.old «record» self.new) }
+        ensures err { OnErr result (self.new ≡ self.old) }
+        ensures given_back { IfErr result (λ r. r ≡ «record») }
+    {
+        match self.records.push(&record) {
+            Ok(()) => Ok(()),
+            Err(_) => Err(record),
+        }
     }
 
     /// Returns the records that arrived, in order.
