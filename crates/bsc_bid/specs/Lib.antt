@@ -5,6 +5,7 @@ pub mod Station
 pub mod Answer
 pub mod Sender
 pub mod Ready
+pub mod Stored
 pub mod Receiver
 pub mod Channel
 pub mod Fair

@@ -1,5 +1,11 @@
 //! Laws about the definitions: what holds of every bid, whatever is lost or damaged.
 
+ghost use Rattle.std.specs.Prelude.{◌≡◌, ◌↔◌, length, Ok};
+ghost use Rattle.bsc_spool.specs.Queue.{QueueValue, queue_of};
+ghost use Rattle.bsc_bid.specs.declared.kept.KeptSender.{KeptSender};
+ghost use Rattle.bsc_bid.specs.Setup.{SetupValue};
+ghost use Rattle.bsc_bid.specs.Sender.{SenderValue, restarted_sender};
+ghost use Rattle.bsc_bid.specs.Stored.{FitsOffered, kept_of, new_sender, recall_step};
 ghost use Rattle.bsc_bid.specs.OneBid.{SendsTextsAndEnq, SendsItsBlocks, HearsItsBlocks};
 ghost use Rattle.bsc_bid.specs.OneBid.{OnlyMoves, OffersMove, StaysReady, StaysSound};
 ghost use Rattle.bsc_bid.specs.OneBid.{SoundWithinTurns, EndsKnowing, DoubtsAtSilence};
@@ -82,3 +88,17 @@ pub fn each_step()
     records_back();
     next_blocks();
 }
+
+/// What is kept of a sender makes it again. For every sender and queue of which what is kept fits:
+/// a new sender with the same settings that recalls it, for a queue of the same records of which
+/// none is known, is the sender after a restart, with its queue as it was. And a new sender recalls
+/// exactly what fits the records that were offered, whatever a file has.
+pub fn recalls()
+    ensures restart { (s : SenderValue) (q : QueueValue)
+        → FitsOffered (kept_of s q) (length q.offered)
+        → recall_step (new_sender s.setup) (queue_of q.format q.offered 0) (kept_of s q)
+        ≡ record { sender = restarted_sender s; queue = q; answer = Ok tt } }
+    ensures accepted { (setup : SetupValue) (q : QueueValue) (kept : KeptSender) → q.known ≡ 0
+        → ((recall_step (new_sender setup) q kept).answer ≡ Ok tt)
+        ↔ FitsOffered kept (length q.offered) }
+{}

@@ -12,6 +12,7 @@
 
 mod alternation;
 mod answer;
+mod kept;
 pub mod laws;
 pub mod limits;
 mod outcome;
@@ -22,6 +23,7 @@ mod setup;
 mod station;
 mod terminal;
 
+pub use kept::{KeptSender, RecallError};
 pub use outcome::Outcome;
 pub use receiver::Receiver;
 pub use sender::{ReleaseError, Sender};

@@ -13,12 +13,15 @@ ghost use Rattle.bsc_bid.specs.Sender.{Tells};
 ghost use Rattle.bsc_bid.specs.Sender.{failed, delayed, unanswered_step, held_step, reply_step};
 ghost use Rattle.bsc_bid.specs.Sender.{silence_step, cut_phase, restarted_sender, is_in_doubt};
 ghost use Rattle.bsc_bid.specs.Sender.{release_step};
+ghost use Rattle.bsc_bid.specs.Stored.{HasDoubt, FitsOffered, kept_of, recall_step, fits_doubt};
 
 use crate::alternation::Alternation;
 use crate::answer::Answer;
+use crate::kept::{KeptSender, RecallError};
 use crate::outcome::Outcome;
 use crate::phase::{Phase, SentBlock};
 use crate::setup::Setup;
+use bsc_frame::limits::MAX_UNITS;
 use bsc_frame::{End, Heard, MessageBuffer};
 use bsc_spool::Queue;
 use std::alloc::Allocator;
@@ -33,7 +36,7 @@ pub struct Sender {
     /// The limits of the counters, and how records become blocks.
     setup: Setup,
 
-    /// How far the sender is with its bid. An unanswered block has 1 to 7 records.
+    /// How far the sender is with its bid. An unanswered or doubtful block has 1 to 7 records.
     phase: Phase,
 
     /// The failures in a row.
@@ -46,6 +49,7 @@ pub struct Sender {
 impl Model for Sender {
     ghost use Rattle.bsc_bid.specs.Sender.{SenderValue};
     ghost use Rattle.bsc_bid.specs.Ready.{AreWithinLimits, HasBlock};
+    ghost use Rattle.bsc_bid.specs.Stored.{HasDoubt};
 
     ghost Value = { SenderValue };
 
@@ -57,7 +61,7 @@ impl Model for Sender {
     } };
 
     ghost invariant = { λ s. AreWithinLimits s.setup s.failures s.wacks s.phase
-        × HasBlock s.phase };
+        × HasBlock s.phase × HasDoubt s.phase };
 }
 
 /// Why a doubt is not released.
@@ -181,6 +185,60 @@ impl Sender {
         self.wacks = 0;
     }
 
+    /// Returns what is to be kept of the sender now, for the case that its process ends, beside the
+    /// records of its queue: a restart leaves the same. (GA27-3004 has no restart; this is the
+    /// project's own.)
+    pub fn kept<A: Allocator>(&self, queue: &Queue<A>) -> KeptSender
+        ensures value { result ≡ kept_of self.now queue.now }
+        ensures fits { IsReady self.now queue.now
+            → FitsOffered result (length queue.now.offered) }
+    {
+        let doubt = match self.phase {
+            Phase::Idle | Phase::Held { .. } => None,
+            Phase::Unanswered { block } => Some(block.count),
+            Phase::InDoubt { count } => Some(count),
+        };
+        KeptSender {
+            known: queue.known(),
+            doubt,
+        }
+    }
+
+    /// Recalls what was kept of a sender that this one is made again from, once all records that
+    /// were offered to that one were offered again. The errors are `NotNew` if a bid is in
+    /// progress, a block is in doubt, or a record is known to have arrived; then `Known` if more
+    /// records are known than were offered; then `Doubt` if the doubtful block does not have 1 to 7
+    /// records, or more than are not known. All leave everything unchanged.
+    pub fn recall<A: Allocator>(
+        &mut self,
+        kept: KeptSender,
+        queue: &mut Queue<A>,
+    ) -> Result<(), RecallError>
+        ensures row { record { sender = self.new; queue = queue.new; answer = result }
+            ≡ recall_step self.old queue.old kept }
+        ensures err { OnErr result ((self.new ≡ self.old) × (queue.new ≡ queue.old)) }
+        ensures ready { IsReady self.old queue.old → IsReady self.new queue.new }
+    {
+        let Phase::Idle = self.phase else {
+            return Err(RecallError::NotNew);
+        };
+        if queue.known() > 0 {
+            return Err(RecallError::NotNew);
+        }
+        let offered = queue.offered().len();
+        if kept.known > offered {
+            return Err(RecallError::Known);
+        }
+        if !fits(kept.doubt, offered - kept.known) {
+            return Err(RecallError::Doubt);
+        }
+        queue.mark(kept.known);
+        if let Some(count) = kept.doubt {
+            self.phase = Phase::InDoubt { count };
+        }
+        Ok(())
+    }
+
     /// Returns whether there is a block of which it is not known whether it arrived.
     pub fn in_doubt(&self) -> bool
         ensures { result ≡ is_in_doubt self.now.phase }
@@ -284,6 +342,7 @@ impl Sender {
     fn fail(&mut self, left: Phase) -> bool
         requires going { IsGoing self.old.phase }
         requires left { IsAtRest left }
+        requires doubt { HasDoubt left }
         ensures over { result ≡ nat_lt self.old.setup.tries (self.old.failures + 1) }
         ensures ends { result ≡ true
             → self.new
@@ -304,6 +363,7 @@ impl Sender {
     fn ask_again(&mut self, left: Phase, sent: &mut MessageBuffer) -> Outcome
         requires going { IsGoing self.old.phase }
         requires left { IsAtRest left }
+        requires doubt { HasDoubt left }
         ensures row { (q : QueueValue)
             → Tells self.new q result sent.new
             (failed self.old q left Enq) }
@@ -402,6 +462,16 @@ impl Sender {
             Answer::Delayed => self.delay(end, alternation, sent),
             Answer::Interrupted => self.end(sent),
         }
+    }
+}
+
+/// Whether a doubtful block, if there is one, has 1 to 7 records, and no more than are not known.
+fn fits(doubt: Option<usize>, unknown: usize) -> bool
+    ensures { result ≡ fits_doubt doubt unknown }
+{
+    match doubt {
+        None => true,
+        Some(count) => 1 <= count && count <= MAX_UNITS && count <= unknown,
     }
 }
 
