@@ -2,6 +2,7 @@ pub mod Acts
 pub mod Addresses
 pub mod Calls
 pub mod CallsHeard
+pub mod Filling
 pub mod Hearing
 pub mod InMode
 pub mod Noise

@@ -1,3 +1,4 @@
 pub mod Called
 pub mod Tributary
 pub mod Kept
+pub mod Stored

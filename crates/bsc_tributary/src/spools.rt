@@ -1,12 +1,14 @@
 //! The spools of a terminal, one for each selection address.
 
 ghost use Rattle.std.specs.Prelude.{◌≡◌, ◌<◌, ◌≤◌, [], true, length, slice_set, All};
+ghost use Rattle.std.specs.Prelude.{OnOk, OnErr, IfErr};
 ghost use Rattle.bsc_bid.specs.Receiver.{Receives};
-ghost use Rattle.bsc_spool.specs.Spool.{room_asked};
+ghost use Rattle.bsc_spool.specs.Spool.{room_asked, GainsRecord};
 ghost use Rattle.bsc_tributary.specs.Tributary.{spool_at};
 
 use bsc_bid::Receiver;
 use bsc_bid::limits::MAX_SELECTS;
+use bsc_block::Record;
 use bsc_frame::{Heard, Reply};
 use bsc_spool::Spool;
 use std::alloc::Allocator;
@@ -90,6 +92,24 @@ impl<A: Allocator> Spools<A> {
             1 => self.second.make_room(),
             2 => self.third.make_room(),
             _ => self.fourth.make_room(),
+        }
+    }
+
+    /// Adds a record to the spool of this number, or returns it if there is no memory for it.
+    /// Condition: the spool is in use.
+    pub(crate) fn keep(&mut self, select: usize, record: Record) -> Result<(), Record>
+        requires { select < length self.old }
+        ensures ok { OnOk result
+            (GainsRecord (spool_at self.old select) «record» (spool_at self.new select)) }
+        ensures err { OnErr result (self.new ≡ self.old) }
+        ensures given_back { IfErr result (λ r. r ≡ «record») }
+        ensures spools { self.new ≡ slice_set self.old select (spool_at self.new select) }
+    {
+        match select {
+            0 => self.first.keep(record),
+            1 => self.second.keep(record),
+            2 => self.third.keep(record),
+            _ => self.fourth.keep(record),
         }
     }
 

@@ -1,22 +1,27 @@
 //! The terminal.
 
 ghost use Rattle.std.specs.Prelude.{IsTrue, ◌≡◌, ◌≤◌, ◌<◌, true, false, if◌then◌else◌, None};
-ghost use Rattle.std.specs.Prelude.{length, OnOk, OnErr, IfErr, option_map};
+ghost use Rattle.std.specs.Prelude.{length, OnOk, OnErr, IfErr, option_map, slice_set};
 ghost use Rattle.bsc_spool.specs.Queue.{with_offered};
+ghost use Rattle.bsc_spool.specs.Spool.{GainsRecord};
 ghost use Rattle.bsc_frame.specs.declared.message.Message.TheVariants as m;
 ghost use Rattle.bsc_bid.specs.Receiver.{sends_interrupt};
 ghost use Rattle.bsc_bid.specs.Terminal.{HasDistinctAddresses};
 ghost use Rattle.bsc_bid.specs.Sender.{release_step, is_in_doubt};
+ghost use Rattle.bsc_bid.specs.Stored.{FitsOffered, kept_of, recall_step};
 ghost use Rattle.bsc_tributary.specs.Tributary.{without_line, poll_step, selection_step};
 ghost use Rattle.bsc_tributary.specs.Tributary.{mode_left, message_left, after_release, holds};
 ghost use Rattle.bsc_tributary.specs.Tributary.{is_control_mode, restarted, spool_at};
 ghost use Rattle.bsc_tributary.specs.Kept.{IsTributary, IsNewTerminal, KeepsSetupAndMode};
 ghost use Rattle.bsc_tributary.specs.Kept.{IsHearing, IsNoCall};
+ghost use Rattle.bsc_tributary.specs.Stored.{after_recall};
 
 use crate::called::{Called, called_address};
 use crate::mode::Mode;
 use crate::spools::Spools;
-use bsc_bid::{Outcome, Receiver, ReleaseError, Sender, Setup, Station, Terminal};
+use bsc_bid::{
+    KeptSender, Outcome, RecallError, Receiver, ReleaseError, Sender, Setup, Station, Terminal,
+};
 use bsc_block::Record;
 use bsc_frame::{Address, Heard, Message, MessageBuffer, Reply};
 use bsc_spool::{Queue, Spool};
@@ -163,6 +168,48 @@ impl<A: Allocator> Tributary<A> {
         self.ready = true;
         self.urgent = false;
         self.receiver = Receiver::new();
+    }
+
+    /// Returns what is to be kept of the terminal now, for the case that its process ends, beside
+    /// the records of its queue and of its spools. With these a new terminal becomes the restarted
+    /// one: they are offered again, those of the spools are given to `keep_arrived`, and then this
+    /// to `recall`.
+    pub fn kept(&self) -> KeptSender
+        ensures value { result ≡ kept_of self.now.sender self.now.queue }
+        ensures fits { FitsOffered result (length self.now.queue.offered) }
+        ensures tributary { IsTributary self.now }
+    {
+        self.sender.kept(&self.queue)
+    }
+
+    /// Adds a record that had arrived for the selection address of this number, counted from 0,
+    /// before the process of the terminal ended. If there is no memory for the record, it is given
+    /// back and nothing changes. Condition: the terminal has such an address.
+    pub fn keep_arrived(&mut self, select: usize, record: Record) -> Result<(), Record>
+        requires { select < length self.old.terminal.selects }
+        ensures ok { OnOk result (GainsRecord (spool_at self.old.spools select) «record»
+            (spool_at self.new.spools select)) }
+        ensures err { OnErr result (self.new ≡ self.old) }
+        ensures given_back { IfErr result (λ r. r ≡ «record») }
+        ensures others { self.new ≡ record self.old {
+          spools = slice_set self.old.spools select (spool_at self.new.spools select);
+        } }
+        ensures same { KeepsSetupAndMode self.old self.new }
+    {
+        self.spools.keep(select, record)
+    }
+
+    /// Recalls what was kept, once the records that had been offered are offered again: how many of
+    /// them are known to have arrived, and the doubt. The errors are `NotNew` if a bid is in
+    /// progress, a block is in doubt, or a record is known to have arrived; then `Known` if more
+    /// records are known than were offered; then `Doubt` if the doubtful block does not have 1 to 7
+    /// records, or more than are not known. All change nothing.
+    pub fn recall(&mut self, kept: KeptSender) -> Result<(), RecallError>
+        ensures state { self.new ≡ after_recall self.old kept }
+        ensures answer { result ≡ (recall_step self.old.sender self.old.queue kept).answer }
+        ensures same { KeepsSetupAndMode self.old self.new }
+    {
+        self.sender.recall(kept, &mut self.queue)
     }
 
     /// Returns the queue: the records that were offered, and how many of them are known to have
