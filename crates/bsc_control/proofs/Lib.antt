@@ -12,3 +12,5 @@ pub mod Reached
 pub mod NewControls
 pub mod Present
 pub mod Receiving
+pub mod Recalling
+pub mod Filling

@@ -52,7 +52,7 @@ outbound_reached {c} {d} {t} {s} {p} {o} reached there read =
           ∙ ap (λ (x : PeerValue). outbound_at x s) reached.peer;
     }
 
-replaced_is : (c d : ControlValue) (t s : ℕ) (p : PeerValue) (x : OutboundValue)
+pub replaced_is : (c d : ControlValue) (t s : ℕ) (p : PeerValue) (x : OutboundValue)
     → IsPeerReached c d t p → with_peer d t (with_outbound p s x) ≡ replaced c t s x
 replaced_is c d t s p x h =
     ap (λ (y : PeerValue). with_peer d t (with_outbound y s x)) h.peer

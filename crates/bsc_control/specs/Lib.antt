@@ -3,3 +3,4 @@ pub mod Control
 pub mod CallOrder
 pub mod Table
 pub mod Kept
+pub mod Stored

@@ -11,10 +11,13 @@ ghost use Rattle.bsc_control.specs.Kept.{IsControl, IsNewControl, outbound_of};
 ghost use Rattle.bsc_directory.specs.Refusals.{IsAccepted, IsRefused};
 ghost use Rattle.bsc_control.specs.Peer.{with_outbound, outbound_released, offered_to};
 ghost use Rattle.bsc_directory.specs.Ways.{IsSelection, select_of};
+ghost use Rattle.bsc_spool.specs.Spool.{GainsRecord};
+ghost use Rattle.bsc_bid.specs.Stored.{FitsOffered};
+ghost use Rattle.bsc_control.specs.Stored.{kept_of_side, recalled_during, answer_during};
 
 use crate::procedure::Procedure;
 use crate::task::Task;
-use bsc_bid::{ReleaseError, Setup, Station, Terminal};
+use bsc_bid::{KeptSender, RecallError, ReleaseError, Setup, Station, Terminal};
 use bsc_block::Record;
 use bsc_directory::{Directory, SetupError, Way};
 use bsc_frame::{Address, Heard, MessageBuffer};
@@ -226,6 +229,68 @@ impl<A: Allocator> Control<A> {
         ensures control { IsControl self.new }
     {
         self.procedure.restart();
+    }
+
+    /// Returns what is to be kept now of the sending side of a selection address, for the case that
+    /// the process ends, beside the records of its queue and of the spools. With these a new
+    /// station becomes the restarted one: they are offered again, those of the spools are given to
+    /// `keep_arrived`, and then this to `recall`. Condition: the address exists.
+    pub fn kept(&self, terminal: usize, select: usize) -> KeptSender
+        requires terminal { terminal < length self.now.peers }
+        requires select { select < length (peer_at self.now terminal).outbounds }
+        ensures value { result ≡ kept_of_side (outbound_of self.now terminal select) }
+        ensures fits { FitsOffered result
+            (length (outbound_of self.now terminal select).queue.offered) }
+        ensures control { IsControl self.now }
+    {
+        let peer = &self.procedure.peers[terminal];
+        let side = &peer.outbounds[select];
+        side.kept()
+    }
+
+    /// Adds a record that had arrived from a terminal before the process of the control station
+    /// ended. If there is no memory for the record, it is given back and nothing changes.
+    /// Condition: the terminal exists.
+    pub fn keep_arrived(&mut self, terminal: usize, record: Record) -> Result<(), Record>
+        requires { terminal < length self.old.peers }
+        ensures ok { OnOk result (GainsRecord (peer_at self.old terminal).spool «record»
+            (peer_at self.new terminal).spool) }
+        ensures err { OnErr result (self.new ≡ self.old) }
+        ensures given_back { IfErr result (λ r. r ≡ «record») }
+        ensures others { self.new ≡ with_peer self.old terminal
+            (record (peer_at self.old terminal) { spool = (peer_at self.new terminal).spool }) }
+        ensures control { IsControl self.new }
+    {
+        let procedure = &mut self.procedure;
+        let peer = &mut procedure.peers[terminal];
+        peer.spool.keep(record)
+    }
+
+    /// Recalls what was kept of the sending side of a selection address, once the records that had
+    /// been offered for it are offered again. The errors are `NotNew` if the station has made a
+    /// call, a block is in doubt, or a record is known to have arrived; then `Known` if more
+    /// records are known than were offered; then `Doubt` if the doubtful block does not have 1 to 7
+    /// records, or more than are not known. All change nothing. Condition: the address exists.
+    pub fn recall(
+        &mut self,
+        terminal: usize,
+        select: usize,
+        kept: KeptSender,
+    ) -> Result<(), RecallError>
+        requires terminal { terminal < length self.old.peers }
+        requires select { select < length (peer_at self.old terminal).outbounds }
+        ensures state { self.new
+            ≡ recalled_during self.old self.old.task terminal select kept }
+        ensures answer { result ≡ answer_during self.old self.old.task terminal select kept }
+        ensures control { IsControl self.new }
+    {
+        let procedure = &mut self.procedure;
+        let Task::AtRest = procedure.task else {
+            return Err(RecallError::NotNew);
+        };
+        let peer = &mut procedure.peers[terminal];
+        let side = &mut peer.outbounds[select];
+        side.recall(kept)
     }
 
     /// Returns the queue of a selection address: the records offered for it, and how many of them

@@ -12,6 +12,7 @@
 #![tactic(auto)]
 
 mod control;
+pub mod laws;
 mod outbound;
 mod peer;
 mod procedure;

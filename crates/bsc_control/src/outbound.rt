@@ -8,8 +8,11 @@ ghost use Rattle.bsc_frame.specs.Replies.{reply_in};
 ghost use Rattle.bsc_bid.specs.Sender.{begin_step, reply_step, silence_step, release_step};
 ghost use Rattle.bsc_control.specs.Peer.{OutboundValue, IsOutbound, outbound_after, new_outbound};
 ghost use Rattle.bsc_control.specs.Peer.{outbound_released, restarted_outbound, is_selectable};
+ghost use Rattle.bsc_bid.specs.Ready.{IsAtRest};
+ghost use Rattle.bsc_bid.specs.Stored.{FitsOffered};
+ghost use Rattle.bsc_control.specs.Stored.{kept_of_side, outbound_recalled, outbound_answer};
 
-use bsc_bid::{Outcome, ReleaseError, Sender, Setup};
+use bsc_bid::{KeptSender, Outcome, RecallError, ReleaseError, Sender, Setup};
 use bsc_block::Record;
 use bsc_frame::{Heard, MessageBuffer};
 use bsc_spool::Queue;
@@ -120,6 +123,26 @@ impl<A: Allocator> Outbound<A> {
         ensures outbound { IsOutbound self.new }
     {
         self.sender.release(count, &mut self.queue)
+    }
+
+    /// Returns what is to be kept, beside the records.
+    pub(crate) fn kept(&self) -> KeptSender
+        ensures value { result ≡ kept_of_side self.now }
+        ensures fits { FitsOffered result (length self.now.queue.offered) }
+    {
+        self.sender.kept(&self.queue)
+    }
+
+    /// Recalls what was kept, or refuses it.
+    pub(crate) fn recall(&mut self, kept: KeptSender) -> Result<(), RecallError>
+        ensures state { self.new ≡ outbound_recalled self.old kept }
+        ensures answer { result ≡ outbound_answer self.old kept }
+        ensures rests { IsAtRest self.old.sender.phase → IsAtRest self.new.sender.phase }
+        ensures setup { self.new.sender.setup ≡ self.old.sender.setup }
+        ensures format { self.new.queue.format ≡ self.old.queue.format }
+        ensures outbound { IsOutbound self.new }
+    {
+        self.sender.recall(kept, &mut self.queue)
     }
 
     /// Begins again: no bid is in progress, and an unanswered block is in doubt.
