@@ -84,21 +84,24 @@ module _ {S R W F M T : Type 0} (parts : SessionParts S R W F M T) where
   due_of_read (Closed why) place old happened result new r =
       due_if_equal old new happened _ r.tells.0 (tt, tt)
 
-  due_of_peer : (joined : Option (R × W)) (place : ℕ) (station : S) (around later : Around C M)
-      (old : Now) (happened : List Happening) (result : Result Bool LiveError) (new : Now)
-      → JoinsAs parts place joined station around happened result later → AllDue old happened new
-  due_of_peer None place station around later old happened result new (same, none) =
+  due_of_peer : (joined : Option (R × W)) (place : ℕ) (station : S) (waiter : T)
+      (around later : Around C M) (old : Now) (happened : List Happening)
+      (result : Result Bool LiveError) (new : Now)
+      → JoinsAs parts place joined station waiter around happened result later
+      → AllDue old happened new
+  due_of_peer None place station waiter around later old happened result new (same, none) =
       due_if_equal old new happened [] none.0 tt
-  due_of_peer (Some ends) place station around later old happened result new (changes, joined) =
+  due_of_peer (Some ends) place station waiter around later old happened result new
+      (changes, peer, named, joined) =
       due_if_equal old new happened _ joined.0 (tt, tt)
 
   due_of_joining : (given : Option ℕ) (old : Now) (happened : List Happening)
       (result : Result Bool LiveError) (new : Now) → Joins parts given old happened result new
       → AllDue old happened new
-  due_of_joining None old happened result new (same, refused, turned) =
+  due_of_joining None old happened result new (same, turned, peer, named, refused) =
       due_if_equal old new happened _ refused.0 (tt, tt)
   due_of_joining (Some place) old happened result new (joined, joins, joining) =
-      due_of_peer joined place new.station
+      due_of_peer joined place new.station new.waiter
       (record { connections = old.connections; monitor = old.monitor })
       (record { connections = new.connections; monitor = new.monitor }) old happened result new
       joining
@@ -120,8 +123,8 @@ module _ {S R W F M T : Type 0} (parts : SessionParts S R W F M T) where
       due_of_joining given old happened result new joins
   due_of_event NotAccepted old happened result new (same, kept, refused, waits) =
       due_if_equal old new happened _ refused.0 (tt, tt)
-  due_of_event NotAllowed old happened result new (same, joins) =
-      due_of_joining None old happened result new joins
+  due_of_event NotAllowed old happened result new (same, (kept, turned, peer, named, refused)) =
+      due_if_equal old new happened _ refused.0 (tt, tt)
   due_of_event (Gap place) old happened result new passes =
       due_of_gap (awaits_gap parts.connection.framing.awaits (slice_get old.connections place))
       place old happened result new passes

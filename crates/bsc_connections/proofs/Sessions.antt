@@ -6,6 +6,7 @@ use Rattle.std.proofs.KnownBytes.{Consumes-nil, Appends-nil, Consumes-trans, App
 use Rattle.std.proofs.lemmas.Bool.{eqb-false}
 use Rattle.std.proofs.lemmas.List.Concat.{flat_map-append}
 use Rattle.std.specs.List.{flat_map}
+use Rattle.std.specs.declared.net.socket_addr.SocketAddr.{SocketAddr}
 use Rattle.std.specs.Io.KnownBytes.{Appends, Consumes, Keeps}
 use Rattle.bsc_frame.specs.declared.message.Message.{Message}
 use Rattle.bsc_frame.specs.Wire.{wire}
@@ -31,6 +32,9 @@ use Rattle.bsc_connections.specs.Histories.{NobodyJoins}
 use Rattle.bsc_connections.specs.Attending.{SendsAll, IsTakenAt, ReadsAt, GapPasses, JoinsAs}
 use Rattle.bsc_connections.specs.Attending.{Joins, Does, ended, goes_on, fails, fails_to_wait}
 use Rattle.bsc_connections.specs.Attending.{awaits_gap, Answers, Around, Session, HearsIfAdmitted}
+use Rattle.bsc_connections.specs.Attending.{is_open_at}
+use Rattle.bsc_connections.specs.declared.monitor.Refusal.{Refusal}
+use Rattle.bsc_connections.specs.declared.monitor.Refusal.TheVariants as refusal
 use Rattle.bsc_connections.specs.Streams.{Carries, CarriedAt, CarriesFromStart, CarriesSinceJoining}
 use Rattle.bsc_connections.specs.Streams.{CarriesHistory, carried_at}
 use Rattle.bsc_connections.proofs.OnePlace.{other_place_unchanged, changed_place_has_new}
@@ -52,6 +56,12 @@ pub record Fits {F : Type 0} (feeds : F → List ℕ → Result (ℕ × Bool) Ca
   pub whole : (a b : F) (piece : List ℕ) → feeds a piece (Ok (length piece, true)) b
       → gives a piece (last b ∷ []) b
   pub gap : (a b : F) → ends a true b → gives a [] (last b ∷ []) b
+
+-- A peer joined at this place, and nothing else happened.
+record HasJoinedAt (place : ℕ) (happened : List Happening) : Type 0 where
+  pub peer : Option SocketAddr
+  pub replaces : Bool
+  pub is : happened ≡ HasJoined place peer replaces ∷ []
 
 module _ {R W F : Type 0} (parts : ConnectionParts R W F)
     (gives : F → List ℕ → List (List ℕ) → F → Type 0)
@@ -397,7 +407,7 @@ module _ {R W F : Type 0} (parts : ConnectionParts R W F)
     Went place before happened b =
         (NobodyJoins place happened × Came place (arrived_at place happened) (all_sent happened)
         before b)
-        ⊎ ((happened ≡ HasJoined place ∷ []) × starts b.framing)
+        ⊎ (HasJoinedAt place happened × starts b.framing)
 
     went_if_nothing_happened : (place : ℕ) (before : List C) (happened : List Happening) (b : C)
         → happened ≡ []
@@ -488,39 +498,50 @@ module _ {R W F : Type 0} (parts : ConnectionParts R W F)
     went_by_read (Closed why) at place old happened result new b r is is_up =
         inl (
           subst (NobodyJoins place) (sym r.tells.0) (tt, tt),
-          came_for_equal_history place old.connections b happened (HasClosed at why ∷ []) r.tells.0
+          came_for_equal_history place old.connections b happened (HasClosed at r.peer why ∷ [])
+              r.tells.0
               (came_nothing_by_part (Closed why) (λ c. refl) at place old.connections
               new.connections b r.is_taken is is_up),
         )
 
-    went_by_peer : (joined : Option (R × W)) (at place : ℕ) (speaker : S) (old : Around C M)
-        (happened : List Happening) (result : Result Bool LiveError) (new : Around C M) (b : C)
-        → JoinsAs session at joined speaker old happened result new
+    went_by_peer : (joined : Option (R × W)) (at place : ℕ) (speaker : S) (waiting : T)
+        (old : Around C M) (happened : List Happening) (result : Result Bool LiveError)
+        (new : Around C M) (b : C)
+        → JoinsAs session at joined speaker waiting old happened result new
         → slice_get new.connections place ≡ Some b → b.ends ≢ None
         → Went place old.connections happened b
-    went_by_peer None at place speaker old happened result new b (same, none) is is_up =
+    went_by_peer None at place speaker waiting old happened result new b (same, none) is is_up =
         went_if_nothing_happened place old.connections happened b none.0
         (came_nothing_if_unchanged place old.connections new.connections b same is is_up)
-    went_by_peer (Some ends) at place speaker old happened result new b (changes, joined) is is_up =
+    went_by_peer (Some ends) at place speaker waiting old happened result new b
+        (changes, peer, named, joined) is is_up =
+        let replaces : Bool = is_open_at (slice_get old.connections at) in
         elim (place_after_change at place (λ b a. (a.ends ≡ Some ends) × starts a.framing)
         old.connections new.connections b changes is) [
-          | inl (same, (a, was, (up, fresh))) ↦ inr
-              (joined.0 ∙ ap (λ (n : ℕ). HasJoined n ∷ []) same, fresh)
+          | inl (same, (a, was, (up, fresh))) ↦ inr (
+            record {
+              peer = peer;
+              replaces = replaces;
+              is = joined.0 ∙ ap (λ (n : ℕ). HasJoined n peer replaces ∷ []) same;
+            },
+            fresh,
+          )
           | inr (other, was) ↦
               inl (
                 subst (NobodyJoins place) (sym joined.0) (eqb-false at place other, tt),
-                came_for_equal_history place old.connections b happened (HasJoined at ∷ [])
-                    joined.0 (b, was, carries_nothing b is_up),
+                came_for_equal_history place old.connections b happened
+                    (HasJoined at peer replaces ∷ []) joined.0 (b, was, carries_nothing b is_up),
               )
         ]
 
-    went_by_refusal : (place : ℕ) (old new : List C) (happened : List Happening) (b : C)
-        → new ≡ old → happened ≡ WasRefused ∷ [] → slice_get new place ≡ Some b → b.ends ≢ None
-        → Went place old happened b
-    went_by_refusal place old new happened b same refused is is_up =
+    went_by_refusal : (peer : Option SocketAddr) (why : Refusal) (place : ℕ) (old new : List C)
+        (happened : List Happening) (b : C)
+        → new ≡ old → happened ≡ WasRefused peer why ∷ [] → slice_get new place ≡ Some b
+        → b.ends ≢ None → Went place old happened b
+    went_by_refusal peer why place old new happened b same refused is is_up =
         inl (
           subst (NobodyJoins place) (sym refused) (tt, tt),
-          came_for_equal_history place old b happened (WasRefused ∷ []) refused
+          came_for_equal_history place old b happened (WasRefused peer why ∷ []) refused
               (came_nothing_if_unchanged place old new b same is is_up),
         )
 
@@ -539,10 +560,12 @@ module _ {R W F : Type 0} (parts : ConnectionParts R W F)
         → Joins session given old happened result new
         → slice_get new.connections place ≡ Some b → b.ends ≢ None
         → Went place old.connections happened b
-    went_by_joining None place old happened result new b (same, refused, turned) is is_up =
-        went_by_refusal place old.connections new.connections happened b same refused.0 is is_up
+    went_by_joining None place old happened result new b (same, turned, peer, named, refused) is
+        is_up =
+        went_by_refusal peer refusal.NoPlace place old.connections new.connections happened b same
+        refused.0 is is_up
     went_by_joining (Some at) place old happened result new b (joined, joins, joining) is is_up =
-        went_by_peer joined at place new.station
+        went_by_peer joined at place new.station new.waiter
         (record { connections = old.connections; monitor = old.monitor }) happened result
         (record { connections = new.connections; monitor = new.monitor }) b joining is is_up
 
@@ -577,9 +600,12 @@ module _ {R W F : Type 0} (parts : ConnectionParts R W F)
         went_by_joining given place old happened result new b joins is is_up
     went_by_event NotAccepted place old happened result new b (same, kept, refused, waits) is
         is_up =
-        went_by_refusal place old.connections new.connections happened b kept refused.0 is is_up
-    went_by_event NotAllowed place old happened result new b (same, joins) is is_up =
-        went_by_joining None place old happened result new b joins is is_up
+        went_by_refusal None refusal.NotAccepted place old.connections new.connections happened b kept
+        refused.0 is is_up
+    went_by_event NotAllowed place old happened result new b
+        (same, (kept, turned, peer, named, refused)) is is_up =
+        went_by_refusal peer refusal.NotAllowed place old.connections new.connections happened b kept
+        refused.0 is is_up
     went_by_event (Gap at) place old happened result new b passes is is_up =
         went_by_gap (awaits_gap parts.framing.awaits (slice_get old.connections at)) at place old
         happened result new b passes is is_up
@@ -601,9 +627,12 @@ module _ {R W F : Type 0} (parts : ConnectionParts R W F)
     carries_with_step_first place before between happened history now first (inr since) =
         inr (record {
           sooner = happened ++ since.sooner;
+          peer = since.peer;
+          replaces = since.replaces;
           later = since.later;
           is = ap (λ (hs : List Happening). happened ++ hs) since.is
-              ∙ sym (append_assoc happened since.sooner (HasJoined place ∷ since.later));
+              ∙ sym (append_assoc happened since.sooner
+              (HasJoined place since.peer since.replaces ∷ since.later));
           last = since.last;
           joined = since.joined;
           nothing_arrived = since.nothing_arrived;
@@ -622,8 +651,10 @@ module _ {R W F : Type 0} (parts : ConnectionParts R W F)
           | inr (joined, none) ↦
               inr (record {
                 sooner = [];
+                peer = joined.peer;
+                replaces = joined.replaces;
                 later = history;
-                is = ap (λ (hs : List Happening). hs ++ history) joined;
+                is = ap (λ (hs : List Happening). hs ++ history) joined.is;
                 last = nobody;
                 joined = m;
                 nothing_arrived = none;
@@ -654,15 +685,17 @@ carries_one_step : {R W F : Type 0} (parts : ConnectionParts R W F)
     (nothing : Carries parts gives (record { arrived = []; sent = [] }) now now)
     → ((NobodyJoins place happened
     × CarriedAt parts gives place (carried_at place happened) before now)
-    ⊎ ((happened ≡ HasJoined place ∷ []) × parts.framing.starts now.framing))
+    ⊎ (HasJoinedAt place happened × parts.framing.starts now.framing))
     → CarriesFromStart parts gives place happened before now
     ⊎ CarriesSinceJoining parts gives place happened now
 carries_one_step parts gives place before happened now nothing (inl carried) = inl carried
 carries_one_step parts gives place before happened now nothing (inr (joined, none)) =
     inr (record {
       sooner = [];
+      peer = joined.peer;
+      replaces = joined.replaces;
       later = [];
-      is = joined;
+      is = joined.is;
       last = tt;
       joined = now;
       nothing_arrived = none;

@@ -56,21 +56,23 @@ module _ {S R W F M T : Type 0} (parts : SessionParts S R W F M T) where
   no_silence_in_read Part place old happened result new r = ap silences r.tells.0
   no_silence_in_read (Closed why) place old happened result new r = ap silences r.tells.0
 
-  no_silence_by_peer : (joined : Option (R × W)) (place : ℕ) (station : S)
+  no_silence_by_peer : (joined : Option (R × W)) (place : ℕ) (station : S) (waiter : T)
       (old : Around (ConnectionValue R W F) M) (happened : List Happening)
       (result : Result Bool LiveError) (new : Around (ConnectionValue R W F) M)
-      → JoinsAs parts place joined station old happened result new → silences happened ≡ 0
-  no_silence_by_peer None place station old happened result new (same, none) = ap silences none.0
-  no_silence_by_peer (Some ends) place station old happened result new (changes, joined) =
+      → JoinsAs parts place joined station waiter old happened result new → silences happened ≡ 0
+  no_silence_by_peer None place station waiter old happened result new (same, none) =
+      ap silences none.0
+  no_silence_by_peer (Some ends) place station waiter old happened result new
+      (changes, peer, named, joined) =
       ap silences joined.0
 
   no_silence_in_joining : (given : Option ℕ) (old : Now) (happened : List Happening)
       (result : Result Bool LiveError) (new : Now) → Joins parts given old happened result new
       → silences happened ≡ 0
-  no_silence_in_joining None old happened result new (same, refused, turned) =
+  no_silence_in_joining None old happened result new (same, turned, peer, named, refused) =
       ap silences refused.0
   no_silence_in_joining (Some place) old happened result new (joined, joins, joining) =
-      no_silence_by_peer joined place new.station
+      no_silence_by_peer joined place new.station new.waiter
       (record { connections = old.connections; monitor = old.monitor }) happened result
       (record { connections = new.connections; monitor = new.monitor }) joining
 
@@ -91,8 +93,8 @@ module _ {S R W F M T : Type 0} (parts : SessionParts S R W F M T) where
       no_silence_in_joining given old happened result new joins
   silences_are_due NotAccepted old happened result new (same, unchanged, refused, waits) =
       ap silences refused.0
-  silences_are_due NotAllowed old happened result new (same, joins) =
-      no_silence_in_joining None old happened result new joins
+  silences_are_due NotAllowed old happened result new (same, (kept, turned, peer, named, refused)) =
+      ap silences refused.0
   silences_are_due (Gap place) old happened result new passes =
       no_silence_at_gap
       (awaits_gap parts.connection.framing.awaits (slice_get old.connections place)) place old

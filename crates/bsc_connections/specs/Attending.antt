@@ -1,8 +1,10 @@
 -- What a station that is attended does, step by step.
-use Rattle.std.specs.Prelude.{◌≡◌, ◌⊎◌, ◌&&◌, ℕ, Bool, true, false, List, [], ◌∷◌, ◌++◌}
-use Rattle.std.specs.Prelude.{Option, None, Some, is_none, Result, Ok, Err, slice_get, position}
-use Rattle.std.specs.Prelude.{nat_lt, if◌then◌else◌, length}
+use Rattle.std.specs.Prelude.{◌≡◌, ◌⊎◌, ◌&&◌, ⊤, ℕ, ◌+◌, ◌-◌, ◌^◌, Bool, true, false, not}
+use Rattle.std.specs.Prelude.{List, [], ◌∷◌, ◌++◌, length, slice_get, position}
+use Rattle.std.specs.Prelude.{Option, None, Some, is_none, Result, Ok, Err, nat_lt}
+use Rattle.std.specs.Prelude.{if◌then◌else◌}
 use Rattle.std.specs.List.{AllZip}
+use Rattle.std.specs.declared.net.socket_addr.SocketAddr.{SocketAddr}
 use Rattle.bsc_frame.specs.declared.message.Message.{Message}
 use Rattle.bsc_frame.specs.declared.message.Heard.{Heard}
 use Rattle.bsc_frame.specs.Wire.{wire}
@@ -15,6 +17,9 @@ use Rattle.bsc_connections.specs.declared.awaited.Handled.{Handled}
 use Rattle.bsc_connections.specs.declared.awaited.Handled.TheVariants.{Answered, Unanswered}
 use Rattle.bsc_connections.specs.declared.awaited.Handled.TheVariants.{Silence}
 use Rattle.bsc_connections.specs.declared.awaited.LiveError.{LiveError}
+use Rattle.bsc_connections.specs.declared.awaited.LiveError.TheVariants.{Count}
+use Rattle.bsc_connections.specs.declared.monitor.Refusal.{Refusal}
+use Rattle.bsc_connections.specs.declared.monitor.Refusal.TheVariants as refusal
 use Rattle.bsc_connections.specs.declared.connection.Taken.{Taken}
 use Rattle.bsc_connections.specs.declared.connection.Taken.TheVariants.{Nothing, Part, Whole}
 use Rattle.bsc_connections.specs.declared.connection.Taken.TheVariants.{Closed}
@@ -45,6 +50,11 @@ first_closed connections = position (λ c. is_none c.ends) connections
 abbrev pub is_closed_at : {R W F : Type 0} → Option (ConnectionValue R W F) → Bool
 is_closed_at None = false
 is_closed_at (Some connection) = is_none connection.ends
+
+-- Whether there is this connection, and it is open.
+abbrev pub is_open_at : {R W F : Type 0} → Option (ConnectionValue R W F) → Bool
+is_open_at None = false
+is_open_at (Some connection) = not (is_none connection.ends)
 
 -- Whether a transmission has begun on this connection, if it is one, that a gap would end.
 abbrev pub awaits_gap : {R W F : Type 0} → (F → Bool) → Option (ConnectionValue R W F) → Bool
@@ -86,6 +96,13 @@ abbrev pub both_go_on : Result Bool LiveError → Result Bool LiveError → Resu
 both_go_on (Ok goes_on) (Ok goes_on_later) = Ok (goes_on_later && goes_on)
 both_go_on (Ok goes_on) (Err error) = Err error
 both_go_on (Err error) later = Err error
+
+-- The result of a session that ends with a step of this result: its error, or that the monitor has
+-- ended it.
+abbrev pub IsLastOf : Result Bool LiveError → Result (Unit {0}) LiveError → Type 0
+IsLastOf (Ok goes_on) (Ok done) = goes_on ≡ false
+IsLastOf (Err error) (Err other) = other ≡ error
+IsLastOf _ _ = ⊥
 
 module _ {R W F : Type 0} (parts : ConnectionParts R W F) where
   -- These octets are written to every open connection if they are in time, as the flag says; else
@@ -237,19 +254,27 @@ module _ {S R W F M T : Type 0} (parts : SessionParts S R W F M T) where
   WaitsOn _ place awaits old new = new ≡ old
 
   -- The monitor is told of a read that completes no transmission exactly if it closes the
-  -- connection.
-  abbrev pub TellsRead : Taken → ℕ → S → M → List Happening → Result Bool LiveError → M → Type 0
-  TellsRead (Closed why) place station before happened result after =
-      TellsOne (HasClosed place why) station before happened result after
-  TellsRead taken place station before happened result after =
+  -- connection, and then of its peer.
+  abbrev pub TellsRead : Taken → ℕ → Option SocketAddr → S → M → List Happening
+      → Result Bool LiveError → M → Type 0
+  TellsRead (Closed why) place peer station before happened result after =
+      TellsOne (HasClosed place peer why) station before happened result after
+  TellsRead taken place peer station before happened result after =
       TellsNothing before happened result after
+
+  -- The waiter names this peer of a connection that a read has closed.
+  abbrev pub NamesClosed : Taken → ℕ → T → Option SocketAddr → Type 0
+  NamesClosed (Closed why) place waiter peer = parts.waiter.names waiter place peer
+  NamesClosed taken place waiter peer = ⊤
 
   -- A read that completes no transmission: the station hears nothing.
   pub record ReadsNoWhole (place : ℕ) (taken : Taken) (old : Now) (happened : List Happening)
       (result : Result Bool LiveError) (new : Now) : Type 0 where
     pub is_taken : IsTakenAt parts.connection place old.connections taken new.connections
     pub station : new.station ≡ old.station
-    pub tells : TellsRead taken place new.station old.monitor happened result new.monitor
+    pub peer : Option SocketAddr
+    pub named : NamesClosed taken place new.waiter peer
+    pub tells : TellsRead taken place peer new.station old.monitor happened result new.monitor
     pub waits_on : WaitsOn taken place
         (awaits_gap parts.connection.framing.awaits (slice_get new.connections place)) old.waiter
         new.waiter
@@ -279,28 +304,38 @@ module _ {S R W F M T : Type 0} (parts : SessionParts S R W F M T) where
       (happened ≡ []) × (result ≡ Ok true) × (new ≡ old)
 
   -- A peer that has connected and has these directions gets this place, as an open connection on
-  -- which nothing has arrived, and the monitor is told of that; or it has gone and nothing changes.
-  abbrev pub JoinsAs : ℕ → Option (R × W) → S → AroundNow → List Happening → Result Bool LiveError
-      → AroundNow → Type 0
-  JoinsAs place None station old happened result new =
+  -- which nothing has arrived, and the monitor is told of that, of the peer that the waiter names
+  -- there, and whether the connection was open; or it has gone and nothing changes.
+  abbrev pub JoinsAs : ℕ → Option (R × W) → S → T → AroundNow → List Happening
+      → Result Bool LiveError → AroundNow → Type 0
+  JoinsAs place None station waiter old happened result new =
       (new.connections ≡ old.connections) × TellsNothing old.monitor happened result new.monitor
-  JoinsAs place (Some ends) station old happened result new =
+  JoinsAs place (Some ends) station waiter old happened result new =
       ChangesAt place (λ b a. (a.ends ≡ Some ends) × parts.connection.framing.starts a.framing)
       old.connections new.connections
-      × TellsOne (HasJoined place) station old.monitor happened result new.monitor
+      × (peer : Option SocketAddr) × parts.waiter.names waiter place peer
+      × TellsOne
+      (HasJoined place peer (is_open_at (slice_get old.connections place)))
+      station old.monitor happened result new.monitor
+
+  -- A peer that has connected is turned away for this reason, and the monitor is told of that and
+  -- of the peer that the waiter names.
+  abbrev pub TurnsAway : Refusal → Now → List Happening → Result Bool LiveError → Now → Type 0
+  TurnsAway why old happened result new =
+      (new.connections ≡ old.connections)
+      × parts.waiter.turns_away old.waiter new.waiter
+      × (peer : Option SocketAddr) × parts.waiter.names_newcomer old.waiter peer
+      × TellsOne (WasRefused peer why) new.station old.monitor happened result new.monitor
 
   -- A peer that has connected joins at this place, as a connection of its own in place of the one
-  -- that was there; or it is turned away, because it gets no place, and the monitor is told.
+  -- that was there; or it is turned away, because it gets no place.
   abbrev pub Joins : Option ℕ → Now → List Happening → Result Bool LiveError → Now → Type 0
   Joins (Some place) old happened result new =
       (joined : Option (R × W)) × parts.waiter.joins old.waiter place joined new.waiter
-      × JoinsAs place joined new.station
+      × JoinsAs place joined new.station new.waiter
       (record { connections = old.connections; monitor = old.monitor }) happened result
       (record { connections = new.connections; monitor = new.monitor })
-  Joins None old happened result new =
-      (new.connections ≡ old.connections)
-      × TellsOne WasRefused new.station old.monitor happened result new.monitor
-      × parts.waiter.turns_away old.waiter new.waiter
+  Joins None old happened result new = TurnsAway refusal.NoPlace old happened result new
 
   -- What is done for the event of a wait, what happens in the course of it, and what the monitor
   -- returns: an error, or whether the station is attended further.
@@ -316,10 +351,11 @@ module _ {S R W F M T : Type 0} (parts : SessionParts S R W F M T) where
   Does NotAccepted old happened result new =
       (new.station ≡ old.station)
       × (new.connections ≡ old.connections)
-      × TellsOne WasRefused new.station old.monitor happened result new.monitor
+      × TellsOne (WasRefused None refusal.NotAccepted) new.station old.monitor happened result
+      new.monitor
       × (new.waiter ≡ old.waiter)
   Does NotAllowed old happened result new =
-      (new.station ≡ old.station) × Joins None old happened result new
+      (new.station ≡ old.station) × TurnsAway refusal.NotAllowed old happened result new
   Does (Gap place) old happened result new =
       GapPasses place
       (awaits_gap parts.connection.framing.awaits (slice_get old.connections place)) old happened
@@ -372,3 +408,23 @@ module _ {S R W F M T : Type 0} (parts : SessionParts S R W F M T) where
         → Steps old happened (Err error) new → Attends old happened new
     fails_to_wait : {old new : Now} {result : Result Bool LiveError}
         → FailsToWait old result new → Attends old [] new
+
+  -- So many steps lead from one state to another, and the station is attended further after each.
+  pub data GoesOn : ℕ → Now → Now → Type 0 where
+    not_begun : {old new : Now} → new ≡ old → GoesOn 0 old new
+    one_more : {steps : ℕ} {old mid new : Now} → GoesOn steps old mid
+        → StepsOrFails mid (Ok true) new → GoesOn (steps + 1) old new
+
+  -- What ends a session of which so many steps are made: too many steps to count, or the first step
+  -- after which the station is not attended further, by its result.
+  abbrev pub EndsWith : ℕ → Now → Result (Unit {0}) LiveError → Now → Type 0
+  EndsWith steps old result new =
+      ((steps ≡ 2 ^ 64 - 1) × (result ≡ Err Count) × (new ≡ old))
+      ⊎ ((told : Result Bool LiveError) × StepsOrFails old told new × IsLastOf told result)
+
+  -- How a session ends, and by what.
+  pub record IsEnded (old : Now) (result : Result (Unit {0}) LiveError) (new : Now) : Type 0 where
+    pub steps : ℕ
+    pub last : Now
+    pub goes_on : GoesOn steps old last
+    pub ends : EndsWith steps last result new

@@ -2,11 +2,13 @@
 use Rattle.std.specs.Prelude.{⊤, ◌≢◌, ℕ, Bool, true, false, List, [], ◌∷◌, nat_eq, if◌then◌else◌}
 use Rattle.std.specs.Prelude.{Option, None, Some}
 use Rattle.std.specs.List.{AllByRecursion, flat_map}
+use Rattle.std.specs.declared.net.socket_addr.SocketAddr.{SocketAddr}
 use Rattle.bsc_frame.specs.declared.message.Message.{Message}
 use Rattle.bsc_frame.specs.Wire.{wire}
 use Rattle.bsc_carrier.specs.declared.error.CarrierError.{CarrierError}
+use Rattle.bsc_connections.specs.declared.monitor.Refusal.{Refusal}
 
--- One thing that happened.
+-- One thing that happened. The address of a peer is there if it is known.
 pub data Happening : Type 0 where
   -- A transmission of these octets was heard on the connection at this place.
   WasHeard : (place : ℕ) (octets : List ℕ) → Happening
@@ -18,12 +20,13 @@ pub data Happening : Type 0 where
   WasSent : (octets : List ℕ) → Happening
   -- A transmission of these octets was not sent, because it would have been late.
   WasWithheld : (octets : List ℕ) → Happening
-  -- A peer took the connection at this place, which was closed or is replaced.
-  HasJoined : (place : ℕ) → Happening
-  -- A peer was refused a connection.
-  WasRefused : Happening
-  -- The connection at this place is closed: by this fault, or by its peer between transmissions.
-  HasClosed : (place : ℕ) (why : Option CarrierError) → Happening
+  -- This peer took the connection at this place, which was closed, or is replaced as the flag says.
+  HasJoined : (place : ℕ) (peer : Option SocketAddr) (replaces : Bool) → Happening
+  -- This peer was refused a connection, for this reason.
+  WasRefused : (peer : Option SocketAddr) (why : Refusal) → Happening
+  -- The connection of this peer at this place is closed: by this fault, or by the peer between
+  -- transmissions.
+  HasClosed : (place : ℕ) (peer : Option SocketAddr) (why : Option CarrierError) → Happening
   -- The station was asked to end.
   WasStopped : Happening
 
@@ -63,7 +66,7 @@ all_sent history = flat_map sent_in history
 
 -- In this entry no peer took the connection at this place.
 abbrev pub IsNoJoining : ℕ → Happening → Type 0
-IsNoJoining place (HasJoined at) = at ≢ place
+IsNoJoining place (HasJoined at peer replaces) = at ≢ place
 IsNoJoining place _ = ⊤
 
 -- No peer took the connection at this place.

@@ -1,8 +1,9 @@
 -- What the streams of one connection carry in a session.
 use Rattle.std.specs.Prelude.{◌≡◌, ◌≢◌, ◌⊎◌, ℕ, List, [], ◌∷◌, ◌++◌, map, take, None}
-use Rattle.std.specs.Prelude.{Some, slice_get}
+use Rattle.std.specs.Prelude.{Bool, Option, Some, slice_get}
 use Rattle.std.specs.List.{AllByRecursion, concat, flat_map}
 use Rattle.std.specs.Io.KnownBytes.{Appends, Consumes}
+use Rattle.std.specs.declared.net.socket_addr.SocketAddr.{SocketAddr}
 use Rattle.bsc_carrier.specs.Front.{BeginsRecord}
 use Rattle.bsc_carrier.specs.Record.{IsCarried, socket_record}
 use Rattle.bsc_carrier.specs.Stream.{Splits}
@@ -92,8 +93,10 @@ module _ {R W F : Type 0} (parts : ConnectionParts R W F)
   pub record CarriesSinceJoining (place : ℕ) (history : List Happening)
       (now : ConnectionValue R W F) : Type 0 where
     pub sooner : List Happening
+    pub peer : Option SocketAddr
+    pub replaces : Bool
     pub later : List Happening
-    pub is : history ≡ sooner ++ HasJoined place ∷ later
+    pub is : history ≡ sooner ++ HasJoined place peer replaces ∷ later
     pub last : NobodyJoins place later
     pub joined : ConnectionValue R W F
     pub nothing_arrived : parts.framing.starts joined.framing

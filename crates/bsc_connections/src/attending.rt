@@ -5,7 +5,7 @@ ghost use Rattle.std.specs.Prelude.{IfOk, IfSome, OnOk};
 ghost use Rattle.bsc_connections.specs.Parts.{connection_parts, session_parts};
 ghost use Rattle.bsc_connections.specs.Histories.{Happening};
 ghost use Rattle.bsc_connections.specs.Attending.{Attends, StepsOrFails, Does, Arrives, IsSilent};
-ghost use Rattle.bsc_connections.specs.Attending.{IsTakenAt, PlaceFor, awaits_gap};
+ghost use Rattle.bsc_connections.specs.Attending.{IsEnded, IsTakenAt, PlaceFor, awaits_gap};
 ghost use Rattle.bsc_connections.specs.Attending.{first_closed, handled_if, is_closed_at};
 
 use crate::replying::reply;
@@ -57,8 +57,24 @@ pub fn attend<
           waiter = waiter.new;
         }) }
     ensures ended { OnOk result (M.has_ended monitor.new ≡ true) }
+    ensures by { IsEnded
+        (session_parts S.Station R.Read W.Write F.Framing M.is_told M.admits M.paces
+        T.Waiter)
+        (record {
+          station = station.old;
+          connections = connections.old;
+          monitor = monitor.old;
+          waiter = waiter.old;
+        })
+        result
+        (record {
+          station = station.new;
+          connections = connections.new;
+          monitor = monitor.new;
+          waiter = waiter.new;
+        }) }
 {
-    'steps: for _ in 0..u64::MAX {
+    'steps: for count in 0..u64::MAX {
         if !step(station, connections, waiter, monitor)? {
             return Ok(());
         }

@@ -1,6 +1,7 @@
 //! What a station waits for, and the waiter that tells it what happened.
 
 ghost use Rattle.std.specs.Prelude.{ℕ, Bool, Option, Result};
+ghost use Rattle.std.specs.declared.net.socket_addr.SocketAddr.{SocketAddr as Address};
 ghost use Rattle.bsc_connections.specs.declared.awaited.Awaited.{Awaited as AwaitedValue};
 ghost use Rattle.bsc_connections.specs.declared.awaited.Handled.{Handled as HandledValue};
 ghost use Rattle.bsc_connections.specs.declared.awaited.LiveError.{LiveError as LiveErrorValue};
@@ -114,6 +115,12 @@ pub trait Waiter<R, W> {
     /// The place whose connection a newcomer may replace, if there is one.
     ghost may_replace: { Self → Option ℕ → Type 0 };
 
+    /// The address of the peer of the connection at this place, if it is known.
+    ghost names: { Self → ℕ → Option Address → Type 0 };
+
+    /// The address of the peer that has connected and has no place yet, if it is known.
+    ghost names_newcomer: { Self → Option Address → Type 0 };
+
     /// Waits until octets arrive, a peer connects, a gap has passed, the time-out has, or the
     /// station is asked to end. It may return `Octets` for a connection that has nothing to read.
     /// Once it has returned `Octets` for a connection it keeps doing so until `nothing_left` is
@@ -159,8 +166,10 @@ pub trait Waiter<R, W> {
         ensures { may_replace self.now result };
 
     /// Returns the address of the peer of the connection at this place, if it is known.
-    fn peer(&self, connection: usize) -> Option<SocketAddr>;
+    fn peer(&self, connection: usize) -> Option<SocketAddr>
+        ensures { names self.now connection result };
 
     /// Returns the address of the peer that has connected and has no place yet, if it is known.
-    fn newcomer(&self) -> Option<SocketAddr>;
+    fn newcomer(&self) -> Option<SocketAddr>
+        ensures { names_newcomer self.now result };
 }

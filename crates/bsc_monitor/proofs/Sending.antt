@@ -136,22 +136,24 @@ module _ {S R W F M T Z : Type 0} (parts : SessionParts S R W F M T) (party : pa
   printed_by_read (Closed why) place old happened result new r some =
       absurd (nothing_sent happened _ r.tells.0 refl some)
 
-  nothing_sent_by_peer : (joined : Option (R × W)) (place : ℕ) (station : S)
+  nothing_sent_by_peer : (joined : Option (R × W)) (place : ℕ) (station : S) (waiter : T)
       (old : Around (ConnectionValue R W F) M) (happened : List Happening)
       (result : Result Bool LiveError) (new : Around (ConnectionValue R W F) M)
-      → JoinsAs parts place joined station old happened result new → all_sent happened ≢ [] → ⊥
-  nothing_sent_by_peer None place station old happened result new (same, none) some =
+      → JoinsAs parts place joined station waiter old happened result new
+      → all_sent happened ≢ [] → ⊥
+  nothing_sent_by_peer None place station waiter old happened result new (same, none) some =
       nothing_sent happened [] none.0 refl some
-  nothing_sent_by_peer (Some ends) place station old happened result new (changes, joined) some =
+  nothing_sent_by_peer (Some ends) place station waiter old happened result new
+      (changes, peer, named, joined) some =
       nothing_sent happened _ joined.0 refl some
 
   printed_by_joining : (given : Option ℕ) (old : Now) (happened : List Happening)
       (result : Result Bool LiveError) (new : Now) → Joins parts given old happened result new
       → all_sent happened ≢ [] → Prints new.station old.monitor new.monitor
-  printed_by_joining None old happened result new (same, refused, turned) some =
+  printed_by_joining None old happened result new (same, turned, peer, named, refused) some =
       absurd (nothing_sent happened _ refused.0 refl some)
   printed_by_joining (Some place) old happened result new (joined, joins, joining) some =
-      absurd (nothing_sent_by_peer joined place new.station
+      absurd (nothing_sent_by_peer joined place new.station new.waiter
       (record { connections = old.connections; monitor = old.monitor }) happened result
       (record { connections = new.connections; monitor = new.monitor }) joining some)
 
@@ -175,8 +177,9 @@ module _ {S R W F M T Z : Type 0} (parts : SessionParts S R W F M T) (party : pa
       printed_by_joining given old happened result new joins some
   printed_by_event NotAccepted old happened result new (same, kept, refused, waits) some =
       absurd (nothing_sent happened _ refused.0 refl some)
-  printed_by_event NotAllowed old happened result new (same, joins) some =
-      printed_by_joining None old happened result new joins some
+  printed_by_event NotAllowed old happened result new
+      (same, (kept, turned, peer, named, refused)) some =
+      absurd (nothing_sent happened _ refused.0 refl some)
   printed_by_event (Gap place) old happened result new passes some =
       printed_by_gap
       (awaits_gap parts.connection.framing.awaits (slice_get old.connections place)) place old

@@ -68,7 +68,7 @@ ends_when_sent p c = enough_after p.stopped p.rounds p.limits (visit_ended p.vis
 -- and a connection that is closed, if no other peer can connect.
 abbrev pub after_event : Progress → ControlValue → Happening → Progress
 after_event p c (WasSent octets) = after_sent p c
-after_event p c (HasClosed place why) = record p { closed = not p.listens }
+after_event p c (HasClosed place peer why) = record p { closed = not p.listens }
 after_event p c WasStopped = record p { stopped = true }
 after_event p c _ = p
 
@@ -76,7 +76,7 @@ after_event p c _ = p
 -- if it is asked again.
 abbrev pub ends_with : Progress → ControlValue → Happening → Bool
 ends_with p c (WasSent octets) = ends_when_sent p c
-ends_with p c (HasClosed place why) = not p.listens
+ends_with p c (HasClosed place peer why) = not p.listens
 ends_with p c WasSilent = p.stopped
 ends_with p c WasStopped = p.stopped
 ends_with p c _ = false

@@ -2,8 +2,6 @@
 use Rattle.std.specs.Prelude.{◌≡◌, ℕ, List, [], ◌++◌, Option, None, Some}
 use Rattle.std.specs.Io.KnownBytes.{Appends}
 use Rattle.bsc_connections.specs.Histories.{Happening}
-use Rattle.bsc_connections.specs.Notes.{told_by}
-use Rattle.bsc_connections.specs.declared.monitor.Note.{Note}
 use Rattle.bsc_control.specs.Control.{ControlValue}
 use Rattle.bsc_control.specs.declared.task.Task.{Task}
 use Rattle.bsc_control.specs.declared.task.Task.TheVariants.{Polling}
@@ -12,8 +10,7 @@ use Rattle.bsc_monitor.specs.Answering.{unanswered}
 use Rattle.bsc_monitor.specs.Holding.{CallLine, TracesNext, held_for, held_shown}
 use Rattle.bsc_monitor.specs.Traces.{IsTraced, ShowsChange, distrust_line, time_shown}
 use Rattle.bsc_monitor.specs.Traces.{unanswered_line}
-use Rattle.bsc_monitor.specs.Trusting.{called_by, distrust_told, joining_address, trust_after}
-use Rattle.bsc_monitor.specs.Trusting.{trusting_of}
+use Rattle.bsc_monitor.specs.Trusting.{called_by, distrust_told, trust_after, trusting_of}
 use Rattle.bsc_monitor.specs.declared.answering.Answering.{Answering}
 use Rattle.bsc_monitor.specs.declared.held.Calls.{Calls}
 use Rattle.bsc_monitor.specs.declared.held.Calls.TheVariants as calls
@@ -37,19 +34,19 @@ trace_of contents w =
 
 -- The line for an event of this station at this time is printed, if there is one: without a trace
 -- only for a peer that joins, leaves or is refused, and for something that was withheld.
-abbrev pub ShowsIn : Tracing → Calls → Who → ℕ → Note → Trace → Trace → Type 0
-ShowsIn Off calls me time note old new =
-    ShowsChange note old.contents new.contents × (new.held ≡ old.held)
-ShowsIn Exchanges calls me time note old new =
-    TracesNext old.held calls (told_by note) time me old.contents new.contents
-    × (new.held ≡ held_for calls time (told_by note))
-ShowsIn All calls me time note old new =
-    IsTraced (told_by note) time me old.contents new.contents × (new.held ≡ old.held)
+abbrev pub ShowsIn : Tracing → Calls → Who → ℕ → Happening → Trace → Trace → Type 0
+ShowsIn Off calls me time happening old new =
+    ShowsChange happening old.contents new.contents × (new.held ≡ old.held)
+ShowsIn Exchanges calls me time happening old new =
+    TracesNext old.held calls happening time me old.contents new.contents
+    × (new.held ≡ held_for calls time happening)
+ShowsIn All calls me time happening old new =
+    IsTraced happening time me old.contents new.contents × (new.held ≡ old.held)
 
-pub record ShowsEvent (calls : Calls) (me : Who) (time : ℕ) (note : Note) (old new : Trace)
-    : Type 0 where
+pub record ShowsEvent (calls : Calls) (me : Who) (time : ℕ) (happening : Happening)
+    (old new : Trace) : Type 0 where
   pub tracing : new.tracing ≡ old.tracing
-  pub line : ShowsIn old.tracing calls me time note old new
+  pub line : ShowsIn old.tracing calls me time happening old new
 
 -- The start of a line that tells of no event: in a trace the line that is held back, and the time.
 abbrev pub start_of : Tracing → Option CallLine → ℕ → List ℕ
@@ -99,13 +96,10 @@ calls_in _ = calls.Neither
 pub record ControlShows (control : ControlValue) (happening : Happening) (answering : Answering)
     (old new : Trusting) (before after : Trace) : Type 0 where
   pub time : ℕ
-  pub note : Note
-  pub is : told_by note ≡ happening
   pub trust : new
-      ≡ trusting_of (trust_after old.trust old.called happening time (joining_address note))
-      (called_by control)
+      ≡ trusting_of (trust_after old.trust old.called happening time) (called_by control)
   pub first : Trace
-  pub event : ShowsEvent (calls_in control.task) Control time note before first
+  pub event : ShowsEvent (calls_in control.task) Control time happening before first
   pub second : Trace
   pub distrust : ShowsDistrust (distrust_told old.trust old.called happening time) first second
   pub silent : ShowsUnanswered (unanswered answering control happening) second after
@@ -114,19 +108,13 @@ pub record ControlShows (control : ControlValue) (happening : Happening) (answer
 pub record LastShows (happening : Happening) (old new : Trusting) (before after : Trace)
     : Type 0 where
   pub time : ℕ
-  pub note : Note
-  pub is : told_by note ≡ happening
-  pub trust : new
-      ≡ trusting_of (trust_after old.trust old.called happening time (joining_address note))
-      old.called
+  pub trust : new ≡ trusting_of (trust_after old.trust old.called happening time) old.called
   pub first : Trace
-  pub event : ShowsEvent calls.Neither Control time note before first
+  pub event : ShowsEvent calls.Neither Control time happening before first
   pub distrust : ShowsDistrust (distrust_told old.trust old.called happening time) first after
 
 -- What happened to the terminal with this number is shown with the time.
 pub record TerminalShows (number : ℕ) (happening : Happening) (before after : Trace)
     : Type 0 where
   pub time : ℕ
-  pub note : Note
-  pub is : told_by note ≡ happening
-  pub event : ShowsEvent calls.Heard (Terminal number) time note before after
+  pub event : ShowsEvent calls.Heard (Terminal number) time happening before after

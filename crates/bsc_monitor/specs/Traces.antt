@@ -1,15 +1,19 @@
 -- The lines of a trace.
-use Rattle.std.specs.Prelude.{◌≡◌, ⊤, ℕ, Bool, true, false, List, [], ◌++◌, codes, if◌then◌else◌}
+use Rattle.std.specs.Prelude.{◌≡◌, ℕ, Bool, true, false, List, [], ◌++◌, codes, if◌then◌else◌}
 use Rattle.std.specs.Prelude.{Option, None, Some}
 use Rattle.std.specs.Fmt.{decimal}
 use Rattle.std.specs.Io.KnownBytes.{Appends}
 use Rattle.std.specs.Net.Text.{socket_text}
 use Rattle.std.specs.declared.net.socket_addr.SocketAddr.{SocketAddr}
 use Rattle.bsc_connections.specs.Histories.{Happening, WasHeard, WasIgnored, WasSilent, WasSent}
-use Rattle.bsc_connections.specs.Histories.{WasStopped, WasWithheld}
-use Rattle.bsc_connections.specs.declared.monitor.Note.{Note}
-use Rattle.bsc_connections.specs.declared.monitor.Note.TheVariants.{Joined, Refused, Closed}
-use Rattle.bsc_connections.specs.declared.monitor.Note.TheVariants.{Withheld}
+use Rattle.bsc_connections.specs.Histories.{WasStopped, WasWithheld, HasJoined, HasClosed}
+use Rattle.bsc_connections.specs.Histories.{WasRefused}
+use Rattle.bsc_connections.specs.declared.monitor.Refusal.{Refusal}
+use Rattle.bsc_connections.specs.declared.monitor.Refusal.TheVariants as refusal
+use Rattle.bsc_carrier.specs.declared.error.CarrierError.{CarrierError}
+use Rattle.bsc_carrier.specs.declared.error.CarrierError.TheVariants as carrier
+use Rattle.bsc_carrier.specs.declared.fault.DeviceFault.{DeviceFault}
+use Rattle.bsc_carrier.specs.declared.fault.DeviceFault.TheVariants as fault
 use Rattle.bsc_frame.specs.declared.message.Heard.{Heard}
 use Rattle.bsc_frame.specs.Reading.{heard}
 use Rattle.bsc_print.specs.Names.{chars_shown, name_of}
@@ -59,22 +63,6 @@ silence_line time = time_shown time ++ codes "silence\n"
 abbrev pub stopped_line : ℕ → List ℕ
 stopped_line time = time_shown time ++ codes "asked to end\n"
 
--- The line for what happened to this station was written, if it is a transmission or a time-out, or
--- that the station is asked to end.
-abbrev pub IsTraced : Happening → ℕ → Who → Option (List ℕ) → Option (List ℕ) → Type 0
-IsTraced (WasHeard place octets) time me old new =
-    Appends old new (transmission_line time (heard_from me place) deed.Heard (heard octets) octets)
-IsTraced (WasIgnored place octets) time me old new =
-    Appends old new
-    (transmission_line time (heard_from me place) deed.Ignored (heard octets) octets)
-IsTraced (WasSent octets) time me old new =
-    Appends old new (transmission_line time me deed.Sent (heard octets) octets)
-IsTraced (WasWithheld octets) time me old new =
-    Appends old new (transmission_line time me deed.Withheld (heard octets) octets)
-IsTraced WasSilent time me old new = Appends old new (silence_line time)
-IsTraced WasStopped time me old new = Appends old new (stopped_line time)
-IsTraced _ time me old new = ⊤
-
 -- The address of a peer, if it is known.
 abbrev pub origin_shown : Option SocketAddr → List ℕ
 origin_shown None = []
@@ -97,16 +85,77 @@ joined_line place peer replaces = connection_shown place peer ++ joined_shown re
 abbrev pub withheld_line : List ℕ
 withheld_line = codes "a transmission was withheld: it would have been late\n"
 
--- The line for a peer that took a connection is written, or the one for something that was
--- withheld. Of those for a peer that is refused and for a connection that is closed nothing is
--- said, and other events have none.
-abbrev pub ShowsChange : Note → Option (List ℕ) → Option (List ℕ) → Type 0
-ShowsChange (Joined place peer replaces) old new =
+-- A peer that has no connection.
+abbrev pub peer_shown : Option SocketAddr → List ℕ
+peer_shown None = codes "a peer"
+peer_shown (Some peer) = socket_text peer
+
+-- Why a peer has no connection.
+abbrev pub refusal_shown : Refusal → List ℕ
+refusal_shown refusal.NoPlace = codes "every place is taken"
+refusal_shown refusal.NotAccepted = codes "the system cannot accept it yet"
+refusal_shown refusal.NotAllowed = codes "its address is not allowed"
+
+-- The line for a peer that has no connection.
+abbrev pub refused_line : Option SocketAddr → Refusal → List ℕ
+refused_line peer why =
+    codes "refused " ++ peer_shown peer ++ codes ": " ++ refusal_shown why ++ codes "\n"
+
+-- Why a device failed.
+abbrev pub fault_shown : DeviceFault → List ℕ
+fault_shown fault.Reset = codes "connection reset by peer"
+fault_shown fault.Aborted = codes "connection aborted"
+fault_shown fault.BrokenPipe = codes "broken pipe"
+fault_shown fault.TimedOut = codes "timed out"
+fault_shown fault.Unreachable = codes "the peer cannot be reached"
+fault_shown fault.Other = codes "a read or a write failed"
+
+-- Why a connection is closed by an error.
+abbrev pub error_shown : CarrierError → List ℕ
+error_shown carrier.Length = codes "the length of a record is wrong"
+error_shown carrier.Short = codes "the input ended within a record"
+error_shown (carrier.Device why) = fault_shown why
+error_shown carrier.Unequal = codes "two far ends gave different octets"
+
+-- The end of the line for a connection that is closed: with the error, or none if its peer closed
+-- it between transmissions.
+abbrev pub closed_shown : Option CarrierError → List ℕ
+closed_shown None = codes " closed\n"
+closed_shown (Some why) = codes " closed: " ++ error_shown why ++ codes "\n"
+
+-- The line for a connection that is closed.
+abbrev pub closed_line : ℕ → Option SocketAddr → Option CarrierError → List ℕ
+closed_line place peer why = connection_shown place peer ++ closed_shown why
+
+-- The line without a trace is written for a peer that took a connection or was refused one, for a
+-- connection that is closed, or for something that was withheld. Other events have none.
+abbrev pub ShowsChange : Happening → Option (List ℕ) → Option (List ℕ) → Type 0
+ShowsChange (HasJoined place peer replaces) old new =
     Appends old new (joined_line place peer replaces)
-ShowsChange (Withheld octets) old new = Appends old new withheld_line
-ShowsChange (Refused peer why) old new = ⊤
-ShowsChange (Closed place peer why) old new = ⊤
-ShowsChange note old new = new ≡ old
+ShowsChange (WasWithheld octets) old new = Appends old new withheld_line
+ShowsChange (WasRefused peer why) old new = Appends old new (refused_line peer why)
+ShowsChange (HasClosed place peer why) old new = Appends old new (closed_line place peer why)
+ShowsChange happening old new = new ≡ old
+
+-- The line for what happened to this station was written, with the time.
+abbrev pub IsTraced : Happening → ℕ → Who → Option (List ℕ) → Option (List ℕ) → Type 0
+IsTraced (WasHeard place octets) time me old new =
+    Appends old new (transmission_line time (heard_from me place) deed.Heard (heard octets) octets)
+IsTraced (WasIgnored place octets) time me old new =
+    Appends old new
+    (transmission_line time (heard_from me place) deed.Ignored (heard octets) octets)
+IsTraced (WasSent octets) time me old new =
+    Appends old new (transmission_line time me deed.Sent (heard octets) octets)
+IsTraced (WasWithheld octets) time me old new =
+    Appends old new (transmission_line time me deed.Withheld (heard octets) octets)
+IsTraced WasSilent time me old new = Appends old new (silence_line time)
+IsTraced WasStopped time me old new = Appends old new (stopped_line time)
+IsTraced (HasJoined place peer replaces) time me old new =
+    Appends old new (time_shown time ++ joined_line place peer replaces)
+IsTraced (WasRefused peer why) time me old new =
+    Appends old new (time_shown time ++ refused_line peer why)
+IsTraced (HasClosed place peer why) time me old new =
+    Appends old new (time_shown time ++ closed_line place peer why)
 
 -- The start of a line that is printed while a station waits for its peers: a trace has the time 0.
 abbrev pub start_shown : Bool → List ℕ

@@ -5,8 +5,6 @@ use Rattle.std.specs.declared.net.ip_addr.IpAddr.{IpAddr}
 use Rattle.std.specs.declared.net.socket_addr.SocketAddr.{SocketAddr}
 use Rattle.bsc_connections.specs.Histories.{Happening, WasHeard, WasSent, HasJoined, HasClosed}
 use Rattle.bsc_connections.specs.Histories.{WasIgnored, WasWithheld}
-use Rattle.bsc_connections.specs.declared.monitor.Note.{Note}
-use Rattle.bsc_connections.specs.declared.monitor.Note.TheVariants.{Joined}
 use Rattle.bsc_control.specs.Control.{ControlValue, current}
 use Rattle.bsc_control.specs.declared.task.Task.{Task}
 use Rattle.bsc_control.specs.declared.task.Task.TheVariants.{AtRest}
@@ -39,22 +37,16 @@ abbrev pub address_of : Option SocketAddr → Option IpAddr
 address_of None = None
 address_of (Some peer) = Some (socket_ip peer)
 
--- The address of the peer that joins with this, if it is known.
-abbrev pub joining_address : Note → Option IpAddr
-joining_address (Joined place peer replaces) = address_of peer
-joining_address _ = None
-
--- What is known after this, which happened while this terminal was called, at this time. The
--- address is that of the peer, if one joined.
-abbrev pub trust_after : Trust → Option ℕ → Happening → ℕ → Option IpAddr → Trust
-trust_after t called (WasHeard place octets) now peer =
-    after_heard t called place (heard octets) now
-trust_after t called (WasIgnored place octets) now peer = after_ignored t called place
-trust_after t called (WasSent octets) now peer = after_sent t now
-trust_after t called (WasWithheld octets) now peer = after_withheld t now
-trust_after t called (HasJoined place) now peer = after_joined t place peer
-trust_after t called (HasClosed place why) now peer = after_closed t place
-trust_after t called _ now peer = t
+-- What is known after this, which happened while this terminal was called, at this time.
+abbrev pub trust_after : Trust → Option ℕ → Happening → ℕ → Trust
+trust_after t called (WasHeard place octets) now = after_heard t called place (heard octets) now
+trust_after t called (WasIgnored place octets) now = after_ignored t called place
+trust_after t called (WasSent octets) now = after_sent t now
+trust_after t called (WasWithheld octets) now = after_withheld t now
+trust_after t called (HasJoined place peer replaces) now =
+    after_joined t place (address_of peer)
+trust_after t called (HasClosed place peer why) now = after_closed t place
+trust_after t called _ now = t
 
 -- What is told of this: why it was ignored, or that it was the first late answer or late reply, and
 -- nothing spoke against trust before.

@@ -98,7 +98,7 @@ closing_of ended closed stopped = record { ended = ended; closed = closed; stopp
 -- The same after this, in this mode of the terminal: it ends when its connection is closed. Once it
 -- was asked to end it ends in control mode, or if it is asked again.
 abbrev pub closing_after : Closing → Mode → Happening → Closing
-closing_after old mode (HasClosed place why) = closing_of true why old.stopped
+closing_after old mode (HasClosed place peer why) = closing_of true why old.stopped
 closing_after old mode WasStopped =
     closing_of (old.ended || (old.stopped || is_control_mode mode)) old.closed true
 closing_after old mode _ =
@@ -122,7 +122,7 @@ last_of ended stopped = record { ended = ended; stopped = stopped }
 abbrev pub last_after : Last → Happening → Last
 last_after old (WasHeard place octets) = last_of true old.stopped
 last_after old WasSilent = last_of true old.stopped
-last_after old (HasClosed place why) = last_of true old.stopped
+last_after old (HasClosed place peer why) = last_of true old.stopped
 last_after old WasStopped = last_of (old.ended || old.stopped) true
 last_after old _ = old
 

@@ -6,8 +6,7 @@ ghost use Rattle.bsc_monitor.specs.Traces.{connected_shown, joined_line, listeni
 ghost use Rattle.bsc_monitor.specs.Traces.{not_allowed_line, start_shown};
 ghost use Rattle.bsc_monitor.specs.Traces.{waiting_for_control, waiting_line, wanted_shown};
 
-use crate::trace::{write_change, write_time};
-use bsc_connections::Note;
+use crate::trace::{write_joined, write_time};
 use bsc_print::{PrintError, put};
 use std::io::Write;
 use std::net::SocketAddr;
@@ -73,13 +72,8 @@ impl Beginning {
             (start_shown self.trace ++ joined_line place (Some peer) false)) }
         ensures err { IfErr result (λ error. error ≡ PrintError.Output) }
     {
-        let note = Note::Joined {
-            connection: place,
-            peer: Some(peer),
-            replaces: false,
-        };
         self.write_start(out)?;
-        write_change(&note, out)?;
+        write_joined(place, Some(peer), false, out)?;
         Ok(())
     }
 

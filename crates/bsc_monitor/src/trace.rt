@@ -5,14 +5,17 @@ ghost use Rattle.std.specs.Io.KnownBytes.{Appends};
 ghost use Rattle.bsc_connections.specs.Notes.{told_by};
 ghost use Rattle.bsc_frame.specs.Reading.{heard};
 ghost use Rattle.bsc_print.specs.Names.{name_of};
-ghost use Rattle.bsc_monitor.specs.Traces.{IsTraced, ShowsChange, connection_shown, deed_shown};
-ghost use Rattle.bsc_monitor.specs.Traces.{distrust_line, joined_shown, octets_shown, origin_shown};
+ghost use Rattle.bsc_monitor.specs.Traces.{IsTraced, ShowsChange, closed_line, closed_shown};
+ghost use Rattle.bsc_monitor.specs.Traces.{connection_shown, deed_shown, distrust_line};
+ghost use Rattle.bsc_monitor.specs.Traces.{error_shown, fault_shown, joined_line, joined_shown};
+ghost use Rattle.bsc_monitor.specs.Traces.{octets_shown};
+ghost use Rattle.bsc_monitor.specs.Traces.{origin_shown, peer_shown, refusal_shown, refused_line};
 ghost use Rattle.bsc_monitor.specs.Traces.{silence_line, stopped_line};
 ghost use Rattle.bsc_monitor.specs.Traces.{heard_from as sender_heard, time_shown};
 ghost use Rattle.bsc_monitor.specs.Traces.{transmission_line, unanswered_line, who_shown};
 ghost use Rattle.bsc_monitor.specs.Traces.{withheld_line};
 
-use bsc_carrier::CarrierError;
+use bsc_carrier::{CarrierError, DeviceFault};
 use bsc_connections::{Note, Refusal};
 use bsc_frame::laws::{one_reading, reading};
 use bsc_frame::{TextBuffer, decode};
@@ -168,11 +171,62 @@ pub(crate) fn write_note<A: Allocator, W: Write>(
         }
         Note::Silence => write_silence(time, out),
         Note::Stopped => write_stopped(time, out),
-        Note::Joined { .. } | Note::Refused { .. } | Note::Closed { .. } => {
-            write_time(time, out)?;
-            write_change(note, out)
-        }
+        Note::Joined {
+            connection,
+            peer,
+            replaces,
+        } => write_timed_joined(time, *connection, *peer, *replaces, out),
+        Note::Refused { peer, why } => write_timed_refused(time, *peer, *why, out),
+        Note::Closed {
+            connection,
+            peer,
+            why,
+        } => write_timed_closed(time, *connection, *peer, *why, out),
     }
+}
+
+/// Writes the line for a peer that took a connection, with the time.
+fn write_timed_joined<W: Write>(
+    time: u64,
+    connection: usize,
+    peer: Option<SocketAddr>,
+    replaces: bool,
+    out: &mut W,
+) -> Result<(), PrintError>
+    ensures { OnOk result (Appends (W.contents out.old) (W.contents out.new)
+        (time_shown time ++ joined_line connection peer replaces)) }
+{
+    write_time(time, out)?;
+    write_joined(connection, peer, replaces, out)
+}
+
+/// Writes the line for a peer that has no connection, with the time.
+fn write_timed_refused<W: Write>(
+    time: u64,
+    peer: Option<SocketAddr>,
+    why: Refusal,
+    out: &mut W,
+) -> Result<(), PrintError>
+    ensures { OnOk result (Appends (W.contents out.old) (W.contents out.new)
+        (time_shown time ++ refused_line peer why)) }
+{
+    write_time(time, out)?;
+    write_refused(peer, why, out)
+}
+
+/// Writes the line for a connection that is closed, with the time.
+fn write_timed_closed<W: Write>(
+    time: u64,
+    connection: usize,
+    peer: Option<SocketAddr>,
+    why: Option<CarrierError>,
+    out: &mut W,
+) -> Result<(), PrintError>
+    ensures { OnOk result (Appends (W.contents out.old) (W.contents out.new)
+        (time_shown time ++ closed_line connection peer why)) }
+{
+    write_time(time, out)?;
+    write_closed(connection, peer, why, out)
 }
 
 /// Returns the sender of a transmission that the station `me` heard on a connection.
@@ -188,7 +242,8 @@ pub(crate) fn heard_from(me: Who, connection: usize) -> Who
 /// Writes the line for a peer that joined or was refused, for a connection that is closed, or for
 /// something that was withheld, without a time. Writes nothing for any other event.
 pub(crate) fn write_change<W: Write>(note: &Note<'_>, out: &mut W) -> Result<(), PrintError>
-    ensures ok { OnOk result (ShowsChange note.now (W.contents out.old) (W.contents out.new)) }
+    ensures ok { OnOk result
+        (ShowsChange (told_by note.now) (W.contents out.old) (W.contents out.new)) }
     ensures err { IfErr result (λ error. error ≡ PrintError.Output) }
 {
     match note {
@@ -196,24 +251,48 @@ pub(crate) fn write_change<W: Write>(note: &Note<'_>, out: &mut W) -> Result<(),
             connection,
             peer,
             replaces,
-        } => {
-            write_connection(*connection, *peer, out)?;
-            put(joined_text(*replaces), out)?;
-            Ok(())
-        }
+        } => write_joined(*connection, *peer, *replaces, out),
         Note::Refused { peer, why } => write_refused(*peer, *why, out),
         Note::Withheld { .. } => write_withheld(out),
         Note::Closed {
             connection,
             peer,
             why,
-        } => {
-            write_connection(*connection, *peer, out)?;
-            write_closed(*why, out)
-        }
+        } => write_closed(*connection, *peer, *why, out),
         Note::Heard { .. } | Note::Ignored { .. } | Note::Sent { .. } => Ok(()),
         Note::Silence | Note::Stopped => Ok(()),
     }
+}
+
+/// Writes the line for a peer that took a connection, without a time.
+pub(crate) fn write_joined<W: Write>(
+    connection: usize,
+    peer: Option<SocketAddr>,
+    replaces: bool,
+    out: &mut W,
+) -> Result<(), PrintError>
+    ensures ok { OnOk result (Appends (W.contents out.old) (W.contents out.new)
+        (joined_line connection peer replaces)) }
+    ensures err { IfErr result (λ error. error ≡ PrintError.Output) }
+{
+    write_connection(connection, peer, out)?;
+    put(joined_text(replaces), out)?;
+    Ok(())
+}
+
+/// Writes the line for a connection that is closed, without a time.
+fn write_closed<W: Write>(
+    connection: usize,
+    peer: Option<SocketAddr>,
+    why: Option<CarrierError>,
+    out: &mut W,
+) -> Result<(), PrintError>
+    ensures ok { OnOk result (Appends (W.contents out.old) (W.contents out.new)
+        (closed_line connection peer why)) }
+    ensures err { IfErr result (λ error. error ≡ PrintError.Output) }
+{
+    write_connection(connection, peer, out)?;
+    write_end(why, out)
 }
 
 /// Writes the line for a terminal that has not answered, without a time.
@@ -317,35 +396,86 @@ fn joined_text(replaces: bool) -> &'static [u8]
     }
 }
 
-/// Writes the line for a peer that has no connection, and why.
+/// Writes the line for a peer that has no connection, and why, without a time.
 fn write_refused<W: Write>(
     peer: Option<SocketAddr>,
     why: Refusal,
     out: &mut W,
 ) -> Result<(), PrintError>
-    ensures { IfErr result (λ error. error ≡ PrintError.Output) }
+    ensures ok { OnOk result (Appends (W.contents out.old) (W.contents out.new)
+        (refused_line peer why)) }
+    ensures err { IfErr result (λ error. error ≡ PrintError.Output) }
 {
-    let written = match peer {
-        Some(peer) => write!(out, "refused {peer}: {why}\n"),
-        None => write!(out, "refused a peer: {why}\n"),
+    put(b"refused ", out)?;
+    write_peer(peer, out)?;
+    put(b": ", out)?;
+    put(refusal_text(why), out)?;
+    put(b"\n", out)
+}
+
+/// Writes the address of a peer that has no connection, if it is known.
+fn write_peer<W: Write>(peer: Option<SocketAddr>, out: &mut W) -> Result<(), PrintError>
+    ensures ok { OnOk result (Appends (W.contents out.old) (W.contents out.new)
+        (peer_shown peer)) }
+    ensures err { IfErr result (λ error. error ≡ PrintError.Output) }
+{
+    let Some(peer) = peer else {
+        return put(b"a peer", out);
     };
-    match written {
+    match write!(out, "{peer}") {
         Ok(()) => Ok(()),
         Err(_) => Err(PrintError::Output),
     }
 }
 
+/// Returns why a peer has no connection.
+fn refusal_text(why: Refusal) -> &'static [u8]
+    ensures { result.now ≡ refusal_shown why }
+{
+    match why {
+        Refusal::NoPlace => b"every place is taken",
+        Refusal::NotAccepted => b"the system cannot accept it yet",
+        Refusal::NotAllowed => b"its address is not allowed",
+    }
+}
+
 /// Writes the end of the line for a connection that is closed, and why. Without a reason, its peer
 /// closed it between transmissions.
-fn write_closed<W: Write>(why: Option<CarrierError>, out: &mut W) -> Result<(), PrintError>
-    ensures { IfErr result (λ error. error ≡ PrintError.Output) }
+fn write_end<W: Write>(why: Option<CarrierError>, out: &mut W) -> Result<(), PrintError>
+    ensures ok { OnOk result (Appends (W.contents out.old) (W.contents out.new)
+        (closed_shown why)) }
+    ensures err { IfErr result (λ error. error ≡ PrintError.Output) }
 {
-    let written = match why {
-        Some(why) => write!(out, " closed: {why}\n"),
-        None => write!(out, " closed\n"),
+    let Some(why) = why else {
+        return put(b" closed\n", out);
     };
-    match written {
-        Ok(()) => Ok(()),
-        Err(_) => Err(PrintError::Output),
+    put(b" closed: ", out)?;
+    put(error_text(why), out)?;
+    put(b"\n", out)
+}
+
+/// Returns why a connection is closed by an error.
+fn error_text(why: CarrierError) -> &'static [u8]
+    ensures { result.now ≡ error_shown why }
+{
+    match why {
+        CarrierError::Length => b"the length of a record is wrong",
+        CarrierError::Short => b"the input ended within a record",
+        CarrierError::Device { why } => fault_text(why),
+        CarrierError::Unequal => b"two far ends gave different octets",
+    }
+}
+
+/// Returns why a device failed.
+fn fault_text(why: DeviceFault) -> &'static [u8]
+    ensures { result.now ≡ fault_shown why }
+{
+    match why {
+        DeviceFault::Reset => b"connection reset by peer",
+        DeviceFault::Aborted => b"connection aborted",
+        DeviceFault::BrokenPipe => b"broken pipe",
+        DeviceFault::TimedOut => b"timed out",
+        DeviceFault::Unreachable => b"the peer cannot be reached",
+        DeviceFault::Other => b"a read or a write failed",
     }
 }

@@ -5,7 +5,7 @@ ghost use Rattle.bsc_connections.specs.Notes.{told_by};
 ghost use Rattle.bsc_frame.specs.Reading.{heard};
 ghost use Rattle.bsc_trust.specs.Trust.{after_heard, told_of};
 ghost use Rattle.bsc_monitor.specs.Trusting.{called_by, distrust_told, is_admitted};
-ghost use Rattle.bsc_monitor.specs.Trusting.{address_of, joining_address, trust_after};
+ghost use Rattle.bsc_monitor.specs.Trusting.{address_of, trust_after};
 ghost use Rattle.bsc_monitor.specs.Trusting.{trusting_of};
 
 use bsc_connections::Note;
@@ -64,8 +64,8 @@ impl Trusting {
     /// the one that was called when it happened. Returns what is to be told of it.
     pub fn note(&mut self, note: &Note<'_>, now: u64) -> Option<Distrust>
         ensures kept { self.new ≡ trusting_of
-            (trust_after self.old.trust self.old.called (told_by note.now) now
-            (joining_address note.now)) self.old.called }
+            (trust_after self.old.trust self.old.called (told_by note.now) now)
+            self.old.called }
         ensures told { result
             ≡ distrust_told self.old.trust self.old.called (told_by note.now) now }
     {

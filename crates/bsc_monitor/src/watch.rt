@@ -107,7 +107,7 @@ impl<'a, A: Allocator + Copy, T: Timer + Drop, W: Write, D: Write> Watch<'a, A, 
             (output_of W.contents self.old) (output_of W.contents self.new) }
         ensures found { IfOk result (λ found. IsFound P.Party station.now found
             (output_of W.contents self.old) (output_of W.contents self.new)) }
-        ensures trace { OnOk result (ShowsEvent seen.calls seen.me seen.time note.now
+        ensures trace { OnOk result (ShowsEvent seen.calls seen.me seen.time (told_by note.now)
             (trace_of D.contents self.old) (trace_of D.contents self.new)) }
     {
         live(self.tell(seen, note))?;
@@ -212,7 +212,7 @@ impl<'a, A: Allocator + Copy, T: Timer + Drop, W: Write, D: Write> Watch<'a, A, 
     /// that joined, left or was refused, or of something that was withheld.
     pub(crate) fn tell(&mut self, seen: Seen, note: &Note<'_>) -> Result<(), PrintError>
         ensures records { output_of W.contents self.new ≡ output_of W.contents self.old }
-        ensures trace { OnOk result (ShowsEvent seen.calls seen.me seen.time note.now
+        ensures trace { OnOk result (ShowsEvent seen.calls seen.me seen.time (told_by note.now)
             (trace_of D.contents self.old)
             (trace_of D.contents self.new)) }
     {

@@ -16,3 +16,8 @@ without_place places place = filter (λ other. not (other == place)) places
 abbrev pub IsServed : List ℕ → Option ℕ → List ℕ → Type 0
 IsServed [] served after = (served ≡ None) × (after ≡ [])
 IsServed (place ∷ rest) served after = (served ≡ Some place) × (after ≡ rest ++ place ∷ [])
+
+-- This place is the last of the list: it was served last.
+pub record WasServed (places : List ℕ) (place : ℕ) : Type 0 where
+  pub others : List ℕ
+  pub is : places ≡ others ++ place ∷ []

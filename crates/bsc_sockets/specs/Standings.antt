@@ -1,7 +1,9 @@
 -- Which peers are stations of the line, and for how long nobody has answered at each place.
-use Rattle.std.specs.Prelude.{◌≡◌, ◌<◌, ◌≤◌, ◌-◌, ◌&&◌, ℕ, Bool, true, false, not, List, length}
+use Rattle.std.specs.Prelude.{◌≡◌, ◌<◌, ◌≤◌, ◌-◌, ◌+◌, ◌^◌, min, ℕ, Bool, true, false, List}
 use Rattle.std.specs.Prelude.{Option, None, Some, slice_get, slice_set, replicate}
 use Rattle.std.specs.Prelude.{if◌then◌else◌}
+use Rattle.bsc_connections.specs.declared.awaited.Awaited.{Awaited}
+use Rattle.bsc_connections.specs.declared.awaited.Awaited.TheVariants.{TimeOut}
 use Rattle.bsc_connections.specs.declared.awaited.Handled.{Handled}
 use Rattle.bsc_connections.specs.declared.awaited.Handled.TheVariants.{Answered, Unanswered}
 use Rattle.bsc_connections.specs.declared.awaited.Handled.TheVariants.{Silence}
@@ -100,6 +102,17 @@ moves_time_out listens standings (Answered place) = true
 moves_time_out listens standings (Unanswered place) =
     if listens then is_known standings place else true
 moves_time_out listens standings Silence = true
+
+-- The time of all silences, in nanoseconds, after this event of a wait: a time-out adds this time.
+-- The sum stops at 2^128 - 1.
+abbrev pub counted_after : ℕ → Awaited → ℕ → ℕ
+counted_after time TimeOut silence = min (silence + time) (2 ^ 128 - 1)
+counted_after time awaited silence = silence
+
+-- What a time-out adds to the time of all silences: its length, or nothing in the first wait of a
+-- station that begins.
+abbrev pub silence_of : Bool → ℕ → ℕ
+silence_of begins whole = if begins then 0 else whole
 
 -- The time of the time-out after this.
 abbrev pub time_after : Bool → Time → Time

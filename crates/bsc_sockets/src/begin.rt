@@ -1,6 +1,9 @@
 //! Makes the first connections of a station.
 
-ghost use Rattle.std.specs.Prelude.{◌≡◌, ◌<◌, ◌^◌, ◌+◌, [], false, length, IfOk, IsNone, OnOk};
+ghost use Rattle.std.specs.Prelude.{◌≡◌, ◌<◌, ◌^◌, ◌+◌, [], false, is_some, length, IfErr, IfOk};
+ghost use Rattle.std.specs.Prelude.{IsNone, OnOk};
+ghost use Rattle.bsc_sockets.specs.Listening.{IsAddressError, IsConnectError, IsDenied};
+ghost use Rattle.bsc_sockets.specs.Listening.{IsListenError, IsPeerError, IsUnwatched};
 
 use crate::directions::{Reading, Writing};
 use crate::listening::addresses;
@@ -62,7 +65,8 @@ pub fn connect<'a, N: Net + Clock, A: Allocator + Copy>(
     patience: Duration,
     settings: ConnectionSettings,
 ) -> Result<Begun<'a, N, A>, SocketsError>
-    ensures { IfOk result (λ begun. length begun.connections.items ≡ 1) }
+    ensures count { IfOk result (λ begun. length begun.connections.items ≡ 1) }
+    ensures failed { IfErr result (IsAddressError (is_some settings.stops_with)) }
 {
     let mut hosts = Vec::new(alloc);
     for host in addresses(runtime, address)? {
@@ -83,11 +87,13 @@ pub fn connect_to_any<'a, N: Net + Clock, A: Allocator + Copy>(
     patience: Duration,
     settings: ConnectionSettings,
 ) -> Result<Begun<'a, N, A>, SocketsError>
-    ensures { IfOk result (λ begun. length begun.connections.items ≡ 1) }
+    ensures count { IfOk result (λ begun. length begun.connections.items ≡ 1) }
+    ensures failed { IfErr result (IsConnectError (is_some settings.stops_with)) }
 {
     let mut begun = Begun::new(runtime, alloc, 1, settings)?;
     let stream = first_answer(runtime, alloc, addresses, patience)?;
-    begun.add(0, stream)?;
+    let peer = stream.peer_addr().ok();
+    begun.add(0, stream, peer)?;
     Ok(begun)
 }
 
@@ -97,7 +103,9 @@ fn first_answer<N: Net + Clock, A: Allocator + Copy>(
     alloc: A,
     addresses: &[SocketAddr],
     patience: Duration,
-) -> Result<TcpStream, SocketsError> {
+) -> Result<TcpStream, SocketsError>
+    ensures { IfErr result (IsConnectError false) }
+{
     let mut writable = Writable::new(runtime, alloc)?;
     for address in addresses {
         if let Ok(stream) = connect_to(runtime, &mut writable, *address, patience) {
@@ -142,6 +150,7 @@ pub fn listen<'a, N: Net + Clock, A: Allocator + Copy, H: Reception>(
     ensures count { IfOk result (λ begun. length begun.connections.items ≡ peers.count) }
     ensures refuses { peers.keeps_listening ≡ false
         → IfOk result (λ begun. IsNone begun.sockets.listener) }
+    ensures failed { IfErr result (IsListenError (is_some settings.stops_with)) }
 {
     let mut begun = Begun::new(runtime, alloc, peers.count, settings)?;
     begun.take_peers(listening, peers, reception)?;
@@ -157,7 +166,8 @@ impl<'a, N: Net + Clock, A: Allocator + Copy> Begun<'a, N, A> {
         settings: ConnectionSettings,
     ) -> Result<Begun<'a, N, A>, SocketsError>
         requires { places < 2 ^ 16 }
-        ensures { IfOk result (λ begun. begun.connections.items ≡ []) }
+        ensures none { IfOk result (λ begun. begun.connections.items ≡ []) }
+        ensures failed { IfErr result (IsUnwatched (is_some settings.stops_with)) }
     {
         let sockets = Sockets::new(runtime, alloc, places, settings)?;
         Ok(Begun {
@@ -166,12 +176,19 @@ impl<'a, N: Net + Clock, A: Allocator + Copy> Begun<'a, N, A> {
         })
     }
 
-    /// Makes this stream the connection at this place, which must be the next one.
-    fn add(&mut self, place: usize, stream: TcpStream) -> Result<(), SocketsError>
-        ensures { OnOk result
+    /// Makes this stream the connection at this place, which must be the next one, of the peer with
+    /// this address, if it is known.
+    fn add(
+        &mut self,
+        place: usize,
+        stream: TcpStream,
+        peer: Option<SocketAddr>,
+    ) -> Result<(), SocketsError>
+        ensures count { OnOk result
             (length self.new.connections.items ≡ length self.old.connections.items + 1) }
+        ensures failed { IfErr result IsDenied }
     {
-        let directions = self.sockets.open(place, stream)?;
+        let directions = self.sockets.open(place, stream, peer)?;
         self.connections.push(directions)?;
         Ok(())
     }
@@ -187,6 +204,7 @@ impl<'a, N: Net + Clock, A: Allocator + Copy> Begun<'a, N, A> {
         ensures count { OnOk result (length self.new.connections.items ≡ peers.count) }
         ensures refuses { peers.keeps_listening ≡ false
             → OnOk result (IsNone self.new.sockets.listener) }
+        ensures failed { IfErr result IsPeerError }
     {
         if let Ok(address) = listening.address() {
             reception.listens(address);
@@ -207,12 +225,13 @@ impl<'a, N: Net + Clock, A: Allocator + Copy> Begun<'a, N, A> {
         reception: &mut H,
     ) -> Result<(), SocketsError>
         requires { self.old.connections.items ≡ [] }
-        ensures { OnOk result (length self.new.connections.items ≡ peers) }
+        ensures count { OnOk result (length self.new.connections.items ≡ peers) }
+        ensures failed { IfErr result IsPeerError }
     {
         'peers: for place in 0..peers {
             reception.waits(place, peers);
             let Peer { stream, address } = self.sockets.next_peer(patience, reception)?;
-            self.add(place, stream)?;
+            self.add(place, stream, Some(address))?;
             reception.joined(place, address);
         }
         Ok(())

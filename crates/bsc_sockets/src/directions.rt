@@ -1,6 +1,8 @@
 //! The two directions of a connection.
 
+ghost use Rattle.std.specs.Prelude.{◌≡◌, IfErr, IfOk};
 ghost use Rattle.std.specs.Io.{WritesAtMost};
+ghost use Rattle.bsc_sockets.specs.Listening.{IsDenied};
 
 use crate::SocketsError;
 use crate::time_limit::TimeLimit;
@@ -73,7 +75,10 @@ pub(crate) fn directions<'a, N: Net + Clock, A: Allocator + Copy>(
     alloc: A,
     stream: TcpStream,
     time_out: Duration,
-) -> Result<(Reading, Writing<'a, N, A>), SocketsError> {
+) -> Result<(Reading, Writing<'a, N, A>), SocketsError>
+    ensures writes { IfOk result (λ opened. opened.1.time_out ≡ time_out) }
+    ensures failed { IfErr result IsDenied }
+{
     let (arriving, leaving) = twice(stream)?;
     let writable = Writable::new(runtime, alloc)?;
     let writing = Writing {

@@ -1,9 +1,11 @@
 //! The connections of a station, and its waiter.
 
-ghost use Rattle.std.specs.Prelude.{◌≡◌, ◌<◌, ◌^◌, IfOk, IfSome, IsNone, IsSome, true, false};
-ghost use Rattle.std.specs.Prelude.{is_some};
-ghost use Rattle.bsc_sockets.specs.Answers.{may_connect, newcomer_may};
-ghost use Rattle.bsc_sockets.specs.Standings.{is_known, moves_time_out, standings_value};
+ghost use Rattle.std.specs.Prelude.{◌≡◌, ◌<◌, ◌^◌, IfErr, IfOk, IfSome, IsNone, IsSome, OnOk};
+ghost use Rattle.std.specs.Prelude.{true, false, is_some, slice_get};
+ghost use Rattle.bsc_sockets.specs.Answers.{may_connect, newcomer_address, newcomer_may};
+ghost use Rattle.bsc_sockets.specs.Listening.{IsDenied, IsUnwatched};
+ghost use Rattle.bsc_sockets.specs.Standings.{after_joining, is_known, moves_time_out};
+ghost use Rattle.bsc_sockets.specs.Standings.{standings_value};
 
 use crate::directions::{Reading, Writing, directions};
 use crate::ready::Ready;
@@ -67,7 +69,8 @@ impl<'a, N: Net + Clock, A: Allocator + Copy> Sockets<'a, N, A> {
         settings: ConnectionSettings,
     ) -> Result<Sockets<'a, N, A>, SocketsError>
         requires { places < 2 ^ 16 }
-        ensures { IfOk result (λ sockets. sockets.settings ≡ settings) }
+        ensures settings { IfOk result (λ sockets. sockets.settings ≡ settings) }
+        ensures failed { IfErr result (IsUnwatched (is_some settings.stops_with)) }
     {
         let poll = Poll::new(runtime)?;
         if let Some(fd) = settings.stops_with {
@@ -94,7 +97,10 @@ impl<'a, N: Net + Clock, A: Allocator + Copy> Sockets<'a, N, A> {
     }
 
     /// Accepts peers that connect at this address from now on.
-    pub(crate) fn take_peers_of(&mut self, listening: Listening) -> Result<(), SocketsError> {
+    pub(crate) fn take_peers_of(&mut self, listening: Listening) -> Result<(), SocketsError>
+        ensures settings { self.new.settings ≡ self.old.settings }
+        ensures failed { IfErr result IsDenied }
+    {
         let mut listener = listening.listener;
         self.poll
             .registry()
@@ -113,11 +119,13 @@ impl<'a, N: Net + Clock, A: Allocator + Copy> Sockets<'a, N, A> {
         self.ready.clear(self.places);
     }
 
-    /// Makes this stream the connection at this place.
+    /// Makes this stream the connection at this place, of the peer with this address, if it is
+    /// known.
     pub(crate) fn open(
         &mut self,
         place: usize,
         stream: TcpStream,
+        peer: Option<SocketAddr>,
     ) -> Result<(Reading, Writing<'a, N, A>), SocketsError>
         ensures newcomer { self.new.newcomer ≡ self.old.newcomer }
         ensures settings { self.new.settings ≡ self.old.settings }
@@ -125,9 +133,14 @@ impl<'a, N: Net + Clock, A: Allocator + Copy> Sockets<'a, N, A> {
         ensures time_out { self.new.times.time_out ≡ self.old.times.time_out }
         ensures stranger { IfOk result
             (λ _. is_known (standings_value self.new.standings) place ≡ false) }
+        ensures peer { OnOk result (standings_value self.new.standings
+            ≡ after_joining peer (standings_value self.old.standings) place
+            (slice_get self.old.standings.places.items place)) }
+        ensures writes { IfOk result
+            (λ opened. opened.1.time_out ≡ self.old.settings.time_out) }
+        ensures failed { IfErr result IsDenied }
     {
         let (runtime, alloc) = (self.runtime, self.alloc);
-        let peer = stream.peer_addr().ok();
         let (mut reading, writing) = directions(runtime, alloc, stream, self.settings.time_out)?;
         self.poll
             .registry()
@@ -186,9 +199,18 @@ impl<'a, N: Net + Clock, A: Allocator + Copy> Sockets<'a, N, A> {
         ensures time_out { self.new.times.time_out ≡ self.old.times.time_out }
         ensures stranger { IfOk result (λ joined. IfSome joined
             (λ _. is_known (standings_value self.new.standings) place ≡ false)) }
+        ensures peer { IfOk result (λ joined. IfSome joined
+            (λ _. standings_value self.new.standings
+            ≡ after_joining (newcomer_address self.old.newcomer)
+            (standings_value self.old.standings) place
+            (slice_get self.old.standings.places.items place))) }
+        ensures writes { IfOk result (λ joined. IfSome joined
+            (λ opened. opened.1.time_out ≡ self.old.settings.time_out)) }
     {
         match self.take_admitted() {
-            Some(peer) if place < self.places => Ok(Some(self.open(place, peer.stream)?)),
+            Some(peer) if place < self.places => {
+                Ok(Some(self.open(place, peer.stream, Some(peer.address))?))
+            }
             _ => Ok(None),
         }
     }
@@ -197,25 +219,40 @@ impl<'a, N: Net + Clock, A: Allocator + Copy> Sockets<'a, N, A> {
 impl<'a, N: Net + Clock, A: Allocator + Copy> Waiter<Reading, Writing<'a, N, A>>
     for Sockets<'a, N, A> {
     ghost use Rattle.std.specs.Duration.{as_nanos};
-    ghost use Rattle.std.specs.Prelude.{◌≡◌, ◌+◌, IfOk, IfSome, IsNone, IsSome, OnOk, Some, true};
-    ghost use Rattle.std.specs.Prelude.{false, is_some, length, slice_set};
+    ghost use Rattle.std.specs.Prelude.{◌≡◌, ◌+◌, IfErr, IfOk, IfSome, IsNone, IsSome, OnOk, Some};
+    ghost use Rattle.std.specs.Prelude.{true, false, is_some, length, slice_get, slice_set};
     ghost use Rattle.bsc_connections.specs.declared.awaited.Pace.TheVariants.{AtOnce};
-    ghost use Rattle.bsc_sockets.specs.Answers.{IsAnswer, newcomer_may};
+    ghost use Rattle.bsc_sockets.specs.Answers.{IsAnswer, IsWaitError, newcomer_address};
+    ghost use Rattle.bsc_sockets.specs.Answers.{newcomer_may};
     ghost use Rattle.bsc_sockets.specs.Ready.{without_place};
-    ghost use Rattle.bsc_sockets.specs.Standings.{IsQuietest, is_known, moves_time_out};
+    ghost use Rattle.bsc_sockets.specs.Standings.{IsQuietest, after_joining, counted_after};
+    ghost use Rattle.bsc_sockets.specs.Standings.{is_known, moves_time_out, peer_of, silence_of};
     ghost use Rattle.bsc_sockets.specs.Standings.{standings_after, standings_value, time_after};
     ghost use Rattle.bsc_sockets.specs.Stopping.{stops_in, times_told};
-    ghost use Rattle.bsc_sockets.specs.Times.{IsKept};
+    ghost use Rattle.bsc_sockets.specs.Times.{HasBegun, IsKept};
     ghost use Rattle.bsc_sockets.specs.declared.times.Time.TheVariants.{Anew};
 
     ghost waits = { λ before result after.
-        (IfOk result (IsAnswer after.settings.allowed after.places after.newcomer))
+        (IfOk result (IsAnswer after.settings.allowed after.places after.newcomer after.ready))
+        × (IfErr result IsWaitError)
         × (IfOk result (λ awaited.
         times_told after.stopping ≡ times_told before.stopping + stops_in awaited))
         × (after.settings.allowed ≡ before.settings.allowed)
+        × (OnOk result (after.settings ≡ record before.settings { begins = false }))
         × IsKept before.times.time_out after.times.time_out
+        × (OnOk result
+        (HasBegun before.settings.time_out before.times.time_out after.times.time_out))
         × (OnOk result (after.times.pace ≡ AtOnce))
-        × (after.standings.places ≡ before.standings.places) };
+        × (after.standings.places ≡ before.standings.places)
+        × (IfOk result (λ awaited. after.standings.silence
+        ≡ counted_after
+        (silence_of before.settings.begins (as_nanos before.settings.time_out)) awaited
+        before.standings.silence)) };
+
+    ghost names = { λ waiter place named.
+        named ≡ peer_of (slice_get waiter.standings.places.items place) };
+
+    ghost names_newcomer = { λ waiter named. named ≡ newcomer_address waiter.newcomer };
 
     ghost handles = { λ before what pace after.
         let standings = standings_value before.standings in
@@ -241,7 +278,11 @@ impl<'a, N: Net + Clock, A: Allocator + Copy> Waiter<Reading, Writing<'a, N, A>>
     ghost joins = { λ before place joined after. (IsNone after.newcomer)
         × (IsSome joined → newcomer_may before.settings.allowed before.newcomer ≡ Some true)
         × (after.times.time_out ≡ before.times.time_out)
-        × (IfSome joined (λ _. is_known (standings_value after.standings) place ≡ false)) };
+        × (IfSome joined (λ _. is_known (standings_value after.standings) place ≡ false))
+        × (IfSome joined (λ _. standings_value after.standings
+        ≡ after_joining (newcomer_address before.newcomer) (standings_value before.standings)
+        place (slice_get before.standings.places.items place)))
+        × (IfSome joined (λ opened. opened.1.time_out ≡ before.settings.time_out)) };
 
     ghost turns_away = { λ before after.
         (IsNone after.newcomer) × (after.times ≡ before.times)

@@ -1,6 +1,7 @@
 //! How a station is asked to end.
 
-ghost use Rattle.std.specs.Prelude.{◌≡◌, ◌+◌, true, IfOk, IsSome};
+ghost use Rattle.std.specs.Prelude.{◌≡◌, ◌+◌, true, IfErr, IfOk, IsSome};
+ghost use Rattle.bsc_sockets.specs.Answers.{IsWaitError};
 ghost use Rattle.bsc_sockets.specs.Stopping.{asked_if, count_if, is_asked, is_closed_in};
 ghost use Rattle.bsc_sockets.specs.Stopping.{times_told};
 
@@ -82,6 +83,7 @@ impl Stopping {
         time_out: Duration,
     ) -> Result<Option<Duration>, LiveError>
         ensures told { times_told self.new ≡ times_told self.old }
+        ensures failed { IfErr result IsWaitError }
         ensures once { IfOk result (λ left. IsSome left → times_told self.new ≡ 1) }
     {
         let Stopping::Told { since } = *self else {
@@ -106,7 +108,9 @@ pub(crate) fn is_closed<A: Allocator>(events: &Events<A>) -> bool
 
 /// Has the system report this descriptor as the input. Fails with `CannotWatchInput` if it does
 /// not, for example because it is a file.
-pub(crate) fn watch(poll: &Poll, fd: RawFd) -> Result<(), SocketsError> {
+pub(crate) fn watch(poll: &Poll, fd: RawFd) -> Result<(), SocketsError>
+    ensures { IfErr result (λ why. why ≡ SocketsError.CannotWatchInput) }
+{
     let mut source = SourceFd(&fd);
     match poll
         .registry()

@@ -1,7 +1,8 @@
 //! The times of the time-out and of the gaps.
 
-ghost use Rattle.std.specs.Prelude.{◌≡◌, IfOk, None, Some, replicate, slice_set};
-ghost use Rattle.bsc_sockets.specs.Times.{IsEnd, IsKept, event_of};
+ghost use Rattle.std.specs.Prelude.{◌≡◌, IfErr, IfOk, None, OnOk, Some, replicate, slice_set};
+ghost use Rattle.bsc_sockets.specs.Answers.{IsWaitError};
+ghost use Rattle.bsc_sockets.specs.Times.{HasBegun, IsEnd, IsKept, event_of};
 
 use crate::time_limit::TimeLimit;
 use bsc_connections::{Awaited, LiveError, Pace};
@@ -117,6 +118,8 @@ impl<A: Allocator> Times<A> {
         gap: Duration,
     ) -> Result<End, LiveError>
         ensures time_out { IsKept self.old.time_out self.new.time_out }
+        ensures begun { OnOk result (HasBegun time_out self.old.time_out self.new.time_out) }
+        ensures failed { IfErr result IsWaitError }
         ensures pace { self.new.pace ≡ self.old.pace }
     {
         let (limit, left) = running(clock, self.time_out, time_out)?;
@@ -158,7 +161,9 @@ pub(crate) fn running<C: Clock>(
     time: Time,
     whole: Duration,
 ) -> Result<(TimeLimit, Duration), LiveError>
-    ensures { IfOk result (λ r. IsKept time (Time.Since r.0)) }
+    ensures kept { IfOk result (λ r. IsKept time (Time.Since r.0)) }
+    ensures begun { IfOk result (λ r. HasBegun whole time (Time.Since r.0)) }
+    ensures failed { IfErr result IsWaitError }
 {
     let limit = match time {
         Time::Since(limit) => limit,

@@ -1,8 +1,12 @@
 //! Waits for what is ready.
 
-ghost use Rattle.std.specs.Prelude.{◌≡◌, ◌+◌, ◌↔◌, IfOk, IfSome, IsSome, IsTrue, OnOk, true};
+ghost use Rattle.std.specs.Prelude.{◌≡◌, ◌+◌, ◌↔◌, IfErr, IfOk, IfSome, IsSome, IsTrue, OnOk};
+ghost use Rattle.std.specs.Prelude.{true};
+ghost use Rattle.std.specs.Duration.{as_nanos};
 ghost use Rattle.std.specs.Option.{option_map_or};
-ghost use Rattle.bsc_sockets.specs.Answers.{IsAnswer, may_connect};
+ghost use Rattle.bsc_sockets.specs.Answers.{IsAnswer, IsWaitError, may_connect};
+ghost use Rattle.bsc_sockets.specs.Listening.{IsPeerError};
+ghost use Rattle.bsc_sockets.specs.Standings.{counted_after};
 ghost use Rattle.bsc_sockets.specs.Stopping.{asked_if, is_closed_in, stops_in, times_told};
 ghost use Rattle.bsc_sockets.specs.Times.{IsEnd};
 
@@ -42,7 +46,9 @@ impl<'a, N: Net + Clock, A: Allocator + Copy> Sockets<'a, N, A> {
     /// Returns the first event that is sought, or `TimeOut` if none happens within this time.
     pub(crate) fn within(&mut self, time: Duration, sought: Sought) -> Result<Awaited, LiveError>
         ensures answer { IfOk result
-            (IsAnswer self.new.settings.allowed self.new.places self.new.newcomer) }
+            (IsAnswer self.new.settings.allowed self.new.places self.new.newcomer
+            self.new.ready) }
+        ensures failed { IfErr result IsWaitError }
         ensures settings { self.new.settings ≡ self.old.settings }
         ensures stops { IfOk result (λ awaited. times_told self.new.stopping
             ≡ times_told self.old.stopping + stops_in awaited) }
@@ -62,7 +68,9 @@ impl<'a, N: Net + Clock, A: Allocator + Copy> Sockets<'a, N, A> {
     /// served since.
     pub(crate) fn in_time(&mut self, left: Duration) -> Result<Awaited, LiveError>
         ensures answer { IfOk result
-            (IsAnswer self.new.settings.allowed self.new.places self.new.newcomer) }
+            (IsAnswer self.new.settings.allowed self.new.places self.new.newcomer
+            self.new.ready) }
+        ensures failed { IfErr result IsWaitError }
         ensures settings { self.new.settings ≡ self.old.settings }
         ensures stops { IfOk result (λ awaited. times_told self.new.stopping
             ≡ times_told self.old.stopping + stops_in awaited) }
@@ -100,7 +108,9 @@ impl<'a, N: Net + Clock, A: Allocator + Copy> Sockets<'a, N, A> {
     /// wait has not lain unread.
     fn asked_within(&mut self, time: Duration, sought: Sought) -> Result<Awaited, LiveError>
         ensures answer { IfOk result
-            (IsAnswer self.new.settings.allowed self.new.places self.new.newcomer) }
+            (IsAnswer self.new.settings.allowed self.new.places self.new.newcomer
+            self.new.ready) }
+        ensures failed { IfErr result IsWaitError }
         ensures settings { self.new.settings ≡ self.old.settings }
         ensures stops { IfOk result (λ awaited. times_told self.new.stopping
             ≡ times_told self.old.stopping + stops_in awaited) }
@@ -128,7 +138,9 @@ impl<'a, N: Net + Clock, A: Allocator + Copy> Sockets<'a, N, A> {
     /// As `within`, but looks only at what arrives from now on.
     fn arriving_within(&mut self, time: Duration, sought: Sought) -> Result<Awaited, LiveError>
         ensures answer { IfOk result
-            (IsAnswer self.new.settings.allowed self.new.places self.new.newcomer) }
+            (IsAnswer self.new.settings.allowed self.new.places self.new.newcomer
+            self.new.ready) }
+        ensures failed { IfErr result IsWaitError }
         ensures settings { self.new.settings ≡ self.old.settings }
         ensures stops { IfOk result (λ awaited. times_told self.new.stopping
             ≡ times_told self.old.stopping + stops_in awaited) }
@@ -153,7 +165,9 @@ impl<'a, N: Net + Clock, A: Allocator + Copy> Sockets<'a, N, A> {
     }
 
     /// Returns what is left of a time.
-    fn left(&self, limit: TimeLimit) -> Result<Duration, LiveError> {
+    fn left(&self, limit: TimeLimit) -> Result<Duration, LiveError>
+        ensures { IfErr result IsWaitError }
+    {
         match limit.left(self.runtime) {
             Ok(left) => Ok(left),
             Err(_) => Err(LiveError::Wait),
@@ -163,7 +177,8 @@ impl<'a, N: Net + Clock, A: Allocator + Copy> Sockets<'a, N, A> {
     /// Returns what is sought if it is ready.
     fn found(&mut self, sought: Sought) -> Option<Awaited>
         ensures answer { IfSome result
-            (IsAnswer self.new.settings.allowed self.new.places self.new.newcomer) }
+            (IsAnswer self.new.settings.allowed self.new.places self.new.newcomer
+            self.new.ready) }
         ensures settings { self.new.settings ≡ self.old.settings }
         ensures stops { times_told self.new.stopping
             ≡ times_told self.old.stopping + option_map_or stops_in result 0 }
@@ -182,9 +197,11 @@ impl<'a, N: Net + Clock, A: Allocator + Copy> Sockets<'a, N, A> {
 
     /// Returns what is to be served now. It takes the ready places in turn, including that of the
     /// listener, and no more of them than there are places.
+    #[tactic(auto, using(crate::proofs::Served::served_is_last))]
     fn next_ready(&mut self) -> Option<Awaited>
         ensures answer { IfSome result
-            (IsAnswer self.new.settings.allowed self.new.places self.new.newcomer) }
+            (IsAnswer self.new.settings.allowed self.new.places self.new.newcomer
+            self.new.ready) }
         ensures settings { self.new.settings ≡ self.old.settings }
         ensures stopping { self.new.stopping ≡ self.old.stopping }
         ensures asked_nothing { option_map_or stops_in result 0 ≡ 0 }
@@ -212,7 +229,8 @@ impl<'a, N: Net + Clock, A: Allocator + Copy> Sockets<'a, N, A> {
     fn newcomer_event(&self) -> Awaited
         requires { IsSome self.now.newcomer }
         ensures answer { IsAnswer self.now.settings.allowed self.now.places
-            self.now.newcomer result }
+            self.now.newcomer
+            self.now.ready result }
         ensures stops { stops_in result ≡ 0 }
     {
         match &self.newcomer {
@@ -258,6 +276,7 @@ impl<'a, N: Net + Clock, A: Allocator + Copy> Sockets<'a, N, A> {
 
     /// Lets the pause pass if this wait begins with one. What arrives meanwhile is ready after it.
     pub(crate) fn rest(&mut self) -> Result<(), LiveError>
+        ensures failed { IfErr result IsWaitError }
         ensures settings { self.new.settings ≡ self.old.settings }
         ensures told { times_told self.new.stopping ≡ times_told self.old.stopping }
         ensures time_out { self.new.times.time_out ≡ self.old.times.time_out }
@@ -272,6 +291,7 @@ impl<'a, N: Net + Clock, A: Allocator + Copy> Sockets<'a, N, A> {
 
     /// Lets this time pass, or less of it if the station is asked to end.
     fn pause(&mut self, time: Duration) -> Result<(), LiveError>
+        ensures failed { IfErr result IsWaitError }
         ensures settings { self.new.settings ≡ self.old.settings }
         ensures told { times_told self.new.stopping ≡ times_told self.old.stopping }
         ensures times { self.new.times ≡ self.old.times }
@@ -293,6 +313,7 @@ impl<'a, N: Net + Clock, A: Allocator + Copy> Sockets<'a, N, A> {
 
     /// Asks the system what has arrived, and waits until something has or the time has passed.
     fn ask(&mut self, time: Duration) -> Result<(), LiveError>
+        ensures failed { IfErr result IsWaitError }
         ensures settings { self.new.settings ≡ self.old.settings }
         ensures asked { self.new.stopping
             ≡ asked_if (is_closed_in INPUT self.new.events) self.old.stopping }
@@ -321,6 +342,8 @@ impl<'a, N: Net + Clock, A: Allocator + Copy> Sockets<'a, N, A> {
         ensures time_out { self.new.times.time_out ≡ self.old.times.time_out }
         ensures pace { self.new.times.pace ≡ self.old.times.pace }
         ensures places { self.new.standings.places ≡ self.old.standings.places }
+        ensures silence { self.new.standings.silence
+            ≡ counted_after (as_nanos silence) result self.old.standings.silence }
     {
         let awaited = self.times.end(end);
         if awaited == Awaited::TimeOut {
@@ -349,7 +372,9 @@ impl<'a, N: Net + Clock, A: Allocator + Copy> Sockets<'a, N, A> {
         patience: Duration,
         reception: &mut H,
     ) -> Result<Peer, SocketsError>
-        ensures { IfOk result (λ peer. may_connect self.old.settings.allowed peer ≡ true) }
+        ensures admitted { IfOk result
+            (λ peer. may_connect self.old.settings.allowed peer ≡ true) }
+        ensures failed { IfErr result IsPeerError }
     {
         let limit = TimeLimit::begin(self.runtime, patience)?;
         let mut left = patience;
@@ -374,6 +399,7 @@ impl<'a, N: Net + Clock, A: Allocator + Copy> Sockets<'a, N, A> {
         ensures settings { self.new.settings ≡ self.old.settings }
         ensures admitted { IfOk result (λ found.
             IfSome found (λ peer. may_connect self.old.settings.allowed peer ≡ true)) }
+        ensures failed { IfErr result IsPeerError }
     {
         match self.within(left, Sought::Newcomer) {
             Ok(Awaited::Newcomer) => Ok(self.take_admitted()),

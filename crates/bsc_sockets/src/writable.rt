@@ -1,5 +1,8 @@
 //! Waits until octets can be written to one socket.
 
+ghost use Rattle.std.specs.Prelude.{IfErr};
+ghost use Rattle.bsc_sockets.specs.Listening.{IsDenied};
+
 use crate::SocketsError;
 use crate::time_limit::TimeLimit;
 use mio::net::TcpStream;
@@ -19,7 +22,9 @@ pub(crate) struct Writable<A: Allocator> {
 }
 
 impl<A: Allocator + Copy> Writable<A> {
-    pub(crate) fn new<N: Net>(runtime: &N, alloc: A) -> Result<Writable<A>, SocketsError> {
+    pub(crate) fn new<N: Net>(runtime: &N, alloc: A) -> Result<Writable<A>, SocketsError>
+        ensures { IfErr result IsDenied }
+    {
         let poll = Poll::new(runtime)?;
         let events = Events::with_capacity(alloc, 1)?;
         Ok(Writable { poll, events })

@@ -118,6 +118,10 @@ impl<'a> Waiter<Pieces, Sending<'a>> for Scripted<'a> {
 
     ghost permits = { λ _ _ _. Unit {0} };
 
+    ghost names = { λ _ _ _. Unit {0} };
+
+    ghost names_newcomer = { λ _ _. Unit {0} };
+
     fn wait(&mut self) -> Result<Awaited, LiveError> {
         let Some(&step) = self.steps.first() else {
             return Ok(Awaited::Octets { connection: 0 });

@@ -99,6 +99,10 @@ impl Waiter<Told, Taking> for Scripted {
 
     ghost permits = { λ _ _ _. Unit {0} };
 
+    ghost names = { λ _ _ _. Unit {0} };
+
+    ghost names_newcomer = { λ _ _. Unit {0} };
+
     fn wait(&mut self) -> Result<Awaited, LiveError> {
         let Some(&step) = self.steps.first() else {
             return Ok(Awaited::Octets { connection: 0 });

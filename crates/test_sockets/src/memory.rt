@@ -141,6 +141,10 @@ impl Waiter<Pieces, Expecting> for Told {
 
     ghost permits = { λ _ _ _. ⊤ };
 
+    ghost names = { λ _ _ _. ⊤ };
+
+    ghost names_newcomer = { λ _ _. ⊤ };
+
     fn wait(&mut self) -> Result<Awaited, LiveError> {
         match self.waits.split_first() {
             Some((first, rest)) => {

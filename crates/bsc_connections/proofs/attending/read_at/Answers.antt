@@ -1,6 +1,6 @@
 -- `read_at` tells the monitor of a connection that is closed, and otherwise of nothing that it read
 -- unless the station hears it.
-use Rattle.std.proofs.Common.{◌∷◌, [], Bool, refl, sym, ◌∙◌, subst}
+use Rattle.std.proofs.Common.{◌∷◌, [], Bool, None, refl, sym, ◌∙◌, subst}
 use Rattle.bsc_connections.specs.declared.connection.Taken.{Taken}
 use Rattle.bsc_connections.specs.declared.connection.Taken.TheVariants.{Nothing, Interrupted, Part}
 use Rattle.bsc_connections.specs.declared.connection.Taken.TheVariants.{Closed}
@@ -19,6 +19,8 @@ returns-in-Nothing-clause-does g c = (
           c.args.connection c.args.connections.now t c.take_at.new.connections) c.in-Nothing.is
           c.take_at.ensures;
       station = refl;
+      peer = None;
+      named = tt;
       tells = (refl, refl, refl);
       waits_on = c.nothing_left.ensures;
     },
@@ -35,6 +37,8 @@ returns-in-Interrupted-clause-does g c = (
           c.args.connection c.args.connections.now t c.take_at.new.connections) c.in-Interrupted.is
           c.take_at.ensures;
       station = refl;
+      peer = None;
+      named = tt;
       tells = (refl, refl, refl);
       waits_on = refl;
     },
@@ -51,6 +55,8 @@ returns-then-awaits_gap_at-clause-does g c = (
           c.args.connection c.args.connections.now t c.take_at.new.connections) c.in-Part.is
           c.take_at.ensures;
       station = refl;
+      peer = None;
+      named = tt;
       tells = (refl, refl, refl);
       waits_on = subst (λ (b : Bool). WaitsOn
           (session_parts g.S.Station g.R.Read g.W.Write g.F.Framing g.M.Monitor.is_told g.M.Monitor.admits g.M.Monitor.paces g.T.Waiter)
@@ -70,6 +76,8 @@ returns-else-awaits_gap_at-clause-does g c = (
           c.args.connection c.args.connections.now t c.take_at.new.connections) c.in-Part.is
           c.take_at.ensures;
       station = refl;
+      peer = None;
+      named = tt;
       tells = (refl, refl, refl);
       waits_on = subst (λ (b : Bool). WaitsOn
           (session_parts g.S.Station g.R.Read g.W.Write g.F.Framing g.M.Monitor.is_told g.M.Monitor.admits g.M.Monitor.paces g.T.Waiter)
@@ -81,7 +89,7 @@ returns-else-awaits_gap_at-clause-does g c = (
 
 pub returns-in-Closed-clause-does : goal.returns-in-Closed-clause-does
 returns-in-Closed-clause-does g c = (
-  HasClosed c.args.connection c.in-Closed.why ∷ [],
+  HasClosed c.args.connection c.peer-peer.result c.in-Closed.why ∷ [],
   (
     Closed c.in-Closed.why,
     record {
@@ -89,6 +97,8 @@ returns-in-Closed-clause-does g c = (
           c.args.connection c.args.connections.now t c.take_at.new.connections) c.in-Closed.is
           c.take_at.ensures;
       station = refl;
+      peer = c.peer-peer.result;
+      named = c.peer-peer.ensures;
       tells = (refl, c.note.ensures.told);
       waits_on = c.nothing_left-in-Closed.ensures;
     },

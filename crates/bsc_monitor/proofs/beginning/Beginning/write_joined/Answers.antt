@@ -7,6 +7,6 @@ use Rattle.bsc_monitor.proofs.beginning.Beginning.write_joined.Goals as goal
 pub returns-clause-ok : goal.returns-clause-ok
 returns-clause-ok g c =
     Appends-trans (g.W.Write.contents c.args.out.now) (g.W.Write.contents c.write_start.new.out)
-    (g.W.Write.contents c.write_change.new.out) (start_shown c.args.self.trace)
+    (g.W.Write.contents c.write_joined.new.out) (start_shown c.args.self.trace)
     (joined_line c.args.place (Some c.args.peer) false) c.in_ok-write_start.ensures.ok
-    c.in_ok-write_change.ensures.ok
+    c.in_ok-write_joined.ensures.ok
