@@ -24,6 +24,7 @@ use Rattle.bsc_naming.specs.Lines.{PrintsLines}
 use Rattle.bsc_naming.specs.declared.error.NamingError.{NamingError}
 use Rattle.bsc_naming.specs.declared.error.NamingError.TheVariants as naming
 use Rattle.bsc_run.specs.Crossing.{streams_of}
+use Rattle.bsc_run.specs.Plays.{holding}
 use Rattle.bsc_run.specs.declared.error.RunError.{RunError}
 use Rattle.bsc_run.specs.declared.error.RunError.TheVariants as run_error
 use Rattle.bsc_running.specs.Running.{TextPaths, HasFailed, HasRun, IsRunDone}
@@ -33,7 +34,7 @@ use Rattle.bsc_words.specs.CommandLine.{asked_of}
 use Rattle.bsc_command.specs.declared.fault.Fault.{Fault}
 use Rattle.bsc_command.specs.declared.fault.Fault.TheVariants as fault
 use Rattle.bsc_command.specs.Program.{HasFailedAs, HasFailedChart, HasFailedLines, HasFailedRun}
-use Rattle.bsc_command.specs.Program.{IsCharted, IsDone, IsFaultAt, IsObeyed}
+use Rattle.bsc_command.specs.Program.{HasFailedWith, IsCharted, IsDone, IsFaultAt, IsObeyed}
 
 prints_kept : (named : Heard → List ℕ) (octets : List ℕ) (a b c : Option (List ℕ))
     → Prints named octets a b → Keeps b c → Prints named octets a c
@@ -179,10 +180,12 @@ chart_kept fault.OutOfMemory ascii width given a b c p k = tt
 chart_kept (fault.Usage error) ascii width given a b c p k = tt
 
 module _ {S : Type 0} (contents remaining : S → Option (List ℕ)) where
-  has_run_kept : (paths : TextPaths) (result : Result (Unit {0}) RunError)
-      (a b c : Option (List ℕ)) → HasRun (streams_of contents remaining) paths result a b
-      → Keeps b c → HasRun (streams_of contents remaining) paths result a c
-  has_run_kept paths result a b c p k =
+  has_run_kept : (tracing : Bool) (paths : TextPaths) (result : Result (Unit {0}) RunError)
+      (a b c d e : Option (List ℕ))
+      → HasRun (streams_of contents remaining) tracing paths result (holding a d) (holding b e)
+      → Keeps b c
+      → HasRun (streams_of contents remaining) tracing paths result (holding a d) (holding c e)
+  has_run_kept tracing paths result a b c d e p k =
       let runs = p.ran.runs in
       record {
         config = p.config;
@@ -200,8 +203,11 @@ module _ {S : Type 0} (contents remaining : S → Option (List ℕ)) where
               text = runs.runs.text;
               events = runs.runs.events;
               plays = runs.runs.plays;
-              written = Appends-kept a b c (runs.runs.text ++ report_of runs.ended)
-                  runs.runs.written k;
+              written = record {
+                out = Appends-kept a b c (runs.runs.text.out ++ report_of runs.ended)
+                    runs.runs.written.out k;
+                trace = runs.runs.written.trace;
+              };
               line = runs.runs.line;
             };
             arrived = runs.arrived;
@@ -209,16 +215,18 @@ module _ {S : Type 0} (contents remaining : S → Option (List ℕ)) where
         };
       }
 
-  run_kept : (check : Bool) (paths : TextPaths) (a b c : Option (List ℕ))
-      → IsRunDone (streams_of contents remaining) check paths a b → Keeps b c
-      → IsRunDone (streams_of contents remaining) check paths a c
-  run_kept true paths a b c p k = record {
+  run_kept : (check tracing : Bool) (paths : TextPaths) (a b c d e : Option (List ℕ))
+      → IsRunDone (streams_of contents remaining) tracing check paths (holding a d) (holding b e)
+      → Keeps b c
+      → IsRunDone (streams_of contents remaining) tracing check paths (holding a d) (holding c e)
+  run_kept true tracing paths a b c d e p k = record {
     config = p.config;
     steps = p.steps;
     read = p.read;
     nothing = Keeps-trans a b c p.nothing k;
+    untraced = p.untraced;
   }
-  run_kept false paths a b c p k = has_run_kept paths (Ok tt) a b c p k
+  run_kept false tracing paths a b c d e p k = has_run_kept tracing paths (Ok tt) a b c d e p k
 
   done_kept : (asked : AskedValue) (input a b c : Option (List ℕ))
       → IsDone contents remaining asked input a b → Keeps b c
@@ -229,8 +237,13 @@ module _ {S : Type 0} (contents remaining : S → Option (List ℕ)) where
   done_kept show None a b c p k = p
   done_kept show (Some octets) a b c p k = input_kept Units octets a b c p k
   done_kept (chart ascii width) input a b c p k = charted_kept ascii width input a b c p k
-  done_kept (run config script check) input a b c p k =
-      run_kept check (record { config = config; script = script; input = input }) a b c p k
+  done_kept (run config script check trace) input a b c p k = record {
+    told = p.told;
+    tells = p.tells;
+    done =
+        run_kept check trace (record { config = config; script = script; input = input }) a b c
+        p.told p.tells p.done k;
+  }
   done_kept (station words) input a b c p k = p
 
   pub obeyed_kept : (words : List Text) (input a b c : Option (List ℕ))
@@ -240,32 +253,44 @@ module _ {S : Type 0} (contents remaining : S → Option (List ℕ)) where
   obeyed_kept words input a b c (inr p) k =
       inr (p.0, done_kept (asked_of words) input a b c p.1 k)
 
-  failed_kept : (e : RunningError) (check : Bool) (paths : TextPaths) (a b c : Option (List ℕ))
-      → HasFailed (streams_of contents remaining) e check paths a b → Keeps b c
-      → HasFailed (streams_of contents remaining) e check paths a c
-  failed_kept running.BothStandardInput check paths a b c p k = p
-  failed_kept (running.Text error) check paths a b c p k = p
-  failed_kept (running.Config error) check paths a b c p k = p
-  failed_kept (running.Script error) check paths a b c p k = p
-  failed_kept running.Sockets check paths a b c p k = p
-  failed_kept (running.Run run_error.Output) check paths a b c p k = p
-  failed_kept (running.Run (run_error.Socket line)) check paths a b c p k = p
-  failed_kept (running.Run run_error.Memory) check paths a b c p k = p
-  failed_kept (running.Run (run_error.Refused line why)) check paths a b c p k =
-      (p.0, has_run_kept paths (Err (run_error.Refused line why)) a b c p.1 k)
-  failed_kept running.Memory check paths a b c p k = p
+  failed_kept : (f : RunningError) (check tracing : Bool) (paths : TextPaths)
+      (a b c d e : Option (List ℕ))
+      → HasFailed (streams_of contents remaining) tracing f check paths (holding a d) (holding b e)
+      → Keeps b c
+      → HasFailed (streams_of contents remaining) tracing f check paths (holding a d) (holding c e)
+  failed_kept running.BothStandardInput check tracing paths a b c d e p k = p
+  failed_kept (running.Text error) check tracing paths a b c d e p k = p
+  failed_kept (running.Config error) check tracing paths a b c d e p k = p
+  failed_kept (running.Script error) check tracing paths a b c d e p k = p
+  failed_kept running.Sockets check tracing paths a b c d e p k = p
+  failed_kept (running.Run run_error.Output) check tracing paths a b c d e p k = p
+  failed_kept (running.Run (run_error.Socket line)) check tracing paths a b c d e p k = p
+  failed_kept (running.Run run_error.Memory) check tracing paths a b c d e p k = p
+  failed_kept (running.Run (run_error.Refused line why)) check tracing paths a b c d e p k =
+      (p.0, has_run_kept tracing paths (Err (run_error.Refused line why)) a b c d e p.1 k)
+  failed_kept running.Memory check tracing paths a b c d e p k = p
 
-  failed_run_kept : (f : Fault) (check : Bool) (paths : TextPaths) (a b c : Option (List ℕ))
-      → HasFailedRun contents remaining f check paths a b → Keeps b c
-      → HasFailedRun contents remaining f check paths a c
-  failed_run_kept (fault.Naming error) check paths a b c p k = tt
-  failed_run_kept (fault.Charting error) check paths a b c p k = tt
-  failed_run_kept (fault.Running error) check paths a b c p k =
-      failed_kept error check paths a b c p k
-  failed_run_kept (fault.Attending error) check paths a b c p k = tt
-  failed_run_kept fault.Output check paths a b c p k = tt
-  failed_run_kept fault.OutOfMemory check paths a b c p k = tt
-  failed_run_kept (fault.Usage error) check paths a b c p k = p
+  failed_with_kept : (f : RunningError) (check trace : Bool) (paths : TextPaths)
+      (a b c : Option (List ℕ)) → HasFailedWith contents remaining f check trace paths a b
+      → Keeps b c → HasFailedWith contents remaining f check trace paths a c
+  failed_with_kept f check trace paths a b c p k = record {
+    told = p.told;
+    tells = p.tells;
+    says = failed_kept f check trace paths a b c p.told p.tells p.says k;
+  }
+
+  failed_run_kept : (f : Fault) (check trace : Bool) (paths : TextPaths)
+      (a b c : Option (List ℕ)) → HasFailedRun contents remaining f check trace paths a b
+      → Keeps b c → HasFailedRun contents remaining f check trace paths a c
+  failed_run_kept (fault.Naming error) check trace paths a b c p k = tt
+  failed_run_kept (fault.Charting error) check trace paths a b c p k = tt
+  failed_run_kept (fault.Running error) check trace paths a b c p k =
+      failed_with_kept error check trace paths a b c p k
+  failed_run_kept (fault.Attending error) check trace paths a b c p k = tt
+  failed_run_kept fault.Output check trace paths a b c p k = tt
+  failed_run_kept fault.OutOfMemory check trace paths a b c p k = tt
+  failed_run_kept (fault.Usage error) check trace paths a b c p k =
+      failed_with_kept running.BothStandardInput check trace paths a b c p k
 
   work_failed_kept : (asked : AskedValue) (f : Fault) (given a b c : Option (List ℕ))
       → HasFailedAs contents remaining asked f given a b → Keeps b c
@@ -274,8 +299,9 @@ module _ {S : Type 0} (contents remaining : S → Option (List ℕ)) where
   work_failed_kept (name text) f given a b c p k = p
   work_failed_kept show f given a b c p k = lines_kept f Units given a b c p k
   work_failed_kept (chart ascii width) f given a b c p k = chart_kept f ascii width given a b c p k
-  work_failed_kept (run config script check) f given a b c p k =
-      failed_run_kept f check (record { config = config; script = script; input = given }) a b c p k
+  work_failed_kept (run config script check trace) f given a b c p k =
+      failed_run_kept f check trace
+      (record { config = config; script = script; input = given }) a b c p k
   work_failed_kept (station words) f given a b c p k = p
 
   pub fault_kept : (words : List Text) (f : Fault) (given a b c : Option (List ℕ))

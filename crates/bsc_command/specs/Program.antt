@@ -16,7 +16,9 @@ use Rattle.bsc_naming.specs.Inputs.{HasStopped, PrintsInput}
 use Rattle.bsc_naming.specs.declared.error.NamingError.TheVariants.{NotHexadecimal}
 use Rattle.bsc_options.specs.declared.error.OptionError.{OptionError}
 use Rattle.bsc_run.specs.Crossing.{streams_of}
+use Rattle.bsc_run.specs.Plays.{holding}
 use Rattle.bsc_running.specs.Running.{HasFailed, IsRunDone, TextPaths}
+use Rattle.bsc_running.specs.declared.error.RunningError.{RunningError}
 use Rattle.bsc_running.specs.declared.error.RunningError.TheVariants.{BothStandardInput}
 use Rattle.bsc_words.specs.CommandLine.{IsHelp, asked_of, faults_at}
 use Rattle.bsc_command.specs.declared.fault.Fault.{Fault}
@@ -67,6 +69,14 @@ IsCharted ascii width input old new =
 -- For the streams of a run's cable, `contents` is what was written to a stream, and `remaining` is
 -- what is left to read from it.
 module _ {S : Type 0} (contents remaining : S → Option (List ℕ)) where
+  -- The run was done. `told` and `tells` are what the writer of its trace held before and after it.
+  pub record HasDoneRun (check trace : Bool) (paths : TextPaths) (old new : Option (List ℕ))
+      : Type 0 where
+    pub told : Option (List ℕ)
+    pub tells : Option (List ℕ)
+    pub done : IsRunDone (streams_of contents remaining) trace check paths (holding old told)
+        (holding new tells)
+
   -- The work succeeded with this input, and the contents of the writer went from `old` to `new`.
   abbrev pub IsDone : AskedValue → Option (List ℕ) → Option (List ℕ) → Option (List ℕ) → Type 0
   IsDone names input old new = IfSome input (λ octets. PrintsInput Name octets old new)
@@ -74,19 +84,27 @@ module _ {S : Type 0} (contents remaining : S → Option (List ℕ)) where
       IsSomeAnd (octets_of text) (λ octets. Prints name_line octets old new)
   IsDone show input old new = IfSome input (λ octets. PrintsInput Units octets old new)
   IsDone (chart ascii width) input old new = IsCharted ascii width input old new
-  IsDone (run config script check) input old new =
-      IsRunDone (streams_of contents remaining) check
-      (record { config = config; script = script; input = input }) old new
+  IsDone (run config script check trace) input old new =
+      HasDoneRun check trace (record { config = config; script = script; input = input }) old new
   IsDone (station words) input old new = Unit {0}
 
-  -- What a fault of a run says of its texts and of the output. Wrong usage is that both texts are
-  -- to be standard input.
-  abbrev pub HasFailedRun : Fault → Bool → TextPaths → Option (List ℕ) → Option (List ℕ) → Type 0
-  HasFailedRun (Running error) check paths old new =
-      HasFailed (streams_of contents remaining) error check paths old new
-  HasFailedRun (Usage error) check paths old new =
-      HasFailed (streams_of contents remaining) BothStandardInput check paths old new
-  HasFailedRun fault check paths old new = Unit {0}
+  -- The run failed with this error. `told` and `tells` are as above.
+  pub record HasFailedWith (error : RunningError) (check trace : Bool) (paths : TextPaths)
+      (old new : Option (List ℕ)) : Type 0 where
+    pub told : Option (List ℕ)
+    pub tells : Option (List ℕ)
+    pub says : HasFailed (streams_of contents remaining) trace error check paths
+        (holding old told) (holding new tells)
+
+  -- What a fault of a run says of its texts, of the output and of the trace. Wrong usage is that
+  -- both texts are to be standard input.
+  abbrev pub HasFailedRun : Fault → Bool → Bool → TextPaths → Option (List ℕ)
+      → Option (List ℕ) → Type 0
+  HasFailedRun (Running error) check trace paths old new =
+      HasFailedWith error check trace paths old new
+  HasFailedRun (Usage error) check trace paths old new =
+      HasFailedWith BothStandardInput check trace paths old new
+  HasFailedRun fault check trace paths old new = Unit {0}
 
   -- What a fault of this work says of its input and of the output.
   abbrev pub HasFailedAs : AskedValue → Fault → Option (List ℕ) → Option (List ℕ)
@@ -96,8 +114,9 @@ module _ {S : Type 0} (contents remaining : S → Option (List ℕ)) where
   HasFailedAs show fault input old new = HasFailedLines fault Units input old new
   HasFailedAs (chart ascii width) fault input old new =
       HasFailedChart fault ascii width input old new
-  HasFailedAs (run config script check) fault input old new =
-      HasFailedRun fault check (record { config = config; script = script; input = input }) old new
+  HasFailedAs (run config script check trace) fault input old new =
+      HasFailedRun fault check trace
+      (record { config = config; script = script; input = input }) old new
   HasFailedAs (station words) fault input old new = HasFailedStation fault words input
 
 -- The faults of this work.
@@ -106,7 +125,7 @@ IsFaultOf names fault = IsNamesFault fault
 IsFaultOf (name text) fault = IsNameFault fault
 IsFaultOf show fault = IsNamesFault fault
 IsFaultOf (chart ascii width) fault = IsChartingFault fault
-IsFaultOf (run config script check) fault = IsRunFault fault
+IsFaultOf (run config script check trace) fault = IsRunFault fault
 IsFaultOf (station words) fault = IsStationFault fault
 
 -- The arguments ask for the help or the version.

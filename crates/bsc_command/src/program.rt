@@ -1,5 +1,6 @@
 //! The work of the program, over any reader, writer and machine.
-ghost use Rattle.std.specs.Prelude.{◌≡◌, ℕ, OnOk, IfErr, List, option_map, string_bytes, true};
+ghost use Rattle.std.specs.Prelude.{◌≡◌, ℕ, Bool, OnOk, IfErr, List, option_map, string_bytes};
+ghost use Rattle.std.specs.Prelude.{true};
 ghost use Rattle.bsc_asked.specs.Asked.{asked as asked_now, name as name_asked, run as run_asked};
 ghost use Rattle.bsc_command.specs.Faults.{IsEarly};
 ghost use Rattle.bsc_command.specs.Program.{HasFailedAs, IsDone, IsFaultOf};
@@ -18,8 +19,9 @@ use std::io::{Read, Write};
 /// Does the requested work. The names of the lines of an input are printed as the lines are read.
 /// A run reads its files and makes its connections through the machine. When it succeeds it has
 /// printed the output of `bsc_run::run_line` for its texts, or nothing if it only checks them; if
-/// an event is refused, it has printed the output up to that event, and the report. A station is
-/// attended until it ends; `bsc_monitor` defines its output.
+/// an event is refused, it has printed the output up to that event, and the report. The trace of a
+/// run is written to that of the machine. A station is attended until it ends; `bsc_monitor`
+/// defines its output.
 pub fn perform<R: Read, H: Files + Cables + Network, W: Write>(
     alloc: Global,
     asked: &Asked,
@@ -37,8 +39,8 @@ pub fn perform<R: Read, H: Files + Cables + Network, W: Write>(
     ensures early { IfErr result (λ fault. IsEarly fault → out.new ≡ out.old) }
     ensures unasked { (text : List ℕ) → asked_now asked.now ≡ name_asked text →
         input.new ≡ input.old }
-    ensures checked { (config script : List ℕ) → asked_now asked.now ≡ run_asked config script true
-        → out.new ≡ out.old }
+    ensures checked { (config script : List ℕ) (trace : Bool)
+        → asked_now asked.now ≡ run_asked config script true trace → out.new ≡ out.old }
 {
     match asked {
         Asked::Names => Ok(names(alloc, input, out)?),
@@ -58,13 +60,16 @@ pub fn perform<R: Read, H: Files + Cables + Network, W: Write>(
             config,
             script,
             check,
+            trace,
         } => {
             let words = RunWords {
                 config: config.as_str(),
                 script: script.as_str(),
                 check: *check,
+                trace: *trace,
             };
-            match run(alloc, words, input, machine, out) {
+            let mut trace = machine.trace();
+            match run(alloc, words, input, machine, out, &mut trace) {
                 Ok(()) => Ok(()),
                 Err(error) => Err(running_fault(alloc, error)),
             }

@@ -34,7 +34,7 @@ use Rattle.bsc_run.specs.Crossing.{Streams}
 use Rattle.bsc_run.specs.declared.error.RunError.{RunError}
 use Rattle.bsc_run.specs.LineRuns.{asked_for, script_offers, PlaysVisit, PlaysRound}
 use Rattle.bsc_run.specs.LineRuns.{ArrivesAsAsked, PlaysFrom, RunsLine}
-use Rattle.bsc_run.specs.Plays.{Playing, on_cable, Plays}
+use Rattle.bsc_run.specs.Plays.{Playing, on_cable, Plays, Texts}
 use Rattle.bsc_run.specs.Steps.{OnCable, MayBe, Crossing, heard_as}
 
 -- what every run of a line promises
@@ -142,7 +142,7 @@ module _ {S : Type 0} (streams : Streams S) where
 
   -- the accepted events are a run of the line
   accepted_run : (at : ℕ) (steps : List NumberedEvent) (events : List Event) (old : OnCable S)
-      (result : Result (Unit {0}) RunError) (new : OnCable S) (text : List ℕ)
+      (result : Result (Unit {0}) RunError) (new : OnCable S) (text : Texts)
       → Plays streams steps events old result new text
       → RunsFrom at old.line events (Ok tt) new.line
   accepted_run at [] events old (Ok done) new text p =
@@ -161,7 +161,7 @@ module _ {S : Type 0} (streams : Streams S) where
 
   -- they offer what the script offers
   same_offers : (steps : List NumberedEvent) (events : List Event) (old : OnCable S)
-      (result : Result (Unit {0}) RunError) (new : OnCable S) (text : List ℕ)
+      (result : Result (Unit {0}) RunError) (new : OnCable S) (text : Texts)
       → Plays streams steps events old result new text → (t : ℕ) (way : Way)
       → offered_in events t way ≡ script_offers (take (length events) steps) t way
   same_offers [] events old (Ok done) new text p t way =
@@ -185,7 +185,7 @@ module _ {S : Type 0} (streams : Streams S) where
 
   -- as many events as the script has, if it reached its end
   all_accepted : (steps : List NumberedEvent) (events : List Event) (old new : OnCable S)
-      (text : List ℕ) → Plays streams steps events old (Ok tt) new text
+      (text : Texts) → Plays streams steps events old (Ok tt) new text
       → length events ≡ length steps
   all_accepted [] events old new text p = ap (λ (es : List Event). length es) p.3
   all_accepted (step ∷ steps) events old new text (inl s) = absurd (let no = s.answer in cc)
@@ -195,7 +195,7 @@ module _ {S : Type 0} (streams : Streams S) where
       g.goes)
 
   all_if_done : (steps : List NumberedEvent) (events : List Event) (old : OnCable S)
-      (result : Result (Unit {0}) RunError) (new : OnCable S) (text : List ℕ)
+      (result : Result (Unit {0}) RunError) (new : OnCable S) (text : Texts)
       → Plays streams steps events old result new text
       → OnOk result (length events ≡ length steps)
   all_if_done steps events old (Ok done) new text p = all_accepted steps events old new text p
@@ -217,7 +217,7 @@ module _ {S : Type 0} (streams : Streams S) where
   rest_of_all e es all = λ k d less. all (suc k) d (omega arith)
 
   sent_run : (at n : ℕ) (steps : List NumberedEvent) (events : List Event) (old : OnCable S)
-      (result : Result (Unit {0}) RunError) (new : OnCable S) (text : List ℕ)
+      (result : Result (Unit {0}) RunError) (new : OnCable S) (text : Texts)
       → Plays streams steps events old result new text
       → map (λ (step : NumberedEvent). step.event) steps ≡ replicate n carry
       → All (λ (e : Event). e ≡ event.CarrySent) events
@@ -262,7 +262,7 @@ module _ {S : Type 0} (streams : Streams S) where
     pub here : OnCable S
     pub line : IsLine here.line
     pub before : RunsFrom at old.line (take i events) (Ok tt) here.line
-    pub text : List ℕ
+    pub text : Texts
     pub plays : Plays streams (drop i steps) (drop i events) here result new text
 
   no_part : (i : ℕ) (events : List Event) → events ≡ [] → suc i ≤ length events → ⊥
@@ -270,7 +270,7 @@ module _ {S : Type 0} (streams : Streams S) where
       let empty : length events ≡ 0 = ap (λ (es : List Event). length es) none in omega arith
 
   part_of_run : (at i : ℕ) (steps : List NumberedEvent) (events : List Event) (old : OnCable S)
-      (result : Result (Unit {0}) RunError) (new : OnCable S) (text : List ℕ) → IsLine old.line
+      (result : Result (Unit {0}) RunError) (new : OnCable S) (text : Texts) → IsLine old.line
       → Plays streams steps events old result new text → i ≤ length events
       → Part at i steps events old result new
   part_of_run at zero steps events old result new text line p within =
@@ -298,7 +298,7 @@ module _ {S : Type 0} (streams : Streams S) where
       })
 
   visit_from : (laws : LineLaws) (steps : List NumberedEvent) (events : List Event)
-      (here : OnCable S) (result : Result (Unit {0}) RunError) (new : OnCable S) (text : List ℕ)
+      (here : OnCable S) (result : Result (Unit {0}) RunError) (new : OnCable S) (text : Texts)
       → IsLine here.line → Plays streams steps events here result new text
       → PlaysVisit steps events here.line result new.line
   visit_from laws steps events here result new text line p place begins h =
@@ -311,7 +311,7 @@ module _ {S : Type 0} (streams : Streams S) where
       (sent.alike done.0, done.1)
 
   round_from : (laws : LineLaws) (steps : List NumberedEvent) (events : List Event)
-      (here : OnCable S) (result : Result (Unit {0}) RunError) (new : OnCable S) (text : List ℕ)
+      (here : OnCable S) (result : Result (Unit {0}) RunError) (new : OnCable S) (text : Texts)
       → IsLine here.line → Plays streams steps events here result new text
       → PlaysRound steps events here.line result new.line
   round_from laws steps events here result new text line p begins h =
@@ -341,7 +341,7 @@ module _ {S : Type 0} (streams : Streams S) where
   }
 
   module _ (laws : LineLaws) (steps : List NumberedEvent) (events : List Event)
-      (old new : Playing S) (result : Result (Unit {0}) RunError) (text : List ℕ)
+      (old new : Playing S) (result : Result (Unit {0}) RunError) (text : Texts)
       (line : IsLine old.line)
       (p : Plays streams steps events (on_cable old) result (on_cable new) text) where
     arrives_as_asked : (t : ℕ) (way : Way) → IsChannel old.line t way
@@ -378,7 +378,7 @@ module _ {S : Type 0} (streams : Streams S) where
 -- a run of a script is a run of the line
 pub runs_line : {S : Type 0} (laws : LineLaws) (streams : Streams S) (steps : List NumberedEvent)
     (events : List Event) (old new : Playing S) (result : Result (Unit {0}) RunError)
-    (text : List ℕ) → IsLine old.line
+    (text : Texts) → IsLine old.line
     → Plays streams steps events (on_cable old) result (on_cable new) text
     → RunsLine steps events old.line result new.line
 runs_line laws streams steps events old new result text line p =

@@ -1,5 +1,6 @@
 pub mod Faults
 pub mod Printed
+pub mod Traces
 pub mod Crossing
 pub mod Speaking
 pub mod Hearing

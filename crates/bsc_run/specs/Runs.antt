@@ -1,5 +1,5 @@
 -- The effect of a run of a script on the line of a configuration, and the text that it prints.
-use Rattle.std.specs.Prelude.{◌≡◌, ℕ, IsTrue, List, length, take, Result}
+use Rattle.std.specs.Prelude.{◌≡◌, ℕ, Bool, IsTrue, List, length, take, Result}
 use Rattle.bsc_directory.specs.declared.way.Way.{Way}
 use Rattle.bsc_line_model.specs.Line.{LineValue, IsChannel}
 use Rattle.bsc_line_model.specs.Headline.{spooled_on}
@@ -14,13 +14,13 @@ use Rattle.bsc_run.specs.Plays.{Outside, Runs}
 -- The events are run on a new line with the configuration. If the line is trusted after them, the
 -- records that arrived on a channel, as the report prints them, are the first of those that the
 -- accepted events of the script offered on it, in order and each once.
-pub record RunsScript {S : Type 0} (streams : Streams S) (config : ConfigValue)
-    (steps : List NumberedEvent) (old : Outside S) (result : Result (Unit {0}) RunError)
+pub record RunsScript {S : Type 0} (streams : Streams S) (tracing : Bool)
+    (config : ConfigValue) (steps : List NumberedEvent) (old : Outside S) (result : Result (Unit {0}) RunError)
     (new : Outside S) : Type 0 where
   pub begun : LineValue
   pub ended : LineValue
   pub new_line : IsNewLine config.setup config.terminals config.poll_list begun
-  pub runs : Runs streams steps (record { line = begun; outside = old }) result
+  pub runs : Runs streams tracing steps (record { line = begun; outside = old }) result
       (record { line = ended; outside = new })
   pub arrived : (t : ℕ) (way : Way) → IsChannel ended t way → IsTrue ended.trusted
       → spooled_on ended t way ≡ take (length (spooled_on ended t way))

@@ -2,6 +2,7 @@
 use Rattle.std.specs.Prelude.{◌≡◌, ◌⊎◌, ℕ, Bool, true, false, if◌then◌else◌, List, [], length, map}
 use Rattle.std.specs.Prelude.{Option, None, Some, Result, Ok, Err, OnOk}
 use Rattle.std.specs.Borrow.{Bor}
+use Rattle.std.specs.Io.KnownBytes.{Appends}
 use Rattle.std.specs.Str.{bytes_eq}
 use Rattle.bsc_frame.specs.declared.message.Message.{Message}
 use Rattle.bsc_frame.specs.Wire.{wire}
@@ -20,6 +21,7 @@ use Rattle.bsc_run.specs.declared.error.StepError.TheVariants.{Refused}
 use Rattle.bsc_run.specs.Crossing.{Streams, Crosses, ItemsCross}
 use Rattle.bsc_run.specs.Printed.{pending_line}
 use Rattle.bsc_run.specs.Speaking.{Fits}
+use Rattle.bsc_run.specs.Traces.{if_traced, lines_of}
 
 -- The codes of a record, as an event holds them.
 abbrev pub HasCodes : (Bor (List ℕ) → Event) → List ℕ → Event → Type 0
@@ -61,6 +63,27 @@ pub record OnCable (S : Type 0) : Type 0 where
   pub line : LineValue
   pub cable : CableValue S
 
+-- A line, its cable, and what the writer of the trace holds.
+pub record Acting (S : Type 0) : Type 0 where
+  pub line : LineValue
+  pub cable : CableValue S
+  pub trace : Option (List ℕ)
+
+abbrev pub acting : {S : Type 0} → LineValue → CableValue S → Option (List ℕ) → Acting S
+acting line cable trace = record { line = line; cable = cable; trace = trace }
+
+-- The line and its cable, without the trace.
+abbrev pub acts_on : {S : Type 0} → Acting S → OnCable S
+acts_on a = record { line = a.line; cable = a.cable }
+
+-- The answer to a step in which nothing crosses the cable, for the answer of the line. This text is
+-- written for the trace if the line accepts the event, and nothing if it refuses it.
+pub record Answers (answer : Result (Unit {0}) LineError) (text : List ℕ)
+    (result : Result (Unit {0}) StepError) (held holds : Option (List ℕ)) : Type 0 where
+  pub done : OnOk result ((answer ≡ Ok tt) × Appends held holds text)
+  pub refused : (why : LineError) → result ≡ Err (Refused why)
+      → (answer ≡ Err why) × Appends held holds []
+
 module _ {S : Type 0} (streams : Streams S) where
   -- Octets cross the cable from the sender of the pending transmission, and `read` are those that
   -- arrive. The octets are those of its message, or others in their place.
@@ -101,14 +124,22 @@ module _ {S : Type 0} (streams : Streams S) where
     pub crossing : Crossing asked event old.line old.cable new.cable
     pub done : Does event old.line (Ok tt) new.line
 
+  -- An event of a script is accepted, and its lines of the trace are written, if there is one.
+  pub record AcceptsTraced (number : Option ℕ) (asked : Asked) (old new : Acting S)
+      : Type 0 where
+    pub accepts : Accepts asked (acts_on old) (acts_on new)
+    pub traced : Appends old.trace new.trace
+        (if_traced number (λ n. lines_of n asked accepts.event old.line))
+
   -- The answer to an event of a script: it is accepted, or it is refused and nothing crosses the
-  -- cable, or a fault interrupts it.
-  pub record Acts (asked : Asked) (old : OnCable S) (result : Result (Unit {0}) StepError)
-      (new : OnCable S) : Type 0 where
-    pub accepted : OnOk result (Accepts asked old new)
+  -- cable and nothing is written for the trace, or a fault interrupts it.
+  pub record Acts (number : Option ℕ) (asked : Asked) (old : Acting S)
+      (result : Result (Unit {0}) StepError) (new : Acting S) : Type 0 where
+    pub accepted : OnOk result (AcceptsTraced number asked old new)
     pub fits : OnOk result (Fits new.line new.cable)
     pub refused : (why : LineError) → result ≡ Err (Refused why)
         → Refuses asked why old.line new.line × (new.cable ≡ old.cable)
+        × Appends old.trace new.trace []
 
 -- Whether the event is an event of hearing: `carry`, `lose`, `heard`, `heard-each` or `silence`.
 abbrev pub is_heard : Asked → Bool
@@ -120,5 +151,5 @@ is_heard silence = true
 is_heard _ = false
 
 -- The text printed after an accepted event: the pending transmission, after an event of hearing.
-abbrev pub trace_after : Asked → LineValue → List ℕ
-trace_after asked l = if is_heard asked then pending_line l.pending else []
+abbrev pub pending_after : Asked → LineValue → List ℕ
+pending_after asked l = if is_heard asked then pending_line l.pending else []

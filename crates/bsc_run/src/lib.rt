@@ -1,14 +1,16 @@
 //! Runs a script on a line, over a cable. Each transmission crosses the cable and is heard as it
 //! was read there. The pending transmission is printed after each event of hearing, and a report of
-//! the line is printed at the end.
+//! the line is printed at the end. A trace tells what became of each transmission.
 //!
-//! The transmissions are those of GA27-3004. The events, the trace and the report are this
-//! project's own.
+//! The transmissions are those of GA27-3004. The events, the output, the trace and the report are
+//! this project's own.
 #![tactic(auto)]
 
 mod actions;
 mod crossing;
 mod error;
+mod marks;
+mod pending;
 mod play;
 mod report;
 mod run;

@@ -1,4 +1,5 @@
-//! Runs the events of a script in order, prints the trace after each, and prints the report.
+//! Runs the events of a script in order, prints what is pending after each and its lines of the
+//! trace, and prints the report.
 
 ghost use Rattle.std.specs.Prelude.{◌≡◌, map, OnOk};
 ghost use Rattle.std.specs.Io.KnownBytes.{Appends};
@@ -7,12 +8,13 @@ ghost use Rattle.bsc_run.specs.Crossing.{streams_of};
 ghost use Rattle.bsc_run.specs.Faults.{TellsLine};
 ghost use Rattle.bsc_run.specs.Plays.{TakesStep, Played, Runs, WhereWhole, playing};
 ghost use Rattle.bsc_run.specs.Speaking.{Fits};
-ghost use Rattle.bsc_run.specs.Steps.{is_heard as is_heard_event, trace_after};
+ghost use Rattle.bsc_run.specs.Steps.{is_heard as is_heard_event, pending_after};
+ghost use Rattle.bsc_run.specs.Traces.{number_if};
 
 use crate::actions::act;
 use crate::error::RunError;
+use crate::pending::write_pending;
 use crate::report::write_report;
-use crate::trace::write_pending;
 use bsc_carrier::Cable;
 use bsc_line::Line;
 use bsc_line_model::laws::{every_run, headline, round, visit};
@@ -27,6 +29,9 @@ use std::io::{Read, Write};
 /// event is refused. After `Output`, `Socket` and `Memory` there is no report, and what was written
 /// before stays.
 ///
+/// With `tracing` the lines of the trace for each accepted event are written to `trace`: what became
+/// of the transmission that was pending, or what the event is. Otherwise nothing is written there.
+///
 /// The events that were accepted are a run of the line, each with the octets that were read. So
 /// what `Line::run` promises holds of it: if the line is trusted at the end, the records that
 /// arrived on each channel are the first of those that were offered before and then by the script,
@@ -40,24 +45,28 @@ pub fn run_on<
     C: Allocator,
     E: Allocator + Copy,
     W: Write,
+    D: Write,
 >(
     alloc: E,
     line: &mut Line<B>,
     steps: &[Step<'_, C>],
     cable: &mut Cable<S, A>,
     out: &mut W,
+    tracing: bool,
+    trace: &mut D,
 ) -> Result<(), RunError>
     requires { Fits line.old cable.old }
     ensures socket { TellsLine (map numbered steps.now) result }
-    ensures whole { WhereWhole result (Runs (streams_of S.contents S.remaining)
-        (map numbered steps.now) (playing line.old cable.old (W.contents out.old)) result
-        (playing line.new cable.new (W.contents out.new))) }
+    ensures whole { WhereWhole result (Runs (streams_of S.contents S.remaining) tracing
+        (map numbered steps.now)
+        (playing line.old cable.old (W.contents out.old) (D.contents trace.old)) result
+        (playing line.new cable.new (W.contents out.new) (D.contents trace.new))) }
 {
     every_run();
     headline();
     visit();
     round();
-    match play(alloc, line, steps, cable, out) {
+    match play(alloc, line, steps, cable, out, tracing, trace) {
         Ok(()) => Ok(write_report(alloc, line, out)?),
         Err(RunError::Refused { line: number, why }) => {
             write_report(alloc, line, out)?;
@@ -67,7 +76,8 @@ pub fn run_on<
     }
 }
 
-/// Performs the events in order, up to the first that is refused, and prints the trace.
+/// Performs the events in order, up to the first that is refused, and prints what is pending after
+/// them and their lines of the trace.
 fn play<
     S: Read + Write + Drop,
     A: Allocator,
@@ -75,28 +85,33 @@ fn play<
     C: Allocator,
     E: Allocator + Copy,
     W: Write,
+    D: Write,
 >(
     alloc: E,
     line: &mut Line<B>,
     steps: &[Step<'_, C>],
     cable: &mut Cable<S, A>,
     out: &mut W,
+    tracing: bool,
+    trace: &mut D,
 ) -> Result<(), RunError>
     requires { Fits line.old cable.old }
     ensures socket { TellsLine (map numbered steps.now) result }
-    ensures whole { WhereWhole result (Played (streams_of S.contents S.remaining)
-        (map numbered steps.now) (playing line.old cable.old (W.contents out.old)) result
-        (playing line.new cable.new (W.contents out.new))) }
+    ensures whole { WhereWhole result (Played (streams_of S.contents S.remaining) tracing
+        (map numbered steps.now)
+        (playing line.old cable.old (W.contents out.old) (D.contents trace.old)) result
+        (playing line.new cable.new (W.contents out.new) (D.contents trace.new))) }
 {
     'steps: for step in steps {
-        if let Err(error) = take(alloc, line, step, cable, out) {
+        if let Err(error) = take(alloc, line, step, cable, out, tracing, trace) {
             return Err(error);
         }
     }
     Ok(())
 }
 
-/// Performs one event, and prints the pending transmission if it is an event of hearing.
+/// Performs one event, prints its lines of the trace if there is one, and prints the pending
+/// transmission if it is an event of hearing.
 fn take<
     S: Read + Write + Drop,
     A: Allocator,
@@ -104,32 +119,43 @@ fn take<
     C: Allocator,
     E: Allocator + Copy,
     W: Write,
+    D: Write,
 >(
     alloc: E,
     line: &mut Line<B>,
     step: &Step<'_, C>,
     cable: &mut Cable<S, A>,
     out: &mut W,
+    tracing: bool,
+    trace: &mut D,
 ) -> Result<(), RunError>
     requires { Fits line.old cable.old }
-    ensures { TakesStep (streams_of S.contents S.remaining) (numbered step.now)
-        (playing line.old cable.old (W.contents out.old)) result
-        (playing line.new cable.new (W.contents out.new)) }
+    ensures { TakesStep (streams_of S.contents S.remaining) tracing (numbered step.now)
+        (playing line.old cable.old (W.contents out.old) (D.contents trace.old)) result
+        (playing line.new cable.new (W.contents out.new) (D.contents trace.new)) }
 {
-    match act(alloc, line, &step.action, cable) {
-        Ok(()) => Ok(write_trace(&step.action, line, out)?),
+    let number = traced_number(tracing, step.line);
+    match act(alloc, number, line, &step.action, cable, trace) {
+        Ok(()) => Ok(write_after(&step.action, line, out)?),
         Err(error) => Err(error.at(step.line)),
     }
 }
 
+/// Returns the number of a line of the script, if there is a trace.
+fn traced_number(tracing: bool, line: u64) -> Option<u64>
+    ensures { result ≡ number_if tracing line }
+{
+    if tracing { Some(line) } else { None }
+}
+
 /// Writes the pending transmission if this action is an event of hearing.
-fn write_trace<A: Allocator, B: Allocator, W: Write>(
+fn write_after<A: Allocator, B: Allocator, W: Write>(
     action: &Action<'_, B>,
     line: &Line<A>,
     out: &mut W,
 ) -> Result<(), PrintError>
     ensures { OnOk result (Appends (W.contents out.old) (W.contents out.new)
-        (trace_after (event_in action.now) line.now)) }
+        (pending_after (event_in action.now) line.now)) }
 {
     if is_heard(action) {
         return write_pending(line, out);

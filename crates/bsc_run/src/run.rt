@@ -3,7 +3,7 @@
 ghost use Rattle.std.specs.Prelude.{◌≡◌, length};
 ghost use Rattle.bsc_run.specs.Crossing.{connection_count, streams_of};
 ghost use Rattle.bsc_run.specs.Faults.{TellsLine};
-ghost use Rattle.bsc_run.specs.Plays.{WhereWhole};
+ghost use Rattle.bsc_run.specs.Plays.{WhereWhole, holding};
 ghost use Rattle.bsc_run.specs.Runs.{RunsScript};
 
 use crate::error::RunError;
@@ -24,25 +24,44 @@ use std::io::{Read, Write};
 /// printed: the sender and the name of the pending transmission, or that none is pending. After the
 /// last event, or the first that is refused, the report of the line is printed.
 ///
+/// With `tracing` a trace of the run is written to `trace`, in the form of that of a station. Each
+/// line begins with the number of the line of the script, and tells what became of the transmission
+/// that was pending, who heard it, its name and its octets as they were read; or what the event is.
+///
 /// `Refused` is returned after the report is printed, with the number of the line of the refused
 /// event; nothing crossed the cable for that event. After `Output`, `Socket` and `Memory` there is
 /// no report, and what was printed before stays. After `Socket` the cable remains faulty.
-pub fn run_line<S: Read + Write + Drop, A: Allocator, C: Allocator, E: Allocator + Copy, W: Write>(
+pub fn run_line<
+    S: Read + Write + Drop,
+    A: Allocator,
+    C: Allocator,
+    E: Allocator + Copy,
+    W: Write,
+    D: Write,
+>(
     alloc: E,
     config: &Config,
     script: &Script<'_, C>,
     cable: &mut Cable<S, A>,
     out: &mut W,
+    tracing: bool,
+    trace: &mut D,
 ) -> Result<(), RunError>
     requires { connection_count cable.old ≡ length config.now.terminals }
     ensures socket { TellsLine script.now result }
-    ensures whole { WhereWhole result (RunsScript (streams_of S.contents S.remaining) config.now
-        script.now (record { cable = cable.old; held = W.contents out.old }) result
-        (record { cable = cable.new; held = W.contents out.new })) }
+    ensures whole { WhereWhole result (RunsScript (streams_of S.contents S.remaining) tracing
+        config.now script.now (record {
+          cable = cable.old;
+          held = holding (W.contents out.old) (D.contents trace.old);
+        }) result
+        (record {
+          cable = cable.new;
+          held = holding (W.contents out.new) (D.contents trace.new);
+        })) }
 {
     let (terminals, poll_list) = (config.terminal_list(), config.poll_list());
     match Line::new(alloc, config.setup(), terminals, poll_list) {
-        Ok(mut line) => run_on(alloc, &mut line, script.steps(), cable, out),
+        Ok(mut line) => run_on(alloc, &mut line, script.steps(), cable, out, tracing, trace),
         // A line can be made of every configuration, if there is enough memory.
         Err(_) => Err(RunError::Memory),
     }

@@ -1,49 +1,251 @@
-//! The line of the trace for the pending transmission.
+//! The lines of the trace for a transmission that is heard or lost.
 
-ghost use Rattle.std.specs.Prelude.{Some, OnOk};
+ghost use Rattle.std.specs.Prelude.{◌≡◌, ◌<◌, length, OnOk, None, Some};
+ghost use Rattle.std.specs.Prelude.{slice_index_or};
 ghost use Rattle.std.specs.Io.KnownBytes.{Appends};
-ghost use Rattle.bsc_run.specs.Printed.{speaker_name, pending_line};
+ghost use Rattle.bsc_frame.specs.Wire.{wire};
+ghost use Rattle.bsc_line_model.specs.Hearing.{octets_in};
+ghost use Rattle.bsc_run.specs.Traces.{fate_shown, hearer_shown, heard_line, if_sent, if_traced};
+ghost use Rattle.bsc_run.specs.Traces.{is_turned as is_other, item_line, item_lines, lost_line};
+ghost use Rattle.bsc_run.specs.Traces.{number_shown, octets_shown, start_shown};
 
+use crate::pending::write_speaker;
+use bsc_frame::laws::{one_reading, reading};
+use bsc_frame::{Heard, Message, TextBuffer, Wire, decode, encode};
 use bsc_line::{Line, Speaker, Transmission};
-use bsc_print::{PrintError, put, write_name};
+use bsc_print::{PrintError, put, write_chars, write_heard_name, write_name};
 use std::alloc::Allocator;
 use std::io::Write;
 
-/// Writes the sender of a transmission.
-fn write_speaker<W: Write>(speaker: Speaker, out: &mut W) -> Result<(), PrintError>
+/// Writes the number of the line of the script at the start of a line.
+pub(crate) fn write_number<W: Write>(number: u64, out: &mut W) -> Result<(), PrintError>
     ensures { OnOk result
-        (Appends (W.contents out.old) (W.contents out.new) (speaker_name speaker)) }
+        (Appends (W.contents out.old) (W.contents out.new) (number_shown number)) }
 {
-    match speaker {
-        Speaker::Control => put(b"control", out),
-        Speaker::Terminal(terminal) => match write!(out, "terminal {terminal}") {
-            Ok(()) => Ok(()),
-            Err(_) => Err(PrintError::Output),
-        },
+    match write!(out, "+{number} ") {
+        Ok(()) => Ok(()),
+        Err(_) => Err(PrintError::Output),
     }
 }
 
-/// Writes the line of the trace for a transmission.
-fn write_sent<W: Write>(sent: &Transmission<'_>, out: &mut W) -> Result<(), PrintError>
+/// Writes which terminal heard, if the line is about one of them only.
+fn write_hearer<W: Write>(hearer: Option<usize>, out: &mut W) -> Result<(), PrintError>
     ensures { OnOk result
-        (Appends (W.contents out.old) (W.contents out.new) (pending_line (Some sent.now))) }
+        (Appends (W.contents out.old) (W.contents out.new) (hearer_shown hearer)) }
 {
-    write_speaker(sent.speaker, out)?;
-    put(b" ", out)?;
-    write_name(&sent.message, out)?;
-    put(b"\n", out)
+    let Some(terminal) = hearer else {
+        return Ok(());
+    };
+    match write!(out, "at {terminal} ") {
+        Ok(()) => Ok(()),
+        Err(_) => Err(PrintError::Output),
+    }
 }
 
-/// Writes the line of the trace for the pending transmission, or that none is pending.
-pub(crate) fn write_pending<A: Allocator, W: Write>(
-    line: &Line<A>,
+/// Writes the start of the line for a transmission.
+fn write_start<W: Write>(
+    number: u64,
+    speaker: Speaker,
+    word: &[u8],
+    hearer: Option<usize>,
+    out: &mut W,
+) -> Result<(), PrintError>
+    ensures { OnOk result (Appends (W.contents out.old) (W.contents out.new)
+        (start_shown number speaker word.now hearer)) }
+{
+    write_number(number, out)?;
+    write_speaker(speaker, out)?;
+    put(word, out)?;
+    write_hearer(hearer, out)
+}
+
+/// Writes the octets of a transmission in hexadecimal text and the end of its line.
+fn write_octets<A: Allocator, W: Write>(
+    alloc: A,
+    octets: &[u8],
     out: &mut W,
 ) -> Result<(), PrintError>
     ensures { OnOk result
-        (Appends (W.contents out.old) (W.contents out.new) (pending_line line.now.pending)) }
+        (Appends (W.contents out.old) (W.contents out.new) (octets_shown octets.now)) }
 {
-    match line.pending() {
-        None => put(b"quiet\n", out),
-        Some(sent) => write_sent(&sent, out),
+    put(b" ", out)?;
+    write_chars(alloc, octets, out)?;
+    put(b"\n", out)
+}
+
+/// Whether other octets are sent for these two messages.
+fn are_other(a: &Message<'_>, b: &Message<'_>) -> bool
+    ensures { result ≡ is_other b.now (Heard.Whole a.now) }
+{
+    let (mut first, mut second) = (Wire::new(), Wire::new());
+    encode(a, &mut first);
+    encode(b, &mut second);
+    first.as_slice() != second.as_slice()
+}
+
+/// Whether a message was heard that is another than the one that was sent.
+fn is_turned(sent: &Message<'_>, heard: &Heard<'_>) -> bool
+    ensures { result ≡ is_other sent.now heard.now }
+{
+    match heard {
+        Heard::Whole(message) => are_other(message, sent),
+        Heard::Failed => false,
+        Heard::Noise => false,
+    }
+}
+
+/// Returns the word for what became of a transmission that arrived.
+fn fate_text(turned: bool) -> &'static [u8]
+    ensures { result.now ≡ fate_shown turned }
+{
+    if turned { b" turned " } else { b" heard " }
+}
+
+/// Writes the line for a transmission that was heard as these octets.
+fn write_heard<A: Allocator, W: Write>(
+    alloc: A,
+    number: u64,
+    sent: &Transmission<'_>,
+    hearer: Option<usize>,
+    octets: &[u8],
+    out: &mut W,
+) -> Result<(), PrintError>
+    ensures { OnOk result (Appends (W.contents out.old) (W.contents out.new)
+        (heard_line number sent.now hearer octets.now)) }
+{
+    one_reading();
+    reading();
+    let mut buffer = TextBuffer::new();
+    let heard = decode(octets, &mut buffer);
+    let word = fate_text(is_turned(&sent.message, &heard));
+    write_start(number, sent.speaker, word, hearer, out)?;
+    write_heard_name(&heard, out)?;
+    write_octets(alloc, octets, out)
+}
+
+/// Writes the octets that are sent for a message, and the end of its line.
+fn write_wire<A: Allocator, W: Write>(
+    alloc: A,
+    message: &Message<'_>,
+    out: &mut W,
+) -> Result<(), PrintError>
+    ensures { OnOk result (Appends (W.contents out.old) (W.contents out.new)
+        (octets_shown (wire message.now))) }
+{
+    let mut octets = Wire::new();
+    encode(message, &mut octets);
+    write_octets(alloc, octets.as_slice(), out)
+}
+
+/// Writes the line for a transmission that was lost.
+fn write_lost<A: Allocator, W: Write>(
+    alloc: A,
+    number: u64,
+    sent: &Transmission<'_>,
+    hearer: Option<usize>,
+    out: &mut W,
+) -> Result<(), PrintError>
+    ensures { OnOk result (Appends (W.contents out.old) (W.contents out.new)
+        (lost_line number sent.now hearer)) }
+{
+    write_start(number, sent.speaker, b" lost ", hearer, out)?;
+    write_name(&sent.message, out)?;
+    write_wire(alloc, &sent.message, out)
+}
+
+/// Writes the line for what a terminal heard.
+fn write_item<A: Allocator, W: Write>(
+    alloc: A,
+    number: u64,
+    sent: &Transmission<'_>,
+    terminal: usize,
+    item: Option<&[u8]>,
+    out: &mut W,
+) -> Result<(), PrintError>
+    ensures { OnOk result (Appends (W.contents out.old) (W.contents out.new)
+        (item_line number sent.now terminal (octets_in item.entry))) }
+{
+    match item {
+        None => write_lost(alloc, number, sent, Some(terminal), out),
+        Some(octets) => write_heard(alloc, number, sent, Some(terminal), octets, out),
+    }
+}
+
+/// Returns what the terminal of this number hears.
+fn item_at<'a>(items: &[Option<&'a [u8]>], terminal: usize) -> Option<&'a [u8]>
+    ensures { octets_in result ≡ octets_in (slice_index_or items.now terminal None) }
+{
+    match items.get(terminal) {
+        Some(item) => *item,
+        None => None,
+    }
+}
+
+/// Writes the lines for what each terminal heard.
+fn write_items<A: Allocator + Copy, W: Write>(
+    alloc: A,
+    number: u64,
+    sent: &Transmission<'_>,
+    items: &[Option<&[u8]>],
+    out: &mut W,
+) -> Result<(), PrintError>
+    ensures { OnOk result (Appends (W.contents out.old) (W.contents out.new)
+        (item_lines number sent.now items.now)) }
+{
+    'terminals: for terminal in 0..items.len() {
+        write_item(alloc, number, sent, terminal, item_at(items, terminal), out)?;
+    }
+    Ok(())
+}
+
+/// Writes that the pending transmission is heard as these octets, if there is a trace.
+pub(crate) fn trace_heard<A: Allocator, B: Allocator, W: Write>(
+    alloc: A,
+    number: Option<u64>,
+    line: &Line<B>,
+    octets: &[u8],
+    out: &mut W,
+) -> Result<(), PrintError>
+    ensures { OnOk result (Appends (W.contents out.old) (W.contents out.new)
+        (if_traced number (λ n. if_sent line.now.pending
+        (λ sent. heard_line n sent None octets.now)))) }
+{
+    match (number, line.pending()) {
+        (Some(number), Some(sent)) => write_heard(alloc, number, &sent, None, octets, out),
+        _ => Ok(()),
+    }
+}
+
+/// Writes that the pending transmission is lost, if there is a trace.
+pub(crate) fn trace_lost<A: Allocator, B: Allocator, W: Write>(
+    alloc: A,
+    number: Option<u64>,
+    line: &Line<B>,
+    out: &mut W,
+) -> Result<(), PrintError>
+    ensures { OnOk result (Appends (W.contents out.old) (W.contents out.new)
+        (if_traced number (λ n. if_sent line.now.pending (λ sent. lost_line n sent None)))) }
+{
+    match (number, line.pending()) {
+        (Some(number), Some(sent)) => write_lost(alloc, number, &sent, None, out),
+        _ => Ok(()),
+    }
+}
+
+/// Writes what each terminal hears in place of the pending transmission, if there is a trace.
+pub(crate) fn trace_items<A: Allocator + Copy, B: Allocator, W: Write>(
+    alloc: A,
+    number: Option<u64>,
+    line: &Line<B>,
+    items: &[Option<&[u8]>],
+    out: &mut W,
+) -> Result<(), PrintError>
+    ensures { OnOk result (Appends (W.contents out.old) (W.contents out.new)
+        (if_traced number (λ n. if_sent line.now.pending
+        (λ sent. item_lines n sent items.now)))) }
+{
+    match (number, line.pending()) {
+        (Some(number), Some(sent)) => write_items(alloc, number, &sent, items, out),
+        _ => Ok(()),
     }
 }

@@ -14,6 +14,7 @@ use Rattle.bsc_script.specs.Script.{events_of}
 use Rattle.bsc_script.specs.declared.script.ScriptError.{ScriptError}
 use Rattle.bsc_script.specs.declared.script.ScriptError.TheVariants.{NotAnEvent}
 use Rattle.bsc_run.specs.Crossing.{Streams, connection_count}
+use Rattle.bsc_run.specs.Plays.{Held}
 use Rattle.bsc_run.specs.Runs.{RunsScript}
 use Rattle.bsc_run.specs.declared.error.RunError.{RunError}
 use Rattle.bsc_run.specs.declared.error.RunError.TheVariants.{Refused}
@@ -49,11 +50,12 @@ pub record AreRead (paths : TextPaths) (config : ConfigValue) (steps : List Numb
   pub events : events_of script_text ≡ Ok steps
 
 -- Both texts were read, and nothing was printed.
-pub record IsChecked (paths : TextPaths) (held holds : Option (List ℕ)) : Type 0 where
+pub record IsChecked (paths : TextPaths) (held holds : Held) : Type 0 where
   pub config : ConfigValue
   pub steps : List NumberedEvent
   pub read : AreRead paths config steps
-  pub nothing : Keeps held holds
+  pub nothing : Keeps held.out holds.out
+  pub untraced : Keeps held.trace holds.trace
 
 -- The configuration was read, and the script could not be.
 pub record IsScriptUnread (paths : TextPaths) (error : TextError) : Type 0 where
@@ -89,35 +91,36 @@ pub record IsScriptRefused (paths : TextPaths) (error : ScriptError) : Type 0 wh
   pub says : Says config_text config
   pub wrong : (n : ℕ) → error ≡ NotAnEvent n → events_of script_text ≡ Err n
 
-module _ {S : Type 0} (streams : Streams S) where
+-- `tracing` is whether a trace is written.
+module _ {S : Type 0} (streams : Streams S) (tracing : Bool) where
   -- The events were run on a new line with the configuration, over a cable with a connection for
-  -- each terminal: all of them, or up to the first that is refused. The output of the run was
-  -- appended: the contents of the writer went from `held` to `holds`.
+  -- each terminal: all of them, or up to the first that is refused. The output of the run and its
+  -- trace were appended: what the writers hold went from `held` to `holds`.
   pub record RunsOnCable (config : ConfigValue) (steps : List NumberedEvent)
-      (result : Result (Unit {0}) RunError) (held holds : Option (List ℕ)) : Type 0 where
+      (result : Result (Unit {0}) RunError) (held holds : Held) : Type 0 where
     pub before : CableValue S
     pub after : CableValue S
     pub connections : connection_count before ≡ length config.terminals
-    pub runs : RunsScript streams config steps (record { cable = before; held = held }) result
+    pub runs : RunsScript streams tracing config steps (record { cable = before; held = held }) result
         (record { cable = after; held = holds })
 
   -- Both texts were read, and the events were run.
   pub record HasRun (paths : TextPaths) (result : Result (Unit {0}) RunError)
-      (held holds : Option (List ℕ)) : Type 0 where
+      (held holds : Held) : Type 0 where
     pub config : ConfigValue
     pub steps : List NumberedEvent
     pub read : AreRead paths config steps
     pub ran : RunsOnCable config steps result held holds
 
   -- The run reached its end, or only checked its texts.
-  abbrev pub IsRunDone : Bool → TextPaths → Option (List ℕ) → Option (List ℕ) → Type 0
+  abbrev pub IsRunDone : Bool → TextPaths → Held → Held → Type 0
   IsRunDone true paths held holds = IsChecked paths held holds
   IsRunDone false paths held holds = HasRun paths (Ok tt) held holds
 
   -- What an error says that ended the run of a script. If an event was refused, the events before
   -- it were run and the report was printed.
-  abbrev pub HasStopped : RunningError → ConfigValue → List NumberedEvent → Option (List ℕ)
-      → Option (List ℕ) → Type 0
+  abbrev pub HasStopped : RunningError → ConfigValue → List NumberedEvent → Held → Held
+      → Type 0
   HasStopped (Run (Refused line why)) config steps held holds =
       RunsOnCable config steps (Err (Refused line why)) held holds
   HasStopped (Run error) config steps held holds = Unit {0}
@@ -127,8 +130,7 @@ module _ {S : Type 0} (streams : Streams S) where
 
   -- What an error of a run says. The texts are read in order, then the configuration is checked,
   -- and then the script; only then, and only if more is wanted than a check, events are run.
-  abbrev pub HasFailed : RunningError → Bool → TextPaths → Option (List ℕ) → Option (List ℕ)
-      → Type 0
+  abbrev pub HasFailed : RunningError → Bool → TextPaths → Held → Held → Type 0
   HasFailed BothStandardInput check paths held holds = HasNoTexts BothStandardInput paths
   HasFailed (Text error) check paths held holds = HasNoTexts (Text error) paths
   HasFailed (Config error) check paths held holds = IsConfigRefused paths error

@@ -3,6 +3,7 @@
 ghost use Rattle.std.specs.Prelude.{◌≡◌, ◌≢◌, Err, IfErr, IfOk, IsTrue, Ok, OnOk, codes, false};
 ghost use Rattle.bsc_running.specs.Errors.{IsEarly};
 ghost use Rattle.bsc_run.specs.Crossing.{streams_of};
+ghost use Rattle.bsc_run.specs.Plays.{holding};
 ghost use Rattle.bsc_running.specs.declared.error.RunningError.TheVariants.{BothStandardInput};
 ghost use Rattle.bsc_running.specs.Running.{AreTexts, HasFailed, HasNoTexts, HasStopped, IsRunDone};
 ghost use Rattle.bsc_running.specs.Running.{RunsOnCable, paths_of};
@@ -27,29 +28,39 @@ pub struct RunWords<'a> {
 
     /// Both are only read and checked.
     pub check: bool,
+
+    /// A trace of the run is printed.
+    pub trace: bool,
 }
 
 /// Runs the events of the script on a line of the configuration, over a cable of the machine, and
 /// prints what is on the line after each event that is heard, and a report at the end, also if an
 /// event is refused. Both are read before what they say is checked, the configuration first. With
-/// `check` nothing is run or printed. (Own.)
-pub fn run<R: Read, H: Files + Cables, W: Write>(
+/// `check` nothing is run or printed. If the words ask for a trace, it is written to `trace` as
+/// `run_line` does, and otherwise nothing is. (Own.)
+pub fn run<R: Read, H: Files + Cables, W: Write, D: Write>(
     alloc: Global,
     words: RunWords<'_>,
     input: &mut R,
     machine: &mut H,
     out: &mut W,
+    trace: &mut D,
 ) -> Result<(), RunningError>
-    ensures early { IfErr result (λ error. IsEarly error → out.new ≡ out.old) }
-    ensures checked { IsTrue words.entry.check → out.new ≡ out.old }
+    ensures early { IfErr result (λ error. IsEarly error →
+        (out.new ≡ out.old) × (trace.new ≡ trace.old)) }
+    ensures checked { IsTrue words.entry.check → (out.new ≡ out.old) × (trace.new ≡ trace.old) }
     ensures both { words.entry.config.now ≡ codes "-" → words.entry.script.now ≡ codes "-" →
         result ≡ Err BothStandardInput }
     ensures done { OnOk result
-        (IsRunDone (streams_of H.Stream.contents H.Stream.remaining) words.entry.check
-        (paths_of words.entry (R.remaining input.old)) (W.contents out.old) (W.contents out.new)) }
+        (IsRunDone (streams_of H.Stream.contents H.Stream.remaining) words.entry.trace
+        words.entry.check (paths_of words.entry (R.remaining input.old))
+        (holding (W.contents out.old) (D.contents trace.old))
+        (holding (W.contents out.new) (D.contents trace.new))) }
     ensures failed { IfErr result (λ error.
-        HasFailed (streams_of H.Stream.contents H.Stream.remaining) error words.entry.check
-        (paths_of words.entry (R.remaining input.old)) (W.contents out.old) (W.contents out.new)) }
+        HasFailed (streams_of H.Stream.contents H.Stream.remaining) words.entry.trace error
+        words.entry.check (paths_of words.entry (R.remaining input.old))
+        (holding (W.contents out.old) (D.contents trace.old))
+        (holding (W.contents out.new) (D.contents trace.new))) }
 {
     let texts = read_texts(alloc, words, input, machine)?;
     let config = read_config(alloc, &texts.config)?;
@@ -57,7 +68,7 @@ pub fn run<R: Read, H: Files + Cables, W: Write>(
     if words.check {
         return Ok(());
     }
-    run_on_cable(alloc, &config, &script, machine, out)
+    run_on_cable(alloc, &config, &script, machine, out, words.trace, trace)
 }
 
 /// The texts of a run.
@@ -99,22 +110,27 @@ fn are_both_standard_input(config: &str, script: &str) -> bool
 }
 
 /// Runs the events on a new line, over new connections.
-fn run_on_cable<H: Cables, W: Write>(
+fn run_on_cable<H: Cables, W: Write, D: Write>(
     alloc: Global,
     config: &Config,
     script: &Script<'_, Global>,
     machine: &mut H,
     out: &mut W,
+    tracing: bool,
+    trace: &mut D,
 ) -> Result<(), RunningError>
-    ensures early { IfErr result (λ error. IsEarly error → out.new ≡ out.old) }
+    ensures early { IfErr result (λ error. IsEarly error →
+        (out.new ≡ out.old) × (trace.new ≡ trace.old)) }
     ensures ran { OnOk result
-        (RunsOnCable (streams_of H.Stream.contents H.Stream.remaining) config.now script.now
-        (Ok tt) (W.contents out.old) (W.contents out.new)) }
+        (RunsOnCable (streams_of H.Stream.contents H.Stream.remaining) tracing config.now
+        script.now (Ok tt) (holding (W.contents out.old) (D.contents trace.old))
+        (holding (W.contents out.new) (D.contents trace.new))) }
     ensures stopped { IfErr result (λ error.
-        HasStopped (streams_of H.Stream.contents H.Stream.remaining) error config.now script.now
-        (W.contents out.old) (W.contents out.new)) }
+        HasStopped (streams_of H.Stream.contents H.Stream.remaining) tracing error config.now
+        script.now (holding (W.contents out.old) (D.contents trace.old))
+        (holding (W.contents out.new) (D.contents trace.new))) }
 {
     let mut cable = machine.connect(config.terminals())?;
-    run_line(alloc, config, script, &mut cable, out)?;
+    run_line(alloc, config, script, &mut cable, out, tracing, trace)?;
     Ok(())
 }

@@ -69,6 +69,12 @@ pub(crate) const RUN: Subcommand = Subcommand {
             value: "",
             help: "Read and check both, and run nothing",
         },
+        Entry {
+            id: "trace",
+            given: Flag,
+            value: "",
+            help: "Print what became of each transmission on standard error",
+        },
     ],
 };
 

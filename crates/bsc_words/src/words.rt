@@ -49,6 +49,7 @@ fn run_of(alloc: Global, matches: &ArgMatches<'_>) -> Result<Asked, AllocError>
         config: required_text(alloc, matches, "CONFIG")?,
         script: required_text(alloc, matches, "SCRIPT")?,
         check: is_given(matches, "check"),
+        trace: is_given(matches, "trace"),
     })
 }
 

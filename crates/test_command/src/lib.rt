@@ -20,6 +20,8 @@ mod options;
 #[cfg(test)]
 mod record;
 #[cfg(test)]
+mod run_traces;
+#[cfg(test)]
 mod runs;
 #[cfg(test)]
 mod sizes;

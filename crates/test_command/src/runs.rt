@@ -198,11 +198,11 @@ trusted
 
 /// A machine with two files, `line.toml` and `script.txt`, and real connections.
 #[derive(Drop)]
-struct Machine<'a, R> {
-    runtime: &'a R,
-    alloc: Global,
-    line: &'static str,
-    script: &'static str,
+pub(crate) struct Machine<'a, R> {
+    pub(crate) runtime: &'a R,
+    pub(crate) alloc: Global,
+    pub(crate) line: &'static str,
+    pub(crate) script: &'static str,
 }
 
 impl<R: Net> Files for Machine<'_, R> {
@@ -233,13 +233,13 @@ impl<R: Net> Cables for Machine<'_, R> {
 
 /// A run: the contents of the two files, the paths given to it, its standard input, and its
 /// results.
-struct Case {
-    line: &'static str,
-    script: &'static str,
-    paths: (&'static str, &'static str),
+pub(crate) struct Case {
+    pub(crate) line: &'static str,
+    pub(crate) script: &'static str,
+    pub(crate) paths: (&'static str, &'static str),
     check: bool,
-    input: &'static str,
-    printed: &'static str,
+    pub(crate) input: &'static str,
+    pub(crate) printed: &'static str,
     error: &'static str,
 }
 
@@ -258,9 +258,12 @@ fn is_due<R: Net>(runtime: &R, alloc: Global, case: &Case) -> bool {
         config,
         script,
         check: case.check,
+        trace: false,
     };
-    let answer = run(alloc, words, &mut input, &mut machine, &mut out);
+    let mut trace = Vec::<u8>::new(alloc);
+    let answer = run(alloc, words, &mut input, &mut machine, &mut out, &mut trace);
     out.as_slice() == case.printed.as_bytes()
+        && trace.is_empty()
         && match &answer {
             Ok(()) => case.error.is_empty(),
             Err(error) => has_text(alloc, error, case.error),
@@ -280,7 +283,7 @@ fn first_wrong<R: Net>(runtime: &R, alloc: Global, cases: &[Case]) -> Option<usi
 const PATHS: (&str, &str) = ("line.toml", "script.txt");
 
 /// The examples, and one that is only checked.
-const EXAMPLES: &[Case] = &[
+pub(crate) const EXAMPLES: &[Case] = &[
     Case {
         line: TWO_TERMINALS_LINE,
         script: TWO_TERMINALS_SCRIPT,

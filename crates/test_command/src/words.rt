@@ -102,11 +102,15 @@ sync: true, trace: 3 })",
     (&["bscline", "name", "--", "-1"], "Name(\"-1\")"),
     (
         &["bscline", "run", "c", "s"],
-        "Run { config: \"c\", script: \"s\", check: false }",
+        "Run { config: \"c\", script: \"s\", check: false, trace: false }",
     ),
     (
         &["bscline", "run", "--check", "-", "s"],
-        "Run { config: \"-\", script: \"s\", check: true }",
+        "Run { config: \"-\", script: \"s\", check: true, trace: false }",
+    ),
+    (
+        &["bscline", "run", "c", "--trace", "s"],
+        "Run { config: \"c\", script: \"s\", check: false, trace: true }",
     ),
     (&["bscline", "--version"], "bscline 0.2.0\n"),
 ];
@@ -180,6 +184,7 @@ Arguments:
 
 Options:
       --check  Read and check both, and run nothing
+      --trace  Print what became of each transmission on standard error
   -h, --help   Print help
 
 Example: bscline run examples/lossy_line/line.toml examples/lossy_line/script.txt

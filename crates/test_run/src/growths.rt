@@ -93,7 +93,9 @@ fn run_without(
     let (terminals, poll_list) = (config.terminal_list(), config.poll_list());
     let mut line = Line::new(refusing, config.setup(), terminals, poll_list)?;
     refusing.refuse_nth(growth);
-    Ok(run_on(alloc, &mut line, script.steps(), &mut cable, out)?)
+    let mut trace = Vec::<u8>::new(alloc);
+    let steps = script.steps();
+    Ok(run_on(alloc, &mut line, steps, &mut cable, out, false, &mut trace)?)
 }
 
 /// Whether this is printed for the script if only the growth of this number is refused.

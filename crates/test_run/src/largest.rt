@@ -17,7 +17,16 @@ fn run_largest(
     out: &mut Vec<u8>,
 ) -> Result<Result<(), RunError>, Fail> {
     let mut cable = connect(rt, rt.alloc(), config.terminals())?;
-    Ok(run_line(rt.alloc(), config, script, &mut cable, out))
+    let mut trace = Vec::<u8>::new(rt.alloc());
+    Ok(run_line(
+        rt.alloc(),
+        config,
+        script,
+        &mut cable,
+        out,
+        false,
+        &mut trace,
+    ))
 }
 
 /// The output of a script that is not refused, on the line of a configuration.

@@ -18,6 +18,8 @@ mod memory;
 #[cfg(test)]
 mod runs;
 #[cfg(test)]
+mod traces;
+#[cfg(test)]
 mod watched;
 #[cfg(test)]
 mod worked;

@@ -43,12 +43,14 @@ fn run_two(
     config: &Config,
     script: &Script<'_, Global>,
     out: &mut Vec<u8>,
+    tracing: bool,
+    trace: &mut Vec<u8>,
 ) -> Result<Result<(), RunError>, Fail> {
     let mut cable = cable_of_two(rt)?;
     if config.terminals() != 2 {
         return Err(Fail::new("not two terminals"));
     }
-    Ok(run_line(rt.alloc(), config, script, &mut cable, out))
+    Ok(run_line(rt.alloc(), config, script, &mut cable, out, tracing, trace))
 }
 
 /// Runs a script on the line of a configuration. Appends the output to `out` and returns the
@@ -61,5 +63,23 @@ pub(crate) fn run(
 ) -> Result<Result<(), RunError>, Fail> {
     let config = read_config(rt.alloc(), config.as_bytes())?;
     let script = read_script(rt.alloc(), script.as_bytes())?;
-    run_two(rt, &config, &script, out)
+    let mut trace = Vec::new(rt.alloc());
+    let answer = run_two(rt, &config, &script, out, false, &mut trace)?;
+    if !trace.is_empty() {
+        return Err(Fail::new("a trace that was not asked for"));
+    }
+    Ok(answer)
+}
+
+/// Does the same, and appends the trace to `trace`.
+pub(crate) fn run_traced(
+    rt: &HostRuntime,
+    config: &str,
+    script: &str,
+    out: &mut Vec<u8>,
+    trace: &mut Vec<u8>,
+) -> Result<Result<(), RunError>, Fail> {
+    let config = read_config(rt.alloc(), config.as_bytes())?;
+    let script = read_script(rt.alloc(), script.as_bytes())?;
+    run_two(rt, &config, &script, out, true, trace)
 }

@@ -146,7 +146,27 @@ impl<'a> Case<'a> {
         if self.config.terminals() != 2 {
             return Err(Fail::new("not two terminals"));
         }
-        Ok(run_line(stations, &self.config, &self.script, &mut cable, out))
+        let (config, script) = (&self.config, &self.script);
+        let mut trace = Vec::<u8>::new(alloc);
+        Ok(run_line(stations, config, script, &mut cable, out, false, &mut trace))
+    }
+
+    /// Runs the script, and writes the trace to a watched writer.
+    pub(crate) fn run_traced<E: Allocator + Copy>(
+        &self,
+        alloc: Global,
+        stations: E,
+        watch: &RunWatch,
+        trace: &mut Watched<'_, Vec<u8>>,
+    ) -> Result<Result<(), RunError>, Fail> {
+        let connections = Connections::new(alloc);
+        let mut cable = connections.cable(alloc, watch)?;
+        if self.config.terminals() != 2 {
+            return Err(Fail::new("not two terminals"));
+        }
+        let (config, script) = (&self.config, &self.script);
+        let mut out = Vec::<u8>::new(alloc);
+        Ok(run_line(stations, config, script, &mut cable, &mut out, true, trace))
     }
 
     /// Does the same as `run`, and returns whether the records that arrived are in order.
@@ -185,8 +205,12 @@ impl<'a> Case<'a> {
         let connections = Connections::new(alloc);
         let mut cable = connections.cable(alloc, watch)?;
         let mut out = watched_writer(alloc, watch);
+        let mut trace = Vec::<u8>::new(alloc);
+        let steps = self.script.steps();
         // The tests that call `run` check the answer.
-        let _ = run_on(stations, line, self.script.steps(), &mut cable, &mut out);
+        let _ = run_on(
+            stations, line, steps, &mut cable, &mut out, false, &mut trace,
+        );
         Ok(())
     }
 }

@@ -1,5 +1,5 @@
 -- Shows that the line hears the octets that crossed the cable in place of what was sent.
-use Rattle.std.proofs.Common.{◌≡◌, ℕ, List, Err, ap, rules}
+use Rattle.std.proofs.Common.{◌≡◌, ℕ, List, Err, ap, refl, rules}
 use Rattle.bsc_frame.specs.declared.message.Message.{Message}
 use Rattle.bsc_script.specs.Events.{heard}
 use Rattle.bsc_run.specs.Crossing.{streams_of}
@@ -11,16 +11,19 @@ pub returns : goal.returns
 returns g c =
     let given : Message → List ℕ = λ m. c.args.octets.now in
     let sends = rw c.as_slice.ensures.value at c.in_ok-send_given.ensures.sends in
-    hears_octets (streams_of g.S.Write.contents g.S.Read.remaining) (heard c.args.octets.now) given
-    c.args.line.now c.hear.new.line c.args.cable.now c.send_given.new.cable c.as_slice-2.result
-    c.send_given.new.read.items (λ e h. h) c.requires c.as_slice-2.ensures.value sends
-    c.send_given.ensures.count c.hear.ensures.reads c.hear.ensures.does
-    c.hear.ensures.line
+    hears_octets (streams_of g.S.Write.contents g.S.Read.remaining) c.args.number
+    (heard c.args.octets.now) given c.args.line.now c.hear.new.line c.args.cable.now
+    c.send_given.new.cable (g.D.Write.contents c.args.trace.now)
+    (g.D.Write.contents c.hear.new.trace) c.as_slice-2.result c.send_given.new.read.items
+    c.hear.result (λ e h. h) (λ n e. refl) c.requires c.as_slice-2.ensures.value sends
+    c.send_given.ensures.count c.hear.ensures.reads c.hear.ensures.does c.hear.ensures.line
+    c.hear.ensures.traced c.hear.ensures.faults
 
 pub returns-in_err-send_given : goal.returns-in_err-send_given
 returns-in_err-send_given g c =
     let same : c.from_residual.result ≡ Err c.in_err-send_given.field-0.0 = search rules in
     rw same
-    (acts_unsent (streams_of g.S.Write.contents g.S.Read.remaining) (heard c.args.octets.now) c.args.line.now
-    c.args.cable.now c.send_given.new.cable c.in_err-send_given.field-0.0 (λ e m. m)
+    (acts_unsent (streams_of g.S.Write.contents g.S.Read.remaining) c.args.number
+    (heard c.args.octets.now) c.args.line.now c.args.cable.now c.send_given.new.cable
+    (g.D.Write.contents c.args.trace.now) c.in_err-send_given.field-0.0 (λ e m. m)
     (λ why is. c.in_err-send_given.ensures.refused why (ap (λ (e : StepError). Err e) is)))

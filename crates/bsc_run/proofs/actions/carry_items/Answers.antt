@@ -9,9 +9,10 @@ use Rattle.bsc_run.proofs.actions.carry_items.Goals as goal
 pub returns-in_err-words : goal.returns-in_err-words
 returns-in_err-words g c =
     let same : c.from_residual-in_err-words.result ≡ Err c.in_err-words.field-0.0 = search rules in
-    rw same (acts_fault (streams_of g.S.Write.contents g.S.Read.remaining) (heard_each c.args.items.now)
-    c.args.line.now c.args.line.now c.args.cable.now c.cross_each.new.cable
-    c.in_err-words.field-0.0 c.in_err-words.ensures.faults)
+    rw same (acts_fault (streams_of g.S.Write.contents g.S.Read.remaining) c.args.number
+    (heard_each c.args.items.now) c.args.line.now c.args.line.now c.args.cable.now
+    c.cross_each.new.cable (g.D.Write.contents c.args.trace.now)
+    (g.D.Write.contents c.args.trace.now) c.in_err-words.field-0.0 c.in_err-words.ensures.faults)
 
 pub hear_each-requires : goal.hear_each-requires
 hear_each-requires g c =
@@ -25,8 +26,10 @@ hear_each-requires g c =
 
 pub returns : goal.returns
 returns g c =
-    hears_items (streams_of g.S.Write.contents g.S.Read.remaining) c.args.items.now c.args.line.now
-    c.hear_each.new.line c.args.cable.now c.cross_each.new.cable c.deref-2.result c.requires
+    hears_items (streams_of g.S.Write.contents g.S.Read.remaining) c.args.number
+    c.args.items.now c.args.line.now c.hear_each.new.line c.args.cable.now
+    c.cross_each.new.cable (g.D.Write.contents c.args.trace.now)
+    (g.D.Write.contents c.hear_each.new.trace) c.deref-2.result c.hear_each.result c.requires
     (rw (c.deref-2.ensures.value, c.in_ok-words-2.ensures, c.deref.ensures.value)
     c.in_ok-words.ensures.crossed) c.cross_each.ensures.count c.hear_each.ensures.does
-    c.hear_each.ensures.line
+    c.hear_each.ensures.line c.hear_each.ensures.traced c.hear_each.ensures.faults

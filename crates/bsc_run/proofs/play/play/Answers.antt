@@ -12,8 +12,9 @@ pub steps-init : goal.steps-init
 steps-init g c = record {
   fits = c.requires;
   played =
-      has_played_none (streams_of g.S.Write.contents g.S.Read.remaining) (map numbered c.args.steps.now)
-      (playing c.args.line.now c.args.cable.now (g.W.Write.contents c.args.out.now));
+      has_played_none (streams_of g.S.Write.contents g.S.Read.remaining) c.args.tracing (map numbered c.args.steps.now)
+      (playing c.args.line.now c.args.cable.now (g.W.Write.contents c.args.out.now)
+      (g.D.Write.contents c.args.trace.now));
 }
 
 pub returns-in-Err-clause-whole : goal.returns-in-Err-clause-whole
@@ -22,11 +23,14 @@ returns-in-Err-clause-whole g c =
     let next =
     drop_map numbered c.args.steps.now c.steps.step-index c.step-item.result (omega arith)
     c.step-item.is in
-    has_played_stop (streams_of g.S.Write.contents g.S.Read.remaining) all
-    (playing c.args.line.now c.args.cable.now (g.W.Write.contents c.args.out.now))
+    has_played_stop (streams_of g.S.Write.contents g.S.Read.remaining) c.args.tracing all
+    (playing c.args.line.now c.args.cable.now (g.W.Write.contents c.args.out.now)
+    (g.D.Write.contents c.args.trace.now))
     (numbered c.step-item.result) (drop (c.steps.step-index + 1) all)
-    (playing c.steps.line c.steps.cable (g.W.Write.contents c.steps.out))
-    (playing c.take.new.line c.take.new.cable (g.W.Write.contents c.take.new.out))
+    (playing c.steps.line c.steps.cable (g.W.Write.contents c.steps.out)
+    (g.D.Write.contents c.steps.trace))
+    (playing c.take.new.line c.take.new.cable (g.W.Write.contents c.take.new.out)
+    (g.D.Write.contents c.take.new.trace))
     c.in-Err.error (rw next at c.steps.invariant.played) c.in-Err.ensures
 
 pub returns-in-Err-clause-socket : goal.returns-in-Err-clause-socket
@@ -43,11 +47,14 @@ steps-preserved g c =
     record {
       fits = c.in_default.ensures.fits;
       played =
-          has_played_more (streams_of g.S.Write.contents g.S.Read.remaining) all
-          (playing c.args.line.now c.args.cable.now (g.W.Write.contents c.args.out.now))
+          has_played_more (streams_of g.S.Write.contents g.S.Read.remaining) c.args.tracing all
+          (playing c.args.line.now c.args.cable.now (g.W.Write.contents c.args.out.now)
+          (g.D.Write.contents c.args.trace.now))
           (numbered c.step-item.result) (drop (c.steps.step-index + 1) all)
-          (playing c.steps.line c.steps.cable (g.W.Write.contents c.steps.out))
-          (playing c.take.new.line c.take.new.cable (g.W.Write.contents c.take.new.out))
+          (playing c.steps.line c.steps.cable (g.W.Write.contents c.steps.out)
+          (g.D.Write.contents c.steps.trace))
+          (playing c.take.new.line c.take.new.cable (g.W.Write.contents c.take.new.out)
+          (g.D.Write.contents c.take.new.trace))
           (rw next at c.steps.invariant.played) c.in_default.ensures.fits.line
           c.in_default.ensures.accepted c.in_default.ensures.printed;
     }
@@ -56,7 +63,9 @@ pub returns-clause-whole : goal.returns-clause-whole
 returns-clause-whole g c =
     let all = map numbered c.args.steps.now in
     let end = drop_map_all numbered c.args.steps.now c.steps.step-index (omega arith) in
-    has_played_all (streams_of g.S.Write.contents g.S.Read.remaining) all
-    (playing c.args.line.now c.args.cable.now (g.W.Write.contents c.args.out.now))
-    (playing c.steps.line c.steps.cable (g.W.Write.contents c.steps.out))
+    has_played_all (streams_of g.S.Write.contents g.S.Read.remaining) c.args.tracing all
+    (playing c.args.line.now c.args.cable.now (g.W.Write.contents c.args.out.now)
+    (g.D.Write.contents c.args.trace.now))
+    (playing c.steps.line c.steps.cable (g.W.Write.contents c.steps.out)
+    (g.D.Write.contents c.steps.trace))
     (rw end at c.steps.invariant.played)

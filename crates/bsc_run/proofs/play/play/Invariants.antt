@@ -10,9 +10,11 @@ use Rattle.bsc_run.proofs.play.play.Given as goal
 abbrev pub invariant-steps : goal.invariant-steps
 invariant-steps g l = record {
   fits : Fits l.line l.cable;
-  played : HasPlayed (streams_of g.S.Write.contents g.S.Read.remaining)
+  played : HasPlayed (streams_of g.S.Write.contents g.S.Read.remaining) l.tracing
       (map numbered l.steps)
-      (playing l.initial.line l.initial.cable (g.W.Write.contents l.initial.out))
+      (playing l.initial.line l.initial.cable (g.W.Write.contents l.initial.out)
+      (g.D.Write.contents l.initial.trace))
       (drop l.step-index (map numbered l.steps))
-      (playing l.line l.cable (g.W.Write.contents l.out));
+      (playing l.line l.cable (g.W.Write.contents l.out)
+      (g.D.Write.contents l.trace));
 }

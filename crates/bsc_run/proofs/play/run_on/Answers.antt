@@ -10,9 +10,11 @@ use Rattle.bsc_run.proofs.play.run_on.Goals as goal
 pub returns-in_ok-write_report-in-Ok-clause-whole : goal.returns-in_ok-write_report-in-Ok-clause-whole
 returns-in_ok-write_report-in-Ok-clause-whole g c =
     let streams = (streams_of g.S.Write.contents g.S.Read.remaining) in
-    let old = playing c.args.line.now c.args.cable.now (g.W.Write.contents c.args.out.now) in
+    let old = playing c.args.line.now c.args.cable.now (g.W.Write.contents c.args.out.now)
+    (g.D.Write.contents c.args.trace.now) in
     let new =
-    playing c.play.new.line c.play.new.cable (g.W.Write.contents c.play.new.out) in
+    playing c.play.new.line c.play.new.cable (g.W.Write.contents c.play.new.out)
+    (g.D.Write.contents c.play.new.trace) in
     let holds = g.W.Write.contents c.write_report.new.out in
     runs_reported
     (record {
@@ -21,16 +23,18 @@ returns-in_ok-write_report-in-Ok-clause-whole g c =
       visit = c.visit.ensures;
       round = c.round.ensures;
     })
-    streams (map numbered c.args.steps.now) old (Ok tt) new holds c.requires.line
+    streams c.args.tracing (map numbered c.args.steps.now) old (Ok tt) new holds c.requires.line
     c.in-Ok.ensures.whole c.in_ok-write_report-in-Ok.ensures
 
 pub returns-in_ok-write_report-in-Err-Refused-clause-whole : goal.returns-in_ok-write_report-in-Err-Refused-clause-whole
 returns-in_ok-write_report-in-Err-Refused-clause-whole g c =
     let played = rw c.in-Err-Refused.field-0-is at c.in-Err-Refused.ensures.whole in
     let streams = (streams_of g.S.Write.contents g.S.Read.remaining) in
-    let old = playing c.args.line.now c.args.cable.now (g.W.Write.contents c.args.out.now) in
+    let old = playing c.args.line.now c.args.cable.now (g.W.Write.contents c.args.out.now)
+    (g.D.Write.contents c.args.trace.now) in
     let new =
-    playing c.play.new.line c.play.new.cable (g.W.Write.contents c.play.new.out) in
+    playing c.play.new.line c.play.new.cable (g.W.Write.contents c.play.new.out)
+    (g.D.Write.contents c.play.new.trace) in
     let holds = g.W.Write.contents c.write_report-in-Err-Refused.new.out in
     let result = Err (Refused c.in-Err-Refused.number c.in-Err-Refused.why) in
     runs_reported
@@ -40,5 +44,5 @@ returns-in_ok-write_report-in-Err-Refused-clause-whole g c =
       visit = c.visit.ensures;
       round = c.round.ensures;
     })
-    streams (map numbered c.args.steps.now) old result new holds c.requires.line played
+    streams c.args.tracing (map numbered c.args.steps.now) old result new holds c.requires.line played
     c.in_ok-write_report-in-Err-Refused.ensures

@@ -1,4 +1,4 @@
--- Shows that the paths and the flag of a run have the values of their names in the matches.
+-- Shows that the paths and the flags of a run have the values of their names in the matches.
 use Rattle.std.proofs.Common.{ap, ◌≡◌, ◌∙◌, [], unwrap_or, codes, string_bytes}
 use Rattle.clap.specs.Words.{Text, first_value, found_of, rows_of}
 use Rattle.clap.proofs.WalkLemmas.{first_value-rows}
@@ -15,7 +15,12 @@ returns c =
     let config_is = c.in_ok-required_text.ensures ∙ value (codes "CONFIG") in
     let script_is = c.in_ok-required_text-2.ensures ∙ value (codes "SCRIPT") in
     let check_is = c.is_given.ensures ∙ ap is_true_text (value (codes "check")) in
-    ap (λ t. run t (string_bytes c.in_ok-required_text-2.field-0) check) config_is
-    ∙ (ap (λ t. run (value_at (codes "CONFIG") (rows_of found)) t check) script_is
-    ∙ ap (λ b. run (value_at (codes "CONFIG") (rows_of found))
-    (value_at (codes "SCRIPT") (rows_of found)) b) check_is)
+    let trace = c.is_given-2.result in
+    let trace_is = c.is_given-2.ensures ∙ ap is_true_text (value (codes "trace")) in
+    let config = value_at (codes "CONFIG") (rows_of found) in
+    let script = value_at (codes "SCRIPT") (rows_of found) in
+    ap (λ t. run t (string_bytes c.in_ok-required_text-2.field-0) check trace) config_is
+    ∙ (ap (λ t. run config t check trace) script_is
+    ∙ (ap (λ b. run config script b trace) check_is
+    ∙ ap (λ b. run config script (is_true_text (value_at (codes "check") (rows_of found))) b)
+    trace_is))

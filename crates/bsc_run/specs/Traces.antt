@@ -1,0 +1,137 @@
+-- The lines of the trace of a run, one for each accepted event. Each begins with the number of the
+-- line of the script, and tells what became of the pending transmission, or what the event is.
+use Rattle.std.specs.Prelude.{ℕ, Bool, true, false, not, List, [], ◌++◌, length, Option, None, Some}
+use Rattle.std.specs.Prelude.{codes, slice_index_or, if◌then◌else◌}
+use Rattle.std.specs.Borrow.{Bor}
+use Rattle.std.specs.Fmt.{decimal}
+use Rattle.std.specs.Str.{bytes_eq}
+use Rattle.bsc_frame.specs.Reading.{heard as heard_of}
+use Rattle.bsc_frame.specs.Wire.{wire}
+use Rattle.bsc_frame.specs.declared.message.Heard.{Heard}
+use Rattle.bsc_frame.specs.declared.message.Heard.TheVariants.{Whole}
+use Rattle.bsc_frame.specs.declared.message.Message.{Message}
+use Rattle.bsc_print.specs.Forms.{escaped}
+use Rattle.bsc_print.specs.Names.{chars_shown, name_of}
+use Rattle.bsc_report.specs.Channels.{each_below}
+use Rattle.bsc_directory.specs.declared.way.Way.{Way}
+use Rattle.bsc_directory.specs.declared.way.Way.TheVariants.{FromTerminal, ToTerminal}
+use Rattle.bsc_line_model.specs.declared.transmission.Speaker.{Speaker}
+use Rattle.bsc_line_model.specs.declared.transmission.Transmission.{Transmission}
+use Rattle.bsc_line_model.specs.declared.event.Event.{Event}
+use Rattle.bsc_line_model.specs.declared.event.Event.TheVariants as event
+use Rattle.bsc_line_model.specs.Hearing.{octets_in}
+use Rattle.bsc_line_model.specs.Line.{LineValue}
+use Rattle.bsc_script.specs.Events.{Event as Asked, offer_at, offer_for, carry, lose, heard}
+use Rattle.bsc_script.specs.Events.{heard_each, silence, ready, urgent_at, urgent_for, release}
+use Rattle.bsc_run.specs.Printed.{speaker_name}
+
+-- The number of the line of the script, at the start of a line.
+abbrev pub number_shown : ℕ → List ℕ
+number_shown n = codes "+" ++ decimal n ++ codes " "
+
+-- The terminal that heard, if the line is about one of them only.
+abbrev pub hearer_shown : Option ℕ → List ℕ
+hearer_shown None = []
+hearer_shown (Some t) = codes "at " ++ decimal t ++ codes " "
+
+-- The end of a line: the octets in hexadecimal text.
+abbrev pub octets_shown : List ℕ → List ℕ
+octets_shown octets = codes " " ++ chars_shown octets ++ codes "\n"
+
+-- The start of the line for a transmission: the number, the sender, the word for what became of it,
+-- and who heard it.
+abbrev pub start_shown : ℕ → Speaker → List ℕ → Option ℕ → List ℕ
+start_shown n speaker word hearer =
+    number_shown n ++ speaker_name speaker ++ word ++ hearer_shown hearer
+
+-- Whether a message was heard that is another than the one that was sent. Two messages are the same
+-- if the same octets are sent for them.
+abbrev pub is_turned : Message → Heard → Bool
+is_turned sent (Whole message) = not (bytes_eq (wire message) (wire sent))
+is_turned sent _ = false
+
+-- The word for what became of a transmission that arrived.
+abbrev pub fate_shown : Bool → List ℕ
+fate_shown turned = if turned then codes " turned " else codes " heard "
+
+-- The line for a transmission that was heard as these octets.
+abbrev pub heard_line : ℕ → Transmission → Option ℕ → List ℕ → List ℕ
+heard_line n sent hearer octets =
+    start_shown n sent.speaker (fate_shown (is_turned sent.message (heard_of octets))) hearer
+    ++ name_of (heard_of octets) ++ octets_shown octets
+
+-- The line for a transmission that was lost.
+abbrev pub lost_line : ℕ → Transmission → Option ℕ → List ℕ
+lost_line n sent hearer =
+    start_shown n sent.speaker (codes " lost ") hearer
+    ++ name_of (Whole sent.message) ++ octets_shown (wire sent.message)
+
+-- The line for what terminal t heard.
+abbrev pub item_line : ℕ → Transmission → ℕ → Option (List ℕ) → List ℕ
+item_line n sent t None = lost_line n sent (Some t)
+item_line n sent t (Some octets) = heard_line n sent (Some t) octets
+
+-- The lines for what each terminal heard, in order.
+abbrev pub item_lines : ℕ → Transmission → List (Option (Bor (List ℕ))) → List ℕ
+item_lines n sent items =
+    each_below (λ t. item_line n sent t (octets_in (slice_index_or items t None))) (length items)
+
+-- The lines for an event of the line in which this transmission is heard or lost.
+abbrev pub sent_lines : ℕ → Event → Transmission → List ℕ
+sent_lines n event.CarrySent sent = heard_line n sent None (wire sent.message)
+sent_lines n (event.Carry (Some octets)) sent = heard_line n sent None octets.now
+sent_lines n (event.Carry None) sent = lost_line n sent None
+sent_lines n (event.CarryEach items) sent = item_lines n sent items.now
+sent_lines n _ sent = []
+
+-- The text about the pending transmission, if there is one.
+abbrev pub if_sent : Option Transmission → (Transmission → List ℕ) → List ℕ
+if_sent None text = []
+if_sent (Some sent) text = text sent
+
+-- A selection address of a terminal.
+abbrev pub place_shown : ℕ → ℕ → List ℕ
+place_shown t s = decimal t ++ codes "." ++ decimal s
+
+-- The doubt about the records on a channel.
+abbrev pub doubt_of : ℕ → Way → List ℕ
+doubt_of t FromTerminal = codes "the doubt from " ++ decimal t
+doubt_of t (ToTerminal s) = codes "the doubt to " ++ place_shown t s
+
+-- A record as text on one line, between bars.
+abbrev pub record_shown : List ℕ → List ℕ
+record_shown r = codes "|" ++ escaped r ++ codes "|"
+
+-- What is said of an event in which nothing is sent.
+abbrev pub mark : Asked → List ℕ
+mark (offer_at t r) = codes "offered at terminal " ++ decimal t ++ codes ": " ++ record_shown r
+mark (offer_for t s r) =
+    codes "offered for terminal " ++ place_shown t s ++ codes ": " ++ record_shown r
+mark silence = codes "silence"
+mark (ready t true) = codes "terminal " ++ decimal t ++ codes " is ready"
+mark (ready t false) = codes "terminal " ++ decimal t ++ codes " is not ready"
+mark (urgent_at t) = codes "terminal " ++ decimal t ++ codes " asks for the line"
+mark (urgent_for t) = codes "control asks terminal " ++ decimal t ++ codes " for the line"
+mark (release t way) = doubt_of t way ++ codes " is ended"
+mark _ = []
+
+-- The line for an event in which nothing is sent.
+abbrev pub mark_line : ℕ → Asked → List ℕ
+mark_line n asked = number_shown n ++ mark asked ++ codes "\n"
+
+-- The lines for an accepted event of a script, which is this event of the line.
+abbrev pub lines_of : ℕ → Asked → Event → LineValue → List ℕ
+lines_of n carry e old = if_sent old.pending (sent_lines n e)
+lines_of n lose e old = if_sent old.pending (sent_lines n e)
+lines_of n (heard given) e old = if_sent old.pending (sent_lines n e)
+lines_of n (heard_each items) e old = if_sent old.pending (sent_lines n e)
+lines_of n asked e old = mark_line n asked
+
+-- The text for the line of the script with this number, if there is a trace.
+abbrev pub if_traced : Option ℕ → (ℕ → List ℕ) → List ℕ
+if_traced None text = []
+if_traced (Some n) text = text n
+
+-- The number of a line, if there is a trace.
+abbrev pub number_if : Bool → ℕ → Option ℕ
+number_if tracing n = if tracing then Some n else None

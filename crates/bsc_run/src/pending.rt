@@ -1,0 +1,49 @@
+//! The line for the pending transmission.
+
+ghost use Rattle.std.specs.Prelude.{Some, OnOk};
+ghost use Rattle.std.specs.Io.KnownBytes.{Appends};
+ghost use Rattle.bsc_run.specs.Printed.{speaker_name, pending_line};
+
+use bsc_line::{Line, Speaker, Transmission};
+use bsc_print::{PrintError, put, write_name};
+use std::alloc::Allocator;
+use std::io::Write;
+
+/// Writes the sender of a transmission.
+pub(crate) fn write_speaker<W: Write>(speaker: Speaker, out: &mut W) -> Result<(), PrintError>
+    ensures { OnOk result
+        (Appends (W.contents out.old) (W.contents out.new) (speaker_name speaker)) }
+{
+    match speaker {
+        Speaker::Control => put(b"control", out),
+        Speaker::Terminal(terminal) => match write!(out, "terminal {terminal}") {
+            Ok(()) => Ok(()),
+            Err(_) => Err(PrintError::Output),
+        },
+    }
+}
+
+/// Writes the line for a transmission.
+fn write_sent<W: Write>(sent: &Transmission<'_>, out: &mut W) -> Result<(), PrintError>
+    ensures { OnOk result
+        (Appends (W.contents out.old) (W.contents out.new) (pending_line (Some sent.now))) }
+{
+    write_speaker(sent.speaker, out)?;
+    put(b" ", out)?;
+    write_name(&sent.message, out)?;
+    put(b"\n", out)
+}
+
+/// Writes the line for the pending transmission, or that none is pending.
+pub(crate) fn write_pending<A: Allocator, W: Write>(
+    line: &Line<A>,
+    out: &mut W,
+) -> Result<(), PrintError>
+    ensures { OnOk result
+        (Appends (W.contents out.old) (W.contents out.new) (pending_line line.now.pending)) }
+{
+    match line.pending() {
+        None => put(b"quiet\n", out),
+        Some(sent) => write_sent(&sent, out),
+    }
+}
