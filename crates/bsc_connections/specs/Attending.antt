@@ -409,13 +409,13 @@ module _ {S R W F M T : Type 0} (parts : SessionParts S R W F M T) where
     fails_to_wait : {old new : Now} {result : Result Bool LiveError}
         → FailsToWait old result new → Attends old [] new
 
-  -- So many steps lead from one state to another, and the station is attended further after each.
+  -- This many steps lead from one state to another, and the station is attended further after each.
   pub data GoesOn : ℕ → Now → Now → Type 0 where
     not_begun : {old new : Now} → new ≡ old → GoesOn 0 old new
     one_more : {steps : ℕ} {old mid new : Now} → GoesOn steps old mid
         → StepsOrFails mid (Ok true) new → GoesOn (steps + 1) old new
 
-  -- What ends a session of which so many steps are made: too many steps to count, or the first step
+  -- What ends a session of which this many steps are made: too many steps to count, or the first step
   -- after which the station is not attended further, by its result.
   abbrev pub EndsWith : ℕ → Now → Result (Unit {0}) LiveError → Now → Type 0
   EndsWith steps old result new =

@@ -15,8 +15,8 @@ use Rattle.bsc_run.specs.Plays.{Outside, Runs}
 -- records that arrived on a channel, as the report prints them, are the first of those that the
 -- accepted events of the script offered on it, in order and each once.
 pub record RunsScript {S : Type 0} (streams : Streams S) (tracing : Bool)
-    (config : ConfigValue) (steps : List NumberedEvent) (old : Outside S) (result : Result (Unit {0}) RunError)
-    (new : Outside S) : Type 0 where
+    (config : ConfigValue) (steps : List NumberedEvent) (old : Outside S)
+    (result : Result (Unit {0}) RunError) (new : Outside S) : Type 0 where
   pub begun : LineValue
   pub ended : LineValue
   pub new_line : IsNewLine config.setup config.terminals config.poll_list begun

@@ -29,8 +29,9 @@ use std::io::{Read, Write};
 /// event is refused. After `Output`, `Socket` and `Memory` there is no report, and what was written
 /// before stays.
 ///
-/// With `tracing` the lines of the trace for each accepted event are written to `trace`: what became
-/// of the transmission that was pending, or what the event is. Otherwise nothing is written there.
+/// With `tracing` the lines of the trace for each accepted event are written to `trace`: what
+/// became of the transmission that was pending, or what the event is. Otherwise nothing is written
+/// there.
 ///
 /// The events that were accepted are a run of the line, each with the octets that were read. So
 /// what `Line::run` promises holds of it: if the line is trusted at the end, the records that

@@ -101,8 +101,8 @@ module _ {S : Type 0} (streams : Streams S) (tracing : Bool) where
     pub before : CableValue S
     pub after : CableValue S
     pub connections : connection_count before ≡ length config.terminals
-    pub runs : RunsScript streams tracing config steps (record { cable = before; held = held }) result
-        (record { cable = after; held = holds })
+    pub runs : RunsScript streams tracing config steps (record { cable = before; held = held })
+        result (record { cable = after; held = holds })
 
   -- Both texts were read, and the events were run.
   pub record HasRun (paths : TextPaths) (result : Result (Unit {0}) RunError)
