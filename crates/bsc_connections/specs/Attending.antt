@@ -415,8 +415,8 @@ module _ {S R W F M T : Type 0} (parts : SessionParts S R W F M T) where
     one_more : {steps : ℕ} {old mid new : Now} → GoesOn steps old mid
         → StepsOrFails mid (Ok true) new → GoesOn (steps + 1) old new
 
-  -- What ends a session of which this many steps are made: too many steps to count, or the first step
-  -- after which the station is not attended further, by its result.
+  -- What ends a session of which this many steps are made: too many steps to count, or the first
+  -- step after which the station is not attended further, by its result.
   abbrev pub EndsWith : ℕ → Now → Result (Unit {0}) LiveError → Now → Type 0
   EndsWith steps old result new =
       ((steps ≡ 2 ^ 64 - 1) × (result ≡ Err Count) × (new ≡ old))
