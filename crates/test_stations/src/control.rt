@@ -1,14 +1,18 @@
 //! Tests of a control station by itself.
 
 mod exchange;
+mod made_again;
 
 use crate::control::exchange::Step::{
-    AsksForLine, At, GivesBack, Hears, Known, Owner, Polls, Release, Spooled, Takes,
+    AsksForLine, At, GivesBack, Hears, KeepsHi, Kept, Known, Owner, Polls, Recalls, Release,
+    Spooled, Takes,
 };
 use crate::control::exchange::{Exchange, play, play_each};
+use crate::control::made_again::{is_made_again, stop_each};
 use crate::hearing::{QUIET, SILENCE};
-use bsc_bid::{ReleaseError, Setup};
+use bsc_bid::{RecallError, ReleaseError, Setup};
 use bsc_control::{SetupError, Way};
+use std::alloc::Allocator;
 use std::test::Fail;
 use test_alloc::{Refusal, Refusing};
 use test_fixtures::lines::setup;
@@ -249,6 +253,16 @@ const REFUSED_GROWTHS: &[Exchange<'static>] = &[
         ],
     },
     Exchange {
+        shows: "a record that had arrived comes back without memory",
+        poll_list: &[0, 1],
+        steps: &[
+            KeepsHi(false),
+            Spooled(&[]),
+            KeepsHi(true),
+            Spooled(&[b"HI"]),
+        ],
+    },
+    Exchange {
         shows: "an offer without memory changes nothing",
         poll_list: &[0, 1],
         steps: &[
@@ -295,6 +309,149 @@ fn each_growth_of_a_new_station_is_refused_in_turn(rt: HostRuntime) -> Result<()
     for request in alloc.in_turn(Refusal::Nth, 1..99) {
         request?;
         assert!(rt; is_made_of_memory(&alloc, setup));
+    }
+    Ok(())
+}
+
+/// What is to be kept at each step of a bid.
+const KEPT: &[Exchange<'static>] = &[
+    Exchange {
+        shows: "an unanswered block is kept, and a held one is known",
+        poll_list: &[1, 0],
+        steps: &[
+            Takes(0, 0, &[EMPTY; 8]),
+            Takes(0, 1, &[b"HI"]),
+            Takes(1, 0, &[b"HI"]),
+            AsksForLine(1),
+            Hears(SILENCE, CALL_SELECT_B),
+            Hears(ACK0, TEXT_HI),
+            Hears(ACK1, CALL_POLL_B),
+            Hears(TEXT_HI, ACK1),
+            Hears(EOT, CALL_SELECT_A),
+            Kept(0, None),
+            Hears(ACK0, TEXT_FIRST_SEVEN),
+            Kept(0, Some(7)),
+            Hears(ACK1, TEXT_EMPTY),
+            Kept(7, Some(1)),
+            Hears(WACK, ENQ),
+            Kept(8, None),
+            Hears(ACK0, CALL_SELECT_C),
+            Hears(ACK0, TEXT_HI),
+            Hears(ACK1, CALL_POLL_A),
+            Hears(TEXT_LAST_SEVEN, ACK1),
+            Hears(SILENCE, CALL_POLL_B),
+            Kept(8, None),
+        ],
+    },
+    Exchange {
+        shows: "a doubt is kept until its release",
+        poll_list: &[0, 1],
+        steps: &[
+            Takes(0, 0, &[EMPTY; 8]),
+            Hears(SILENCE, CALL_SELECT_A),
+            Hears(ACK0, TEXT_FIRST_SEVEN),
+            Hears(SILENCE, ENQ),
+            Hears(SILENCE, ENQ),
+            Hears(SILENCE, ENQ),
+            Hears(SILENCE, CALL_POLL_A),
+            Kept(0, Some(7)),
+            Release(7, Ok(())),
+            Kept(7, None),
+        ],
+    },
+];
+
+/// What is recalled, and what is refused.
+const RECALLS: &[Exchange<'static>] = &[
+    Exchange {
+        shows: "what does not fit is refused and changes nothing",
+        poll_list: &[0, 1],
+        steps: &[
+            Takes(0, 0, &[EMPTY; 8]),
+            Recalls(9, None, Err(RecallError::Known)),
+            Recalls(0, Some(0), Err(RecallError::Doubt)),
+            Recalls(0, Some(8), Err(RecallError::Doubt)),
+            Recalls(2, Some(7), Err(RecallError::Doubt)),
+            Kept(0, None),
+            Recalls(8, None, Ok(())),
+            Kept(8, None),
+            Recalls(8, None, Err(RecallError::NotNew)),
+            Hears(SILENCE, CALL_POLL_A),
+        ],
+    },
+    Exchange {
+        shows: "a doubt about all that wait is recalled once",
+        poll_list: &[0, 1],
+        steps: &[
+            Takes(0, 0, &[EMPTY; 8]),
+            Recalls(1, Some(7), Ok(())),
+            Recalls(1, Some(7), Err(RecallError::NotNew)),
+            Hears(SILENCE, CALL_POLL_A),
+            Known(1, true),
+            Release(8, Ok(())),
+            Known(8, false),
+        ],
+    },
+    Exchange {
+        shows: "a control station that made a call is not new",
+        poll_list: &[0, 1],
+        steps: &[
+            Takes(0, 0, &[EMPTY; 8]),
+            Hears(SILENCE, CALL_SELECT_A),
+            Recalls(0, None, Err(RecallError::NotNew)),
+            Recalls(8, None, Err(RecallError::NotNew)),
+            Hears(ACK0, TEXT_FIRST_SEVEN),
+        ],
+    },
+    Exchange {
+        shows: "more records arrive after those that had arrived",
+        poll_list: &[0, 1],
+        steps: &[
+            KeepsHi(true),
+            Hears(SILENCE, CALL_POLL_A),
+            Hears(TEXT_EMPTY, ACK1),
+            Spooled(&[b"HI", EMPTY]),
+        ],
+    },
+];
+
+#[test]
+fn a_control_station_keeps_and_recalls(rt: HostRuntime) -> Result<(), Fail> {
+    play_each(rt.alloc(), setup(3)?, KEPT)?;
+    play_each(rt.alloc(), setup(3)?, RECALLS)?;
+    Ok(())
+}
+
+#[test]
+fn a_control_station_that_is_made_again_is_the_restarted_one(rt: HostRuntime) -> Result<(), Fail> {
+    stop_each(rt.alloc(), setup(3)?, POLLS)?;
+    stop_each(rt.alloc(), setup(3)?, SELECTIONS)?;
+    stop_each(rt.alloc(), setup(1)?, FAILURES)?;
+    stop_each(rt.alloc(), setup(3)?, KEPT)?;
+    Ok(())
+}
+
+/// Whether control stations that sent and received are made again exactly if no growth is refused,
+/// and a new one is refused with `Memory`.
+fn are_made_again_of_memory<A: Allocator + Copy>(plain: A, alloc: &Refusing, setup: Setup) -> bool {
+    for exchange in KEPT {
+        let before = alloc.refused();
+        let made = is_made_again(plain, alloc, setup, exchange);
+        let expected = alloc.refused() == before;
+        if made != Ok(expected) && (expected || made != Err(SetupError::Memory)) {
+            return false;
+        }
+    }
+    true
+}
+
+#[test]
+fn each_growth_of_a_station_made_again_is_refused_in_turn(rt: HostRuntime) -> Result<(), Fail> {
+    let alloc = Refusing::new(rt.alloc());
+    let setup = setup(3)?;
+    for request in alloc.in_turn(Refusal::Nth, 1..99) {
+        request?;
+        assert!(rt; are_made_again_of_memory(rt.alloc(), &alloc, setup));
     }
     Ok(())
 }

@@ -4,7 +4,7 @@ ghost use Rattle.std.specs.Prelude.{◌<◌, IsTrue, length};
 ghost use Rattle.bsc_control.specs.Control.{peer_at};
 
 use crate::hearing::sends;
-use bsc_bid::{ReleaseError, Setup, Station};
+use bsc_bid::{KeptSender, RecallError, ReleaseError, Setup, Station};
 use bsc_block::Record;
 use bsc_control::{Control, Replied, SetupError, Task, Way};
 use bsc_frame::Address;
@@ -12,8 +12,8 @@ use std::alloc::Allocator;
 use test_fixtures::lines::two_terminals_by_three;
 use test_fixtures::records::are_records;
 
-/// A step of an exchange. Releases and known records are those of the first selection address of
-/// terminal 0.
+/// A step of an exchange. Releases, known records, and what is kept and recalled are those of the
+/// first selection address of terminal 0.
 pub(crate) enum Step<'a> {
     /// The station hears the first octets, or a silence if there are none, and sends the second, or
     /// nothing.
@@ -24,6 +24,16 @@ pub(crate) enum Step<'a> {
 
     /// A record for the first selection address of terminal 0 is refused and returned unchanged.
     GivesBack(&'a [u8]),
+
+    /// The record HI had arrived from terminal 0; true if it is accepted, false if it is returned
+    /// unchanged.
+    KeepsHi(bool),
+
+    /// What is to be kept: the number of known records, and the records of a doubtful block.
+    Kept(usize, Option<usize>),
+
+    /// What was kept, in the same form, is recalled, with this answer.
+    Recalls(usize, Option<usize>, Result<(), RecallError>),
 
     /// The control station asks this terminal for the line.
     AsksForLine(usize),
@@ -60,7 +70,11 @@ pub(crate) struct Exchange<'a> {
 }
 
 /// Whether the control station has this selection address.
-fn has_address<A: Allocator>(control: &Control<A>, terminal: usize, select: usize) -> bool
+pub(crate) fn has_address<A: Allocator>(
+    control: &Control<A>,
+    terminal: usize,
+    select: usize,
+) -> bool
     ensures terminal { IsTrue result → terminal < length control.now.peers }
     ensures select { IsTrue result → select < length (peer_at control.now terminal).outbounds }
 {
@@ -99,6 +113,41 @@ fn takes<A: Allocator>(
         }
     }
     true
+}
+
+/// Adds the record HI to those that arrived from terminal 0. Returns whether it is accepted or
+/// returned unchanged; None if there is no terminal, or another record is returned.
+fn keeps_hi<A: Allocator>(control: &mut Control<A>) -> Option<bool> {
+    let record = Record::read(b"HI", 80).ok()?;
+    if control.terminals() == 0 {
+        return None;
+    }
+    match control.keep_arrived(0, record) {
+        Ok(()) => Some(true),
+        Err(record) if record.chars() == b"HI".as_slice() => Some(false),
+        Err(_) => None,
+    }
+}
+
+/// Returns what is to be kept of the first selection address of terminal 0; None if there is no
+/// such address.
+fn kept<A: Allocator>(control: &Control<A>) -> Option<KeptSender> {
+    if !has_address(control, 0, 0) {
+        return None;
+    }
+    Some(control.kept(0, 0))
+}
+
+/// Lets the first selection address of terminal 0 recall what was kept, and returns the answer;
+/// None if there is no such address.
+fn recalled<A: Allocator>(
+    control: &mut Control<A>,
+    kept: KeptSender,
+) -> Option<Result<(), RecallError>> {
+    if !has_address(control, 0, 0) {
+        return None;
+    }
+    Some(control.recall(0, 0, kept))
 }
 
 /// Asks a terminal for the line, and returns whether there is such a terminal.
@@ -149,6 +198,21 @@ fn goes<A: Allocator>(control: &mut Control<A>, step: &Step<'_>) -> bool {
         Step::Hears(heard, sent) => sends(control, heard, sent),
         Step::Takes(terminal, select, records) => takes(control, *terminal, *select, records),
         Step::GivesBack(chars) => offers(control, 0, 0, chars) == Some(false),
+        Step::KeepsHi(taken) => keeps_hi(control) == Some(*taken),
+        Step::Kept(known, doubt) => {
+            let expected = KeptSender {
+                known: *known,
+                doubt: *doubt,
+            };
+            kept(control) == Some(expected)
+        }
+        Step::Recalls(known, doubt, answer) => {
+            let kept = KeptSender {
+                known: *known,
+                doubt: *doubt,
+            };
+            recalled(control, kept) == Some(*answer)
+        }
         Step::AsksForLine(terminal) => asks_for_line(control, *terminal),
         Step::Release(count, answer) => released(control, *count) == Some(*answer),
         Step::Known(count, in_doubt) => known(control) == Some((*count, *in_doubt)),
@@ -167,7 +231,10 @@ fn goes<A: Allocator>(control: &mut Control<A>, step: &Step<'_>) -> bool {
 }
 
 /// The place of the first step with another result.
-fn wrong_step<A: Allocator>(control: &mut Control<A>, steps: &[Step<'_>]) -> Option<usize> {
+pub(crate) fn wrong_step<A: Allocator>(
+    control: &mut Control<A>,
+    steps: &[Step<'_>],
+) -> Option<usize> {
     for (place, step) in steps.iter().enumerate() {
         if !goes(control, step) {
             return Some(place);

@@ -1,11 +1,11 @@
 //! Exchanges of a terminal as tables.
 
-ghost use Rattle.std.specs.Prelude.{◌≡◌, ◌≤◌, ◌<◌, IfOk, length};
+ghost use Rattle.std.specs.Prelude.{◌≡◌, length};
 
 use crate::hearing::sends;
-use bsc_bid::{ReleaseError, Setup, Station};
+use bsc_bid::{KeptSender, RecallError, ReleaseError, Setup, Station};
 use bsc_block::Record;
-use bsc_tributary::{Tributary, addresses_differ};
+use bsc_tributary::Tributary;
 use std::alloc::Allocator;
 use test_fixtures::lines::{setup, two_terminals_by_three};
 use test_fixtures::records::are_records;
@@ -15,6 +15,19 @@ pub(crate) enum Step<'a> {
     /// The terminal hears the first octets, or a silence if there are none, and sends the second,
     /// or nothing.
     Hears(&'a [u8], &'a [u8]),
+
+    /// These records are offered and accepted.
+    Takes(&'a [&'a [u8]]),
+
+    /// The record HI had arrived at the selection address of this number; true if it is accepted,
+    /// false if it is returned unchanged.
+    KeepsHi(usize, bool),
+
+    /// What is to be kept: the number of known records, and the records of a doubtful block.
+    Kept(usize, Option<usize>),
+
+    /// What was kept, in the same form, is recalled, with this answer.
+    Recalls(usize, Option<usize>, Result<(), RecallError>),
 
     /// The record HI is offered; true if it is accepted, false if it is returned unchanged.
     OfferHi(bool),
@@ -63,6 +76,56 @@ fn offers_hi<A: Allocator>(tributary: &mut Tributary<A>) -> Option<bool>
     }
 }
 
+/// Adds the record HI to those that arrived at the selection address of this number. Returns
+/// whether it is accepted or returned unchanged; None if there is no such address, or another
+/// record is returned.
+fn keeps_hi<A: Allocator>(tributary: &mut Tributary<A>, select: usize) -> Option<bool>
+    requires { length tributary.old.terminal.selects ≡ 2 }
+    ensures terminal { tributary.new.terminal ≡ tributary.old.terminal }
+    ensures queue { tributary.new.queue ≡ tributary.old.queue }
+{
+    let record = Record::read(b"HI", 80).ok()?;
+    if select > 1 {
+        return None;
+    }
+    match tributary.keep_arrived(select, record) {
+        Ok(()) => Some(true),
+        Err(record) if record.chars() == b"HI".as_slice() => Some(false),
+        Err(_) => None,
+    }
+}
+
+/// Recalls what was kept, and returns the answer.
+fn recalled<A: Allocator>(
+    tributary: &mut Tributary<A>,
+    known: usize,
+    doubt: Option<usize>,
+) -> Result<(), RecallError>
+    requires { tributary.old.queue.format.full ≡ 80 }
+    ensures terminal { tributary.new.terminal ≡ tributary.old.terminal }
+    ensures full { tributary.new.queue.format.full ≡ 80 }
+{
+    tributary.recall(KeptSender { known, doubt })
+}
+
+/// Offers these records, and returns whether each is accepted.
+fn takes<A: Allocator>(tributary: &mut Tributary<A>, records: &[&[u8]]) -> bool
+    requires selects { length tributary.old.terminal.selects ≡ 2 }
+    requires full { tributary.old.queue.format.full ≡ 80 }
+    ensures selects { length tributary.new.terminal.selects ≡ 2 }
+    ensures full { tributary.new.queue.format.full ≡ 80 }
+{
+    for chars in records {
+        let Ok(record) = Record::read(chars, 80) else {
+            return false;
+        };
+        if tributary.offer(record).is_err() {
+            return false;
+        }
+    }
+    true
+}
+
 /// Whether exactly these records arrived at the selection address of this number, 0 or 1.
 fn has_spooled<A: Allocator>(tributary: &Tributary<A>, select: usize, records: &[&[u8]]) -> bool
     requires { length tributary.now.terminal.selects ≡ 2 }
@@ -79,6 +142,16 @@ fn goes<A: Allocator>(tributary: &mut Tributary<A>, step: &Step<'_>) -> bool
 {
     match step {
         Step::Hears(heard, sent) => sends(tributary, heard, sent),
+        Step::Takes(records) => takes(tributary, records),
+        Step::KeepsHi(select, taken) => keeps_hi(tributary, *select) == Some(*taken),
+        Step::Kept(known, doubt) => {
+            let kept = KeptSender {
+                known: *known,
+                doubt: *doubt,
+            };
+            tributary.kept() == kept
+        }
+        Step::Recalls(known, doubt, answer) => recalled(tributary, *known, *doubt) == *answer,
         Step::OfferHi(taken) => offers_hi(tributary) == Some(*taken),
         Step::Ready(ready) => {
             tributary.set_ready(*ready);
@@ -98,9 +171,14 @@ fn goes<A: Allocator>(tributary: &mut Tributary<A>, step: &Step<'_>) -> bool
 }
 
 /// The place of the first step with another result.
-fn wrong_step<A: Allocator>(tributary: &mut Tributary<A>, steps: &[Step<'_>]) -> Option<usize>
+pub(crate) fn wrong_step<A: Allocator>(
+    tributary: &mut Tributary<A>,
+    steps: &[Step<'_>],
+) -> Option<usize>
     requires selects { length tributary.old.terminal.selects ≡ 2 }
     requires full { tributary.old.queue.format.full ≡ 80 }
+    ensures selects { length tributary.new.terminal.selects ≡ 2 }
+    ensures full { tributary.new.queue.format.full ≡ 80 }
 {
     for (place, step) in steps.iter().enumerate() {
         if !goes(tributary, step) {
