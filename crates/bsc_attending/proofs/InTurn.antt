@@ -1,5 +1,5 @@
 -- Texts in turn: one more text, all of them, and one that fails.
-use Rattle.std.proofs.Common.{◌≡◌, ◌<◌, ◌≤◌, ◌+◌, ◌++◌, ℕ, List, [], ◌∷◌, take, map, length}
+use Rattle.std.proofs.Common.{◌<◌, ◌≤◌, ◌+◌, ◌++◌, ℕ, List, [], ◌∷◌, take, map, length}
 use Rattle.std.proofs.Common.{get_or, sym, subst, ap, refl, ◌∙◌}
 use Rattle.std.proofs.lemmas.List.{take_more, take_all, take-map, map-append, length-map, get_or-map}
 use Rattle.bsc_attending.specs.Offering.{InTurn, FailsInTurn}

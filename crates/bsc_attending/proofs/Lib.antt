@@ -1,2 +1,3 @@
 mod InTurn
 mod Prepared
+mod Outcomes

@@ -1,16 +1,11 @@
--- The options, the configuration, and then the station.
-use Rattle.std.proofs.Common.{◌≡◌, ℕ, List, Option, Result, Ok, Err, IfOk, IfErr, inr}
+-- The configuration, and then the station.
+use Rattle.std.proofs.Common.{ℕ, List, Option, Result, Ok, Err, IfOk, IfErr, inr}
 use Rattle.bsc_asked.specs.StationWords.{AskedWords}
 use Rattle.bsc_config.specs.Settings.{ConfigValue}
-use Rattle.bsc_options.specs.Admission.{IsAdmission}
-use Rattle.bsc_options.specs.Settings.{SettingsValue, settings_in}
-use Rattle.bsc_options.specs.declared.admission.Admission.{Admission}
 use Rattle.bsc_options.specs.declared.settings.Role.{Role}
-use Rattle.bsc_attending.specs.Errors.{IsEarly}
-use Rattle.bsc_attending.specs.Preparing.{HasFailedEarly, HasNoStation, IsPrepared, IsStationOf}
-use Rattle.bsc_attending.specs.Preparing.{IsUnprepared, ReadsConfig}
+use Rattle.bsc_attending.specs.Preparing.{HasNoStation, IsPrepared, IsStationOf, IsUnprepared}
+use Rattle.bsc_attending.specs.Preparing.{ReadsConfig}
 use Rattle.bsc_attending.specs.declared.error.AttendingError.{AttendingError}
-use Rattle.bsc_attending.specs.declared.error.AttendingError.TheVariants as attending
 use Rattle.bsc_attending.specs.declared.preparing.Prepared.{Prepared}
 
 module _ (w : AskedWords) (role : Role) (peers : ℕ) (input middle : Option (List ℕ))
@@ -30,48 +25,3 @@ module _ (w : AskedWords) (role : Role) (peers : ℕ) (input middle : Option (Li
   is_unprepared (Ok prepared) refused = tt
   is_unprepared (Err error) refused =
       inr (record { config = config; middle = middle; reads = reads; refused = refused })
-
--- what an early error says, once the options were read
-pub has_failed : (w : AskedWords) (input : Option (List ℕ)) (settings : SettingsValue)
-    (read : settings_in w ≡ Ok settings) (admission : Admission)
-    (admitted : IsAdmission w (Ok admission)) (result : Result (Unit {0}) AttendingError)
-    → IfErr result (λ error. IsEarly error
-    → IsUnprepared w settings.role admission.peers.terminals input error)
-    → IfErr result (HasFailedEarly w input)
-has_failed w input s read a admitted (Ok done) early = tt
-has_failed w input s read a admitted (Err (attending.Options why)) early = inr (record {
-  settings = s;
-  read = read;
-  admission = a;
-  admitted = admitted;
-  unprepared = early tt;
-})
-has_failed w input s read a admitted (Err (attending.Text error)) early = record {
-  settings = s;
-  read = read;
-  admission = a;
-  admitted = admitted;
-  unprepared = early tt;
-}
-has_failed w input s read a admitted (Err (attending.Config error)) early = record {
-  settings = s;
-  read = read;
-  admission = a;
-  admitted = admitted;
-  unprepared = early tt;
-}
-has_failed w input s read a admitted (Err (attending.Offer path error)) early = record {
-  settings = s;
-  read = read;
-  admission = a;
-  admitted = admitted;
-  unprepared = early tt;
-}
-has_failed w input s read a admitted (Err (attending.Connections error)) early = tt
-has_failed w input s read a admitted (Err (attending.Closed error)) early = tt
-has_failed w input s read a admitted (Err attending.NotTrusted) early = tt
-has_failed w input s read a admitted (Err attending.InDoubt) early = tt
-has_failed w input s read a admitted (Err attending.Undelivered) early = tt
-has_failed w input s read a admitted (Err attending.Output) early = tt
-has_failed w input s read a admitted (Err attending.Unprinted) early = tt
-has_failed w input s read a admitted (Err attending.Memory) early = tt

@@ -1,14 +1,24 @@
--- What a station leaves when it ends, and what it knows of its connections when it begins.
-use Rattle.std.specs.Prelude.{◌≡◌, ◌⊎◌, ℕ, zero, suc, Option, Some, None, Result, Ok, Err}
+-- What a station leaves when it ends, what it prints then, and its result; and what it knows of its
+-- connections when it begins.
+use Rattle.std.specs.Prelude.{◌≡◌, ◌⊎◌, ◌++◌, ℕ, zero, suc, List, length, Option, Some, None}
+use Rattle.std.specs.Prelude.{Result, Err, IsErrAnd}
+use Rattle.std.specs.Io.KnownBytes.{Appends}
 use Rattle.std.specs.declared.net.ip_addr.IpAddr.{IpAddr}
+use Rattle.bsc_control.specs.Control.{peer_at}
+use Rattle.bsc_monitor.specs.Ends.{control_end, station_standing, terminal_end}
+use Rattle.bsc_monitor.specs.Printed.{station_report}
+use Rattle.bsc_monitor.specs.TrustReport.{trust_report}
 use Rattle.bsc_monitor.specs.declared.standing.Standing.{Standing}
+use Rattle.bsc_print.specs.declared.form.Form.{Form}
 use Rattle.bsc_trust.specs.Trust.{after_joined}
 use Rattle.bsc_trust.specs.declared.trust.Trust.{Trust}
 use Rattle.bsc_attending.specs.declared.error.AttendingError.{AttendingError}
 use Rattle.bsc_attending.specs.declared.error.AttendingError.TheVariants as attending
+use Rattle.bsc_attending.specs.declared.preparing.Prepared.{Prepared}
+use Rattle.bsc_attending.specs.declared.preparing.Prepared.TheVariants as prepared
 use Rattle.bsc_attending.specs.declared.stations.Left.{Left}
 use Rattle.bsc_attending.specs.declared.stations.Left.TheVariants.{Control, Terminal}
-use Rattle.bsc_attending.specs.Errors.{IsPrintFault, control_outcome_of, outcome_of}
+use Rattle.bsc_attending.specs.Errors.{IsCutShort, IsPrintFault, control_outcome_of, outcome_of}
 
 -- What is known of the connections at the first places, this many, was told in their order, each
 -- with its peer, if its address is known.
@@ -18,6 +28,35 @@ JoinsFirst (suc place) old new =
     (mid : Trust) × JoinsFirst place old mid
     × ((peer : Option IpAddr) × (new ≡ after_joined mid place peer))
 
+-- A station leaves what one of its kind leaves.
+abbrev pub IsLeftBy : Prepared → Left → Type 0
+IsLeftBy (prepared.Control control) (Control trust) = Unit {0}
+IsLeftBy (prepared.Terminal terminal) (Terminal closed) = Unit {0}
+IsLeftBy station left = ⊥
+
+-- The report of a station, with the records that arrived in a form, or without them.
+abbrev pub report_of : Option Form → Prepared → List ℕ
+report_of form (prepared.Control c) =
+    station_report form (λ t. length (peer_at c t).outbounds) (λ t. t) (control_end c)
+    (length c.peers)
+report_of form (prepared.Terminal l) =
+    station_report form (λ _. length l.tributary.terminal.selects) (λ _. l.number)
+    (λ _ way. terminal_end l.tributary way) 1
+
+-- What a station prints at its end: its report, and after that of a control station what this can
+-- tell of its line.
+abbrev pub ending_text : Option Form → Prepared → Left → List ℕ
+ending_text form station (Control trust) = report_of form station ++ trust_report trust
+ending_text form station (Terminal closed) = report_of form station
+
+-- The state of the channels on which a station sends.
+abbrev pub standing_in : Prepared → Standing
+standing_in (prepared.Control c) =
+    station_standing (λ t. length (peer_at c t).outbounds) (control_end c) (length c.peers)
+standing_in (prepared.Terminal l) =
+    station_standing (λ _. length l.tributary.terminal.selects)
+    (λ _ way. terminal_end l.tributary way) 1
+
 -- The result of a station that left this, in this state of the channels on which it sends. The
 -- fault that closed the connection of a terminal comes first.
 abbrev pub result_of : Left → Standing → Result (Unit {0}) AttendingError
@@ -25,12 +64,39 @@ result_of (Control trust) standing = control_outcome_of trust standing
 result_of (Terminal (Some error)) standing = Err (attending.Closed error)
 result_of (Terminal None) standing = outcome_of standing
 
--- The report was not printed.
-abbrev pub IsUnreported : Result (Unit {0}) AttendingError → Type 0
-IsUnreported (Ok done) = ⊥
-IsUnreported (Err error) = IsPrintFault error
+-- The report of a station was appended, and this is the state of the channels on which it sends.
+abbrev pub ReportsIn : Option Form → Prepared → Option (List ℕ) → Option (List ℕ)
+    → Standing → Type 0
+ReportsIn form station old new standing =
+    (standing ≡ standing_in station) × Appends old new (report_of form station)
 
--- The report was not printed, or the result is that of what the station left.
-abbrev pub IsConcluded : Left → Result (Unit {0}) AttendingError → Type 0
-IsConcluded left result =
-    IsUnreported result ⊎ ((standing : Standing) × (result ≡ result_of left standing))
+-- What a station prints at its end was appended, and the result is that of the state in which it
+-- ended and of what it left.
+pub record Concludes (form : Option Form) (ended : Prepared) (left : Left)
+    (result : Result (Unit {0}) AttendingError) (old new : Option (List ℕ)) : Type 0 where
+  pub printed : Appends old new (ending_text form ended left)
+  pub result_is : result ≡ result_of left (standing_in ended)
+
+-- The report was not printed, or the station concluded.
+abbrev pub IsConcluded : Option Form → Prepared → Left → Result (Unit {0}) AttendingError
+    → Option (List ℕ) → Option (List ℕ) → Type 0
+IsConcluded form ended left result old new =
+    IsErrAnd result IsPrintFault ⊎ Concludes form ended left result old new
+
+-- For a writer, `contents` is what was written to it.
+module _ {W : Type 0} (contents : W → Option (List ℕ)) where
+  -- A station that began so ended in this state, and concluded: what it prints at its end was the
+  -- last that was written.
+  pub record HasEnded (form : Option Form) (begun ended : Prepared)
+      (result : Result (Unit {0}) AttendingError) (new : W) : Type 0 where
+    pub left : Left
+    pub leaves : IsLeftBy begun left
+    pub keeps : IsLeftBy ended left
+    pub before : W
+    pub concludes : Concludes form ended left result (contents before) (contents new)
+
+  -- A station was cut short, or ended.
+  abbrev pub HasRun : Option Form → Prepared → Prepared → Result (Unit {0}) AttendingError → W
+      → Type 0
+  HasRun form begun ended result new =
+      IsErrAnd result IsCutShort ⊎ HasEnded form begun ended result new

@@ -94,6 +94,24 @@ IsLate attending.Unprinted = Unit {0}
 IsLate attending.Memory = Unit {0}
 IsLate _ = ⊥
 
+-- The errors that end a station before it has ended by itself: no connections could be made, waiting
+-- for them failed, something could not be printed, or memory ran out.
+abbrev pub IsCutShort : AttendingError → Type 0
+IsCutShort (attending.Connections error) = Unit {0}
+IsCutShort attending.Output = Unit {0}
+IsCutShort attending.Unprinted = Unit {0}
+IsCutShort attending.Memory = Unit {0}
+IsCutShort _ = ⊥
+
+-- The errors after which nothing is promised of a report: all but those that say in which state the
+-- station ended.
+abbrev pub IsUnended : AttendingError → Type 0
+IsUnended (attending.Closed error) = ⊥
+IsUnended attending.NotTrusted = ⊥
+IsUnended attending.InDoubt = ⊥
+IsUnended attending.Undelivered = ⊥
+IsUnended _ = Unit {0}
+
 -- The result of a station that ended in this state. Doubt comes before undelivered records.
 abbrev pub outcome_of : Standing → Result (Unit {0}) AttendingError
 outcome_of standing =

@@ -1,5 +1,5 @@
--- What is read before a station makes its connections: its station of the configuration, with its
--- records; and what an error says of that.
+-- What is read before a station makes its connections: the options, and its station of the
+-- configuration, with its records; and what an error says of that.
 use Rattle.std.specs.Prelude.{◌≡◌, ◌≢◌, ◌⊎◌, ◌≤◌, ◌<◌, ℕ, List, length, slice_index_or, Option}
 use Rattle.std.specs.Prelude.{Ok, Err, codes}
 use Rattle.bsc_asked.specs.StationWords.{AskedWords}
@@ -12,7 +12,6 @@ use Rattle.bsc_input.specs.Texts.{IsReadError, IsTextAt}
 use Rattle.bsc_monitor.specs.LineTerminal.{LineTerminalValue}
 use Rattle.bsc_options.specs.Admission.{IsAdmission}
 use Rattle.bsc_options.specs.Settings.{SettingsValue, settings_in}
-use Rattle.bsc_options.specs.declared.admission.Admission.{Admission}
 use Rattle.bsc_options.specs.declared.error.OptionError.{OptionError}
 use Rattle.bsc_options.specs.declared.error.OptionError.TheVariants as option
 use Rattle.bsc_options.specs.declared.settings.Role.{Role}
@@ -134,14 +133,12 @@ abbrev pub IsUnprepared : AskedWords → Role → ℕ → Option (List ℕ) → 
 IsUnprepared w role peers input error =
     HasNoConfig w.config input error ⊎ IsStationRefused w role peers input error
 
--- The options could be read, and then the station could not be prepared, with this error.
-pub record IsUnpreparedFor (w : AskedWords) (input : Option (List ℕ)) (error : AttendingError)
-    : Type 0 where
-  pub settings : SettingsValue
-  pub read : settings_in w ≡ Ok settings
-  pub admission : Admission
-  pub admitted : IsAdmission w (Ok admission)
-  pub unprepared : IsUnprepared w settings.role admission.peers.terminals input error
+-- The station that the options select was prepared with its records: what comes before its
+-- connections was done.
+pub record IsBegun (w : AskedWords) (role : Role) (input : Option (List ℕ)) : Type 0 where
+  pub after : Option (List ℕ)
+  pub begun : Prepared
+  pub prepared : IsPrepared w role input after begun
 
 -- The options are refused for this reason: their settings, or after them the peers.
 abbrev pub IsRefusedBy : AskedWords → OptionError → Type 0
@@ -149,13 +146,7 @@ IsRefusedBy w why =
     (settings_in w ≡ Err why)
     ⊎ ((settings : SettingsValue) × (settings_in w ≡ Ok settings) × IsAdmission w (Err why))
 
--- What an error says that comes before connections are made. The options are read first, then the
--- configuration, and then the records.
-abbrev pub HasFailedEarly : AskedWords → Option (List ℕ) → AttendingError → Type 0
-HasFailedEarly w input (attending.Options why) =
-    IsRefusedBy w why ⊎ IsUnpreparedFor w input (attending.Options why)
-HasFailedEarly w input (attending.Text error) = IsUnpreparedFor w input (attending.Text error)
-HasFailedEarly w input (attending.Config error) = IsUnpreparedFor w input (attending.Config error)
-HasFailedEarly w input (attending.Offer path error) =
-    IsUnpreparedFor w input (attending.Offer path error)
-HasFailedEarly w input _ = Unit {0}
+-- An error says that the options are refused, and why.
+abbrev pub IsOptionsRefused : AskedWords → AttendingError → Type 0
+IsOptionsRefused w (attending.Options why) = IsRefusedBy w why
+IsOptionsRefused w _ = ⊥

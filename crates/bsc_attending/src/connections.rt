@@ -2,7 +2,7 @@
 
 ghost use Rattle.std.specs.Prelude.{◌≡◌, IfErr, IfOk, Some, map, ℕ};
 ghost use Rattle.bsc_attending.specs.Framings.{ends_of, is_raw};
-ghost use Rattle.bsc_attending.specs.Errors.{IsLate};
+ghost use Rattle.bsc_attending.specs.Errors.{IsCutShort};
 
 use crate::{AttendingError, Network, Opened, Wanted};
 use bsc_bid::Station;
@@ -41,7 +41,7 @@ pub(crate) fn connect<H: Network>(
     machine: &mut H,
 ) -> Result<Connections<H::Reader, H::Writer, H::Waiter>, AttendingError>
     ensures framing { IfOk result (λ made. is_raw made.framed ≡ wanted.now.raw) }
-    ensures late { IfErr result IsLate }
+    ensures cut { IfErr result IsCutShort }
 {
     let Opened {
         waiter,
@@ -59,7 +59,7 @@ fn in_framing<R: Read + Drop, W: Write + Drop>(
 ) -> Result<Framed<R, W>, AttendingError>
     ensures framing { IfOk result (λ framed. is_raw framed ≡ raw) }
     ensures all { IfOk result (λ framed. ends_of framed ≡ map (λ d. Some d) directions.items) }
-    ensures late { IfErr result IsLate }
+    ensures cut { IfErr result IsCutShort }
 {
     if raw {
         let connections = connections_of(alloc, directions)?;
@@ -76,7 +76,7 @@ fn connections_of<R: Read + Drop, W: Write + Drop, F: Framing + Drop>(
 ) -> Result<Vec<Connection<R, W, F>>, AttendingError>
     ensures all { IfOk result (λ connections.
         map (λ c. c.ends) connections.items ≡ map (λ d. Some d) directions.items) }
-    ensures late { IfErr result IsLate }
+    ensures cut { IfErr result IsCutShort }
 {
     let mut connections = Vec::new(alloc);
     'directions: for direction in directions {

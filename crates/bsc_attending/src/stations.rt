@@ -1,12 +1,13 @@
 //! One station of a line: prepares it, makes its connections, and attends it until it ends.
 
-ghost use Rattle.std.specs.Prelude.{◌≡◌, IfErr};
+ghost use Rattle.std.specs.Prelude.{◌≡◌, IfErr, IfOk};
 ghost use Rattle.bsc_asked.specs.StationWords.{asked_words};
 ghost use Rattle.bsc_options.specs.Settings.{place_value, settings_value};
-ghost use Rattle.bsc_attending.specs.Ending.{IsConcluded, JoinsFirst};
-ghost use Rattle.bsc_attending.specs.Errors.{IsEarly, IsLate, IsPrintFault, control_outcome_of};
-ghost use Rattle.bsc_attending.specs.Errors.{outcome_of};
-ghost use Rattle.bsc_attending.specs.Preparing.{HasFailedEarly, IsUnprepared};
+ghost use Rattle.bsc_attending.specs.Ending.{HasRun, IsConcluded, IsLeftBy, JoinsFirst};
+ghost use Rattle.bsc_attending.specs.Ending.{ReportsIn};
+ghost use Rattle.bsc_attending.specs.Errors.{IsCutShort, IsEarly, IsLate, IsPrintFault};
+ghost use Rattle.bsc_attending.specs.Errors.{control_outcome_of, outcome_of};
+ghost use Rattle.bsc_attending.specs.Outcomes.{IsAnswer, IsAnswerFor, IsReported, IsReportedFor};
 ghost use Rattle.bsc_attending.specs.Wanted.{is_listening, wanted_value, wants};
 ghost use Rattle.bsc_trust.specs.Trust.{new_trust};
 
@@ -85,8 +86,9 @@ pub fn station<R: Read, H: Files + Network, W: Write>(
     out: &mut W,
 ) -> Result<(), AttendingError>
     ensures early { IfErr result (λ error. IsEarly error → out.new ≡ out.old) }
-    ensures failed { IfErr result
-        (HasFailedEarly (asked_words words.now) (R.remaining input.old)) }
+    ensures answers { IsAnswer (asked_words words.now) (R.remaining input.old) result }
+    ensures reported { IsReported W.contents (asked_words words.now) (R.remaining input.old) result
+        out.new }
 {
     let settings = read_settings(words)?;
     let admission = read_admission(words)?;
@@ -107,9 +109,11 @@ fn prepare_and_run<R: Read, H: Files + Network, W: Write>(
     out: &mut W,
 ) -> Result<(), AttendingError>
     ensures early { IfErr result (λ error. IsEarly error → out.new ≡ out.old) }
-    ensures failed { IfErr result (λ error. IsEarly error →
-        IsUnprepared (asked_words words.now) options.entry.settings.role
-        options.entry.admission.peers.terminals (R.remaining input.old) error) }
+    ensures answers { IsAnswerFor (asked_words words.now) options.entry.settings.role
+        options.entry.admission.peers.terminals (R.remaining input.old) result }
+    ensures reported { IsReportedFor W.contents (asked_words words.now)
+        options.entry.settings.role options.entry.settings.reported (R.remaining input.old) result
+        out.new }
 {
     let (role, peers) = (options.settings.role, options.admission.peers);
     let mut prepared = prepare(alloc, words, role, peers, input, machine)?;
@@ -124,7 +128,9 @@ fn run<H: Network, W: Write>(
     machine: &mut H,
     out: &mut W,
 ) -> Result<(), AttendingError>
-    ensures { IfErr result IsLate }
+    ensures late { IfErr result IsLate }
+    ensures ran { HasRun W.contents options.now.settings.reported prepared.old prepared.new result
+        out.new }
 {
     let reported = options.settings.reported;
     match open(alloc, options, prepared, machine, out) {
@@ -148,7 +154,8 @@ fn open<H: Network, W: Write>(
     machine: &mut H,
     out: &mut W,
 ) -> Result<Left, AttendingError>
-    ensures { IfErr result IsLate }
+    ensures cut { IfErr result IsCutShort }
+    ensures left { IfOk result (λ left. IsLeftBy prepared.old left × IsLeftBy prepared.new left) }
 {
     let wanted = wanted_by(options, prepared);
     let mut connections = connect(alloc, &wanted, machine)?;
@@ -206,7 +213,8 @@ fn attend<C: Attend, T: Timer + Drop, O: Write, D: Write>(
     connections: &mut C,
     watching: Watching<'_, T, O, D>,
 ) -> Result<Left, AttendingError>
-    ensures { IfErr result IsLate }
+    ensures cut { IfErr result IsCutShort }
+    ensures left { IfOk result (λ left. IsLeftBy prepared.old left × IsLeftBy prepared.new left) }
 {
     match prepared {
         Prepared::Control { control } => {
@@ -229,7 +237,7 @@ fn attend_control<C: Attend, T: Timer + Drop, O: Write, D: Write>(
     connections: &mut C,
     watching: Watching<'_, T, O, D>,
 ) -> Result<Trust, AttendingError>
-    ensures { IfErr result IsLate }
+    ensures { IfErr result IsCutShort }
 {
     let Watching {
         printing,
@@ -277,7 +285,7 @@ fn attend_terminal<C: Attend, T: Timer + Drop, O: Write, D: Write>(
     connections: &mut C,
     watching: Watching<'_, T, O, D>,
 ) -> Result<Option<CarrierError>, AttendingError>
-    ensures { IfErr result IsLate }
+    ensures { IfErr result IsCutShort }
 {
     let Watching {
         printing,
@@ -301,7 +309,8 @@ fn conclude<W: Write>(
     out: &mut W,
 ) -> Result<(), AttendingError>
     ensures late { IfErr result IsLate }
-    ensures concluded { IsConcluded left result }
+    ensures concluded { IsConcluded reported prepared.now left result
+        (W.contents out.old) (W.contents out.new) }
 {
     let standing = report(alloc, reported, prepared, out)?;
     match left {
@@ -323,8 +332,9 @@ fn report<W: Write>(
     prepared: &Prepared,
     out: &mut W,
 ) -> Result<Standing, AttendingError>
-    ensures late { IfErr result IsLate }
     ensures fault { IfErr result IsPrintFault }
+    ensures reported { IfOk result
+        (ReportsIn reported prepared.now (W.contents out.old) (W.contents out.new)) }
 {
     match prepared {
         Prepared::Control { control } => {

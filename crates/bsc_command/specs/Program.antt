@@ -1,10 +1,10 @@
 -- The output of the program for its work.
-use Rattle.std.specs.Prelude.{◌≡◌, ◌⊎◌, ℕ, Bool, List, [], Option, None, IfSome, IsSomeAnd}
+use Rattle.std.specs.Prelude.{◌≡◌, ◌⊎◌, ℕ, Bool, List, [], Option, None, IfSome, IsSomeAnd, Ok, Err}
 use Rattle.clap.specs.Words.{HasKind, Text as WordText, kind_of}
 use Rattle.clap.specs.declared.error.Error.{Error}
 use Rattle.bsc_asked.specs.StationWords.{AskedWords}
 use Rattle.bsc_asked.specs.Asked.{AskedValue, names, name, show, chart, run, station}
-use Rattle.bsc_attending.specs.Preparing.{HasFailedEarly}
+use Rattle.bsc_attending.specs.Outcomes.{IsAnswer}
 use Rattle.bsc_attending.specs.declared.error.AttendingError.TheVariants as attending
 use Rattle.bsc_chart.specs.Asked.{HasFailed as HasFailedDrawing, drawing_of}
 use Rattle.bsc_chart.specs.Inputs.{DrawsInput}
@@ -42,13 +42,13 @@ HasFailedLines (Naming error) detail input old new =
     IfSome input (λ octets. HasStopped detail error octets old new)
 HasFailedLines fault detail input old new = Unit {0}
 
--- What a fault of a station says that comes before it makes its connections. Wrong usage is that
--- options are refused, and is of the kind of the reason.
+-- What a fault of a station says: what is wrong before it makes its connections, or that it was
+-- prepared. Wrong usage is that options are refused, and is of the kind of the reason.
 abbrev pub HasFailedStation : Fault → AskedWords → Option (List ℕ) → Type 0
-HasFailedStation (Attending error) words input = HasFailedEarly words input error
+HasFailedStation (Attending error) words input = IsAnswer words input (Err error)
 HasFailedStation (Usage error) words input =
     (why : OptionError) × (kind_of error ≡ options_kind why)
-    × HasFailedEarly words input (attending.Options why)
+    × IsAnswer words input (Err (attending.Options why))
 HasFailedStation fault words input = Unit {0}
 
 -- What a fault of drawing a trace says: the line with this number is the first that is wrong or too
@@ -86,7 +86,7 @@ module _ {S : Type 0} (contents remaining : S → Option (List ℕ)) where
   IsDone (chart ascii width) input old new = IsCharted ascii width input old new
   IsDone (run config script check trace) input old new =
       HasDoneRun check trace (record { config = config; script = script; input = input }) old new
-  IsDone (station words) input old new = Unit {0}
+  IsDone (station words) input old new = IsAnswer words input (Ok tt)
 
   -- The run failed with this error. `told` and `tells` are as above.
   pub record HasFailedWith (error : RunningError) (check trace : Bool) (paths : TextPaths)

@@ -1,0 +1,122 @@
+-- What a station answers, by how it was prepared and how it ran.
+use Rattle.std.proofs.Common.{◌≡◌, ℕ, Bool, true, false, List, Option, Some, None, is_some}
+use Rattle.std.proofs.Common.{if◌then◌else◌, Result, Ok, Err, inl, inr, subst, sym}
+use Rattle.bsc_asked.specs.StationWords.{AskedWords}
+use Rattle.bsc_config.specs.Settings.{ConfigValue}
+use Rattle.bsc_monitor.specs.declared.standing.Standing.{Standing}
+use Rattle.bsc_options.specs.Settings.{SettingsValue, settings_in}
+use Rattle.bsc_options.specs.declared.settings.Role.{Role}
+use Rattle.bsc_options.specs.declared.settings.Role.TheVariants as role
+use Rattle.bsc_print.specs.declared.form.Form.{Form}
+use Rattle.bsc_trust.specs.declared.distrust.Distrust.{Distrust}
+use Rattle.bsc_attending.specs.Ending.{HasRun, IsLeftBy, result_of}
+use Rattle.bsc_attending.specs.Errors.{IsCutShort, IsPreparingError, IsUnended}
+use Rattle.bsc_attending.specs.Outcomes.{IsAnswerFor, IsReported, IsReportedFor, IsResultOf}
+use Rattle.bsc_attending.specs.Preparing.{IsPrepared, IsStationOf}
+use Rattle.bsc_attending.specs.declared.error.AttendingError.{AttendingError}
+use Rattle.bsc_attending.specs.declared.error.AttendingError.TheVariants as attending
+use Rattle.bsc_attending.specs.declared.preparing.Prepared.{Prepared}
+use Rattle.bsc_attending.specs.declared.preparing.Prepared.TheVariants as prepared
+use Rattle.bsc_attending.specs.declared.stations.Left.{Left}
+use Rattle.bsc_attending.specs.declared.stations.Left.TheVariants.{Control, Terminal}
+
+-- an error that cuts a station short is none of its end
+pub unended_if_cut : (e : AttendingError) → IsCutShort e → IsUnended e
+unended_if_cut (attending.Closed error) p = absurd p
+unended_if_cut attending.NotTrusted p = absurd p
+unended_if_cut attending.InDoubt p = absurd p
+unended_if_cut attending.Undelivered p = absurd p
+unended_if_cut error p = tt
+
+-- nor is one of preparing it
+pub unended_if_unprepared : (e : AttendingError) → IsPreparingError e → IsUnended e
+unended_if_unprepared (attending.Closed error) p = absurd p
+unended_if_unprepared attending.NotTrusted p = absurd p
+unended_if_unprepared attending.InDoubt p = absurd p
+unended_if_unprepared attending.Undelivered p = absurd p
+unended_if_unprepared error p = tt
+
+-- any station may be cut short
+cut_fits : (r : Role) (e : AttendingError) → IsCutShort e → IsResultOf r (Err e)
+cut_fits r (attending.Connections error) p = tt
+cut_fits r attending.Output p = tt
+cut_fits r attending.Unprinted p = tt
+cut_fits r attending.Memory p = tt
+cut_fits r error p = absurd p
+
+-- any station may end in any state of its channels
+outcome_fits : (r : Role) (doubt waiting : Bool)
+    → IsResultOf r (if doubt then Err attending.InDoubt
+    else (if waiting then Err attending.Undelivered else Ok tt))
+outcome_fits r true waiting = tt
+outcome_fits r false true = tt
+outcome_fits r false false = tt
+
+-- a control station may also not trust its line
+control_fits : (why : Option Distrust) (doubt waiting : Bool)
+    → IsResultOf role.Control (if is_some why then Err attending.NotTrusted
+    else (if doubt then Err attending.InDoubt
+    else (if waiting then Err attending.Undelivered else Ok tt)))
+control_fits (Some why) doubt waiting = tt
+control_fits None doubt waiting = outcome_fits role.Control doubt waiting
+
+-- the result of what a station left is one of its role
+left_fits : (config : ConfigValue) (offers : List (List ℕ)) (input after : Option (List ℕ))
+    (r : Role) (begun : Prepared) (left : Left) (standing : Standing)
+    → IsStationOf config r offers input after begun → IsLeftBy begun left
+    → IsResultOf r (result_of left standing)
+left_fits config offers input after role.Control (prepared.Control c) (Control trust) s p q =
+    control_fits trust.distrust s.doubt s.waiting
+left_fits config offers input after role.Control (prepared.Control c) (Terminal closed) s p q =
+    absurd q
+left_fits config offers input after role.Control (prepared.Terminal l) left s p q = absurd p
+left_fits config offers input after (role.Terminal n) (prepared.Control c) left s p q = absurd p
+left_fits config offers input after (role.Terminal n) (prepared.Terminal l) (Control trust) s p q =
+    absurd q
+left_fits config offers input after (role.Terminal n) (prepared.Terminal l) (Terminal None) s p q =
+    outcome_fits (role.Terminal n) s.doubt s.waiting
+left_fits config offers input after (role.Terminal n) (prepared.Terminal l) (Terminal (Some e)) s p q =
+    tt
+
+module _ (w : AskedWords) (r : Role) (input after : Option (List ℕ)) (begun : Prepared)
+    (prepared : IsPrepared w r input after begun)
+    {W : Type 0} (contents : W → Option (List ℕ)) (form : Option Form) (ended : Prepared)
+    (new : W) where
+  -- what a station answers that was prepared and has run
+  pub answer_after : (peers : ℕ) (result : Result (Unit {0}) AttendingError)
+      → HasRun contents form begun ended result new → IsAnswerFor w r peers input result
+  answer_after peers (Ok done) (inl cut) = absurd cut
+  answer_after peers (Err error) (inl cut) =
+      inr (record { after = after; begun = begun; prepared = prepared }, cut_fits r error cut)
+  answer_after peers result (inr ends) =
+      inr (
+        record { after = after; begun = begun; prepared = prepared },
+        subst (IsResultOf r) (sym ends.concludes.result_is)
+            (left_fits prepared.config w.offers prepared.middle after r begun ends.left _
+            prepared.station ends.leaves),
+      )
+
+  -- what it has printed
+  pub report_after : (result : Result (Unit {0}) AttendingError)
+      → HasRun contents form begun ended result new
+      → IsReportedFor contents w r form input result new
+  report_after (Ok done) (inl cut) = absurd cut
+  report_after (Err error) (inl cut) = inl (unended_if_cut error cut)
+  report_after result (inr ends) =
+      inr (record {
+        after = after;
+        begun = begun;
+        prepared = prepared;
+        ended = ended;
+        ends = ends;
+      })
+
+-- the options say which station it is and how its report is printed
+pub reported_by : (w : AskedWords) (input : Option (List ℕ)) (settings : SettingsValue)
+    (read : settings_in w ≡ Ok settings) {W : Type 0} (contents : W → Option (List ℕ)) (new : W)
+    (result : Result (Unit {0}) AttendingError)
+    → IsReportedFor contents w settings.role settings.reported input result new
+    → IsReported contents w input result new
+reported_by w input settings read contents new result (inl unended) = inl unended
+reported_by w input settings read contents new result (inr report) =
+    inr (record { settings = settings; read = read; report = report })

@@ -1,0 +1,82 @@
+-- What a station answers: that it could not be prepared, that it was cut short, or how it ended.
+use Rattle.std.specs.Prelude.{◌≡◌, ◌⊎◌, ℕ, List, Option, Result, Ok, Err, IsErrAnd}
+use Rattle.bsc_asked.specs.StationWords.{AskedWords}
+use Rattle.bsc_options.specs.Admission.{IsAdmission}
+use Rattle.bsc_options.specs.Settings.{SettingsValue, settings_in}
+use Rattle.bsc_options.specs.declared.admission.Admission.{Admission}
+use Rattle.bsc_options.specs.declared.settings.Role.{Role}
+use Rattle.bsc_options.specs.declared.settings.Role.TheVariants as role
+use Rattle.bsc_print.specs.declared.form.Form.{Form}
+use Rattle.bsc_attending.specs.Ending.{HasEnded}
+use Rattle.bsc_attending.specs.Errors.{IsUnended}
+use Rattle.bsc_attending.specs.Preparing.{IsBegun, IsOptionsRefused, IsPrepared, IsUnprepared}
+use Rattle.bsc_attending.specs.declared.error.AttendingError.{AttendingError}
+use Rattle.bsc_attending.specs.declared.error.AttendingError.TheVariants as attending
+use Rattle.bsc_attending.specs.declared.preparing.Prepared.{Prepared}
+
+-- The results of a station that was prepared. Only a control station tells that its line is not
+-- trusted, and only a terminal that its connection was closed by a fault.
+abbrev pub IsResultOf : Role → Result (Unit {0}) AttendingError → Type 0
+IsResultOf role (Ok done) = Unit {0}
+IsResultOf role (Err (attending.Connections error)) = Unit {0}
+IsResultOf (role.Terminal number) (Err (attending.Closed error)) = Unit {0}
+IsResultOf role.Control (Err attending.NotTrusted) = Unit {0}
+IsResultOf role (Err attending.InDoubt) = Unit {0}
+IsResultOf role (Err attending.Undelivered) = Unit {0}
+IsResultOf role (Err attending.Output) = Unit {0}
+IsResultOf role (Err attending.Unprinted) = Unit {0}
+IsResultOf role (Err attending.Memory) = Unit {0}
+IsResultOf role result = ⊥
+
+-- What a station answers whose options were read: the configuration or the station is refused, as
+-- the error says, or the station was prepared, and this is a result of it.
+abbrev pub IsAnswerFor : AskedWords → Role → ℕ → Option (List ℕ) → Result (Unit {0}) AttendingError
+    → Type 0
+IsAnswerFor w role peers input result =
+    IsErrAnd result (IsUnprepared w role peers input)
+    ⊎ (IsBegun w role input × IsResultOf role result)
+
+-- The options were read, and then the station answered this.
+pub record HasAnswered (w : AskedWords) (input : Option (List ℕ))
+    (result : Result (Unit {0}) AttendingError) : Type 0 where
+  pub settings : SettingsValue
+  pub read : settings_in w ≡ Ok settings
+  pub admission : Admission
+  pub admitted : IsAdmission w (Ok admission)
+  pub answer : IsAnswerFor w settings.role admission.peers.terminals input result
+
+-- What a station answers to these words. The options are read first, then the configuration, and
+-- then the records; only after these are connections made.
+abbrev pub IsAnswer : AskedWords → Option (List ℕ) → Result (Unit {0}) AttendingError → Type 0
+IsAnswer w input result =
+    IsErrAnd result (IsOptionsRefused w) ⊎ HasAnswered w input result
+
+-- For a writer, `contents` is what was written to it.
+module _ {W : Type 0} (contents : W → Option (List ℕ)) where
+  -- The station that the options select was prepared, and it ended: what it prints at its end was
+  -- the last that was written, and the result is that of the state in which it ended.
+  pub record HasReported (w : AskedWords) (role : Role) (form : Option Form)
+      (input : Option (List ℕ)) (result : Result (Unit {0}) AttendingError) (new : W)
+      : Type 0 where
+    pub after : Option (List ℕ)
+    pub begun : Prepared
+    pub prepared : IsPrepared w role input after begun
+    pub ended : Prepared
+    pub ends : HasEnded contents form begun ended result new
+
+  -- The station did not end, as the error says, or its report was printed.
+  abbrev pub IsReportedFor : AskedWords → Role → Option Form → Option (List ℕ)
+      → Result (Unit {0}) AttendingError → W → Type 0
+  IsReportedFor w role form input result new =
+      IsErrAnd result IsUnended ⊎ HasReported w role form input result new
+
+  -- The same, where the options say which station it is and how its report is printed.
+  pub record Reports (w : AskedWords) (input : Option (List ℕ))
+      (result : Result (Unit {0}) AttendingError) (new : W) : Type 0 where
+    pub settings : SettingsValue
+    pub read : settings_in w ≡ Ok settings
+    pub report : HasReported w settings.role settings.reported input result new
+
+  abbrev pub IsReported : AskedWords → Option (List ℕ) → Result (Unit {0}) AttendingError → W
+      → Type 0
+  IsReported w input result new = IsErrAnd result IsUnended ⊎ Reports w input result new
