@@ -224,7 +224,6 @@ module _ {S : Type 0} (contents remaining : S → Option (List ℕ)) where
     steps = p.steps;
     read = p.read;
     nothing = Keeps-trans a b c p.nothing k;
-    untraced = p.untraced;
   }
   run_kept false tracing paths a b c d e p k = has_run_kept tracing paths (Ok tt) a b c d e p k
 

@@ -1,3 +1,4 @@
 pub mod Keeping
 pub mod Outcomes
 pub mod Stations
+pub mod Traced

@@ -1,9 +1,12 @@
 //! The work of the program, over any reader, writer and machine.
 ghost use Rattle.std.specs.Prelude.{◌≡◌, ℕ, Bool, OnOk, IfErr, List, option_map, string_bytes};
-ghost use Rattle.std.specs.Prelude.{true};
+ghost use Rattle.std.specs.Prelude.{IsTrue, true};
 ghost use Rattle.bsc_asked.specs.Asked.{asked as asked_now, name as name_asked, run as run_asked};
 ghost use Rattle.bsc_command.specs.Faults.{IsEarly};
-ghost use Rattle.bsc_command.specs.Program.{HasFailedAs, IsDone, IsFaultOf};
+ghost use Rattle.bsc_command.specs.Program.{HasDoneRun, HasFailedAs, HasFailedWith, IsDone};
+ghost use Rattle.bsc_command.specs.Program.{IsFaultOf};
+ghost use Rattle.bsc_running.specs.Errors.{IsEarly as IsEarlyRunning};
+ghost use Rattle.bsc_running.specs.Running.{paths_of};
 
 use crate::Fault;
 use crate::fault::{attending_fault, chart_fault, running_fault};
@@ -12,7 +15,7 @@ use bsc_attending::{Network, station};
 use bsc_chart::{ChartWords, draw};
 use bsc_input::Files;
 use bsc_naming::{name, names, show};
-use bsc_running::{Cables, RunWords, run};
+use bsc_running::{Cables, RunWords, RunningError, run};
 use std::alloc::Global;
 use std::io::{Read, Write};
 
@@ -68,8 +71,7 @@ pub fn perform<R: Read, H: Files + Cables + Network, W: Write>(
                 check: *check,
                 trace: *trace,
             };
-            let mut trace = machine.trace();
-            match run(alloc, words, input, machine, out, &mut trace) {
+            match run_traced(alloc, words, input, machine, out) {
                 Ok(()) => Ok(()),
                 Err(error) => Err(running_fault(alloc, error)),
             }
@@ -79,6 +81,28 @@ pub fn perform<R: Read, H: Files + Cables + Network, W: Write>(
             Err(error) => Err(attending_fault(alloc, error)),
         },
     }
+}
+
+/// Runs a line, and writes its trace to that of the machine.
+fn run_traced<R: Read, H: Files + Cables + Network, W: Write>(
+    alloc: Global,
+    words: RunWords<'_>,
+    input: &mut R,
+    machine: &mut H,
+    out: &mut W,
+) -> Result<(), RunningError>
+    ensures early { IfErr result (λ error. IsEarlyRunning error → out.new ≡ out.old) }
+    ensures checked { IsTrue words.entry.check → out.new ≡ out.old }
+    ensures done { OnOk result (HasDoneRun H.Stream.contents H.Stream.remaining
+        words.entry.check words.entry.trace (paths_of words.entry (R.remaining input.old))
+        (W.contents out.old) (W.contents out.new)) }
+    ensures failed { IfErr result (λ error. HasFailedWith H.Stream.contents H.Stream.remaining
+        error words.entry.check words.entry.trace
+        (paths_of words.entry (R.remaining input.old)) (W.contents out.old)
+        (W.contents out.new)) }
+{
+    let mut trace = machine.trace();
+    run(alloc, words, input, machine, out, &mut trace)
 }
 
 /// Returns the width of a ladder as it was given.

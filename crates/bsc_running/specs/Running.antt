@@ -55,7 +55,6 @@ pub record IsChecked (paths : TextPaths) (held holds : Held) : Type 0 where
   pub steps : List NumberedEvent
   pub read : AreRead paths config steps
   pub nothing : Keeps held.out holds.out
-  pub untraced : Keeps held.trace holds.trace
 
 -- The configuration was read, and the script could not be.
 pub record IsScriptUnread (paths : TextPaths) (error : TextError) : Type 0 where
