@@ -1,6 +1,7 @@
 //! Words and standard input of the command, and its results.
 
 use crate::machine::{Case, Due, SILENT, first_wrong};
+use crate::words::NAME_HELP;
 use std::test::Fail;
 
 const CASES: &[Case] = &[
@@ -87,6 +88,43 @@ const CASES: &[Case] = &[
             out: "bscline 0.2.0\n",
             errors: "",
             status: 0,
+            asking: None,
+        },
+    },
+    Case {
+        words: Some(&["name", "--help"]),
+        input: Some(""),
+        takes: true,
+        scene: SILENT,
+        due: Due {
+            out: NAME_HELP,
+            errors: "",
+            status: 0,
+            asking: None,
+        },
+    },
+    Case {
+        words: Some(&["help", "name"]),
+        input: Some(""),
+        takes: true,
+        scene: SILENT,
+        due: Due {
+            out: NAME_HELP,
+            errors: "",
+            status: 0,
+            asking: None,
+        },
+    },
+    // Standard output does not accept the help.
+    Case {
+        words: Some(&["--help"]),
+        input: Some(""),
+        takes: false,
+        scene: SILENT,
+        due: Due {
+            out: "",
+            errors: "bscline: output fault\n",
+            status: 1,
             asking: None,
         },
     },

@@ -1,7 +1,7 @@
 //! A machine for tests, with two files, one scripted connection and no sockets, and commands
 //! that run on it.
 
-use crate::record::{Record, Sending, Tracer};
+use crate::record::{Output, Record, Sending, Tracer};
 use bsc_attending::{Network, Opened, Wanted};
 use bsc_carrier::Cable;
 use bsc_command::{Fault, command};
@@ -86,8 +86,8 @@ fn peer_by(number: u8) -> Option<IpAddr> {
 }
 
 /// Reports octets to read for each `r` of the steps, a gap for each `g`, another peer for each `j`,
-/// a time-out for each `t`, and that the station is asked to end for each `s`; after the last step
-/// there are always octets to read.
+/// a time-out for each `t`, and that the station is asked to end for each `s`, and fails at each
+/// `f`; after the last step there are always octets to read.
 #[derive(Drop)]
 pub(crate) struct Scripted<'a> {
     steps: &'static [u8],
@@ -139,6 +139,9 @@ impl<'a> Waiter<Pieces, Sending<'a>> for Scripted<'a> {
         if step == b's' {
             return Ok(Awaited::Stopped);
         }
+        if step == b'f' {
+            return Err(LiveError::Wait);
+        }
         Ok(Awaited::Octets { connection: 0 })
     }
 
@@ -180,6 +183,8 @@ impl<'a> Waiter<Pieces, Sending<'a>> for Scripted<'a> {
 /// What a station requested of its machine.
 #[derive(Clone, Copy, Debug, PartialEq, Eq)]
 pub(crate) struct Asking {
+    /// Whether the address is `h:1`.
+    pub(crate) at_h: bool,
     pub(crate) listens: bool,
     pub(crate) connections: usize,
     pub(crate) raw: bool,
@@ -190,6 +195,7 @@ pub(crate) struct Asking {
     pub(crate) patience: u64,
     pub(crate) replace_after: u64,
     pub(crate) pause: u64,
+    pub(crate) line_time_out: u64,
     pub(crate) trace: bool,
 
     /// Whether peer 1 may connect, whose address is 10.0.0.1.
@@ -213,6 +219,9 @@ pub(crate) struct Scene {
 
     /// Whether the disk of standard output fails.
     pub(crate) disk_fails: bool,
+
+    /// Why no connections can be made, if they cannot.
+    pub(crate) refusal: Option<SocketsError>,
 }
 
 /// A connection on which nothing arrives.
@@ -222,6 +231,7 @@ pub(crate) const SILENT: Scene = Scene {
     steps: b"",
     peer: 0,
     disk_fails: false,
+    refusal: None,
 };
 
 /// A machine with two configurations and one connection.
@@ -297,11 +307,12 @@ impl<'a> Network for Machine<'a> {
         &mut self,
         wanted: &Wanted<'_>,
     ) -> Result<Opened<Pieces, Sending<'a>, Scripted<'a>>, SocketsError> {
-        let listens = match wanted.place {
-            Place::Listen { .. } => true,
-            Place::Connect { .. } => false,
+        let (listens, address) = match wanted.place {
+            Place::Listen { address } => (true, address),
+            Place::Connect { address } => (false, address),
         };
         self.asking = Some(Asking {
+            at_h: address == "h:1",
             listens,
             connections: wanted.connections,
             raw: wanted.raw,
@@ -312,11 +323,15 @@ impl<'a> Network for Machine<'a> {
             patience: wanted.patience,
             replace_after: wanted.replace_after,
             pause: wanted.pause,
+            line_time_out: wanted.line_time_out,
             trace: wanted.trace,
             allows_one: allows(wanted, 1),
             allows_two: allows(wanted, 2),
             stops: wanted.stops,
         });
+        if let Some(refusal) = self.scene.refusal {
+            return Err(refusal);
+        }
         let reader = Pieces {
             left: self.scene.pieces,
             piece: b"",
@@ -349,35 +364,6 @@ impl<'a> Network for Machine<'a> {
 
     fn sync_output(&mut self) {
         self.record.syncs.set(true);
-    }
-}
-
-/// Standard output.
-#[derive(Drop)]
-struct Output<'a> {
-    octets: Vec<u8>,
-
-    /// Whether it accepts what is printed.
-    takes: bool,
-
-    /// Whether its disk fails.
-    disk_fails: bool,
-    record: &'a Record,
-}
-
-impl Write for Output<'_> {
-    fn write(&mut self, octets: &[u8]) -> io::Result<usize> {
-        if !self.takes {
-            return Err(Error::from(ErrorKind::StorageFull));
-        }
-        self.octets.write(octets)
-    }
-
-    fn flush(&mut self) -> io::Result<()> {
-        if self.disk_fails && self.record.syncs.get() {
-            return Err(Error::from(ErrorKind::StorageFull));
-        }
-        Ok(())
     }
 }
 

@@ -3,7 +3,7 @@
 use std::alloc::Global;
 use std::cell::{Cell, RefCell};
 use std::io;
-use std::io::Write;
+use std::io::{Error, ErrorKind, Write};
 
 /// What a command sent and what it printed as a trace.
 #[derive(Drop)]
@@ -68,6 +68,35 @@ impl Write for Tracer<'_> {
     }
 
     fn flush(&mut self) -> io::Result<()> {
+        Ok(())
+    }
+}
+
+/// Standard output.
+#[derive(Drop)]
+pub(crate) struct Output<'a> {
+    pub(crate) octets: Vec<u8>,
+
+    /// Whether it accepts what is printed.
+    pub(crate) takes: bool,
+
+    /// Whether its disk fails.
+    pub(crate) disk_fails: bool,
+    pub(crate) record: &'a Record,
+}
+
+impl Write for Output<'_> {
+    fn write(&mut self, octets: &[u8]) -> io::Result<usize> {
+        if !self.takes {
+            return Err(Error::from(ErrorKind::StorageFull));
+        }
+        self.octets.write(octets)
+    }
+
+    fn flush(&mut self) -> io::Result<()> {
+        if self.disk_fails && self.record.syncs.get() {
+            return Err(Error::from(ErrorKind::StorageFull));
+        }
         Ok(())
     }
 }

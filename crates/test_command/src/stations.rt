@@ -2,6 +2,7 @@
 //! docs/PROTOCOL.md.
 
 use crate::machine::{Asking, Case, Due, SILENT, Scene, first_wrong};
+use bsc_sockets::SocketsError;
 use std::test::Fail;
 
 /// What terminal 0 hears: a poll, which it answers with a text; ACK1; a selection; a text; EOT.
@@ -39,6 +40,9 @@ pub(crate) const ANSWERS: &[&[u8]] = &[
     b"\x00\x04\x16\x16\x04\xFF",
 ];
 
+/// A poll of terminal 0 as a socket record, and nothing after it.
+const POLLED: &[&[u8]] = &[b"\x00\x09\x16\x16\x04\xFF\x16\x16\xC1\x85\xFF"];
+
 /// The output of terminal 0 with a record to send, if it hears this.
 const TERMINAL: &str = "to 0: HI\nfrom 0: offered 1, known 1\nto 0: spooled 1\n";
 
@@ -48,6 +52,7 @@ to 1: offered 0, known 0\nslowest answer: 0% of the time-out\ntrusted\n";
 
 /// What a terminal that connects requests, without further options.
 pub(crate) const CONNECTING: Asking = Asking {
+    at_h: true,
     listens: false,
     connections: 1,
     raw: false,
@@ -58,6 +63,7 @@ pub(crate) const CONNECTING: Asking = Asking {
     patience: 3_000,
     replace_after: 9_000,
     pause: 20,
+    line_time_out: 3_000,
     trace: false,
     allows_one: true,
     allows_two: true,
@@ -66,6 +72,7 @@ pub(crate) const CONNECTING: Asking = Asking {
 
 /// What a control station that listens requests, without further options.
 pub(crate) const CONTROLLING: Asking = Asking {
+    at_h: true,
     listens: true,
     connections: 2,
     raw: false,
@@ -76,6 +83,7 @@ pub(crate) const CONTROLLING: Asking = Asking {
     patience: 3_000,
     replace_after: 9_000,
     pause: 20,
+    line_time_out: 3_000,
     trace: false,
     allows_one: true,
     allows_two: true,
@@ -147,6 +155,7 @@ const CASES: &[Case] = &[
                 gap: 7,
                 patience: 9,
                 replace_after: 27,
+                line_time_out: 9,
                 ..CONNECTING
             }),
             out: TERMINAL,
@@ -266,12 +275,39 @@ const CASES: &[Case] = &[
                 gap: 9,
                 patience: 40,
                 replace_after: 120,
+                line_time_out: 40,
                 ..CONNECTING
             }),
             out: "from 0: spooled 0\nto 0: offered 1, known 0\nfrom 1: spooled 0\n\
             to 1: offered 0, known 0\nslowest answer: none\ntrusted\n",
             errors: "bscline: records not delivered\n",
             status: 4,
+        },
+    },
+    // No answer to the text comes before the terminal gives up.
+    Case {
+        words: Some(&[
+            "station",
+            "line.toml",
+            "--terminal",
+            "0",
+            "--connect",
+            "h:1",
+            "--offer",
+            "-",
+        ]),
+        input: Some("HI\n"),
+        takes: true,
+        scene: Scene {
+            pieces: POLLED,
+            steps: b"rrtttttttt",
+            ..SILENT
+        },
+        due: Due {
+            asking: Some(CONNECTING),
+            out: "from 0: offered 1, known 0, in doubt\nto 0: spooled 0\n",
+            errors: "bscline: records in doubt\n",
+            status: 3,
         },
     },
     // The time-out of a control station is longer than that of a terminal, 17 times here: it does
@@ -301,6 +337,7 @@ const CASES: &[Case] = &[
                 time_out: 1_700,
                 patience: 70,
                 replace_after: 300,
+                line_time_out: 100,
                 ..CONNECTING
             }),
             out: "from 0: spooled 0\nto 0: offered 0, known 0\nslowest answer: none\ntrusted\n",
@@ -355,5 +392,101 @@ fn a_control_station_that_listens_goes_on_when_its_peer_closes(
     rt: HostRuntime,
 ) -> Result<(), Fail> {
     assert_eq!(rt; first_wrong(rt.alloc(), LISTENING), None);
+    Ok(())
+}
+
+/// No connections can be made, or waiting for them fails after a record has arrived.
+const CUT_SHORT: &[Case] = &[
+    Case {
+        words: Some(&["station", "line.toml", "--control", "--listen", "h:1"]),
+        input: Some(""),
+        takes: true,
+        scene: Scene {
+            refusal: Some(SocketsError::AddressInUse),
+            ..SILENT
+        },
+        due: Due {
+            asking: Some(CONTROLLING),
+            out: "",
+            errors: "bscline: address in use\n",
+            status: 1,
+        },
+    },
+    Case {
+        words: Some(&[
+            "station",
+            "line.toml",
+            "--terminal",
+            "0",
+            "--connect",
+            "h:1",
+        ]),
+        input: Some(""),
+        takes: true,
+        scene: Scene {
+            refusal: Some(SocketsError::NobodyThere),
+            ..SILENT
+        },
+        due: Due {
+            asking: Some(CONNECTING),
+            out: "",
+            errors: "bscline: nobody is there\n",
+            status: 1,
+        },
+    },
+    Case {
+        words: Some(&[
+            "station",
+            "line.toml",
+            "--terminal",
+            "0",
+            "--connect",
+            "h:1",
+        ]),
+        input: Some(""),
+        takes: true,
+        scene: Scene {
+            pieces: RECORDS,
+            steps: b"rrrrrrrrf",
+            ..SILENT
+        },
+        due: Due {
+            asking: Some(CONNECTING),
+            out: "to 0: 4849\n",
+            errors: "bscline: cannot make the sockets\n",
+            status: 1,
+        },
+    },
+    Case {
+        words: Some(&[
+            "station",
+            "line.toml",
+            "--control",
+            "--listen",
+            "h:1",
+            "--shared",
+            "--offer",
+            "0=-",
+        ]),
+        input: Some("HI\n"),
+        takes: true,
+        scene: Scene {
+            pieces: ANSWERS,
+            steps: b"trrf",
+            ..SILENT
+        },
+        due: Due {
+            asking: Some(SHARING),
+            out: "",
+            errors: "bscline: cannot make the sockets\n",
+            status: 1,
+        },
+    },
+];
+
+/// The fault of the connections is told, and no report is printed.
+#[test]
+fn a_station_without_connections_tells_why(rt: HostRuntime) -> Result<(), Fail> {
+    assert_eq!(rt; first_wrong(rt.alloc(), CUT_SHORT), None);
     Ok(())
 }

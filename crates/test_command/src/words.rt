@@ -136,7 +136,7 @@ Example: echo 16 16 10 B0 FF | bscline
 ";
 
 /// The help of `name`.
-const NAME_HELP: &str = "Print the name of one transmission
+pub(crate) const NAME_HELP: &str = "Print the name of one transmission
 
 Usage: bscline name <HEX>
 
