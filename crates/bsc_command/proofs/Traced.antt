@@ -24,7 +24,7 @@ module _ {S : Type 0} (contents remaining : S → Option (List ℕ)) (check trac
   failed_traced (Err e) p = record { told = c; tells = d; says = p }
 
 -- the first of two things that hold after an early error
-pub first_early : {A B : Type 0} (P : RunningError → Type 0) (r : Result (Unit {0}) RunningError)
-    → IfErr r (λ e. P e → A × B) → IfErr r (λ e. P e → A)
-first_early P (Ok done) h = tt
-first_early P (Err e) h = λ p. (h p).0
+pub first_early : (A B : Type 0) (P : RunningError → Type 0)
+    (r : Result (Unit {0}) RunningError) → IfErr r (λ e. P e → A × B) → IfErr r (λ e. P e → A)
+first_early A B P (Ok done) h = tt
+first_early A B P (Err e) h = λ p. (h p).0

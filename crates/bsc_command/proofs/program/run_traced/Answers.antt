@@ -5,7 +5,7 @@ use Rattle.bsc_command.proofs.Traced.{done_traced, failed_traced, first_early}
 use Rattle.bsc_command.proofs.program.run_traced.Goals as goal
 
 pub returns-clause-early : goal.returns-clause-early
-returns-clause-early g c = first_early IsEarly c.run.result c.run.ensures.early
+returns-clause-early g c = first_early _ _ IsEarly c.run.result c.run.ensures.early
 
 pub returns-clause-checked : goal.returns-clause-checked
 returns-clause-checked g c = λ h. (c.run.ensures.checked h).0
