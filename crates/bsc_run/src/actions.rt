@@ -1,6 +1,6 @@
 //! The effect of each event of a script on the line and the cable.
 
-ghost use Rattle.std.specs.Prelude.{◌≡◌, ◌≢◌, ℕ, length, map, option_map, None, Some, Ok, Err};
+ghost use Rattle.std.specs.Prelude.{◌≡◌, ◌≢◌, length, None, Some, Ok, Err};
 ghost use Rattle.std.specs.Prelude.{OnOk, IfErr};
 ghost use Rattle.std.specs.Io.KnownBytes.{Appends};
 ghost use Rattle.bsc_frame.specs.declared.message.Message.{Message as MessageValue};
@@ -8,12 +8,12 @@ ghost use Rattle.bsc_frame.specs.Wire.{wire};
 ghost use Rattle.bsc_carrier.specs.Record.{IsCarried};
 ghost use Rattle.bsc_line_model.specs.declared.error.LineError.{LineError as Why};
 ghost use Rattle.bsc_line_model.specs.declared.event.Event.TheVariants as event;
-ghost use Rattle.bsc_line_model.specs.Hearing.{octets_in};
 ghost use Rattle.bsc_line_model.specs.Kept.{IsLine};
 ghost use Rattle.bsc_line_model.specs.Runs.{Does};
 ghost use Rattle.bsc_script.specs.Actions.{event_in};
 ghost use Rattle.bsc_run.specs.Crossing.{connection_count, streams_of};
-ghost use Rattle.bsc_script.specs.Events.{carry, heard as heard_event, heard_each, lose as lose_event};
+ghost use Rattle.bsc_script.specs.Events.{carry, heard as heard_event, heard_each};
+ghost use Rattle.bsc_script.specs.Events.{lose as lose_event};
 ghost use Rattle.bsc_run.specs.Faults.{IsFault, told};
 ghost use Rattle.bsc_run.specs.Hearing.{IsRefusedEach, ReadsAsSent, WasSent};
 ghost use Rattle.bsc_run.specs.Speaking.{Fits};

@@ -1,6 +1,6 @@
 //! The lines of the trace for events in which nothing is sent.
 
-ghost use Rattle.std.specs.Prelude.{◌≡◌, OnOk};
+ghost use Rattle.std.specs.Prelude.{OnOk};
 ghost use Rattle.std.specs.Io.KnownBytes.{Appends};
 ghost use Rattle.bsc_script.specs.Actions.{event_in};
 ghost use Rattle.bsc_script.specs.Events.{offer_at, offer_for, ready as ready_event, urgent_at};

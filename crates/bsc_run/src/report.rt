@@ -4,7 +4,6 @@
 ghost use Rattle.std.specs.Prelude.{◌≡◌, ◌<◌, OnOk};
 ghost use Rattle.std.specs.Io.KnownBytes.{Appends};
 ghost use Rattle.bsc_line_model.specs.Line.{terminal_count, IsChannel, channel_of};
-ghost use Rattle.bsc_line_model.specs.Offers.{select_count};
 ghost use Rattle.bsc_run.specs.Printed.{counts_shown, channel_lines, terminal_lines, trust_line};
 ghost use Rattle.bsc_run.specs.Printed.{report_of};
 

@@ -1,6 +1,6 @@
 //! The lines of the trace for a transmission that is heard or lost.
 
-ghost use Rattle.std.specs.Prelude.{◌≡◌, ◌<◌, length, OnOk, None, Some};
+ghost use Rattle.std.specs.Prelude.{◌≡◌, OnOk, None, Some};
 ghost use Rattle.std.specs.Prelude.{slice_index_or};
 ghost use Rattle.std.specs.Io.KnownBytes.{Appends};
 ghost use Rattle.bsc_frame.specs.Wire.{wire};
