@@ -94,8 +94,8 @@ IsLate attending.Unprinted = Unit {0}
 IsLate attending.Memory = Unit {0}
 IsLate _ = ⊥
 
--- The errors that end a station before it has ended by itself: no connections could be made, waiting
--- for them failed, something could not be printed, or memory ran out.
+-- The errors that end a station before it has ended by itself: no connections could be made,
+-- waiting for them failed, something could not be printed, or memory ran out.
 abbrev pub IsCutShort : AttendingError → Type 0
 IsCutShort (attending.Connections error) = Unit {0}
 IsCutShort attending.Output = Unit {0}
