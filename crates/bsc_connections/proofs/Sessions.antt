@@ -159,7 +159,8 @@ module _ {R W F : Type 0} (parts : ConnectionParts R W F)
       → Conveys [] (octets ∷ []) a b
   carries_sent octets a b is_up (inl (closed, same)) =
       absurd (is_up (ap (λ (c : C). c.ends) same ∙ closed))
-  carries_sent octets a b is_up (inr (inr (closed, same))) = absurd (is_up closed)
+  carries_sent octets a b is_up (inr (inr (why, same))) =
+      absurd (is_up (ap (λ (c : C). c.ends) same))
   carries_sent octets a b is_up (inr (inl w)) =
       record {
         reader_before = w.reader;
@@ -226,8 +227,8 @@ module _ {R W F : Type 0} (parts : ConnectionParts R W F)
 
   carries_read : (taken : Taken) (a b : C) → b.ends ≢ None → Takes parts a taken b
       → Conveys (arrived_by taken b) [] a b
-  carries_read Nothing a b is_up (inl (closed, same)) =
-      absurd (is_up (ap (λ (c : C). c.ends) same ∙ closed))
+  carries_read Nothing a b is_up (inl closed) =
+      absurd (is_up (ap (λ (c : C). c.ends) closed.told ∙ closed.was_closed))
   carries_read Nothing a b is_up (inr t) =
       carries_given_of_read Nothing a b t [] []
       (Consumes-kept_nil (remaining t.before) (remaining t.after) t.reads.0)
@@ -236,7 +237,9 @@ module _ {R W F : Type 0} (parts : ConnectionParts R W F)
       carries_given_of_read Interrupted a b t [] []
       (Consumes-kept_nil (remaining t.before) (remaining t.after) t.reads.0)
       (gives_same a.framing b.framing t.reads.1)
-  carries_read (Closed why) a b is_up closed = absurd (is_up closed.0)
+  carries_read (Closed why) a b is_up (inl closed) =
+      absurd (is_up (ap (λ (c : C). c.ends) closed.told ∙ closed.was_closed))
+  carries_read (Closed why) a b is_up (inr closes) = absurd (is_up closes.is_closed)
   carries_read Part a b is_up t =
       let (piece, read, fed) = t.reads in
       carries_given_of_read Part a b t piece [] read (fits.part a.framing b.framing piece fed)

@@ -10,12 +10,16 @@ use Rattle.bsc_carrier.specs.Assembler.{Fed}
 use Rattle.bsc_carrier.specs.Front.{BeginsRecord}
 use Rattle.bsc_carrier.specs.Record.{IsCarried, socket_record}
 use Rattle.bsc_carrier.specs.declared.error.CarrierError.{CarrierError}
+use Rattle.bsc_carrier.specs.declared.error.CarrierError.TheVariants.{Device}
+use Rattle.bsc_carrier.specs.declared.fault.DeviceFault.{DeviceFault}
 use Rattle.bsc_carrier.proofs.Fronts.{not_whole_and_partial, is_partial_nil}
 use Rattle.bsc_connections.specs.declared.socket_records.SocketRecords.{SocketRecords}
 use Rattle.bsc_connections.specs.declared.limits.TheConstants.{KEPT}
 use Rattle.bsc_connections.specs.Framings.{GapsValue, Gathers, EndsAtGap, is_empty}
 use Rattle.bsc_connections.specs.Parts.{connection_parts}
-use Rattle.bsc_connections.specs.Connections.{Input, ReadsNoMore}
+use Rattle.bsc_connections.specs.Connections.{Input, ReadsNoMore, untold_taken}
+use Rattle.bsc_connections.specs.declared.connection.Taken.{Taken}
+use Rattle.bsc_connections.specs.declared.connection.Taken.TheVariants.{Closed, Nothing}
 use Rattle.bsc_connections.specs.Streams.{begun_of, GivesRecords, GivesByGaps, LosesNothing}
 use Rattle.bsc_connections.specs.declared.framing.Framing as framing_of
 use Rattle.std.specs.declared.io.Read as read
@@ -176,8 +180,16 @@ module _ {R W : Type 0} (reader : read.Ghosts R) (writer : write.Ghosts W)
       absurd cc
   nothing_begun_at_end old new (inr (inr device)) = absurd device
 
+  -- A failed write that is told has a fault.
+  untold_has_a_fault : {P : Type 0} (untold : Option DeviceFault)
+      → Closed None ≡ untold_taken untold → P
+  untold_has_a_fault None is =
+      let clash : ◌≡◌ {A = Taken} (Closed None) Nothing = is in absurd cc
+  untold_has_a_fault (Some why) is =
+      let clash : ◌≡◌ {A = Taken} (Closed None) (Closed (Some (Device why))) = is in absurd cc
+
   pub loses_nothing : LosesNothing (connection_parts reader writer framing)
-  loses_nothing old new (closed, inl (none, device)) = absurd device
-  loses_nothing old new (closed, inr c) =
+  loses_nothing old new (inl closed) = untold_has_a_fault old.untold closed.tells
+  loses_nothing old new (inr c) =
       nothing_begun_at_end (record { reader = c.before; framing = old.framing })
       (record { reader = c.after; framing = new.framing }) c.reads

@@ -1,7 +1,7 @@
 -- What a station that is attended does, step by step.
 use Rattle.std.specs.Prelude.{◌≡◌, ◌⊎◌, ◌&&◌, ⊤, ℕ, ◌+◌, ◌-◌, ◌^◌, Bool, true, false, not}
 use Rattle.std.specs.Prelude.{List, [], ◌∷◌, ◌++◌, length, slice_get, position}
-use Rattle.std.specs.Prelude.{Option, None, Some, is_none, Result, Ok, Err, nat_lt}
+use Rattle.std.specs.Prelude.{Option, None, Some, is_none, is_some, Result, Ok, Err, nat_lt}
 use Rattle.std.specs.Prelude.{if◌then◌else◌}
 use Rattle.std.specs.List.{AllZip}
 use Rattle.std.specs.declared.net.socket_addr.SocketAddr.{SocketAddr}
@@ -46,10 +46,10 @@ pub record Around (C M : Type 0) : Type 0 where
 abbrev pub first_closed : {R W F : Type 0} → List (ConnectionValue R W F) → Option ℕ
 first_closed connections = position (λ c. is_none c.ends) connections
 
--- Whether there is this connection, and it is closed.
-abbrev pub is_closed_at : {R W F : Type 0} → Option (ConnectionValue R W F) → Bool
-is_closed_at None = false
-is_closed_at (Some connection) = is_none connection.ends
+-- The place of the first connection that a failed write has closed, and of which that is not told
+-- yet.
+abbrev pub first_untold : {R W F : Type 0} → List (ConnectionValue R W F) → Option ℕ
+first_untold connections = position (λ c. is_none c.ends && is_some c.untold) connections
 
 -- Whether there is this connection, and it is open.
 abbrev pub is_open_at : {R W F : Type 0} → Option (ConnectionValue R W F) → Bool
@@ -367,13 +367,13 @@ module _ {S R W F M T : Type 0} (parts : SessionParts S R W F M T) where
       × TellsOne WasStopped new.station old.monitor happened result new.monitor
       × (new.waiter ≡ old.waiter)
 
-  -- What a step begins with: a wait returned this event; or it was not waited for, because the
-  -- connection at its place is closed, which is to be told.
-  abbrev pub BeginsWith : Now → Awaited → T → Type 0
-  BeginsWith old awaited waiter =
-      parts.waiter.waits old.waiter (Ok awaited) waiter
-      ⊎ ((place : ℕ) × (awaited ≡ Octets place)
-      × (is_closed_at (slice_get old.connections place) ≡ true) × (waiter ≡ old.waiter))
+  -- What a step begins with: if a write has failed that is not told yet, with a read at the place
+  -- of the first such connection, which tells of it, and without a wait; otherwise with the event
+  -- that a wait returns.
+  abbrev pub BeginsWith : Option ℕ → T → Awaited → T → Type 0
+  BeginsWith (Some place) before awaited waiter =
+      (awaited ≡ Octets place) × (waiter ≡ before)
+  BeginsWith None before awaited waiter = parts.waiter.waits before (Ok awaited) waiter
 
   -- One step: it began with an event, and that was handled. The result is what the monitor
   -- returned.
@@ -381,12 +381,13 @@ module _ {S R W F M T : Type 0} (parts : SessionParts S R W F M T) where
       (new : Now) : Type 0 where
     pub awaited : Awaited
     pub waiter : T
-    pub begins : BeginsWith old awaited waiter
+    pub begins : BeginsWith (first_untold old.connections) old.waiter awaited waiter
     pub does : Does awaited (record old { waiter = waiter }) happened result new
 
-  -- A wait failed, and nothing was done.
+  -- A wait failed, and nothing was done. Each failed write had been told.
   pub record FailsToWait (old : Now) (result : Result Bool LiveError) (new : Now) : Type 0 where
     pub error : LiveError
+    pub all_told : first_untold old.connections ≡ None
     pub waited : parts.waiter.waits old.waiter (Err error) new.waiter
     pub result_is : result ≡ Err error
     pub others : new ≡ record old { waiter = new.waiter }

@@ -17,10 +17,12 @@ use Rattle.bsc_connections.specs.declared.connection.Taken.TheVariants.{Closed}
 use Rattle.bsc_connections.specs.declared.framing.Framing as framing_of
 use Rattle.bsc_connections.specs.Parts.{ConnectionParts}
 
--- The two directions of a connection while it is open, and its framing.
+-- The two directions of a connection while it is open, its framing, and the fault of a write that
+-- failed and that is not told yet.
 pub record ConnectionValue (R W F : Type 0) : Type 0 where
   pub ends : Option (R × W)
   pub framing : F
+  pub untold : Option DeviceFault
 
 -- What a failed read means. If nothing arrived in time there is nothing to read, and if the read
 -- was interrupted there may be; the connection stays open. Any other failure closes it, with the
@@ -53,12 +55,11 @@ GivesNoOctets Whole = ⊥
 GivesNoOctets (Closed why) = IsDeviceFault why
 GivesNoOctets _ = ⊤
 
--- What a read of a closed connection reports: a write that failed, or that there is nothing to
--- read.
-abbrev pub IsClosedOrNothing : Taken → Type 0
-IsClosedOrNothing Nothing = ⊤
-IsClosedOrNothing (Closed why) = IsDeviceFault why
-IsClosedOrNothing _ = ⊥
+-- What a read of a closed connection reports: the write that failed, if that is not told yet, or
+-- that there is nothing to read.
+abbrev pub untold_taken : Option DeviceFault → Taken
+untold_taken None = Nothing
+untold_taken (Some why) = Closed (Some (Device why))
 
 -- A reader, and the framing that is fed what it gives.
 pub record Input (R F : Type 0) : Type 0 where
@@ -127,6 +128,7 @@ module _ {R W F : Type 0} (parts : ConnectionParts R W F) where
     pub writer : W
     pub was_open : old.ends ≡ Some (before, writer)
     pub stays_open : new.ends ≡ Some (after, writer)
+    pub untold : new.untold ≡ old.untold
     pub reads : Reads parts.reader parts.framing taken
         (record { reader = before; framing = old.framing })
         (record { reader = after; framing = new.framing })
@@ -137,22 +139,24 @@ module _ {R W F : Type 0} (parts : ConnectionParts R W F) where
     pub after : R
     pub writer : W
     pub was_open : old.ends ≡ Some (before, writer)
+    pub is_closed : new.ends ≡ None
+    pub untold : new.untold ≡ old.untold
     pub reads : Reads parts.reader parts.framing (Closed why)
         (record { reader = before; framing = old.framing })
         (record { reader = after; framing = new.framing })
 
-  -- A read that reports that the connection is closed: it has closed it, or a write that failed
-  -- had.
-  abbrev pub Closes : Option CarrierError → ConnectionValue R W F → ConnectionValue R W F → Type 0
-  Closes why old new =
-      (new.ends ≡ None)
-      × (((old.ends ≡ None) × IsDeviceFault why) ⊎ ClosesOpen why old new)
+  -- A read of a connection that is closed: it tells of the write that failed if that is not told
+  -- yet, and does nothing else.
+  pub record TakesClosed (taken : Taken) (old new : ConnectionValue R W F) : Type 0 where
+    pub was_closed : old.ends ≡ None
+    pub tells : taken ≡ untold_taken old.untold
+    pub told : new ≡ record old { untold = None }
 
-  -- A read of a connection. A connection that is closed gives nothing, but a read may report that
-  -- it is closed.
+  -- A read of a connection. One that reports that the connection is closed has closed it, or tells
+  -- of a write that failed and had closed it.
   abbrev pub Takes : ConnectionValue R W F → Taken → ConnectionValue R W F → Type 0
-  Takes old (Closed why) new = Closes why old new
-  Takes old Nothing new = ((old.ends ≡ None) × (new ≡ old)) ⊎ TakesOpen Nothing old new
+  Takes old (Closed why) new = TakesClosed (Closed why) old new ⊎ ClosesOpen why old new
+  Takes old Nothing new = TakesClosed Nothing old new ⊎ TakesOpen Nothing old new
   Takes old taken new = TakesOpen taken old new
 
   -- The octets that carry the transmission were written, and the connection stays open.
@@ -165,10 +169,16 @@ module _ {R W F : Type 0} (parts : ConnectionParts R W F) where
     pub written : Appends (parts.writer.contents before) (parts.writer.contents after)
         (parts.framing.framed octets)
     pub held : new.framing ≡ old.framing
+    pub untold : new.untold ≡ old.untold
+
+  -- A write fails: the connection is closed, and that is to be told.
+  abbrev pub FailsToWrite : ConnectionValue R W F → ConnectionValue R W F → Type 0
+  FailsToWrite old new =
+      (why : DeviceFault) × (new ≡ record old { ends = None; untold = Some why })
 
   -- A transmission is sent on a connection. Nothing happens if it is closed; if it is open the
-  -- transmission is written, or a write fails and the connection is closed.
+  -- transmission is written, or a write fails.
   abbrev pub Sends : List ℕ → ConnectionValue R W F → ConnectionValue R W F → Type 0
   Sends octets old new =
       ((old.ends ≡ None) × (new ≡ old))
-      ⊎ (Writes octets old new ⊎ ((new.ends ≡ None) × (new.framing ≡ old.framing)))
+      ⊎ (Writes octets old new ⊎ FailsToWrite old new)

@@ -1,12 +1,12 @@
 //! Runs a station: what happens on its connections is handled one event at a time.
 
-ghost use Rattle.std.specs.Prelude.{◌≡◌, ◌<◌, length, List, true, false, is_none, slice_get};
-ghost use Rattle.std.specs.Prelude.{IfOk, IfSome, OnOk};
+ghost use Rattle.std.specs.Prelude.{◌≡◌, ◌<◌, ◌&&◌, length, List, true, false, is_none, is_some};
+ghost use Rattle.std.specs.Prelude.{IfOk, IfSome, OnOk, slice_get};
 ghost use Rattle.bsc_connections.specs.Parts.{connection_parts, session_parts};
 ghost use Rattle.bsc_connections.specs.Histories.{Happening};
 ghost use Rattle.bsc_connections.specs.Attending.{Attends, StepsOrFails, Does, Arrives, IsSilent};
 ghost use Rattle.bsc_connections.specs.Attending.{IsEnded, IsTakenAt, PlaceFor, awaits_gap};
-ghost use Rattle.bsc_connections.specs.Attending.{first_closed, handled_if, is_closed_at};
+ghost use Rattle.bsc_connections.specs.Attending.{first_closed, first_untold, handled_if};
 
 use crate::replying::reply;
 use crate::{
@@ -145,14 +145,13 @@ fn step<
 fn first_untold<R: Read + Drop, W: Write + Drop, F: Framing + Drop>(
     connections: &[Connection<R, W, F>],
 ) -> Option<usize>
-    ensures { IfSome result (λ place. is_closed_at (slice_get connections.now place) ≡ true) }
+    ensures { result ≡ first_untold connections.now }
 {
-    'places: for place in 0..connections.len() {
-        if connections[place].is_untold() {
-            return Some(place);
-        }
-    }
-    None
+    connections.iter().position(
+        |connection| -> bool
+            ensures { result ≡ (is_none connection.now.ends && is_some connection.now.untold) }
+        { connection.is_untold() },
+    )
 }
 
 /// Returns whether a transmission has begun at this place that a gap would end.

@@ -1,8 +1,8 @@
 //! One connection of a station.
 
-ghost use Rattle.std.specs.Prelude.{◌≡◌, ◌<◌, length, None, Some, not, is_none, true};
+ghost use Rattle.std.specs.Prelude.{◌≡◌, ◌<◌, ◌&&◌, length, None, Some, not, is_none, is_some};
 ghost use Rattle.bsc_connections.specs.Parts.{connection_parts};
-ghost use Rattle.bsc_connections.specs.Connections.{Takes, Sends, Reads, IsClosedOrNothing};
+ghost use Rattle.bsc_connections.specs.Connections.{Takes, Sends, Reads, untold_taken};
 ghost use Rattle.bsc_connections.specs.Connections.{GivesNoOctets, IsEndedBy, failure_means};
 ghost use Rattle.bsc_connections.specs.Connections.{write_fault};
 
@@ -55,7 +55,7 @@ impl<R, W, F> Model for Connection<R, W, F> {
 
     ghost Value = { ConnectionValue R W F };
 
-    ghost view = { λ c. record { ends = c.ends; framing = c.framing } };
+    ghost view = { λ c. record { ends = c.ends; framing = c.framing; untold = c.untold } };
 }
 
 impl<R: Read + Drop, W: Write + Drop, F: Framing + Drop> Connection<R, W, F> {
@@ -63,6 +63,7 @@ impl<R: Read + Drop, W: Write + Drop, F: Framing + Drop> Connection<R, W, F> {
     pub fn new(reader: R, writer: W) -> Connection<R, W, F>
         ensures is_open { result.ends ≡ Some (reader, writer) }
         ensures starts { F.starts result.framing }
+        ensures untold { result.untold ≡ None }
     {
         Connection {
             ends: Some((reader, writer)),
@@ -81,7 +82,7 @@ impl<R: Read + Drop, W: Write + Drop, F: Framing + Drop> Connection<R, W, F> {
 
     /// Returns whether a failed write has closed the connection, and no read has reported that yet.
     pub(crate) fn is_untold(&self) -> bool
-        ensures { result ≡ true → self.now.ends ≡ None }
+        ensures { result ≡ (is_none self.now.ends && is_some self.now.untold) }
     {
         self.ends.is_none() && self.untold.is_some()
     }
@@ -105,6 +106,7 @@ impl<R: Read + Drop, W: Write + Drop, F: Framing + Drop> Connection<R, W, F> {
         ensures ends { F.ends self.old.framing result self.new.framing }
         ensures ended { result ≡ F.awaits self.old.framing }
         ensures kept { self.new.ends ≡ self.old.ends }
+        ensures untold { self.new.untold ≡ self.old.untold }
     {
         self.framing.gap()
     }
@@ -134,8 +136,8 @@ impl<R: Read + Drop, W: Write + Drop, F: Framing + Drop> Connection<R, W, F> {
     /// it yet, else nothing.
     fn take_closed(&mut self) -> Taken
         requires { self.old.ends ≡ None }
-        ensures taken { IsClosedOrNothing result }
-        ensures same { self.new ≡ self.old }
+        ensures taken { result ≡ untold_taken self.old.untold }
+        ensures told { self.new ≡ record self.old { untold = None } }
     {
         match self.untold.take() {
             Some(why) => Taken::Closed {
