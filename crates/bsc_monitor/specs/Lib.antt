@@ -7,6 +7,7 @@ pub mod LineTerminal
 pub mod Offers
 pub mod Printed
 pub mod Progress
+pub mod Refusing
 pub mod Rounds
 pub mod Telling
 pub mod Traces

@@ -2,7 +2,7 @@
 use Rattle.std.specs.Prelude.{◌≡◌, ◌≢◌, ℕ, ◌<◌, ◌≤◌, Bool, true, false, ◌||◌, ◌&&◌, List, []}
 use Rattle.std.specs.Prelude.{length}
 use Rattle.std.specs.Prelude.{Option, Result, Ok, Err, OnOk, slice_index}
-use Rattle.std.specs.Io.KnownBytes.{Appends}
+use Rattle.std.specs.Io.KnownBytes.{Appends, Keeps}
 use Rattle.bsc_connections.specs.declared.awaited.LiveError.{LiveError}
 use Rattle.bsc_connections.specs.declared.awaited.LiveError.TheVariants as live
 use Rattle.bsc_connections.specs.Parts.{SessionParts}
@@ -25,27 +25,43 @@ use Rattle.bsc_print.specs.declared.form.Form.{Form}
 use Rattle.bsc_monitor.specs.declared.party.Party as party_of
 use Rattle.bsc_monitor.specs.declared.watch.Watch.{Watch}
 
--- The form in which a watch prints records, the number of records printed for each channel, and
--- what its writer holds, as far as that is known.
+-- The form in which a watch prints records, the number of records printed for each channel, what
+-- its writer holds, as far as that is known, and whether that is flushed.
 pub record Output : Type 0 where
   pub form : Form
   pub counts : List ℕ
   pub contents : Option (List ℕ)
+  pub is_flushed : Bool
 
 abbrev pub output_of : {A T W D : Type 0} → (W → Option (List ℕ)) → Watch A T W D → Output
 output_of contents w =
-    record { form = w.printing.form; counts = w.printed.items; contents = contents w.out.now }
+    record {
+      form = w.printing.form;
+      counts = w.printed.items;
+      contents = contents w.out.out.now;
+      is_flushed = w.out.is_flushed;
+    }
+
+-- What was written is flushed, and nothing else changes.
+pub record IsFlushed (old new : Output) : Type 0 where
+  pub form : new.form ≡ old.form
+  pub counts : new.counts ≡ old.counts
+  pub contents : Keeps old.contents new.contents
+  pub is_flushed : new.is_flushed ≡ true
 
 -- What is known of a station with memory of type M, and the station.
 module _ {P M : Type 0} (party : party_of.Ghosts P M) (station : P) where
   -- The lines of the records that had not been printed are written, each once and in order, channel
-  -- by channel, and counted; there is a count for each channel on which the station receives.
+  -- by channel, and counted; there is a count for each channel on which the station receives. If
+  -- there was one, the writer is flushed.
   pub record PrintsArrivals (old new : Output) : Type 0 where
     pub channels : length old.counts ≡ party.receives station
     pub text : Appends old.contents new.contents
         (each_below (arrivals_of party station old.form old.counts) (party.receives station))
     pub counted : AreCounted party station old.counts new.counts (party.receives station)
     pub form : new.form ≡ old.form
+    pub flushed : MoreArePrinted old.counts new.counts (party.receives station)
+        → new.is_flushed ≡ true
 
   -- The watch is told this by the station. If it accepts what the station heard, or a silence, all
   -- records that arrived are printed. Of anything else it prints no record.

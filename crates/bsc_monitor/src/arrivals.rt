@@ -27,8 +27,8 @@ struct Channel {
 
 /// Prints the records that arrived at a station after those that were printed before, in order, one
 /// line each, channel by channel. `printed` holds the number of records printed so far for each
-/// channel on which the station receives. Flushes the output after printing, and returns whether
-/// there was a new record. After an error a part of the output may have been written.
+/// channel on which the station receives. Returns whether there was a new record. After an error a
+/// part of the output may have been written.
 pub(crate) fn print_arrivals<A: Allocator + Copy, P: Party, W: Write>(
     alloc: A,
     form: Form,
@@ -49,9 +49,6 @@ pub(crate) fn print_arrivals<A: Allocator + Copy, P: Party, W: Write>(
     let mut found = false;
     'channels: for number in 0..station.spools() {
         found |= print_channel(alloc, form, station, number, &mut printed[number], out)?;
-    }
-    if found && out.flush().is_err() {
-        return Err(PrintError::Output);
     }
     Ok(found)
 }

@@ -107,10 +107,12 @@ impl<'a, A: Allocator + Copy, T: Timer + Drop, W: Write, D: Write> ControlWatch<
 
 impl<'a, A: Allocator + Copy, T: Timer + Drop, W: Write, D: Write, B: Allocator> Monitor<Control<B>>
     for ControlWatch<'a, A, T, W, D> {
-    ghost use Rattle.std.specs.Prelude.{◌≡◌, OnOk};
+    ghost use Rattle.std.specs.Prelude.{◌≡◌, IfErr, OnOk};
     ghost use Rattle.bsc_monitor.specs.Answering.{answering_after};
     ghost use Rattle.bsc_monitor.specs.Progress.{pace_after};
-    ghost use Rattle.bsc_monitor.specs.Telling.{ControlShows, trace_of};
+    ghost use Rattle.bsc_monitor.specs.Refusing.{Refuses};
+    ghost use Rattle.bsc_monitor.specs.Telling.{ControlShows, calls_in, trace_of};
+    ghost use Rattle.bsc_monitor.specs.declared.trace.Who.TheVariants.{Control};
     ghost use Rattle.bsc_monitor.specs.Trusting.{called_by, is_admitted};
     ghost use Rattle.bsc_monitor.specs.Watching.{Counts, Sees, output_of};
 
@@ -130,7 +132,11 @@ impl<'a, A: Allocator + Copy, T: Timer + Drop, W: Write, D: Write, B: Allocator>
         × (OnOk result (new.pace ≡ pace_after old.progress station happening))
         × (OnOk result (ControlShows station happening old.answering old.trusting new.trusting
         (trace_of D.contents old.watch) (trace_of D.contents new.watch)))
-        × (OnOk result (new.answering ≡ answering_after old.answering station happening)) };
+        × (OnOk result (new.answering ≡ answering_after old.answering station happening))
+        × (IfErr result (λ error. Refuses ⟦<Control<B> as Party>⟧ station (calls_in station.task)
+        Control error happening
+        (output_of W.contents old.watch) (output_of W.contents new.watch)
+        (trace_of D.contents old.watch) (trace_of D.contents new.watch))) };
 
     fn admits(&self, station: &Control<B>, connection: usize, octets: &[u8]) -> bool {
         self.trusting

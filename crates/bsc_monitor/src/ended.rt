@@ -72,7 +72,8 @@ impl<'a, A: Allocator + Copy, T: Timer + Drop, W: Write, D: Write> LastWatch<'a,
 
 impl<'a, A: Allocator + Copy, T: Timer + Drop, W: Write, D: Write> Monitor<Ended>
     for LastWatch<'a, A, T, W, D> {
-    ghost use Rattle.std.specs.Prelude.{◌≡◌, OnOk};
+    ghost use Rattle.std.specs.Prelude.{◌≡◌, IfErr, OnOk};
+    ghost use Rattle.bsc_monitor.specs.Refusing.{IsTraceFault};
     ghost use Rattle.bsc_connections.specs.declared.awaited.Pace.TheVariants.{AtOnce};
     ghost use Rattle.bsc_monitor.specs.Telling.{LastShows, trace_of};
     ghost use Rattle.bsc_monitor.specs.Trusting.{is_admitted};
@@ -90,7 +91,8 @@ impl<'a, A: Allocator + Copy, T: Timer + Drop, W: Write, D: Write> Monitor<Ended
         × (last_of new.ended new.stopped
         ≡ last_told result (last_of old.ended old.stopped) happening)
         × (OnOk result (LastShows happening old.trusting new.trusting
-        (trace_of D.contents old.watch) (trace_of D.contents new.watch))) };
+        (trace_of D.contents old.watch) (trace_of D.contents new.watch)))
+        × (IfErr result IsTraceFault) };
 
     fn admits(&self, _station: &Ended, connection: usize, octets: &[u8]) -> bool {
         self.trusting.admits_last(connection, octets)

@@ -25,6 +25,7 @@ mod offering;
 mod offers;
 mod party;
 mod progress;
+mod record_writer;
 mod report;
 mod rounds;
 mod standing;

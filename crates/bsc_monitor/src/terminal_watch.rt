@@ -57,9 +57,12 @@ impl<'a, A: Allocator + Copy, T: Timer + Drop, W: Write, D: Write> TerminalWatch
 impl<'a, A: Allocator + Copy, T: Timer + Drop, W: Write, D: Write, B: Allocator> Monitor<
     LineTerminal<B>,
 > for TerminalWatch<'a, A, T, W, D> {
-    ghost use Rattle.std.specs.Prelude.{◌≡◌, OnOk, true};
+    ghost use Rattle.std.specs.Prelude.{◌≡◌, IfErr, OnOk, true};
     ghost use Rattle.bsc_connections.specs.declared.awaited.Pace.TheVariants.{AtOnce};
+    ghost use Rattle.bsc_monitor.specs.Refusing.{Refuses};
     ghost use Rattle.bsc_monitor.specs.Telling.{TerminalShows, trace_of};
+    ghost use Rattle.bsc_monitor.specs.declared.held.Calls.TheVariants.{Heard};
+    ghost use Rattle.bsc_monitor.specs.declared.trace.Who.TheVariants.{Terminal};
     ghost use Rattle.bsc_monitor.specs.Watching.{Sees, closing_of, closing_told, output_of};
 
     ghost has_ended = { λ w. w.ended };
@@ -75,6 +78,10 @@ impl<'a, A: Allocator + Copy, T: Timer + Drop, W: Write, D: Write, B: Allocator>
         station.tributary.mode happening
         ≡ closing_of new.ended new.closed new.stopped)
         × (OnOk result (TerminalShows station.number happening
+        (trace_of D.contents old.watch) (trace_of D.contents new.watch)))
+        × (IfErr result (λ error. Refuses ⟦<LineTerminal<B> as Party>⟧ station Heard
+        (Terminal station.number) error happening
+        (output_of W.contents old.watch) (output_of W.contents new.watch)
         (trace_of D.contents old.watch) (trace_of D.contents new.watch))) };
 
     fn admits(&self, _station: &LineTerminal<B>, _connection: usize, _octets: &[u8]) -> bool {

@@ -1,13 +1,16 @@
 //! The output while a station is attended.
 
-ghost use Rattle.std.specs.Prelude.{◌≡◌, IfOk, OnOk};
+ghost use Rattle.std.specs.Prelude.{◌≡◌, IfErr, IfOk, OnOk, true};
 ghost use Rattle.bsc_connections.specs.Notes.{told_by};
 ghost use Rattle.bsc_monitor.specs.Telling.{BeginsLine, ShowsDistrust, ShowsEvent, ShowsLine};
 ghost use Rattle.bsc_monitor.specs.Telling.{ShowsUnanswered, trace_of};
 ghost use Rattle.bsc_monitor.specs.Traces.{distrust_line, unanswered_line};
-ghost use Rattle.bsc_monitor.specs.Watching.{IsFound, PrintsArrivals, Sees, live_of, output_of};
+ghost use Rattle.bsc_monitor.specs.Refusing.{IsTraceFault, IsUnprinted, Refuses};
+ghost use Rattle.bsc_monitor.specs.Watching.{IsFlushed, IsFound, PrintsArrivals, Sees};
+ghost use Rattle.bsc_monitor.specs.Watching.{live_of, output_of};
 
 use crate::arrivals::print_arrivals;
+use crate::record_writer::RecordWriter;
 use crate::held::{HeldCall, Seen, write_held, write_next};
 use crate::trace::{write_change, write_distrust, write_note, write_time, write_unanswered};
 use crate::{Party, Timer, Tracing};
@@ -48,7 +51,7 @@ pub struct Watch<'a, A: Allocator, T: Drop, W, D> {
     printed: Vec<usize, A>,
 
     /// The writer for records.
-    out: &'a mut W,
+    out: RecordWriter<'a, W>,
 
     /// The writer for the trace.
     errors: &'a mut D,
@@ -81,7 +84,7 @@ impl<'a, A: Allocator + Copy, T: Timer + Drop, W: Write, D: Write> Watch<'a, A, 
             timer,
             held: None,
             printed,
-            out,
+            out: RecordWriter::new(out),
             errors,
         })
     }
@@ -109,6 +112,10 @@ impl<'a, A: Allocator + Copy, T: Timer + Drop, W: Write, D: Write> Watch<'a, A, 
             (output_of W.contents self.old) (output_of W.contents self.new)) }
         ensures trace { OnOk result (ShowsEvent seen.calls seen.me seen.time (told_by note.now)
             (trace_of D.contents self.old) (trace_of D.contents self.new)) }
+        ensures refused { IfErr result (λ error.
+            Refuses P.Party station.now seen.calls seen.me error (told_by note.now)
+            (output_of W.contents self.old) (output_of W.contents self.new)
+            (trace_of D.contents self.old) (trace_of D.contents self.new)) }
     {
         live(self.tell(seen, note))?;
         match note {
@@ -126,6 +133,7 @@ impl<'a, A: Allocator + Copy, T: Timer + Drop, W: Write, D: Write> Watch<'a, A, 
             (output_of W.contents self.old) (output_of W.contents self.new)) }
         ensures found { IfOk result (λ found. IsFound P.Party station.now found
             (output_of W.contents self.old) (output_of W.contents self.new)) }
+        ensures fault { IfErr result IsUnprinted }
         ensures trace { trace_of D.contents self.new ≡ trace_of D.contents self.old }
     {
         // There is a count for each channel on which the station of this watch receives.
@@ -137,12 +145,26 @@ impl<'a, A: Allocator + Copy, T: Timer + Drop, W: Write, D: Write> Watch<'a, A, 
             self.printing.form,
             station,
             &mut self.printed,
-            self.out,
+            &mut self.out,
         );
         match printed {
-            Ok(found) => Ok(found),
+            Ok(true) => self.flush_records(),
+            Ok(false) => Ok(false),
             Err(PrintError::Output) => Err(LiveError::Unprinted),
             Err(PrintError::Memory) => Err(LiveError::Memory),
+        }
+    }
+
+    /// Flushes the output after a record was printed. Returns true, or `Unprinted`.
+    fn flush_records(&mut self) -> Result<bool, LiveError>
+        ensures flushed { IfOk result (λ found. (found ≡ true)
+            × IsFlushed (output_of W.contents self.old) (output_of W.contents self.new)) }
+        ensures fault { IfErr result IsUnprinted }
+        ensures trace { trace_of D.contents self.new ≡ trace_of D.contents self.old }
+    {
+        match self.out.flush() {
+            Ok(()) => Ok(true),
+            Err(_) => Err(LiveError::Unprinted),
         }
     }
 
@@ -152,6 +174,7 @@ impl<'a, A: Allocator + Copy, T: Timer + Drop, W: Write, D: Write> Watch<'a, A, 
         ensures records { output_of W.contents self.new ≡ output_of W.contents self.old }
         ensures trace { OnOk result (ShowsUnanswered terminal (trace_of D.contents self.old)
             (trace_of D.contents self.new)) }
+        ensures fault { IfErr result IsTraceFault }
     {
         match terminal {
             Some(terminal) => live(self.write_unanswered(terminal)),
@@ -175,6 +198,7 @@ impl<'a, A: Allocator + Copy, T: Timer + Drop, W: Write, D: Write> Watch<'a, A, 
         ensures records { output_of W.contents self.new ≡ output_of W.contents self.old }
         ensures trace { OnOk result (ShowsDistrust why (trace_of D.contents self.old)
             (trace_of D.contents self.new)) }
+        ensures fault { IfErr result IsTraceFault }
     {
         match why {
             Some(why) => live(self.write_distrust(why)),
@@ -226,7 +250,8 @@ impl<'a, A: Allocator + Copy, T: Timer + Drop, W: Write, D: Write> Watch<'a, A, 
 
 /// Converts the result of printing a line of the trace to that of attending a station.
 pub(crate) fn live(printed: Result<(), PrintError>) -> Result<(), LiveError>
-    ensures { result ≡ live_of printed }
+    ensures value { result ≡ live_of printed }
+    ensures fault { IfErr result IsTraceFault }
 {
     match printed {
         Ok(()) => Ok(()),
