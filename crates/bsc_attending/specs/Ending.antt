@@ -20,13 +20,13 @@ use Rattle.bsc_attending.specs.declared.stations.Left.{Left}
 use Rattle.bsc_attending.specs.declared.stations.Left.TheVariants.{Control, Terminal}
 use Rattle.bsc_attending.specs.Errors.{IsCutShort, IsPrintFault, control_outcome_of, outcome_of}
 
--- What is known of the connections at the first places, this many, was told in their order, each
--- with its peer, if its address is known.
-abbrev pub JoinsFirst : ℕ → Trust → Trust → Type 0
-JoinsFirst zero old new = new ≡ old
-JoinsFirst (suc place) old new =
-    (mid : Trust) × JoinsFirst place old mid
-    × ((peer : Option IpAddr) × (new ≡ after_joined mid place peer))
+-- The connections at the first places, this many, were told in their order, each with the address
+-- by which its peer is named, if that is known.
+abbrev pub JoinsFirst : (ℕ → Option IpAddr → Type 0) → ℕ → Trust → Trust → Type 0
+JoinsFirst names zero old new = new ≡ old
+JoinsFirst names (suc place) old new =
+    (mid : Trust) × JoinsFirst names place old mid
+    × ((peer : Option IpAddr) × names place peer × (new ≡ after_joined mid place peer))
 
 -- A station leaves what one of its kind leaves.
 abbrev pub IsLeftBy : Prepared → Left → Type 0

@@ -1,5 +1,8 @@
 -- The framing of the connections of a station, and the two directions of each.
-use Rattle.std.specs.Prelude.{ℕ, Bool, true, false, List, map, length, Option}
+use Rattle.std.specs.Prelude.{◌≡◌, ℕ, Bool, true, false, List, map, length, Option, option_map}
+use Rattle.std.specs.Net.Socket.{socket_ip}
+use Rattle.std.specs.declared.net.ip_addr.IpAddr.{IpAddr}
+use Rattle.std.specs.declared.net.socket_addr.SocketAddr.{SocketAddr}
 use Rattle.bsc_attending.specs.declared.connections.Framed.{Framed}
 use Rattle.bsc_attending.specs.declared.connections.Framed.TheVariants.{Records, Raw}
 
@@ -16,3 +19,8 @@ ends_of (Raw connections) = map (λ c. c.ends) connections.items
 -- The number of connections.
 abbrev pub connection_count : {R W : Type 0} → Framed R W → ℕ
 connection_count framed = length (ends_of framed)
+
+-- This is the IP address of a peer that has such a name, if it is known.
+abbrev pub NamesAddress : (Option SocketAddr → Type 0) → Option IpAddr → Type 0
+NamesAddress names address =
+    (peer : Option SocketAddr) × names peer × (address ≡ option_map socket_ip peer)

@@ -1,6 +1,7 @@
 //! The connections of a station, and attending the station over them.
 
-ghost use Rattle.std.specs.Prelude.{◌≡◌, IfErr, IfOk, Some, map, ℕ};
+ghost use Rattle.std.specs.Prelude.{◌≡◌, IfErr, IfOk, OnOk, Option, Some, map, true, ℕ};
+ghost use Rattle.std.specs.declared.net.ip_addr.IpAddr.{IpAddr as Address};
 ghost use Rattle.bsc_attending.specs.Framings.{ends_of, is_raw};
 ghost use Rattle.bsc_attending.specs.Errors.{IsCutShort};
 
@@ -91,25 +92,32 @@ pub(crate) trait Attend {
     /// The number of connections.
     ghost places: { Self → ℕ };
 
+    /// The address of the peer of the connection at this place, if it is known.
+    ghost names: { Self → ℕ → Option Address → Type 0 };
+
     /// Attends a station over the connections until the monitor ends it.
     fn attend<S: Station, M: Monitor<S>>(
         &mut self,
         station: &mut S,
         monitor: &mut M,
-    ) -> Result<(), LiveError>;
+    ) -> Result<(), LiveError>
+        ensures { OnOk result (M.has_ended monitor.new ≡ true) };
 
     /// Returns the number of connections.
     fn count(&self) -> usize
         ensures { result ≡ places self.now };
 
     /// Returns the address of the peer of the connection at this place, if it is known.
-    fn peer(&self, place: usize) -> Option<IpAddr>;
+    fn peer(&self, place: usize) -> Option<IpAddr>
+        ensures { names self.now place result };
 }
 
 impl<R: Read + Drop, W: Write + Drop, Q: Waiter<R, W> + Drop> Attend for Connections<R, W, Q> {
-    ghost use Rattle.bsc_attending.specs.Framings.{connection_count};
+    ghost use Rattle.bsc_attending.specs.Framings.{NamesAddress, connection_count};
 
     ghost places = { λ c. connection_count c.framed };
+
+    ghost names = { λ c place named. NamesAddress (Q.names c.waiter place) named };
 
     fn attend<S: Station, M: Monitor<S>>(
         &mut self,

@@ -253,7 +253,7 @@ fn attend_control<C: Attend, T: Timer + Drop, O: Write, D: Write>(
 
 /// Records the peers of the connections with which the control station begins.
 fn with_connections<C: Attend>(trust: Trust, connections: &C) -> Trust
-    ensures { JoinsFirst (C.places connections.now) trust result }
+    ensures { JoinsFirst (C.names connections.now) (C.places connections.now) trust result }
 {
     let mut trust = trust;
     'places: for place in 0..connections.count() {

@@ -4,4 +4,4 @@ use Rattle.bsc_attending.proofs.stations.with_connections.Goals as goal
 
 pub places-preserved : goal.places-preserved
 places-preserved g c =
-    rw add-one (c.places.trust, c.places.invariant, (c.peer.result, c.joined.ensures))
+    rw add-one (c.places.trust, c.places.invariant, (c.peer.result, c.peer.ensures, c.joined.ensures))
