@@ -10,4 +10,6 @@ mod control;
 #[cfg(test)]
 mod hearing;
 #[cfg(test)]
+mod most;
+#[cfg(test)]
 mod tributary;

@@ -1,0 +1,95 @@
+//! Stations with the most terminals and the most selection addresses: each keeps whatever had
+//! arrived, while memory is granted.
+
+ghost use Rattle.std.specs.Prelude.{◌≡◌, ◌<◌, IfOk, length};
+
+use bsc_bid::Terminal;
+use bsc_block::Record;
+use bsc_control::Control;
+use bsc_frame::Address;
+use bsc_tributary::{Tributary, addresses_differ};
+use std::alloc::Allocator;
+use std::test::Fail;
+use test_fixtures::lines::setup;
+
+/// The second code of the addresses of the first terminal.
+const FIRST_CODE: u8 = 0x21;
+
+/// The number of records that had arrived at each place.
+const RECORDS: usize = 4_000;
+
+/// A terminal with the polling address P and the selection addresses a, b, c and d, each followed
+/// by this code.
+fn coded_terminal(code: u8) -> Result<Terminal, Fail>
+    ensures { IfOk result (λ terminal. length terminal.selects ≡ 4) }
+{
+    let selects = [
+        Address::read(&[b'a', code])?,
+        Address::read(&[b'b', code])?,
+        Address::read(&[b'c', code])?,
+        Address::read(&[b'd', code])?,
+    ];
+    Ok(Terminal::new(Address::read(&[b'P', code])?, &selects)?)
+}
+
+/// Gives the control station this many records that had arrived from a terminal, and returns
+/// whether it keeps each.
+fn keeps_from<A: Allocator>(control: &mut Control<A>, terminal: usize, count: usize) -> bool {
+    for _ in 0..count {
+        let Ok(record) = Record::read(b"HI", 80) else {
+            return false;
+        };
+        if terminal >= control.terminals() || control.keep_arrived(terminal, record).is_err() {
+            return false;
+        }
+    }
+    terminal < control.terminals() && control.spool(terminal).records().len() == count
+}
+
+#[test]
+fn a_control_station_keeps_thousands_of_records_from_each_of_64_terminals(
+    rt: HostRuntime,
+) -> Result<(), Fail> {
+    let mut terminals = [coded_terminal(FIRST_CODE)?; 64];
+    for (terminal, code) in terminals.iter_mut().zip(FIRST_CODE..=0x7e) {
+        *terminal = coded_terminal(code)?;
+    }
+    let mut control = Control::new(rt.alloc(), setup(3)?, &terminals, &[0])?;
+    for terminal in 0..64usize {
+        assert!(rt; keeps_from(&mut control, terminal, RECORDS));
+    }
+    Ok(())
+}
+
+/// Gives a terminal this many records that had arrived at the selection address of this number, 0
+/// to 3, and returns whether it keeps each.
+fn keeps_at<A: Allocator>(tributary: &mut Tributary<A>, select: usize, count: usize) -> bool
+    requires select { select < 4 }
+    requires selects { length tributary.old.terminal.selects ≡ 4 }
+    ensures selects { length tributary.new.terminal.selects ≡ 4 }
+{
+    for _ in 0..count {
+        let Ok(record) = Record::read(b"HI", 80) else {
+            return false;
+        };
+        if tributary.keep_arrived(select, record).is_err() {
+            return false;
+        }
+    }
+    tributary.spool(select).records().len() == count
+}
+
+#[test]
+fn a_terminal_keeps_thousands_of_records_at_each_of_4_addresses(
+    rt: HostRuntime,
+) -> Result<(), Fail> {
+    let terminal = coded_terminal(FIRST_CODE)?;
+    if !addresses_differ(&terminal) {
+        return Err("two addresses are the same".into());
+    }
+    let mut tributary = Tributary::new(rt.alloc(), setup(3)?, terminal);
+    for select in [0usize, 1, 2, 3] {
+        assert!(rt; keeps_at(&mut tributary, select, RECORDS));
+    }
+    Ok(())
+}
