@@ -1,5 +1,5 @@
 -- The error with which a watch refuses what it is told.
-use Rattle.std.specs.Prelude.{◌≡◌, ◌⊎◌, ℕ, Result}
+use Rattle.std.specs.Prelude.{◌≡◌, ◌⊎◌, ℕ}
 use Rattle.bsc_connections.specs.declared.awaited.LiveError.{LiveError}
 use Rattle.bsc_connections.specs.declared.awaited.LiveError.TheVariants as live
 use Rattle.bsc_connections.specs.Histories.{Happening, WasHeard, WasSilent}

@@ -1,6 +1,6 @@
 //! The writer of the records that arrive, which knows whether it is flushed.
 
-ghost use Rattle.std.specs.Prelude.{◌≡◌, OnOk, true};
+ghost use Rattle.std.specs.Prelude.{◌≡◌, OnOk, false, true};
 ghost use Rattle.std.specs.Io.KnownBytes.{Keeps, WriteAppends};
 ghost use Rattle.std.specs.Io.{WritesAtMost};
 
@@ -19,7 +19,9 @@ pub(crate) struct RecordWriter<'a, W> {
 
 impl<'a, W: Write> RecordWriter<'a, W> {
     /// Returns a writer over this one, to which nothing was written yet.
-    pub fn new(out: &'a mut W) -> RecordWriter<'a, W> {
+    pub fn new(out: &'a mut W) -> RecordWriter<'a, W>
+        ensures { result.is_flushed ≡ true }
+    {
         RecordWriter {
             out,
             is_flushed: true,
@@ -30,7 +32,12 @@ impl<'a, W: Write> RecordWriter<'a, W> {
 impl<W: Write> Write for RecordWriter<'_, W> {
     ghost contents = { λ w. W.contents w.out.now };
 
-    fn write(&mut self, octets: &[u8]) -> io::Result<usize> {
+    fn write(&mut self, octets: &[u8]) -> io::Result<usize>
+        ensures bound { WritesAtMost result octets.now }
+        ensures bytes { WriteAppends (W.contents self.old.out.now) (W.contents self.new.out.now)
+            result octets.now }
+        ensures written { self.new.is_flushed ≡ false }
+    {
         self.is_flushed = false;
         self.out.write(octets)
     }

@@ -10,8 +10,8 @@ ghost use Rattle.bsc_monitor.specs.Watching.{IsFlushed, IsFound, PrintsArrivals,
 ghost use Rattle.bsc_monitor.specs.Watching.{live_of, output_of};
 
 use crate::arrivals::print_arrivals;
-use crate::record_writer::RecordWriter;
 use crate::held::{HeldCall, Seen, write_held, write_next};
+use crate::record_writer::RecordWriter;
 use crate::trace::{write_change, write_distrust, write_note, write_time, write_unanswered};
 use crate::{Party, Timer, Tracing};
 use bsc_connections::{LiveError, Note};

@@ -1,6 +1,6 @@
 //! Runs of the greatest sizes: the most terminals and addresses, each with an item of its own to
-//! hear and its lines in the report; the longest records, and the longest transmissions that are
-//! sent and heard.
+//! hear, its line in the trace and its lines in the report; the longest records, and the longest
+//! transmissions that are sent and heard.
 
 use bsc_config::{Config, read_config};
 use bsc_loopback::connect;
@@ -9,40 +9,49 @@ use bsc_script::{Script, read_script};
 use std::alloc::{AllocError, Global};
 use std::test::Fail;
 
-/// Runs a script on a new line over loopback connections.
+/// What a run writes.
+#[derive(Drop)]
+struct Written {
+    out: Vec<u8>,
+    trace: Vec<u8>,
+}
+
+/// Runs a script on a new line over loopback connections, and traces it.
 fn run_largest(
     rt: &HostRuntime,
     config: &Config,
     script: &Script<'_, Global>,
-    out: &mut Vec<u8>,
+    written: &mut Written,
 ) -> Result<Result<(), RunError>, Fail> {
     let mut cable = connect(rt, rt.alloc(), config.terminals())?;
-    let mut trace = Vec::<u8>::new(rt.alloc());
     Ok(run_line(
         rt.alloc(),
         config,
         script,
         &mut cable,
-        out,
-        false,
-        &mut trace,
+        &mut written.out,
+        true,
+        &mut written.trace,
     ))
 }
 
-/// The output of a script that is not refused, on the line of a configuration.
-fn output_of(rt: &HostRuntime, config: &str, script: &str) -> Result<Vec<u8>, Fail> {
+/// What is written by a script that is not refused, on the line of a configuration.
+fn written_by(rt: &HostRuntime, config: &str, script: &str) -> Result<Written, Fail> {
     let config = read_config(rt.alloc(), config.as_bytes())?;
     let script = read_script(rt.alloc(), script.as_bytes())?;
-    let mut out = Vec::new(rt.alloc());
-    run_largest(rt, &config, &script, &mut out)??;
-    Ok(out)
+    let mut written = Written {
+        out: Vec::new(rt.alloc()),
+        trace: Vec::new(rt.alloc()),
+    };
+    run_largest(rt, &config, &script, &mut written)??;
+    Ok(written)
 }
 
 /// The number of terminals.
 const COUNT: usize = 64;
 
 /// The call that polls A0, the address of the first terminal.
-const CALL: &str = "161604FF1616C1B085FF";
+const CALL: &str = "161604ff1616c1b085ff";
 
 /// A configuration with this many terminals, of which the first is polled. Each has four selection
 /// addresses.
@@ -96,11 +105,27 @@ fn printed_of(alloc: Global, count: usize) -> Result<String, Fail> {
     Ok(text)
 }
 
+/// The trace of this script on a line of this many terminals.
+fn traced_of(alloc: Global, count: usize) -> Result<String, Fail> {
+    let mut text = String::from_str(alloc, "+1 offered at terminal 0: |HI|\n+2 silence\n")?;
+    for number in 0..count {
+        write!(text, "+3 control heard at {number} CALL A0 {CALL}\n")?;
+    }
+    text.push_str(
+        "+4 terminal 0 heard TEXT ETX 1 161602c84919839bff
++5 control heard ACK1 16161031ff
++6 terminal 0 heard EOT 161604ff
+",
+    )?;
+    Ok(text)
+}
+
 #[test]
 fn each_of_64_terminals_hears_its_item(rt: HostRuntime) -> Result<(), Fail> {
     let (config, script) = (config_of(rt.alloc(), COUNT)?, script_of(rt.alloc(), COUNT)?);
-    let out = output_of(&rt, &config, &script)?;
-    assert!(rt; out.as_slice() == printed_of(rt.alloc(), COUNT)?.as_bytes());
+    let written = written_by(&rt, &config, &script)?;
+    assert!(rt; written.out.as_slice() == printed_of(rt.alloc(), COUNT)?.as_bytes());
+    assert!(rt; written.trace.as_slice() == traced_of(rt.alloc(), COUNT)?.as_bytes());
     Ok(())
 }
 
@@ -197,7 +222,7 @@ not trusted
 #[test]
 fn the_longest_records_and_transmissions_cross_the_cable(rt: HostRuntime) -> Result<(), Fail> {
     let script = script_of_longest(rt.alloc())?;
-    let out = output_of(&rt, LONGEST_RECORDS, &script)?;
-    assert!(rt; out.as_slice() == printed_of_longest(rt.alloc())?.as_bytes());
+    let written = written_by(&rt, LONGEST_RECORDS, &script)?;
+    assert!(rt; written.out.as_slice() == printed_of_longest(rt.alloc())?.as_bytes());
     Ok(())
 }
