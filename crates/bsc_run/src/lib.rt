@@ -7,6 +7,8 @@
 #![tactic(auto)]
 
 mod actions;
+mod addresses;
+mod changes;
 mod crossing;
 mod error;
 mod marks;
@@ -14,6 +16,7 @@ mod pending;
 mod play;
 mod report;
 mod run;
+mod standing;
 mod trace;
 
 pub use error::RunError;

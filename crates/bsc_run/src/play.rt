@@ -12,9 +12,11 @@ ghost use Rattle.bsc_run.specs.Steps.{is_heard as is_heard_event, pending_after}
 ghost use Rattle.bsc_run.specs.Traces.{number_if};
 
 use crate::actions::act;
+use crate::changes::trace_changes;
 use crate::error::RunError;
 use crate::pending::write_pending;
 use crate::report::write_report;
+use crate::standing::line_standing;
 use bsc_carrier::Cable;
 use bsc_line::Line;
 use bsc_line_model::laws::{every_run, headline, round, visit};
@@ -30,8 +32,8 @@ use std::io::{Read, Write};
 /// before stays.
 ///
 /// With `tracing` the lines of the trace for each accepted event are written to `trace`: what
-/// became of the transmission that was pending, or what the event is. Otherwise nothing is written
-/// there.
+/// became of the transmission that was pending, or what the event is; and then the records that
+/// landed, each doubt that begins, and the end of trust. Otherwise nothing is written there.
 ///
 /// The events that were accepted are a run of the line, each with the octets that were read. So
 /// what `Line::run` promises holds of it: if the line is trusted at the end, the records that
@@ -136,8 +138,12 @@ fn take<
         (playing line.new cable.new (W.contents out.new) (D.contents trace.new)) }
 {
     let number = traced_number(tracing, step.line);
+    let before = line_standing(alloc, tracing, line)?;
     match act(alloc, number, line, &step.action, cable, trace) {
-        Ok(()) => Ok(write_after(&step.action, line, out)?),
+        Ok(()) => {
+            trace_changes(alloc, number, &before, line, trace)?;
+            Ok(write_after(&step.action, line, out)?)
+        }
         Err(error) => Err(error.at(step.line)),
     }
 }

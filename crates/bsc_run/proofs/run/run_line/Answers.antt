@@ -28,6 +28,8 @@ returns-in-Ok-clause-whole g c =
       begun = c.in-Ok.line;
       ended = c.run_on.new.line;
       new_line = new;
+      told = g.D.Write.contents c.trace_addresses.new.out;
+      addresses = rw c.terminal_list-terminals.ensures.value at c.in_ok-trace_addresses.ensures;
       runs = r;
       arrived =
           arrived_on_new_line c.args.config.now.setup c.args.config.now.terminals
