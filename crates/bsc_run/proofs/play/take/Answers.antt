@@ -11,8 +11,8 @@ trace_changes-requires g c =
     are_on c.args.tracing c.in_ok-before.before.channels.items done.event c.args.line.now
     c.act.new.line c.in_ok-before.ensures.channels done.done
 
-pub returns-in_ok-write_after-in-Ok : goal.returns-in_ok-write_after-in-Ok
-returns-in_ok-write_after-in-Ok g c =
+pub returns-in-Ok : goal.returns-in-Ok
+returns-in-Ok g c =
     let acted = c.in-Ok.ensures in
     record {
       accepted = record {
@@ -23,10 +23,10 @@ returns-in_ok-write_after-in-Ok g c =
             (g.D.Write.contents c.args.trace.now) (g.D.Write.contents c.act.new.trace)
             (g.D.Write.contents c.trace_changes.new.out) c.traced_number-number.ensures
             c.in_ok-before.ensures.channels c.in_ok-before.ensures.trusted acted.accepted.traced
-            c.in_ok-trace_changes.ensures;
+            c.in_ok-trace_changes-in-Ok.ensures;
       };
       fits = acted.fits;
-      printed = c.in_ok-write_after.ensures;
+      printed = c.in_ok-write_after-in-Ok.ensures;
       refused = λ line why q. cc;
       socket = λ line q. cc;
     }
