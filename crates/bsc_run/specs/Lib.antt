@@ -10,3 +10,4 @@ pub mod Steps
 pub mod LineRuns
 pub mod Plays
 pub mod Runs
+pub mod Counting

@@ -9,6 +9,7 @@
 mod actions;
 mod addresses;
 mod changes;
+mod counting;
 mod crossing;
 mod error;
 mod marks;
@@ -19,6 +20,7 @@ mod run;
 mod standing;
 mod trace;
 
+pub use counting::line_counts;
 pub use error::RunError;
 pub use play::run_on;
 pub use report::write_report;

@@ -13,6 +13,7 @@ ghost use Rattle.bsc_run.specs.Traces.{number_if};
 
 use crate::actions::act;
 use crate::changes::trace_changes;
+use crate::counting::show_progress;
 use crate::error::RunError;
 use crate::pending::write_pending;
 use crate::report::write_report;
@@ -21,6 +22,7 @@ use bsc_carrier::Cable;
 use bsc_line::Line;
 use bsc_line_model::laws::{every_run, headline, round, visit};
 use bsc_print::PrintError;
+use bsc_progress::Meter;
 use bsc_script::{Action, Step};
 use std::alloc::Allocator;
 use std::io::{Read, Write};
@@ -33,7 +35,8 @@ use std::io::{Read, Write};
 ///
 /// With `tracing` the lines of the trace for each accepted event are written to `trace`: what
 /// became of the transmission that was pending, or what the event is; and then the records that
-/// landed, each doubt that begins, and the end of trust. Otherwise nothing is written there.
+/// landed, each doubt that begins, and the end of trust. Otherwise nothing is written there. After
+/// each event `meter` is shown how far the run has come, if it is time.
 ///
 /// The events that were accepted are a run of the line, each with the octets that were read. So
 /// what `Line::run` promises holds of it: if the line is trusted at the end, the records that
@@ -49,6 +52,7 @@ pub fn run_on<
     E: Allocator + Copy,
     W: Write,
     D: Write,
+    M: Meter,
 >(
     alloc: E,
     line: &mut Line<B>,
@@ -57,6 +61,7 @@ pub fn run_on<
     out: &mut W,
     tracing: bool,
     trace: &mut D,
+    meter: &mut M,
 ) -> Result<(), RunError>
     requires { Fits line.old cable.old }
     ensures socket { TellsLine (map numbered steps.now) result }
@@ -69,7 +74,7 @@ pub fn run_on<
     headline();
     visit();
     round();
-    match play(alloc, line, steps, cable, out, tracing, trace) {
+    match play(alloc, line, steps, cable, out, tracing, trace, meter) {
         Ok(()) => Ok(write_report(alloc, line, out)?),
         Err(RunError::Refused { line: number, why }) => {
             write_report(alloc, line, out)?;
@@ -89,6 +94,7 @@ fn play<
     E: Allocator + Copy,
     W: Write,
     D: Write,
+    M: Meter,
 >(
     alloc: E,
     line: &mut Line<B>,
@@ -97,6 +103,7 @@ fn play<
     out: &mut W,
     tracing: bool,
     trace: &mut D,
+    meter: &mut M,
 ) -> Result<(), RunError>
     requires { Fits line.old cable.old }
     ensures socket { TellsLine (map numbered steps.now) result }
@@ -105,10 +112,13 @@ fn play<
         (playing line.old cable.old (W.contents out.old) (D.contents trace.old)) result
         (playing line.new cable.new (W.contents out.new) (D.contents trace.new))) }
 {
+    let mut events: u64 = 0;
     'steps: for step in steps {
         if let Err(error) = take(alloc, line, step, cable, out, tracing, trace) {
             return Err(error);
         }
+        events = events.saturating_add(1);
+        show_progress(line, events, meter);
     }
     Ok(())
 }

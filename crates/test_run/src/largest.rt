@@ -4,6 +4,7 @@
 
 use bsc_config::{Config, read_config};
 use bsc_loopback::connect;
+use bsc_progress::Unmetered;
 use bsc_run::{RunError, run_line};
 use bsc_script::{Script, read_script};
 use std::alloc::{AllocError, Global};
@@ -26,6 +27,7 @@ fn run_largest(
         out,
         false,
         &mut trace,
+        &mut Unmetered,
     ))
 }
 

@@ -133,7 +133,11 @@ fn each_worked_run_has_its_trace_beside_its_output(rt: HostRuntime) -> Result<()
         let (mut out, mut trace) = (Vec::new(rt.alloc()), Vec::new(rt.alloc()));
         let answer = run_traced(&rt, TWO_TERMINALS, worked.script, &mut out, &mut trace)?;
         assert!(rt; worked.is_whole(&out, answer));
-        assert!(rt; trace.as_slice() == traced.as_bytes(), "{}", str::from_utf8(&trace).unwrap_or(""));
+        assert!(rt;
+            trace.as_slice() == traced.as_bytes(),
+            "{}",
+            str::from_utf8(&trace).unwrap_or("")
+        );
     }
     Ok(())
 }

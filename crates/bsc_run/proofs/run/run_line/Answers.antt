@@ -23,7 +23,7 @@ returns-in-Ok-clause-whole g c =
       c.terminal_list-terminals.ensures.value,
       c.poll_list-poll_list.ensures.value,
     ) at c.in-Ok.ensures.value in
-    let runs = rw c.steps.ensures at c.run_on.ensures.whole in
+    let runs = rw c.steps-steps.ensures at c.run_on.ensures.whole in
     where_whole c.run_on.result (λ r. record {
       begun = c.in-Ok.line;
       ended = c.run_on.new.line;
