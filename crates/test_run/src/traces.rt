@@ -120,9 +120,6 @@ const MARKS_TRACED: &str = "+0 terminal 0 is A, selected as a.
 fn is_traced(rt: &HostRuntime, script: &str, traced: &str) -> Result<bool, Fail> {
     let (mut out, mut trace) = (Vec::new(rt.alloc()), Vec::new(rt.alloc()));
     let _ = run_traced(rt, TWO_TERMINALS, script, &mut out, &mut trace)?;
-    if trace.as_slice() != traced.as_bytes() {
-        println!(rt; "{}", str::from_utf8(&trace).unwrap_or("")).ok();
-    }
     Ok(trace.as_slice() == traced.as_bytes())
 }
 
@@ -133,7 +130,7 @@ fn each_worked_run_has_its_trace_beside_its_output(rt: HostRuntime) -> Result<()
         let (mut out, mut trace) = (Vec::new(rt.alloc()), Vec::new(rt.alloc()));
         let answer = run_traced(&rt, TWO_TERMINALS, worked.script, &mut out, &mut trace)?;
         assert!(rt; worked.is_whole(&out, answer));
-        assert!(rt; trace.as_slice() == traced.as_bytes(), "{}", str::from_utf8(&trace).unwrap_or(""));
+        assert!(rt; trace.as_slice() == traced.as_bytes(), "{}", worked.script);
     }
     Ok(())
 }
