@@ -11,7 +11,7 @@ pub data AskedValue : Type 0 where
   name : List ℕ → AskedValue
   show : AskedValue
   chart : Bool → Option (List ℕ) → AskedValue
-  run : List ℕ → List ℕ → Bool → Bool → AskedValue
+  run : List ℕ → List ℕ → Bool → Bool → Bool → AskedValue
   station : AskedWords → AskedValue
 
 -- The value of the work in the code.
@@ -20,6 +20,6 @@ asked Names = names
 asked (Name hex) = name (string_bytes hex)
 asked Show = show
 asked (Chart ascii width) = chart ascii (option_map string_bytes width)
-asked (Run config script check trace) =
-    run (string_bytes config) (string_bytes script) check trace
+asked (Run config script check trace quiet) =
+    run (string_bytes config) (string_bytes script) check trace quiet
 asked (Station words) = station (asked_words words)

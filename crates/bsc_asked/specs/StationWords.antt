@@ -27,6 +27,7 @@ pub record AskedWords : Type 0 where
   pub report_records : Bool
   pub sync : Bool
   pub trace : ℕ
+  pub quiet : Bool
 
 -- The value of the arguments in the code.
 abbrev pub asked_words : StationWords → AskedWords
@@ -54,4 +55,5 @@ asked_words w = record {
   report_records = w.report_records;
   sync = w.sync;
   trace = w.trace;
+  quiet = w.quiet;
 }

@@ -24,12 +24,13 @@ pub enum Asked {
 
     /// Run a line with this configuration and the events of this script. Both are paths; `-` is
     /// standard input. With `check` both are only read and checked. With `trace` a trace of the
-    /// run is printed.
+    /// run is printed. With `quiet` no progress is shown.
     Run {
         config: String,
         script: String,
         check: bool,
         trace: bool,
+        quiet: bool,
     },
 
     /// Run one station of a line over TCP.

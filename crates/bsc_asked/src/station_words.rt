@@ -72,4 +72,7 @@ pub struct StationWords {
 
     /// How often a trace of the transmissions is asked for.
     pub trace: u8,
+
+    /// Whether no progress is shown.
+    pub quiet: bool,
 }

@@ -5,3 +5,4 @@ pub mod Offering
 pub mod Outcomes
 pub mod Preparing
 pub mod Wanted
+pub mod Progress

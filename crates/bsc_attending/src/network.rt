@@ -2,7 +2,7 @@
 
 use crate::Wanted;
 use bsc_connections::Waiter;
-use bsc_monitor::Timer;
+use bsc_progress::{Meter, Timer, Work};
 use bsc_sockets::SocketsError;
 use std::io::{Read, Write};
 
@@ -25,8 +25,8 @@ pub trait Network {
     /// The waiter for connections to other processes.
     type Waiter: Waiter<Self::Reader, Self::Writer> + Drop;
 
-    /// The clock.
-    type Timer: Timer + Drop;
+    /// The clock, which also shows how far the station has come.
+    type Timer: Timer + Meter + Drop;
 
     /// The writer for the trace.
     type Trace: Write + Drop;
@@ -37,8 +37,9 @@ pub trait Network {
         wanted: &Wanted<'_>,
     ) -> Result<Opened<Self::Reader, Self::Writer, Self::Waiter>, SocketsError>;
 
-    /// Returns a clock that starts now.
-    fn timer(&mut self) -> Self::Timer;
+    /// Returns a clock that starts now. Progress is shown of this work, or none; and only if standard
+    /// error is a terminal.
+    fn timer(&mut self, progress: Option<Work>) -> Self::Timer;
 
     /// Returns the writer for the trace, which is standard error.
     fn trace(&mut self) -> Self::Trace;

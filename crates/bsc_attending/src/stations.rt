@@ -7,6 +7,7 @@ ghost use Rattle.bsc_attending.specs.Ending.{HasRun, IsConcluded, IsLeftBy, Join
 ghost use Rattle.bsc_attending.specs.Ending.{ReportsIn};
 ghost use Rattle.bsc_attending.specs.Errors.{IsCutShort, IsEarly, IsLate, IsPrintFault};
 ghost use Rattle.bsc_attending.specs.Errors.{control_outcome_of, outcome_of};
+ghost use Rattle.bsc_attending.specs.Progress.{progress_in, work_in};
 ghost use Rattle.bsc_attending.specs.Outcomes.{IsAnswer, IsAnswerFor, IsReported, IsReportedFor};
 ghost use Rattle.bsc_attending.specs.Wanted.{is_listening, wanted_value, wants};
 ghost use Rattle.bsc_trust.specs.Trust.{new_trust};
@@ -21,11 +22,12 @@ use bsc_connections::LiveError;
 use bsc_control::Control;
 use bsc_input::Files;
 use bsc_monitor::{
-    ControlWatch, Ended, Limits, LineTerminal, Printing, Standing, TerminalWatch, Timer, Watch,
+    ControlWatch, Ended, Limits, LineTerminal, Printing, Standing, TerminalWatch, Tracing, Watch,
     station_standing, write_report, write_trust,
 };
-use bsc_options::{Admission, StationSettings, read_admission, read_settings};
+use bsc_options::{Admission, Role, StationSettings, read_admission, read_settings};
 use bsc_print::Form;
+use bsc_progress::{Meter, Timer, Work};
 use bsc_trust::Trust;
 use std::alloc::Global;
 use std::io::{Read, Write};
@@ -162,7 +164,8 @@ fn open<H: Network, W: Write>(
     if options.settings.sync {
         machine.sync_output();
     }
-    let (timer, mut trace) = (machine.timer(), machine.trace());
+    let timer = machine.timer(progress_of(&options.settings));
+    let mut trace = machine.trace();
     let watching = Watching {
         printing: options.settings.printing,
         timer,
@@ -171,6 +174,27 @@ fn open<H: Network, W: Write>(
     };
     let ending = ending_of(options);
     attend(alloc, ending, prepared, &mut connections, watching)
+}
+
+/// Returns of what work the progress is shown: the rounds of the control station or the events of a
+/// terminal; none with a trace, or if none is wanted.
+fn progress_of(settings: &StationSettings<'_>) -> Option<Work>
+    ensures { result ≡ progress_in (settings_value settings.now) }
+{
+    match settings.printing.trace {
+        Tracing::Off if !settings.quiet => Some(work_of(settings.role)),
+        _ => None,
+    }
+}
+
+/// Returns what is counted at a station.
+fn work_of(role: Role) -> Work
+    ensures { result ≡ work_in role }
+{
+    match role {
+        Role::Control => Work::Rounds,
+        Role::Terminal { .. } => Work::Events,
+    }
 }
 
 /// Returns when the control station of these options ends, and what it can tell of its line before
@@ -206,7 +230,7 @@ fn wanted_by<'a>(options: &Options<'a>, prepared: &Prepared) -> Wanted<'a>
 }
 
 /// Attends a station over its connections until it ends, and returns what it leaves.
-fn attend<C: Attend, T: Timer + Drop, O: Write, D: Write>(
+fn attend<C: Attend, T: Timer + Meter + Drop, O: Write, D: Write>(
     alloc: Global,
     ending: Ending,
     prepared: &mut Prepared,
@@ -230,7 +254,7 @@ fn attend<C: Attend, T: Timer + Drop, O: Write, D: Write>(
 
 /// Attends the control station until it ends, and returns what it can tell of its line. No fault of
 /// a connection ends it.
-fn attend_control<C: Attend, T: Timer + Drop, O: Write, D: Write>(
+fn attend_control<C: Attend, T: Timer + Meter + Drop, O: Write, D: Write>(
     alloc: Global,
     ending: Ending,
     control: &mut Control<Global>,
@@ -264,7 +288,7 @@ fn with_connections<C: Attend>(trust: Trust, connections: &C) -> Trust
 
 /// Attends the control station until it ends, and then its connections until its last call is
 /// answered. Returns what the station can tell of its line.
-fn attend_until_answered<C: Attend, T: Timer + Drop, O: Write, D: Write>(
+fn attend_until_answered<C: Attend, T: Timer + Meter + Drop, O: Write, D: Write>(
     control: &mut Control<Global>,
     connections: &mut C,
     mut watch: ControlWatch<'_, Global, T, O, D>,
@@ -279,7 +303,7 @@ fn attend_until_answered<C: Attend, T: Timer + Drop, O: Write, D: Write>(
 }
 
 /// Attends a terminal until its connection is closed, and returns the fault that closed it, if any.
-fn attend_terminal<C: Attend, T: Timer + Drop, O: Write, D: Write>(
+fn attend_terminal<C: Attend, T: Timer + Meter + Drop, O: Write, D: Write>(
     alloc: Global,
     terminal: &mut LineTerminal<Global>,
     connections: &mut C,

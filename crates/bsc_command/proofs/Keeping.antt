@@ -236,7 +236,7 @@ module _ {S : Type 0} (contents remaining : S → Option (List ℕ)) where
   done_kept show None a b c p k = p
   done_kept show (Some octets) a b c p k = input_kept Units octets a b c p k
   done_kept (chart ascii width) input a b c p k = charted_kept ascii width input a b c p k
-  done_kept (run config script check trace) input a b c p k = record {
+  done_kept (run config script check trace quiet) input a b c p k = record {
     told = p.told;
     tells = p.tells;
     done =
@@ -298,7 +298,7 @@ module _ {S : Type 0} (contents remaining : S → Option (List ℕ)) where
   work_failed_kept (name text) f given a b c p k = p
   work_failed_kept show f given a b c p k = lines_kept f Units given a b c p k
   work_failed_kept (chart ascii width) f given a b c p k = chart_kept f ascii width given a b c p k
-  work_failed_kept (run config script check trace) f given a b c p k =
+  work_failed_kept (run config script check trace quiet) f given a b c p k =
       failed_run_kept f check trace
       (record { config = config; script = script; input = given }) a b c p k
   work_failed_kept (station words) f given a b c p k = p

@@ -84,7 +84,7 @@ module _ {S : Type 0} (contents remaining : S → Option (List ℕ)) where
       IsSomeAnd (octets_of text) (λ octets. Prints name_line octets old new)
   IsDone show input old new = IfSome input (λ octets. PrintsInput Units octets old new)
   IsDone (chart ascii width) input old new = IsCharted ascii width input old new
-  IsDone (run config script check trace) input old new =
+  IsDone (run config script check trace quiet) input old new =
       HasDoneRun check trace (record { config = config; script = script; input = input }) old new
   IsDone (station words) input old new = IsAnswer words input (Ok tt)
 
@@ -114,7 +114,7 @@ module _ {S : Type 0} (contents remaining : S → Option (List ℕ)) where
   HasFailedAs show fault input old new = HasFailedLines fault Units input old new
   HasFailedAs (chart ascii width) fault input old new =
       HasFailedChart fault ascii width input old new
-  HasFailedAs (run config script check trace) fault input old new =
+  HasFailedAs (run config script check trace quiet) fault input old new =
       HasFailedRun fault check trace
       (record { config = config; script = script; input = input }) old new
   HasFailedAs (station words) fault input old new = HasFailedStation fault words input
@@ -125,7 +125,7 @@ IsFaultOf names fault = IsNamesFault fault
 IsFaultOf (name text) fault = IsNameFault fault
 IsFaultOf show fault = IsNamesFault fault
 IsFaultOf (chart ascii width) fault = IsChartingFault fault
-IsFaultOf (run config script check trace) fault = IsRunFault fault
+IsFaultOf (run config script check trace quiet) fault = IsRunFault fault
 IsFaultOf (station words) fault = IsStationFault fault
 
 -- The arguments ask for the help or the version.

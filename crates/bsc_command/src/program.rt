@@ -42,8 +42,8 @@ pub fn perform<R: Read, H: Files + Cables + Network, W: Write>(
     ensures early { IfErr result (λ fault. IsEarly fault → out.new ≡ out.old) }
     ensures unasked { (text : List ℕ) → asked_now asked.now ≡ name_asked text →
         input.new ≡ input.old }
-    ensures checked { (config script : List ℕ) (trace : Bool)
-        → asked_now asked.now ≡ run_asked config script true trace → out.new ≡ out.old }
+    ensures checked { (config script : List ℕ) (trace quiet : Bool)
+        → asked_now asked.now ≡ run_asked config script true trace quiet → out.new ≡ out.old }
 {
     match asked {
         Asked::Names => Ok(names(alloc, input, out)?),
@@ -64,12 +64,14 @@ pub fn perform<R: Read, H: Files + Cables + Network, W: Write>(
             script,
             check,
             trace,
+            quiet,
         } => {
             let words = RunWords {
                 config: config.as_str(),
                 script: script.as_str(),
                 check: *check,
                 trace: *trace,
+                quiet: *quiet,
             };
             match run_traced(alloc, words, input, machine, out) {
                 Ok(()) => Ok(()),

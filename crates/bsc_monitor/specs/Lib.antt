@@ -1,6 +1,7 @@
 pub mod Answering
 pub mod Arrivals
 pub mod EndValues
+pub mod Counting
 pub mod Ends
 pub mod Holding
 pub mod LineTerminal

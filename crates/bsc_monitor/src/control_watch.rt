@@ -14,7 +14,7 @@ use crate::progress::Progress;
 use crate::trace::Who;
 use crate::trusting::{Trusting, called_by};
 use crate::watch::Watch;
-use crate::{Limits, Party, Timer};
+use crate::{Limits, Meter, Party, Timer};
 use bsc_connections::{LiveError, Monitor, Note, Pace};
 use bsc_control::{Control, Task};
 use bsc_trust::Trust;
@@ -43,7 +43,7 @@ pub struct ControlWatch<'a, A: Allocator, T: Drop, W, D> {
     answering: Answering,
 }
 
-impl<'a, A: Allocator + Copy, T: Timer + Drop, W: Write, D: Write> ControlWatch<'a, A, T, W, D> {
+impl<'a, A: Allocator + Copy, T: Timer + Meter + Drop, W: Write, D: Write> ControlWatch<'a, A, T, W, D> {
     /// Returns the monitor of a control station that has sent nothing. `listens` tells whether
     /// other peers may connect later. `trust` is what is known of the premises.
     pub fn new<B: Allocator>(
@@ -105,7 +105,7 @@ impl<'a, A: Allocator + Copy, T: Timer + Drop, W: Write, D: Write> ControlWatch<
     }
 }
 
-impl<'a, A: Allocator + Copy, T: Timer + Drop, W: Write, D: Write, B: Allocator> Monitor<Control<B>>
+impl<'a, A: Allocator + Copy, T: Timer + Meter + Drop, W: Write, D: Write, B: Allocator> Monitor<Control<B>>
     for ControlWatch<'a, A, T, W, D> {
     ghost use Rattle.std.specs.Prelude.{◌≡◌, IfErr, OnOk};
     ghost use Rattle.bsc_monitor.specs.Answering.{answering_after};
@@ -156,7 +156,9 @@ impl<'a, A: Allocator + Copy, T: Timer + Drop, W: Write, D: Write, B: Allocator>
         let unanswered = self.answering.note(station, &note);
         self.watch.tell_unanswered(unanswered)?;
         self.pace = self.progress.pace_after(station, &note);
-        Ok(self.progress.note(station, &note, found))
+        let goes_on = self.progress.note(station, &note, found);
+        self.watch.show_progress(station, Some(self.progress.rounds()));
+        Ok(goes_on)
     }
 
     fn pace(&self) -> Pace {

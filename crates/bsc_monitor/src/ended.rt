@@ -2,7 +2,7 @@
 
 ghost use Rattle.std.specs.Prelude.{◌≡◌, false};
 
-use crate::Timer;
+use crate::{Meter, Timer};
 use crate::held::{Calls, Seen};
 use crate::trace::Who;
 use crate::trusting::Trusting;
@@ -61,7 +61,7 @@ pub struct LastWatch<'a, A: Allocator, T: Drop, W, D> {
     pub(crate) ended: bool,
 }
 
-impl<'a, A: Allocator + Copy, T: Timer + Drop, W: Write, D: Write> LastWatch<'a, A, T, W, D> {
+impl<'a, A: Allocator + Copy, T: Timer + Meter + Drop, W: Write, D: Write> LastWatch<'a, A, T, W, D> {
     /// Returns what is known of the premises.
     pub fn trust(&self) -> Trust
         ensures { result ≡ self.now.trusting.trust }
@@ -70,7 +70,7 @@ impl<'a, A: Allocator + Copy, T: Timer + Drop, W: Write, D: Write> LastWatch<'a,
     }
 }
 
-impl<'a, A: Allocator + Copy, T: Timer + Drop, W: Write, D: Write> Monitor<Ended>
+impl<'a, A: Allocator + Copy, T: Timer + Meter + Drop, W: Write, D: Write> Monitor<Ended>
     for LastWatch<'a, A, T, W, D> {
     ghost use Rattle.std.specs.Prelude.{◌≡◌, IfErr, OnOk};
     ghost use Rattle.bsc_monitor.specs.Refusing.{IsTraceFault};

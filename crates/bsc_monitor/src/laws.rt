@@ -5,7 +5,7 @@ ghost use Rattle.bsc_connections.specs.Parts.{session_parts};
 ghost use Rattle.bsc_monitor.specs.Visits.{FollowsNew, FollowsHearing, FollowsSilence};
 ghost use Rattle.bsc_monitor.specs.Watching.{PrintsBeforeSending, output_of};
 
-use crate::{ControlWatch, LineTerminal, Party, TerminalWatch, Timer};
+use crate::{ControlWatch, LineTerminal, Meter, Party, TerminalWatch, Timer};
 use bsc_bid::Station;
 use bsc_connections::{Framing, Monitor, Waiter};
 use bsc_control::Control;
@@ -31,7 +31,7 @@ pub fn printed_before_sent<
     Q: Waiter<R, W>,
     A: Allocator + Copy,
     B: Allocator,
-    T: Timer + Drop,
+    T: Timer + Meter + Drop,
     O: Write + 'static,
     D: Write + 'static,
 >()

@@ -71,6 +71,13 @@ impl Progress {
         self.stopped
     }
 
+    /// Returns the number of completed rounds.
+    pub fn rounds(&self) -> u64
+        ensures { result ≡ self.now.rounds.rounds }
+    {
+        self.rounds.count()
+    }
+
     /// Whether what the control station has just sent, and what is not counted yet, begins a round
     /// after an idle one.
     pub fn begins_after_idle<B: Allocator>(&self, control: &Control<B>) -> bool

@@ -41,6 +41,13 @@ impl Rounds {
         }
     }
 
+    /// Returns the number of completed rounds.
+    pub fn count(&self) -> u64
+        ensures { result ≡ self.now.rounds }
+    {
+        self.rounds
+    }
+
     /// Records that a record arrived in this round.
     pub fn found(&mut self)
         ensures { let r = self.old in

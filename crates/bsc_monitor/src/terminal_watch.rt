@@ -5,7 +5,7 @@ ghost use Rattle.std.specs.Prelude.{◌≡◌, None, false};
 use crate::held::{Calls, Seen};
 use crate::trace::Who;
 use crate::watch::Watch;
-use crate::{LineTerminal, Party, Timer};
+use crate::{LineTerminal, Meter, Party, Timer};
 use bsc_carrier::CarrierError;
 use bsc_connections::{LiveError, Monitor, Note, Pace};
 use std::alloc::Allocator;
@@ -29,7 +29,7 @@ pub struct TerminalWatch<'a, A: Allocator, T: Drop, W, D> {
     ended: bool,
 }
 
-impl<'a, A: Allocator + Copy, T: Timer + Drop, W: Write, D: Write> TerminalWatch<'a, A, T, W, D> {
+impl<'a, A: Allocator + Copy, T: Timer + Meter + Drop, W: Write, D: Write> TerminalWatch<'a, A, T, W, D> {
     /// Returns the monitor of a terminal at which nothing has arrived.
     pub fn new(watch: Watch<'a, A, T, W, D>) -> TerminalWatch<'a, A, T, W, D>
         ensures watch { result.watch ≡ watch.entry }
@@ -54,7 +54,7 @@ impl<'a, A: Allocator + Copy, T: Timer + Drop, W: Write, D: Write> TerminalWatch
     }
 }
 
-impl<'a, A: Allocator + Copy, T: Timer + Drop, W: Write, D: Write, B: Allocator> Monitor<
+impl<'a, A: Allocator + Copy, T: Timer + Meter + Drop, W: Write, D: Write, B: Allocator> Monitor<
     LineTerminal<B>,
 > for TerminalWatch<'a, A, T, W, D> {
     ghost use Rattle.std.specs.Prelude.{◌≡◌, IfErr, OnOk, true};
@@ -95,6 +95,7 @@ impl<'a, A: Allocator + Copy, T: Timer + Drop, W: Write, D: Write, B: Allocator>
             calls: Calls::Heard,
         };
         self.watch.see(station, seen, &note)?;
+        self.watch.show_progress(station, None);
         let in_control_mode = station.in_control_mode();
         match note {
             Note::Closed { why, .. } => {

@@ -10,10 +10,11 @@ ghost use Rattle.bsc_monitor.specs.Watching.{IsFlushed, IsFound, PrintsArrivals,
 ghost use Rattle.bsc_monitor.specs.Watching.{live_of, output_of};
 
 use crate::arrivals::print_arrivals;
+use crate::counting::station_counts;
 use crate::held::{HeldCall, Seen, write_held, write_next};
 use crate::record_writer::RecordWriter;
 use crate::trace::{write_change, write_distrust, write_note, write_time, write_unanswered};
-use crate::{Party, Timer, Tracing};
+use crate::{Meter, Party, Timer, Tracing};
 use bsc_connections::{LiveError, Note};
 use bsc_print::{Form, PrintError};
 use bsc_trust::Distrust;
@@ -41,8 +42,11 @@ pub struct Watch<'a, A: Allocator, T: Drop, W, D> {
     /// The options for records and traces.
     printing: Printing,
 
-    /// The clock of the trace.
+    /// The clock of the trace, which also shows how far the station has come.
     timer: T,
+
+    /// The number of events so far.
+    events: u64,
 
     /// The line of the trace that is held back.
     held: Option<HeldCall>,
@@ -57,7 +61,7 @@ pub struct Watch<'a, A: Allocator, T: Drop, W, D> {
     errors: &'a mut D,
 }
 
-impl<'a, A: Allocator + Copy, T: Timer + Drop, W: Write, D: Write> Watch<'a, A, T, W, D> {
+impl<'a, A: Allocator + Copy, T: Timer + Meter + Drop, W: Write, D: Write> Watch<'a, A, T, W, D> {
     ghost use Rattle.std.specs.Prelude.{None, replicate};
 
     /// Returns the output of a station at which nothing has arrived.
@@ -82,6 +86,7 @@ impl<'a, A: Allocator + Copy, T: Timer + Drop, W: Write, D: Write> Watch<'a, A, 
             alloc,
             printing,
             timer,
+            events: 0,
             held: None,
             printed,
             out: RecordWriter::new(out),
@@ -95,6 +100,19 @@ impl<'a, A: Allocator + Copy, T: Timer + Drop, W: Write, D: Write> Watch<'a, A, 
         ensures trace { trace_of D.contents self.new ≡ trace_of D.contents self.old }
     {
         self.timer.milliseconds()
+    }
+
+    /// Shows how far a station has come, if it is time: the rounds that it has made, or without
+    /// these the events.
+    pub(crate) fn show_progress<P: Party>(&mut self, station: &P, rounds: Option<u64>)
+        ensures records { output_of W.contents self.new ≡ output_of W.contents self.old }
+        ensures trace { trace_of D.contents self.new ≡ trace_of D.contents self.old }
+    {
+        self.events = self.events.saturating_add(1);
+        if self.timer.is_due() {
+            let done = rounds.unwrap_or(self.events);
+            self.timer.show(station_counts(station, done));
+        }
     }
 
     /// Prints the output for an event: its line of the trace, and the records that have arrived.

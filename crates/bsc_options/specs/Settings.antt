@@ -153,6 +153,7 @@ pub record SettingsValue : Type 0 where
   pub limits : Limits
   pub until_input_ends : Bool
   pub sync : Bool
+  pub quiet : Bool
   pub printing : Printing
   pub reported : Option Form
 
@@ -166,6 +167,7 @@ settings_value s = record {
   limits = s.limits;
   until_input_ends = s.until_input_ends;
   sync = s.sync;
+  quiet = s.quiet;
   printing = s.printing;
   reported = s.reported;
 }
@@ -191,6 +193,7 @@ settings_in w = do
     limits = limits;
     until_input_ends = w.until_input_ends;
     sync = w.sync;
+    quiet = w.quiet;
     printing = printing_in w;
     reported = reported_in w;
   })

@@ -95,6 +95,9 @@ pub struct StationSettings<'a> {
     /// Whether standard output is synced before records are acknowledged.
     pub sync: bool,
 
+    /// Whether no progress is shown.
+    pub quiet: bool,
+
     /// Its output while it runs.
     pub printing: Printing,
 
@@ -282,6 +285,7 @@ pub fn read_settings(words: &StationWords) -> Result<StationSettings<'_>, Option
         limits,
         until_input_ends: words.until_input_ends,
         sync: words.sync,
+        quiet: words.quiet,
         printing: printing_of(words),
         reported: reported_of(words),
     })

@@ -2,6 +2,7 @@ pub mod Appending
 pub mod Items
 pub mod Speaking
 pub mod Acting
+pub mod Standings
 pub mod LineRuns
 pub mod Playing
 mod Telling

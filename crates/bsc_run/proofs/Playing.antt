@@ -13,9 +13,10 @@ use Rattle.bsc_run.specs.declared.error.RunError.{RunError}
 use Rattle.bsc_run.specs.declared.error.RunError.TheVariants.{Refused}
 use Rattle.bsc_run.specs.Printed.{report_of}
 use Rattle.bsc_run.specs.Plays.{Playing, playing, on_cable, on_trace, Plays, Played, Runs}
-use Rattle.bsc_run.specs.Plays.{TakesStep, Texts, WhereWhole, Writes, no_text}
-use Rattle.bsc_run.specs.Steps.{OnCable, AcceptsTraced, pending_after}
-use Rattle.bsc_run.specs.Traces.{if_traced, lines_of, number_if}
+use Rattle.bsc_run.specs.Plays.{Takes, TakesStep, Texts, WhereWhole, Writes, no_text}
+use Rattle.bsc_run.specs.Steps.{OnCable, pending_after}
+use Rattle.bsc_run.specs.Changes.{event_lines}
+use Rattle.bsc_run.specs.Traces.{if_traced, number_if}
 use Rattle.bsc_run.proofs.LineRuns.{LineLaws, runs_line}
 
 drop_map_suc : {X Y : Type 0} (f : X → Y) (xs : List X) (i : ℕ) (x : X) → i < length xs → x
@@ -76,14 +77,14 @@ module _ {S : Type 0} (streams : Streams S) (tracing : Bool) (all : List Numbere
   -- an event is accepted
   pub has_played_more : (step : NumberedEvent) (left : List NumberedEvent) (mid new : Playing S)
       → HasPlayed (step ∷ left) mid → IsLine new.line
-      → AcceptsTraced streams (number_if tracing step.line) step.event (on_trace mid)
-      (on_trace new)
+      → Takes streams (number_if tracing step.line) step.event (on_trace mid) (on_trace new)
       → Appends mid.outside.held.out new.outside.held.out (pending_after step.event new.line)
       → HasPlayed left new
   has_played_more step left mid new h line taken written =
       let accepted = taken.accepts in
       let out = pending_after step.event new.line in
-      let lines : ℕ → List ℕ = λ n. lines_of n step.event accepted.event mid.line in
+      let lines : ℕ → List ℕ = λ n.
+      event_lines n step.event accepted.event mid.line new.line in
       record {
         text = record { out = h.text.out ++ out; trace = h.text.trace ++ lines step.line };
         events = h.events ++ accepted.event ∷ [];

@@ -1,6 +1,8 @@
 pub mod Faults
 pub mod Printed
 pub mod Traces
+pub mod Changes
+pub mod Addresses
 pub mod Crossing
 pub mod Speaking
 pub mod Hearing
@@ -8,3 +10,4 @@ pub mod Steps
 pub mod LineRuns
 pub mod Plays
 pub mod Runs
+pub mod Counting

@@ -8,14 +8,16 @@ use Rattle.bsc_line_model.specs.declared.event.Event.{Event}
 use Rattle.bsc_line_model.specs.Line.{LineValue}
 use Rattle.bsc_line_model.specs.Kept.{IsLine}
 use Rattle.bsc_script.specs.Actions.{NumberedEvent}
+use Rattle.bsc_script.specs.Events.{Event as Asked}
 use Rattle.bsc_run.specs.declared.error.RunError.{RunError}
 use Rattle.bsc_run.specs.declared.error.RunError.TheVariants.{Refused, Socket}
 use Rattle.bsc_run.specs.LineRuns.{RunsLine}
 use Rattle.bsc_run.specs.Printed.{report_of}
 use Rattle.bsc_run.specs.Speaking.{Fits}
 use Rattle.bsc_run.specs.Crossing.{Streams}
-use Rattle.bsc_run.specs.Steps.{OnCable, Acting, Accepts, AcceptsTraced, Refuses, pending_after}
-use Rattle.bsc_run.specs.Traces.{lines_of, number_if}
+use Rattle.bsc_run.specs.Steps.{OnCable, Acting, Accepts, Refuses, acts_on, pending_after}
+use Rattle.bsc_run.specs.Changes.{event_lines}
+use Rattle.bsc_run.specs.Traces.{if_traced, number_if}
 
 -- The texts of a run: its output, and the lines of its trace.
 pub record Texts : Type 0 where
@@ -90,7 +92,8 @@ module _ {S : Type 0} (streams : Streams S) where
     pub line : IsLine mid
     pub accepted : Accepts streams step.event old (record { line = mid; cable = between })
     pub printed : text.out ≡ pending_after step.event mid ++ rest.out
-    pub traced : text.trace ≡ lines_of step.line step.event accepted.event old.line ++ rest.trace
+    pub traced : text.trace
+        ≡ event_lines step.line step.event accepted.event old.line mid ++ rest.trace
     pub done : events ≡ accepted.event ∷ later
     pub goes : Rest later (record { line = mid; cable = between }) rest
 
@@ -105,11 +108,17 @@ module _ {S : Type 0} (streams : Streams S) where
       Stops step events old result new text
       ⊎ GoesOn step events old text (λ later mid rest. Plays steps later mid result new rest)
 
+  -- An event of a script is accepted, and its lines of the trace are written, if there is one.
+  pub record Takes (number : Option ℕ) (asked : Asked) (old new : Acting S) : Type 0 where
+    pub accepts : Accepts streams asked (acts_on old) (acts_on new)
+    pub traced : Appends old.trace new.trace
+        (if_traced number (λ n. event_lines n asked accepts.event old.line new.line))
+
   -- One event of a script is performed or refused, and the texts for it are written.
   pub record TakesStep (tracing : Bool) (step : NumberedEvent) (old : Playing S)
       (result : Result (Unit {0}) RunError) (new : Playing S) : Type 0 where
-    pub accepted : OnOk result (AcceptsTraced streams (number_if tracing step.line) step.event
-        (on_trace old) (on_trace new))
+    pub accepted : OnOk result (Takes (number_if tracing step.line) step.event (on_trace old)
+        (on_trace new))
     pub fits : OnOk result (Fits new.line new.outside.cable)
     pub printed : OnOk result (Appends old.outside.held.out new.outside.held.out
         (pending_after step.event new.line))

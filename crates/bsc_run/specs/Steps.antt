@@ -124,7 +124,8 @@ module _ {S : Type 0} (streams : Streams S) where
     pub crossing : Crossing asked event old.line old.cable new.cable
     pub done : Does event old.line (Ok tt) new.line
 
-  -- An event of a script is accepted, and its lines of the trace are written, if there is one.
+  -- An event of a script is accepted, and the lines of the trace that tell what it is are written,
+  -- if there is a trace.
   pub record AcceptsTraced (number : Option ℕ) (asked : Asked) (old new : Acting S)
       : Type 0 where
     pub accepts : Accepts asked (acts_on old) (acts_on new)

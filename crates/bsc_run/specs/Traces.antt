@@ -1,5 +1,5 @@
--- The lines of the trace of a run, one for each accepted event. Each begins with the number of the
--- line of the script, and tells what became of the pending transmission, or what the event is.
+-- The lines of the trace of a run for each accepted event. Each begins with the number of the line
+-- of the script, and tells what became of the pending transmission, or what the event is.
 use Rattle.std.specs.Prelude.{ℕ, Bool, true, false, not, List, [], ◌++◌, length, Option, None, Some}
 use Rattle.std.specs.Prelude.{codes, slice_index_or, if◌then◌else◌}
 use Rattle.std.specs.Borrow.{Bor}

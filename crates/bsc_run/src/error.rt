@@ -43,6 +43,16 @@ impl From<PrintError> for RunError {
     }
 }
 
+impl From<AllocError> for RunError {
+    ghost use Rattle.bsc_run.specs.declared.error.RunError.TheVariants.{Memory};
+
+    ghost from_gives = { λ _ fault. fault ≡ Memory };
+
+    fn from(_error: AllocError) -> RunError {
+        RunError::Memory
+    }
+}
+
 /// The reason why a step failed.
 #[derive(Clone, Copy)]
 pub(crate) enum StepError {

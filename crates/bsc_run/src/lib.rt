@@ -7,6 +7,9 @@
 #![tactic(auto)]
 
 mod actions;
+mod addresses;
+mod changes;
+mod counting;
 mod crossing;
 mod error;
 mod marks;
@@ -14,8 +17,10 @@ mod pending;
 mod play;
 mod report;
 mod run;
+mod standing;
 mod trace;
 
+pub use counting::line_counts;
 pub use error::RunError;
 pub use play::run_on;
 pub use report::write_report;

@@ -16,7 +16,7 @@ use std::alloc::Allocator;
 use std::io::Write;
 
 /// Writes a record as text on one line, between bars.
-fn write_record<A: Allocator, W: Write>(
+pub(crate) fn write_record<A: Allocator, W: Write>(
     alloc: A,
     codes: &[u8],
     out: &mut W,
@@ -46,7 +46,11 @@ fn write_offer_at<A: Allocator, W: Write>(
 }
 
 /// Writes a selection address of a terminal.
-fn write_place<W: Write>(terminal: usize, select: usize, out: &mut W) -> Result<(), PrintError>
+pub(crate) fn write_place<W: Write>(
+    terminal: usize,
+    select: usize,
+    out: &mut W,
+) -> Result<(), PrintError>
     ensures { OnOk result
         (Appends (W.contents out.old) (W.contents out.new) (place_shown terminal select)) }
 {
@@ -109,7 +113,11 @@ fn write_doubt_to<W: Write>(terminal: usize, select: usize, out: &mut W) -> Resu
 }
 
 /// Writes which doubt is meant.
-fn write_doubt<W: Write>(terminal: usize, way: Way, out: &mut W) -> Result<(), PrintError>
+pub(crate) fn write_doubt<W: Write>(
+    terminal: usize,
+    way: Way,
+    out: &mut W,
+) -> Result<(), PrintError>
     ensures { OnOk result
         (Appends (W.contents out.old) (W.contents out.new) (doubt_of terminal way)) }
 {

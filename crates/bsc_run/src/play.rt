@@ -12,13 +12,17 @@ ghost use Rattle.bsc_run.specs.Steps.{is_heard as is_heard_event, pending_after}
 ghost use Rattle.bsc_run.specs.Traces.{number_if};
 
 use crate::actions::act;
+use crate::changes::trace_changes;
+use crate::counting::show_progress;
 use crate::error::RunError;
 use crate::pending::write_pending;
 use crate::report::write_report;
+use crate::standing::line_standing;
 use bsc_carrier::Cable;
 use bsc_line::Line;
 use bsc_line_model::laws::{every_run, headline, round, visit};
 use bsc_print::PrintError;
+use bsc_progress::Meter;
 use bsc_script::{Action, Step};
 use std::alloc::Allocator;
 use std::io::{Read, Write};
@@ -30,8 +34,9 @@ use std::io::{Read, Write};
 /// before stays.
 ///
 /// With `tracing` the lines of the trace for each accepted event are written to `trace`: what
-/// became of the transmission that was pending, or what the event is. Otherwise nothing is written
-/// there.
+/// became of the transmission that was pending, or what the event is; and then the records that
+/// landed, each doubt that begins, and the end of trust. Otherwise nothing is written there. After
+/// each event `meter` is shown how far the run has come, if it is time.
 ///
 /// The events that were accepted are a run of the line, each with the octets that were read. So
 /// what `Line::run` promises holds of it: if the line is trusted at the end, the records that
@@ -47,6 +52,7 @@ pub fn run_on<
     E: Allocator + Copy,
     W: Write,
     D: Write,
+    M: Meter,
 >(
     alloc: E,
     line: &mut Line<B>,
@@ -55,6 +61,7 @@ pub fn run_on<
     out: &mut W,
     tracing: bool,
     trace: &mut D,
+    meter: &mut M,
 ) -> Result<(), RunError>
     requires { Fits line.old cable.old }
     ensures socket { TellsLine (map numbered steps.now) result }
@@ -67,7 +74,7 @@ pub fn run_on<
     headline();
     visit();
     round();
-    match play(alloc, line, steps, cable, out, tracing, trace) {
+    match play(alloc, line, steps, cable, out, tracing, trace, meter) {
         Ok(()) => Ok(write_report(alloc, line, out)?),
         Err(RunError::Refused { line: number, why }) => {
             write_report(alloc, line, out)?;
@@ -87,6 +94,7 @@ fn play<
     E: Allocator + Copy,
     W: Write,
     D: Write,
+    M: Meter,
 >(
     alloc: E,
     line: &mut Line<B>,
@@ -95,6 +103,7 @@ fn play<
     out: &mut W,
     tracing: bool,
     trace: &mut D,
+    meter: &mut M,
 ) -> Result<(), RunError>
     requires { Fits line.old cable.old }
     ensures socket { TellsLine (map numbered steps.now) result }
@@ -103,10 +112,13 @@ fn play<
         (playing line.old cable.old (W.contents out.old) (D.contents trace.old)) result
         (playing line.new cable.new (W.contents out.new) (D.contents trace.new))) }
 {
+    let mut events: u64 = 0;
     'steps: for step in steps {
         if let Err(error) = take(alloc, line, step, cable, out, tracing, trace) {
             return Err(error);
         }
+        events = events.saturating_add(1);
+        show_progress(line, events, meter);
     }
     Ok(())
 }
@@ -136,8 +148,12 @@ fn take<
         (playing line.new cable.new (W.contents out.new) (D.contents trace.new)) }
 {
     let number = traced_number(tracing, step.line);
+    let before = line_standing(alloc, tracing, line)?;
     match act(alloc, number, line, &step.action, cable, trace) {
-        Ok(()) => Ok(write_after(&step.action, line, out)?),
+        Ok(()) => {
+            trace_changes(alloc, number, &before, line, trace)?;
+            Ok(write_after(&step.action, line, out)?)
+        }
         Err(error) => Err(error.at(step.line)),
     }
 }

@@ -6,11 +6,13 @@ ghost use Rattle.bsc_run.specs.Faults.{TellsLine};
 ghost use Rattle.bsc_run.specs.Plays.{WhereWhole, holding};
 ghost use Rattle.bsc_run.specs.Runs.{RunsScript};
 
+use crate::addresses::trace_addresses;
 use crate::error::RunError;
 use crate::play::run_on;
 use bsc_carrier::Cable;
 use bsc_config::Config;
 use bsc_line::Line;
+use bsc_progress::Meter;
 use bsc_script::Script;
 use std::alloc::Allocator;
 use std::io::{Read, Write};
@@ -24,9 +26,12 @@ use std::io::{Read, Write};
 /// printed: the sender and the name of the pending transmission, or that none is pending. After the
 /// last event, or the first that is refused, the report of the line is printed.
 ///
-/// With `tracing` a trace of the run is written to `trace`, in the form of that of a station. Each
-/// line begins with the number of the line of the script, and tells what became of the transmission
-/// that was pending, who heard it, its name and its octets as they were read; or what the event is.
+/// With `tracing` a trace of the run is written to `trace`, in the form of that of a station: first
+/// the addresses of each terminal, and then the lines of each accepted event. Each begins with the
+/// number of the line of the script, and tells what became of the transmission that was pending,
+/// who heard it, its name and its octets as they were read; or what the event is. Further lines tell
+/// each record that landed, each doubt that begins, and the end of trust. While it runs, `meter` is
+/// shown how far it has come, each time that it is due.
 ///
 /// `Refused` is returned after the report is printed, with the number of the line of the refused
 /// event; nothing crossed the cable for that event. After `Output`, `Socket` and `Memory` there is
@@ -38,6 +43,7 @@ pub fn run_line<
     E: Allocator + Copy,
     W: Write,
     D: Write,
+    M: Meter,
 >(
     alloc: E,
     config: &Config,
@@ -46,6 +52,7 @@ pub fn run_line<
     out: &mut W,
     tracing: bool,
     trace: &mut D,
+    meter: &mut M,
 ) -> Result<(), RunError>
     requires { connection_count cable.old ≡ length config.now.terminals }
     ensures socket { TellsLine script.now result }
@@ -60,8 +67,12 @@ pub fn run_line<
         })) }
 {
     let (terminals, poll_list) = (config.terminal_list(), config.poll_list());
+    trace_addresses(tracing, terminals, trace)?;
     match Line::new(alloc, config.setup(), terminals, poll_list) {
-        Ok(mut line) => run_on(alloc, &mut line, script.steps(), cable, out, tracing, trace),
+        Ok(mut line) => {
+            let steps = script.steps();
+            run_on(alloc, &mut line, steps, cable, out, tracing, trace, meter)
+        }
         // A line can be made of every configuration, if there is enough memory.
         Err(_) => Err(RunError::Memory),
     }

@@ -1,7 +1,9 @@
 -- The effect and the output of a run of a script, and of a run that only checks its texts; and what
 -- each error of a run says.
 use Rattle.std.specs.Prelude.{◌≡◌, ◌⊎◌, ℕ, List, Bool, true, false, length, Option, Result, Ok, Err}
-use Rattle.std.specs.Prelude.{codes}
+use Rattle.std.specs.Prelude.{codes, ◌||◌, None, Some, if◌then◌else◌}
+use Rattle.bsc_progress.specs.declared.counts.Work.{Work}
+use Rattle.bsc_progress.specs.declared.counts.Work.TheVariants.{Events}
 use Rattle.std.specs.Io.KnownBytes.{Keeps}
 use Rattle.bsc_input.specs.Texts.{IsReadError, IsTextAt}
 use Rattle.bsc_input.specs.declared.texts.TextError.{TextError}
@@ -139,3 +141,7 @@ module _ {S : Type 0} (streams : Streams S) (tracing : Bool) where
       (check ≡ false) × HasRun paths (Err (Refused line why)) held holds
   HasFailed (Run error) check paths held holds = check ≡ false
   HasFailed Memory check paths held holds = Unit {0}
+
+-- Of what work a run shows the progress: of its events, or of none.
+abbrev pub progress_in : Bool → Bool → Option Work
+progress_in trace quiet = if trace || quiet then None else Some Events

@@ -6,11 +6,12 @@ ghost use Rattle.bsc_run.specs.Crossing.{streams_of};
 ghost use Rattle.bsc_run.specs.Plays.{holding};
 ghost use Rattle.bsc_running.specs.declared.error.RunningError.TheVariants.{BothStandardInput};
 ghost use Rattle.bsc_running.specs.Running.{AreTexts, HasFailed, HasNoTexts, HasStopped, IsRunDone};
-ghost use Rattle.bsc_running.specs.Running.{RunsOnCable, paths_of};
+ghost use Rattle.bsc_running.specs.Running.{RunsOnCable, paths_of, progress_in};
 
 use crate::{Cables, RunningError};
 use bsc_config::{Config, read_config};
 use bsc_input::{Files, STANDARD_INPUT, read_text};
+use bsc_progress::Work;
 use bsc_run::run_line;
 use bsc_script::{Script, read_script};
 use std::alloc::Global;
@@ -31,13 +32,17 @@ pub struct RunWords<'a> {
 
     /// A trace of the run is printed.
     pub trace: bool,
+
+    /// No progress is shown.
+    pub quiet: bool,
 }
 
 /// Runs the events of the script on a line of the configuration, over a cable of the machine, and
 /// prints what is on the line after each event that is heard, and a report at the end, also if an
 /// event is refused. Both are read before what they say is checked, the configuration first. With
 /// `check` nothing is run or printed. If the words ask for a trace, it is written to `trace` as
-/// `run_line` does, and otherwise nothing is. (Own.)
+/// `run_line` does, and otherwise nothing is. Without a trace the progress is shown, unless the words
+/// ask for none. (Own.)
 pub fn run<R: Read, H: Files + Cables, W: Write, D: Write>(
     alloc: Global,
     words: RunWords<'_>,
@@ -68,7 +73,28 @@ pub fn run<R: Read, H: Files + Cables, W: Write, D: Write>(
     if words.check {
         return Ok(());
     }
-    run_on_cable(alloc, &config, &script, machine, out, words.trace, trace)
+    let progress = progress_of(words);
+    run_on_cable(
+        alloc,
+        &config,
+        &script,
+        machine,
+        out,
+        words.trace,
+        trace,
+        progress,
+    )
+}
+
+/// Returns of what work the progress is shown: of the events, or of none with a trace, or if none is
+/// wanted.
+fn progress_of(words: RunWords<'_>) -> Option<Work>
+    ensures { result ≡ progress_in words.entry.trace words.entry.quiet }
+{
+    if words.trace || words.quiet {
+        return None;
+    }
+    Some(Work::Events)
 }
 
 /// The texts of a run.
@@ -118,6 +144,7 @@ fn run_on_cable<H: Cables, W: Write, D: Write>(
     out: &mut W,
     tracing: bool,
     trace: &mut D,
+    progress: Option<Work>,
 ) -> Result<(), RunningError>
     ensures early { IfErr result (λ error. IsEarly error →
         (out.new ≡ out.old) × (trace.new ≡ trace.old)) }
@@ -131,6 +158,9 @@ fn run_on_cable<H: Cables, W: Write, D: Write>(
         (holding (W.contents out.new) (D.contents trace.new))) }
 {
     let mut cable = machine.connect(config.terminals())?;
-    run_line(alloc, config, script, &mut cable, out, tracing, trace)?;
+    let mut meter = machine.meter(progress);
+    run_line(
+        alloc, config, script, &mut cable, out, tracing, trace, &mut meter,
+    )?;
     Ok(())
 }

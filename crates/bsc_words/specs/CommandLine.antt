@@ -23,12 +23,12 @@ abbrev pub chart_app : App
 chart_app =
     with_rules (new_app (codes "chart")) (flag (codes "ascii") ∷ option (codes "width") ∷ [])
 
--- `run CONFIG SCRIPT`, with the flags `--check` and `--trace`.
+-- `run CONFIG SCRIPT`, with the flags `--check`, `--trace` and `--quiet`.
 abbrev pub run_app : App
 run_app =
     with_rules (new_app (codes "run"))
     (required (codes "CONFIG") ∷ required (codes "SCRIPT") ∷ flag (codes "check")
-    ∷ flag (codes "trace") ∷ [])
+    ∷ flag (codes "trace") ∷ flag (codes "quiet") ∷ [])
 
 -- The program, which has a version, without its commands.
 abbrev pub program_app : App
@@ -50,12 +50,13 @@ abbrev pub asked_chart : List Row → AskedValue
 asked_chart rows =
     chart (is_true_text (value_at (codes "ascii") rows)) (first_of (codes "width") rows)
 
--- A run: the paths of the configuration and the script, whether they are only checked, and whether
--- a trace is printed.
+-- A run: the paths of the configuration and the script, whether they are only checked, whether a
+-- trace is printed, and whether no progress is shown.
 abbrev pub asked_run : List Row → AskedValue
 asked_run rows =
     run (value_at (codes "CONFIG") rows) (value_at (codes "SCRIPT") rows)
     (is_true_text (value_at (codes "check") rows)) (is_true_text (value_at (codes "trace") rows))
+    (is_true_text (value_at (codes "quiet") rows))
 
 -- A station, with its arguments.
 abbrev pub asked_station : List Row → AskedValue

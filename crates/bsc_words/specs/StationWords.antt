@@ -37,6 +37,7 @@ station_app =
     ∷ flag (codes "report-records")
     ∷ flag (codes "sync")
     ∷ counted (codes "trace")
+    ∷ flag (codes "quiet")
     ∷ [])
 
 -- Whether a flag was given.
@@ -73,6 +74,7 @@ words_in rows = record {
   report_records = given (codes "report-records") rows;
   sync = given (codes "sync") rows;
   trace = count_of (codes "trace") rows;
+  quiet = given (codes "quiet") rows;
 }
 
 -- The flags in the matches.
@@ -87,6 +89,7 @@ flags_in rows = record {
   report_records = given (codes "report-records") rows;
   sync = given (codes "sync") rows;
   trace = count_of (codes "trace") rows;
+  quiet = given (codes "quiet") rows;
 }
 
 -- The values of the options that may be given any number of times, as texts.

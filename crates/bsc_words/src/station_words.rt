@@ -22,6 +22,7 @@ struct Flags {
     report_records: bool,
     sync: bool,
     trace: u8,
+    quiet: bool,
 }
 
 /// The options of `station` that may be given any number of times, as they were given.
@@ -58,6 +59,7 @@ fn flags_of(matches: &ArgMatches<'_>) -> Flags
         report_records: is_given(matches, "report-records"),
         sync: is_given(matches, "sync"),
         trace: matches.get_count("trace"),
+        quiet: is_given(matches, "quiet"),
     }
 }
 
@@ -139,5 +141,6 @@ pub(crate) fn station_words(
         report_records: flags.report_records,
         sync: flags.sync,
         trace: flags.trace,
+        quiet: flags.quiet,
     })
 }

@@ -75,6 +75,12 @@ pub(crate) const RUN: Subcommand = Subcommand {
             value: "",
             help: "Print what became of each transmission on standard error",
         },
+        Entry {
+            id: "quiet",
+            given: Flag,
+            value: "",
+            help: "Do not show progress on a terminal",
+        },
     ],
 };
 
@@ -222,6 +228,12 @@ pub(crate) const STATION: Subcommand = Subcommand {
             given: Count,
             value: "",
             help: "Print what is sent and heard on standard error; given twice, idle polls too",
+        },
+        Entry {
+            id: "quiet",
+            given: Flag,
+            value: "",
+            help: "Do not show progress on a terminal",
         },
     ],
 };

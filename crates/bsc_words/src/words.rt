@@ -50,6 +50,7 @@ fn run_of(alloc: Global, matches: &ArgMatches<'_>) -> Result<Asked, AllocError>
         script: required_text(alloc, matches, "SCRIPT")?,
         check: is_given(matches, "check"),
         trace: is_given(matches, "trace"),
+        quiet: is_given(matches, "quiet"),
     })
 }
 

@@ -5,8 +5,9 @@ use bsc_attending::{Network, Opened, Wanted};
 use bsc_carrier::Cable;
 use bsc_input::{Files, InputError, Unreadable, read_input};
 use bsc_loopback::{LoopbackError, connect};
-use bsc_monitor::{Beginning, Timer};
+use bsc_monitor::Beginning;
 use bsc_options::Place;
+use bsc_progress::{ProgressLine, Timer, Work, write_cleared};
 use bsc_running::Cables;
 use bsc_sockets::{
     Begun, ConnectionSettings, Listening, Reading, Reception, Sockets, SocketsError, Writing,
@@ -32,6 +33,30 @@ pub struct Machine<'a, R> {
 
     /// Whether a flush of standard output also syncs it.
     pub syncs: &'a Cell<bool>,
+
+    /// Where progress is shown.
+    pub screen: &'a Screen,
+}
+
+/// What is on standard error.
+#[derive(Drop)]
+pub struct Screen {
+    /// Whether it is a terminal.
+    pub is_terminal: bool,
+
+    /// Whether the line that shows progress is on it.
+    pub shows: Cell<bool>,
+}
+
+impl Screen {
+    /// Clears the line that shows progress, if it is there. What standard error does not take is
+    /// lost.
+    pub fn clear<R: Eprint>(&self, runtime: &R) {
+        if self.shows.get() {
+            self.shows.set(false);
+            let _ = write_cleared(&mut Raw { runtime });
+        }
+    }
 }
 
 /// A clock that counts from its start on this machine.
@@ -53,13 +78,55 @@ impl<R: Clock> Timer for Since<'_, R> {
     }
 }
 
-/// Standard error.
+/// Standard error, from which the line that shows progress is cleared first.
 #[derive(Drop)]
 pub struct Errors<'a, R> {
     pub runtime: &'a R,
+    pub screen: &'a Screen,
 }
 
 impl<R: Eprint> Write for Errors<'_, R> {
+    fn write(&mut self, octets: &[u8]) -> io::Result<usize> {
+        self.screen.clear(self.runtime);
+        Raw {
+            runtime: self.runtime,
+        }
+        .write(octets)
+    }
+
+    fn flush(&mut self) -> io::Result<()> {
+        Ok(())
+    }
+}
+
+/// Standard error, on which progress is shown.
+#[derive(Drop)]
+pub struct Showing<'a, R> {
+    runtime: &'a R,
+    screen: &'a Screen,
+}
+
+impl<R: Eprint> Write for Showing<'_, R> {
+    fn write(&mut self, octets: &[u8]) -> io::Result<usize> {
+        self.screen.shows.set(true);
+        Raw {
+            runtime: self.runtime,
+        }
+        .write(octets)
+    }
+
+    fn flush(&mut self) -> io::Result<()> {
+        Ok(())
+    }
+}
+
+/// Standard error as it is.
+#[derive(Drop)]
+struct Raw<'a, R> {
+    runtime: &'a R,
+}
+
+impl<R: Eprint> Write for Raw<'_, R> {
     fn write(&mut self, octets: &[u8]) -> io::Result<usize> {
         match str::from_utf8(octets) {
             Ok(text) => {
@@ -86,10 +153,14 @@ pub struct Output<'a, R> {
 
     /// Whether a flush also syncs.
     pub syncs: &'a Cell<bool>,
+
+    /// Where progress is shown.
+    pub screen: &'a Screen,
 }
 
-impl<R: Filing + Print> Write for Output<'_, R> {
+impl<R: Eprint + Filing + Print> Write for Output<'_, R> {
     fn write(&mut self, octets: &[u8]) -> io::Result<usize> {
+        self.screen.clear(self.runtime);
         self.writer.write(octets)
     }
 
@@ -156,8 +227,34 @@ impl<R: AllocGlobal + Filing> Files for Machine<'_, R> {
     }
 }
 
-impl<R: AllocGlobal + Net> Cables for Machine<'_, R> {
+/// What shows the progress of this work, or of none, on a machine.
+type Progress<'a, R> = ProgressLine<Since<'a, R>, Showing<'a, R>>;
+
+/// Returns what shows the progress of this work, or of none; nothing if standard error is no
+/// terminal.
+fn progress<'a, R: Clock + Eprint>(
+    runtime: &'a R,
+    screen: &'a Screen,
+    work: Option<Work>,
+) -> Progress<'a, R> {
+    let start = match Instant::now(runtime) {
+        Ok(start) => Some(start),
+        Err(_) => None,
+    };
+    let on = screen.is_terminal && work.is_some();
+    let since = Since { runtime, start };
+    let showing = Showing { runtime, screen };
+    ProgressLine::new(on, work.unwrap_or(Work::Events), since, showing)
+}
+
+impl<'a, R: AllocGlobal + Clock + Eprint + Net> Cables for Machine<'a, R> {
     type Stream = R::Stream;
+
+    type Meter = Progress<'a, R>;
+
+    fn meter(&mut self, work: Option<Work>) -> Progress<'a, R> {
+        progress(self.runtime, self.screen, work)
+    }
 
     fn connect(&mut self, count: usize) -> Result<Cable<R::Stream>, LoopbackError> {
         connect(self.runtime, self.runtime.alloc(), count)
@@ -196,6 +293,7 @@ fn connect_within<'a, R: AllocGlobal + Clock + Net>(
 /// Makes the connections that a station asks for.
 fn begin<'a, R: AllocGlobal + Clock + Eprint + Net>(
     runtime: &'a R,
+    screen: &'a Screen,
     wanted: &Wanted<'_>,
 ) -> Result<Begun<'a, R, Global>, SocketsError> {
     let settings = wanted.settings();
@@ -207,7 +305,7 @@ fn begin<'a, R: AllocGlobal + Clock + Eprint + Net>(
         Place::Listen { address } => {
             let listening = Listening::bind(runtime, address)?;
             let mut reception = Receiving {
-                errors: Errors { runtime },
+                errors: Errors { runtime, screen },
                 lines: Beginning {
                     trace: wanted.trace,
                 },
@@ -232,7 +330,7 @@ impl<'a, R: AllocGlobal + Clock + Eprint + Net> Network for Machine<'a, R> {
 
     type Waiter = Sockets<'a, R, Global>;
 
-    type Timer = Since<'a, R>;
+    type Timer = Progress<'a, R>;
 
     type Trace = Errors<'a, R>;
 
@@ -240,27 +338,21 @@ impl<'a, R: AllocGlobal + Clock + Eprint + Net> Network for Machine<'a, R> {
         &mut self,
         wanted: &Wanted<'_>,
     ) -> Result<Opened<Self::Reader, Self::Writer, Self::Waiter>, SocketsError> {
-        let begun = begin(self.runtime, wanted)?;
+        let begun = begin(self.runtime, self.screen, wanted)?;
         Ok(Opened {
             waiter: begun.sockets,
             connections: begun.connections,
         })
     }
 
-    fn timer(&mut self) -> Since<'a, R> {
-        let start = match Instant::now(self.runtime) {
-            Ok(start) => Some(start),
-            Err(_) => None,
-        };
-        Since {
-            runtime: self.runtime,
-            start,
-        }
+    fn timer(&mut self, work: Option<Work>) -> Progress<'a, R> {
+        progress(self.runtime, self.screen, work)
     }
 
     fn trace(&mut self) -> Errors<'a, R> {
         Errors {
             runtime: self.runtime,
+            screen: self.screen,
         }
     }
 

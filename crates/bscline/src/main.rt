@@ -7,11 +7,11 @@
 mod machine;
 
 use bsc_command::{Fault, command, fail, not_text};
-use machine::{Errors, Machine, Output};
+use machine::{Errors, Machine, Output, Screen};
 use std::alloc::Global;
 use std::cell::Cell;
 use std::fs::File;
-use std::io::{BufWriter, ErrorKind};
+use std::io::{BufWriter, ErrorKind, IsTerminal};
 use std::process::ExitCode;
 use std::rt::Env;
 use std::{env, io};
@@ -27,19 +27,28 @@ fn main(rt: HostRuntime) -> ExitCode {
         File::open(&rt, NULL_DEVICE),
         File::open(&rt, NULL_DEVICE),
     );
-    let mut errors = Errors { runtime: &rt };
+    let screen = Screen {
+        is_terminal: rt.stderr().is_terminal(),
+        shows: Cell::new(false),
+    };
+    let mut errors = Errors {
+        runtime: &rt,
+        screen: &screen,
+    };
     let syncs = Cell::new(false);
     let output = Output {
         runtime: &rt,
         writer: io::writer(&rt),
         syncs: &syncs,
+        screen: &screen,
     };
-    ExitCode::from(match BufWriter::new(rt.alloc(), output) {
+    let status = match BufWriter::new(rt.alloc(), output) {
         Ok(mut out) => {
             let mut input = rt.reader();
             let mut machine = Machine {
                 runtime: &rt,
                 syncs: &syncs,
+                screen: &screen,
             };
             command(
                 rt.alloc(),
@@ -51,7 +60,9 @@ fn main(rt: HostRuntime) -> ExitCode {
             )
         }
         Err(_) => fail(&Fault::OutOfMemory, &mut errors),
-    })
+    };
+    screen.clear(&rt);
+    ExitCode::from(status)
 }
 
 /// Returns the arguments of the command line. The first is the name of the program.

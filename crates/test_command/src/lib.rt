@@ -18,6 +18,8 @@ mod naming;
 #[cfg(test)]
 mod options;
 #[cfg(test)]
+mod progress;
+#[cfg(test)]
 mod record;
 #[cfg(test)]
 mod run_traces;

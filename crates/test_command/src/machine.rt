@@ -1,14 +1,14 @@
 //! A machine for tests, with two files, one scripted connection and no sockets, and commands
 //! that run on it.
 
-use crate::record::{Output, Record, Sending, Tracer};
+use crate::record::{Metered, Output, Record, Sending, Tracer};
 use bsc_attending::{Network, Opened, Wanted};
 use bsc_carrier::Cable;
 use bsc_command::{Fault, command};
 use bsc_connections::{Awaited, Handled, LiveError, Pace, Waiter};
 use bsc_input::{Files, InputError, Unreadable};
 use bsc_loopback::LoopbackError;
-use bsc_monitor::Timer;
+use bsc_progress::{Unmetered, Work};
 use bsc_options::Place;
 use bsc_running::Cables;
 use bsc_sockets::SocketsError;
@@ -35,16 +35,6 @@ impl Write for Nothing {
 
     fn flush(&mut self) -> io::Result<()> {
         Ok(())
-    }
-}
-
-/// A clock that stands still.
-#[derive(Drop)]
-pub(crate) struct NoTimer;
-
-impl Timer for NoTimer {
-    fn milliseconds(&mut self) -> u64 {
-        0
     }
 }
 
@@ -287,6 +277,12 @@ fn allows(wanted: &Wanted<'_>, number: u8) -> bool {
 impl Cables for Machine<'_> {
     type Stream = Nothing;
 
+    type Meter = Unmetered;
+
+    fn meter(&mut self, _work: Option<Work>) -> Unmetered {
+        Unmetered
+    }
+
     fn connect(&mut self, _count: usize) -> Result<Cable<Nothing>, LoopbackError> {
         Err(LoopbackError::Sockets)
     }
@@ -299,7 +295,7 @@ impl<'a> Network for Machine<'a> {
 
     type Waiter = Scripted<'a>;
 
-    type Timer = NoTimer;
+    type Timer = Metered<'a>;
 
     type Trace = Tracer<'a>;
 
@@ -353,8 +349,9 @@ impl<'a> Network for Machine<'a> {
         })
     }
 
-    fn timer(&mut self) -> NoTimer {
-        NoTimer
+    fn timer(&mut self, work: Option<Work>) -> Metered<'a> {
+        let record = self.record;
+        Metered { work, record }
     }
 
     fn trace(&mut self) -> Tracer<'a> {
@@ -454,7 +451,7 @@ fn input(case: &Case) -> Pieces {
 }
 
 /// The first result of the command that differs from what is expected.
-fn difference(alloc: Global, case: &Case, record: &Record) -> Option<&'static str> {
+pub(crate) fn difference(alloc: Global, case: &Case, record: &Record) -> Option<&'static str> {
     let mut machine = Machine {
         alloc,
         scene: case.scene,

@@ -1,5 +1,6 @@
 //! What a command sends and prints as a trace on a machine made for tests.
 
+use bsc_progress::{Counts, Meter, Timer, Work};
 use std::alloc::Global;
 use std::cell::{Cell, RefCell};
 use std::io;
@@ -14,6 +15,9 @@ pub(crate) struct Record {
     /// Whether a flush of standard output also syncs it.
     pub(crate) syncs: Cell<bool>,
 
+    /// What was shown of the progress last.
+    pub(crate) shown: Cell<Option<(Work, Counts)>>,
+
     pub(crate) trace: RefCell<Vec<u8>>,
 }
 
@@ -22,6 +26,7 @@ impl Record {
         Record {
             sent: Cell::new(0),
             syncs: Cell::new(false),
+            shown: Cell::new(None),
             trace: RefCell::new(Vec::new(alloc)),
         }
     }
@@ -34,6 +39,32 @@ impl Record {
         match self.trace.try_borrow() {
             Ok(octets) if octets.as_slice() == trace.as_bytes() => None,
             _ => Some("the trace"),
+        }
+    }
+}
+
+/// A clock that stands still. Each time is one to show the progress, if there is work whose progress
+/// is to be shown.
+#[derive(Drop)]
+pub(crate) struct Metered<'a> {
+    pub(crate) work: Option<Work>,
+    pub(crate) record: &'a Record,
+}
+
+impl Timer for Metered<'_> {
+    fn milliseconds(&mut self) -> u64 {
+        0
+    }
+}
+
+impl Meter for Metered<'_> {
+    fn is_due(&mut self) -> bool {
+        self.work.is_some()
+    }
+
+    fn show(&mut self, counts: Counts) {
+        if let Some(work) = self.work {
+            self.record.shown.set(Some((work, counts)));
         }
     }
 }

@@ -4,6 +4,7 @@ use crate::faults::has_text;
 use bsc_carrier::Cable;
 use bsc_input::{Files, InputError, Unreadable};
 use bsc_loopback::{LoopbackError, connect};
+use bsc_progress::{Unmetered, Work};
 use bsc_running::{Cables, RunWords, run};
 use std::alloc::Global;
 use std::net::Net;
@@ -226,6 +227,12 @@ impl<R: Net> Files for Machine<'_, R> {
 impl<R: Net> Cables for Machine<'_, R> {
     type Stream = R::Stream;
 
+    type Meter = Unmetered;
+
+    fn meter(&mut self, _work: Option<Work>) -> Unmetered {
+        Unmetered
+    }
+
     fn connect(&mut self, count: usize) -> Result<Cable<R::Stream>, LoopbackError> {
         connect(self.runtime, self.alloc, count)
     }
@@ -259,6 +266,7 @@ fn is_due<R: Net>(runtime: &R, alloc: Global, case: &Case) -> bool {
         script,
         check: case.check,
         trace: false,
+        quiet: false,
     };
     let mut trace = Vec::<u8>::new(alloc);
     let answer = run(alloc, words, &mut input, &mut machine, &mut out, &mut trace);

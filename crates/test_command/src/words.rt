@@ -45,7 +45,7 @@ const ASKED: &[Row] = &[
 listen: Some(\"h:1\"), allowed: [], peers: [], connect: None, shared: false, raw: false, gap: None, \
 time_out: None, patience: None, replace_after: None, pause: None, rounds: None, \
 idle_rounds: None, until_input_ends: false, offers: [], text: false, bytes: false, \
-report_records: false, sync: false, trace: 1 })",
+report_records: false, sync: false, trace: 1, quiet: false })",
     ),
     (
         &[
@@ -81,13 +81,14 @@ report_records: false, sync: false, trace: 1 })",
             "--trace",
             "--trace",
             "--trace",
+            "--quiet",
         ],
         "Station(StationWords { config: \"c\", control: false, terminal: Some(\"1\"), \
 listen: None, allowed: [\"d\", \"e\"], peers: [\"f\"], connect: Some(\"h:1\"), shared: true, raw: true, gap: Some(\"9\"), \
 time_out: Some(\"8\"), patience: Some(\"5\"), \
 replace_after: Some(\"4\"), pause: Some(\"3\"), rounds: Some(\"7\"), idle_rounds: Some(\"6\"), \
 until_input_ends: true, offers: [\"a\", \"b\"], text: true, bytes: true, report_records: true, \
-sync: true, trace: 3 })",
+sync: true, trace: 3, quiet: true })",
     ),
     (&["bscline"], "Names"),
     (&["bscline", "show"], "Show"),
@@ -102,15 +103,15 @@ sync: true, trace: 3 })",
     (&["bscline", "name", "--", "-1"], "Name(\"-1\")"),
     (
         &["bscline", "run", "c", "s"],
-        "Run { config: \"c\", script: \"s\", check: false, trace: false }",
+        "Run { config: \"c\", script: \"s\", check: false, trace: false, quiet: false }",
     ),
     (
         &["bscline", "run", "--check", "-", "s"],
-        "Run { config: \"-\", script: \"s\", check: true, trace: false }",
+        "Run { config: \"-\", script: \"s\", check: true, trace: false, quiet: false }",
     ),
     (
         &["bscline", "run", "c", "--trace", "s"],
-        "Run { config: \"c\", script: \"s\", check: false, trace: true }",
+        "Run { config: \"c\", script: \"s\", check: false, trace: true, quiet: false }",
     ),
     (&["bscline", "--version"], "bscline 0.2.0\n"),
 ];
@@ -185,6 +186,7 @@ Arguments:
 Options:
       --check  Read and check both, and run nothing
       --trace  Print what became of each transmission on standard error
+      --quiet  Do not show progress on a terminal
   -h, --help   Print help
 
 Example: bscline run examples/lossy_line/line.toml examples/lossy_line/script.txt
@@ -226,6 +228,7 @@ T.S=PATH
       --sync                Sync standard output, if it is a file, before records are acknowledged
       --trace...            Print what is sent and heard on standard error; given twice, idle \
 polls too
+      --quiet               Do not show progress on a terminal
   -h, --help                Print help
 
 Example: bscline station examples/lossy_line/line.toml --control --listen 127.0.0.1:2780 --text

@@ -5,7 +5,8 @@ use bsc_connections::{
     Awaited, Connection, Handled, LiveError, Monitor, Note, Pace, SocketRecords, Waiter, attend,
 };
 use bsc_control::Control;
-use bsc_monitor::{ControlWatch, Limits, LineTerminal, Printing, TerminalWatch, Timer, Watch};
+use bsc_monitor::{ControlWatch, Limits, LineTerminal, Printing, TerminalWatch, Watch};
+use bsc_progress::{Counts, Meter, Timer};
 use bsc_trust::{TerminalPeers, Trust};
 use std::alloc::Global;
 use std::io;
@@ -59,6 +60,14 @@ impl Write for Unflushed {
 #[derive(Drop)]
 pub(crate) struct Counting {
     pub(crate) asked: u64,
+}
+
+impl Meter for Counting {
+    fn is_due(&mut self) -> bool {
+        false
+    }
+
+    fn show(&mut self, _counts: Counts) {}
 }
 
 impl Timer for Counting {

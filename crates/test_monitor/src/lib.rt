@@ -24,6 +24,8 @@ mod offered;
 #[cfg(test)]
 mod printed;
 #[cfg(test)]
+mod progress;
+#[cfg(test)]
 mod stations;
 #[cfg(test)]
 mod trusted;

@@ -5,6 +5,7 @@ use crate::runs::POLLED;
 use crate::watched::{Connections, NO_TROUBLE, RunWatch};
 use bsc_config::{Config, read_config};
 use bsc_line::Line;
+use bsc_progress::Unmetered;
 use bsc_run::run_on;
 use bsc_script::{Script, read_script};
 use std::alloc::Global;
@@ -95,7 +96,16 @@ fn run_without(
     refusing.refuse_nth(growth);
     let mut trace = Vec::<u8>::new(alloc);
     let steps = script.steps();
-    Ok(run_on(alloc, &mut line, steps, &mut cable, out, false, &mut trace)?)
+    Ok(run_on(
+        alloc,
+        &mut line,
+        steps,
+        &mut cable,
+        out,
+        false,
+        &mut trace,
+        &mut Unmetered,
+    )?)
 }
 
 /// Whether this is printed for the script if only the growth of this number is refused.

@@ -4,6 +4,7 @@
 
 use bsc_config::{Config, read_config};
 use bsc_loopback::connect;
+use bsc_progress::Unmetered;
 use bsc_run::{RunError, run_line};
 use bsc_script::{Script, read_script};
 use std::alloc::{AllocError, Global};
@@ -32,6 +33,7 @@ fn run_largest(
         &mut written.out,
         true,
         &mut written.trace,
+        &mut Unmetered,
     ))
 }
 

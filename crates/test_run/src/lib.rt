@@ -16,6 +16,8 @@ mod loopback;
 #[cfg(test)]
 mod memory;
 #[cfg(test)]
+mod progress;
+#[cfg(test)]
 mod runs;
 #[cfg(test)]
 mod traces;

@@ -5,6 +5,7 @@ ghost use Rattle.bsc_run.specs.Crossing.{connection_count};
 
 use bsc_carrier::Cable;
 use bsc_config::{Config, read_config};
+use bsc_progress::{Meter, Unmetered};
 use bsc_run::{RunError, run_line};
 use bsc_script::{Script, read_script};
 use std::alloc::Global;
@@ -50,7 +51,17 @@ fn run_two(
     if config.terminals() != 2 {
         return Err(Fail::new("not two terminals"));
     }
-    Ok(run_line(rt.alloc(), config, script, &mut cable, out, tracing, trace))
+    let meter = &mut Unmetered;
+    Ok(run_line(
+        rt.alloc(),
+        config,
+        script,
+        &mut cable,
+        out,
+        tracing,
+        trace,
+        meter,
+    ))
 }
 
 /// Runs a script on the line of a configuration. Appends the output to `out` and returns the
@@ -71,7 +82,34 @@ pub(crate) fn run(
     Ok(answer)
 }
 
-/// Does the same, and appends the trace to `trace`.
+/// Runs a script on the line of a configuration, and tells this of its progress.
+pub(crate) fn run_metered<M: Meter>(
+    rt: &HostRuntime,
+    config: &str,
+    script: &str,
+    meter: &mut M,
+) -> Result<Result<(), RunError>, Fail> {
+    let config = read_config(rt.alloc(), config.as_bytes())?;
+    let script = read_script(rt.alloc(), script.as_bytes())?;
+    if config.terminals() != 2 {
+        return Err(Fail::new("not two terminals"));
+    }
+    let mut cable = cable_of_two(rt)?;
+    let (mut out, mut trace) = (Vec::<u8>::new(rt.alloc()), Vec::<u8>::new(rt.alloc()));
+    let (out, trace) = (&mut out, &mut trace);
+    Ok(run_line(
+        rt.alloc(),
+        &config,
+        &script,
+        &mut cable,
+        out,
+        false,
+        trace,
+        meter,
+    ))
+}
+
+/// Does the same as [`run`], and appends the trace to `trace`.
 pub(crate) fn run_traced(
     rt: &HostRuntime,
     config: &str,

@@ -25,13 +25,17 @@ lose
 ";
 
 /// The trace of these events.
-const FATES_TRACED: &str = "+2 offered at terminal 0: |HI|
+const FATES_TRACED: &str = "+0 terminal 0 is A, selected as a.
++0 terminal 1 is B, selected as b.
++2 offered at terminal 0: |HI|
 +3 silence
 +4 control heard CALL A 161604ff1616c185ff
 +5 terminal 0 heard FAILED 161602c84819839bff
 +6 control heard NAK 161615ff
 +7 terminal 0 heard TEXT ETX 1 161602c84919839bff
++7 arrived from 0: |HI|
 +8 control turned ACK0 161610b0ff
++8 the line is no longer trusted
 +9 terminal 0 lost TEXT ETX 1 161602c84919839bff
 +10 silence
 +11 terminal 0 lost ENQ 161685ff
@@ -39,16 +43,21 @@ const FATES_TRACED: &str = "+2 offered at terminal 0: |HI|
 
 /// The trace of each of the worked runs.
 const WORKED_TRACED: &[&str] = &[
-    "+1 offered at terminal 0: |HI|
+    "+0 terminal 0 is A, selected as a.
++0 terminal 1 is B, selected as b.
++1 offered at terminal 0: |HI|
 +2 silence
 +3 control heard CALL A 161604ff1616c185ff
 +4 terminal 0 heard TEXT ETX 1 161602c84919839bff
++4 arrived from 0: |HI|
 +5 control heard ACK1 16161031ff
 +6 terminal 0 heard EOT 161604ff
 +7 control heard CALL B 161604ff1616c285ff
 +8 terminal 1 heard EOT 161604ff
 ",
-    "+1 offered for terminal 0.0: |HI|
+    "+0 terminal 0 is A, selected as a.
++0 terminal 1 is B, selected as b.
++1 offered for terminal 0.0: |HI|
 +2 silence
 +3 control heard at 0 NOISE 161610
 +3 control heard at 1 NOISE 161610
@@ -60,20 +69,27 @@ const WORKED_TRACED: &[&str] = &[
 +8 terminal 0 heard NAK 161615ff
 +9 control heard at 0 TEXT ETX 1 161602c84919839bff
 +9 control heard at 1 TEXT ETX 1 161602c84919839bff
++9 arrived to 0.0: |HI|
 ",
-    "+1 offered at terminal 0: |HI|
+    "+0 terminal 0 is A, selected as a.
++0 terminal 1 is B, selected as b.
++1 offered at terminal 0: |HI|
 +2 silence
 +3 control heard CALL A 161604ff1616c185ff
 +4 terminal 0 heard TEXT ETX 1 161602c84919839bff
++4 arrived from 0: |HI|
 +5 control lost ACK1 16161031ff
 +6 silence
 +7 terminal 0 heard FAILED 16160285ff
++7 the line is no longer trusted
 +8 control heard NAK 161615ff
 +9 terminal 0 heard TEXT ETX 1 161602c84919839bff
++9 arrived from 0: |HI|
 +10 control lost ACK0 161610b0ff
 +11 silence
 +12 terminal 0 lost ENQ 161685ff
 +13 silence
++13 the doubt from 0 begins
 ",
 ];
 
@@ -89,7 +105,9 @@ release 0 from
 ";
 
 /// The trace of these events.
-const MARKS_TRACED: &str = "+1 terminal 1 is not ready
+const MARKS_TRACED: &str = "+0 terminal 0 is A, selected as a.
++0 terminal 1 is B, selected as b.
++1 terminal 1 is not ready
 +2 terminal 1 is ready
 +3 terminal 0 asks for the line
 +4 control asks terminal 1 for the line

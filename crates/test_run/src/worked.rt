@@ -9,6 +9,7 @@ use crate::watched::{Connections, RunWatch, Watched, watched_writer};
 use bsc_config::{Config, read_config};
 use bsc_control::Way;
 use bsc_line::{Line, LineError};
+use bsc_progress::Unmetered;
 use bsc_run::{RunError, run_line, run_on};
 use bsc_script::{Script, read_script};
 use std::alloc::{AllocError, Allocator, Global};
@@ -148,7 +149,16 @@ impl<'a> Case<'a> {
         }
         let (config, script) = (&self.config, &self.script);
         let mut trace = Vec::<u8>::new(alloc);
-        Ok(run_line(stations, config, script, &mut cable, out, false, &mut trace))
+        Ok(run_line(
+            stations,
+            config,
+            script,
+            &mut cable,
+            out,
+            false,
+            &mut trace,
+            &mut Unmetered,
+        ))
     }
 
     /// Runs the script, and writes the trace to a watched writer.
@@ -166,7 +176,16 @@ impl<'a> Case<'a> {
         }
         let (config, script) = (&self.config, &self.script);
         let mut out = Vec::<u8>::new(alloc);
-        Ok(run_line(stations, config, script, &mut cable, &mut out, true, trace))
+        Ok(run_line(
+            stations,
+            config,
+            script,
+            &mut cable,
+            &mut out,
+            true,
+            trace,
+            &mut Unmetered,
+        ))
     }
 
     /// Does the same as `run`, and returns whether the records that arrived are in order.
@@ -209,7 +228,14 @@ impl<'a> Case<'a> {
         let steps = self.script.steps();
         // The tests that call `run` check the answer.
         let _ = run_on(
-            stations, line, steps, &mut cable, &mut out, false, &mut trace,
+            stations,
+            line,
+            steps,
+            &mut cable,
+            &mut out,
+            false,
+            &mut trace,
+            &mut Unmetered,
         );
         Ok(())
     }

@@ -23,11 +23,13 @@ returns-in-Ok-clause-whole g c =
       c.terminal_list-terminals.ensures.value,
       c.poll_list-poll_list.ensures.value,
     ) at c.in-Ok.ensures.value in
-    let runs = rw c.steps.ensures at c.run_on.ensures.whole in
+    let runs = rw c.steps-steps.ensures at c.run_on.ensures.whole in
     where_whole c.run_on.result (λ r. record {
       begun = c.in-Ok.line;
       ended = c.run_on.new.line;
       new_line = new;
+      told = g.D.Write.contents c.trace_addresses.new.out;
+      addresses = rw c.terminal_list-terminals.ensures.value at c.in_ok-trace_addresses.ensures;
       runs = r;
       arrived =
           arrived_on_new_line c.args.config.now.setup c.args.config.now.terminals

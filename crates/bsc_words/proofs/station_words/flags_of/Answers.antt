@@ -21,6 +21,7 @@ returns c =
     let report_records = c.is_given-7.ensures ∙ flag_is (codes "report-records") in
     let sync = c.is_given-8.ensures ∙ flag_is (codes "sync") in
     let trace = c.get_count.ensures.value in
+    let quiet = c.is_given-9.ensures ∙ flag_is (codes "quiet") in
     λ i. record {
       control = control i;
       shared = shared i;
@@ -31,4 +32,5 @@ returns c =
       report_records = report_records i;
       sync = sync i;
       trace = trace i;
+      quiet = quiet i;
     }

@@ -32,6 +32,7 @@ returns c =
     let report_records = ap (λ (f : Flags). f.report_records) flags in
     let sync = ap (λ (f : Flags). f.sync) flags in
     let trace = ap (λ (f : Flags). f.trace) flags in
+    let quiet = ap (λ (f : Flags). f.quiet) flags in
     let gap = ap (λ (n : NumberTexts). n.gap) numbers in
     let time_out = ap (λ (n : NumberTexts). n.time_out) numbers in
     let patience = ap (λ (n : NumberTexts). n.patience) numbers in
@@ -63,4 +64,5 @@ returns c =
       report_records = report_records i;
       sync = sync i;
       trace = trace i;
+      quiet = quiet i;
     }

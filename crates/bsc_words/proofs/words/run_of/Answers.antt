@@ -19,8 +19,12 @@ returns c =
     let trace_is = c.is_given-2.ensures ∙ ap is_true_text (value (codes "trace")) in
     let config = value_at (codes "CONFIG") (rows_of found) in
     let script = value_at (codes "SCRIPT") (rows_of found) in
-    ap (λ t. run t (string_bytes c.in_ok-required_text-2.field-0) check trace) config_is
-    ∙ (ap (λ t. run config t check trace) script_is
-    ∙ (ap (λ b. run config script b trace) check_is
-    ∙ ap (λ b. run config script (is_true_text (value_at (codes "check") (rows_of found))) b)
-    trace_is))
+    let quiet = c.is_given-3.result in
+    let quiet_is = c.is_given-3.ensures ∙ ap is_true_text (value (codes "quiet")) in
+    let check_in = is_true_text (value_at (codes "check") (rows_of found)) in
+    let trace_in = is_true_text (value_at (codes "trace") (rows_of found)) in
+    ap (λ t. run t (string_bytes c.in_ok-required_text-2.field-0) check trace quiet) config_is
+    ∙ (ap (λ t. run config t check trace quiet) script_is
+    ∙ (ap (λ b. run config script b trace quiet) check_is
+    ∙ (ap (λ b. run config script check_in b quiet) trace_is
+    ∙ ap (λ b. run config script check_in trace_in b) quiet_is)))

@@ -1,0 +1,22 @@
+-- Of what work a station shows the progress.
+use Rattle.std.specs.Prelude.{Bool, Option, None, Some, if◌then◌else◌}
+use Rattle.bsc_monitor.specs.declared.tracing.Tracing.{Tracing}
+use Rattle.bsc_monitor.specs.declared.tracing.Tracing.TheVariants.{Off}
+use Rattle.bsc_options.specs.Settings.{SettingsValue}
+use Rattle.bsc_options.specs.declared.settings.Role.{Role}
+use Rattle.bsc_options.specs.declared.settings.Role.TheVariants.{Control, Terminal}
+use Rattle.bsc_progress.specs.declared.counts.Work.{Work}
+use Rattle.bsc_progress.specs.declared.counts.Work.TheVariants.{Events, Rounds}
+
+-- What is counted at a station.
+abbrev pub work_in : Role → Work
+work_in Control = Rounds
+work_in (Terminal number) = Events
+
+-- The work, unless none is to be shown or there is a trace.
+abbrev pub shown_if : Tracing → Bool → Work → Option Work
+shown_if Off quiet work = if quiet then None else Some work
+shown_if _ quiet work = None
+
+abbrev pub progress_in : SettingsValue → Option Work
+progress_in s = shown_if s.printing.trace s.quiet (work_in s.role)

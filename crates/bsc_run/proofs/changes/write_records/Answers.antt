@@ -1,0 +1,30 @@
+-- One more line is written.
+use Rattle.std.proofs.Common.{◌≡◌, ◌+◌, ◌-◌, ◌∙◌, ℕ, List, ap, arith, drop, slice_get, Some}
+use Rattle.std.proofs.KnownBytes.{Appends-trans}
+use Rattle.std.proofs.lemmas.Option.{slice_get-get_or}
+use Rattle.bsc_block.proofs.Waiting.{waiting_at, waiting_within}
+use Rattle.bsc_print.proofs.Lists.{flat_map_take_more}
+use Rattle.bsc_run.specs.Changes.{landed_line}
+use Rattle.bsc_run.proofs.changes.write_records.Goals as goal
+
+pub records-preserved : goal.records-preserved
+records-preserved g c =
+    let rs : List (List ℕ) = c.args.records.now.items in
+    let from : ℕ = c.args.before.now.arrived in
+    let i : ℕ = c.records.place - from in
+    let r : List ℕ = c.chars.result.now in
+    let place : c.records.place ≡ from + i = omega (arith, c.records.invariant.after) in
+    let next : c.records.place + 1 - from ≡ i + 1 = omega (arith, c.records.invariant.after) in
+    let is : slice_get rs (from + i) ≡ Some r = rw (← place) c.chars.ensures.chars in
+    let waits : slice_get (drop from rs) i ≡ Some r =
+    slice_get-get_or (drop from rs) i r (waiting_within rs from i r is)
+    ∙ ap (λ x. Some x) (waiting_at rs from i r r is) in
+    record {
+      after = omega (arith, c.records.invariant.after);
+      written =
+          rw (
+            next,
+            flat_map_take_more (landed_line c.args.number c.args.before.now.terminal
+                c.args.before.now.way) (drop from rs) i r waits,
+          ) (Appends-trans _ _ _ _ _ c.records.invariant.written c.in_ok-write_landed.ensures);
+    }
