@@ -9,5 +9,5 @@ mod row;
 mod text;
 
 pub use glyphs::Style;
-pub use row::{Course, Fate, Row};
+pub use row::{Course, Fate, Mark, Place, Row, Sign};
 pub use text::{Layout, write_header, write_row};
