@@ -110,10 +110,18 @@ pub(crate) fn write_line_row<A: Allocator + Copy, W: Write>(
                 fate: seen(&heard, *fate),
                 name: &name,
                 note: &note,
+                octets,
             };
             write_row(layout, &row, out)
         }
         TraceLine::Silence { time } => write_row(layout, &Row::Silence { time }, out),
-        TraceLine::Told { time, text } => write_row(layout, &Row::Mark { time, text }, out),
+        TraceLine::Told { time, mark, text } => {
+            let row = Row::Mark {
+                time,
+                mark: *mark,
+                text,
+            };
+            write_row(layout, &row, out)
+        }
     }
 }

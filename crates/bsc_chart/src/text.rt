@@ -1,17 +1,19 @@
 //! Draws the ladder of a trace as text, line by line as it is read.
 ghost use Rattle.std.specs.Prelude.{◌≡◌, ℕ, Err, false, true, OnOk, IfErr, IfOk, IfSome};
+ghost use Rattle.std.specs.Prelude.{nat_lt, if◌then◌else◌};
 ghost use Rattle.std.specs.Io.KnownBytes.{Appends};
 ghost use Rattle.bsc_trace.specs.Lines.{value_in};
 ghost use Rattle.bsc_chart.specs.Errors.{IsLineError, IsWrongOrPrintError, input_error};
 ghost use Rattle.bsc_chart.specs.Inputs.{DrawsInput, HasStopped, is_wrong, values_at};
 ghost use Rattle.bsc_chart.specs.Ladders.{columns_after, columns_from, columns_up_to};
 ghost use Rattle.bsc_chart.specs.Ladders.{course_columns, labels_before, ladder_from, layout_with};
-ghost use Rattle.bsc_chart.specs.Ladders.{line_text, needed_columns};
+ghost use Rattle.bsc_chart.specs.Ladders.{labelled_columns, labels_due, line_text};
+ghost use Rattle.bsc_chart.specs.Ladders.{named_columns, needed_columns, place_columns};
 
 use crate::ChartError;
 use crate::rows::write_line_row;
 use bsc_input::{InputError, LineEnd, is_blank, read_line, without_return};
-use bsc_ladder::{Course, Layout, Style, write_header};
+use bsc_ladder::{Course, Layout, Mark, Place, Sign, Style, write_header};
 use bsc_print::PrintError;
 use bsc_trace::{TraceLine, read_trace_line};
 use std::alloc::Allocator;
@@ -150,8 +152,8 @@ fn draw_value<A: Allocator + Copy, W: Write>(
     Ok(columns)
 }
 
-/// Writes the labels of the columns, if the line needs more of them than there are, and returns how
-/// many there are then.
+/// Writes the labels of the columns, if there are none yet or the line needs more of them than there
+/// are, and returns how many columns there are after the line.
 fn write_labels<A: Allocator, W: Write>(
     columns: u8,
     value: &TraceLine<'_, A>,
@@ -161,12 +163,29 @@ fn write_labels<A: Allocator, W: Write>(
     ensures labels { OnOk result (Appends (W.contents out.old) (W.contents out.new)
         (labels_before columns (value_in value.now))) }
 {
-    let needed = needed(value);
-    if needed <= columns {
-        return Ok(columns);
+    put_labels(columns, labelled(value), out)?;
+    Ok(after(columns, needed(value)))
+}
+
+/// Writes the labels of this many columns, if there are none yet or fewer than these.
+fn put_labels<W: Write>(columns: u8, labelled: u8, out: &mut W) -> Result<(), PrintError>
+    ensures { OnOk result
+        (Appends (W.contents out.old) (W.contents out.new) (labels_due columns labelled)) }
+{
+    if columns == 0 {
+        return write_header(labelled, out);
     }
-    write_header(needed - 1, out)?;
-    Ok(needed)
+    if columns < labelled {
+        return write_header(labelled, out);
+    }
+    Ok(())
+}
+
+/// Returns how many columns there are after a line that needs this many.
+fn after(columns: u8, needed: u8) -> u8
+    ensures { result ≡ (if nat_lt columns needed then needed else columns) }
+{
+    if columns < needed { needed } else { columns }
 }
 
 /// Returns the layout of a ladder with this many columns.
@@ -186,7 +205,39 @@ fn needed<A: Allocator>(value: &TraceLine<'_, A>) -> u8
 {
     match value {
         TraceLine::Transmission { course, .. } => course_needs(*course),
-        TraceLine::Silence { .. } | TraceLine::Told { .. } => 1,
+        TraceLine::Silence { .. } => 1,
+        TraceLine::Told { mark, .. } => place_needs(mark.place),
+    }
+}
+
+/// Returns how many columns a mark at a place needs, at most 255.
+fn place_needs(place: Place) -> u8
+    ensures { result ≡ place_columns place }
+{
+    match place {
+        Place::Control => 1,
+        Place::Station { column } => up_to(column),
+    }
+}
+
+/// Returns how many columns have a label before the row of a line.
+fn labelled<A: Allocator>(value: &TraceLine<'_, A>) -> u8
+    ensures { result ≡ labelled_columns (value_in value.now) }
+{
+    match value {
+        TraceLine::Transmission { course, .. } => course_needs(*course),
+        TraceLine::Silence { .. } => 1,
+        TraceLine::Told { mark, .. } => named_needs(*mark),
+    }
+}
+
+/// Returns how many columns have a label before a mark: the addresses of a station are its label.
+fn named_needs(mark: Mark) -> u8
+    ensures { result ≡ named_columns mark.place mark.sign }
+{
+    match (mark.place, mark.sign) {
+        (Place::Station { column }, Sign::Named) => column,
+        (place, _) => place_needs(place),
     }
 }
 

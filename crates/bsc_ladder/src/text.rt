@@ -1,5 +1,5 @@
 //! A ladder as text.
-ghost use Rattle.std.specs.Prelude.{◌≡◌, ◌+◌, ◌≤◌, OnOk};
+ghost use Rattle.std.specs.Prelude.{◌≡◌, ◌+◌, ◌≤◌, length, OnOk};
 ghost use Rattle.std.specs.Io.KnownBytes.{Appends};
 ghost use Rattle.bsc_ladder.specs.Glyphs.{glyph_text, glyphs_text};
 ghost use Rattle.bsc_ladder.specs.Rows.{row_in, time_in};
@@ -266,9 +266,11 @@ fn write_columns<W: Write>(
     Ok(())
 }
 
-/// Returns the word for what became of a transmission; empty if the head of its arrow tells it.
-fn word_of(fate: Fate) -> &'static [u8]
-    ensures { result.now ≡ fate_word fate }
+/// Returns the word for what became of a transmission after two spaces; empty if the head of its
+/// arrow tells it.
+pub fn word_of(fate: Fate) -> &'static [u8]
+    ensures value { result.now ≡ fate_word fate }
+    ensures most { length result.now ≤ 10 }
 {
     match fate {
         Fate::Sent | Fate::Heard => b"",

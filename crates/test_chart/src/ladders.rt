@@ -109,6 +109,43 @@ const MANY_DRAWN: &str = "    time control            0   1   2   3   4   5   6 
        1 (- EOT ------------+---+---+---+---+---+---+---+---+---+---*
 ";
 
+/// The addresses of stations, and each mark; texts that are nearly marks.
+const MARKS: &str = "+0 terminal 0 is A, selected as a
++0 terminal 1 is B, selected as b c
++3 control heard CALL A 161604ff1616c185ff
++4 arrived from 1: |HI|
++5 arrived to 1.0: |BYE|
++6 the doubt from 1 begins
++7 the doubt to 0.0 is ended
++8 terminal 1 began again
++9 control began again
++10 the line is no longer trusted
++11 terminal 1 is ready
++12 arrived to 1: |NO|
+";
+
+const MARKS_DRAWN: &str = "    time control
+       0 |                  0 A, selected as a
+       0 |                  |   1 B, selected as b c
+       3 *- CALL A --------->--->
+       4 @ arrived from 1: |HI|
+       5 |                  |   @ arrived to 1.0: |BYE|
+       6 |                  |   ~ the doubt from 1 begins
+       7 ^ the doubt to 0.0 is ended
+       8 |                  |   % terminal 1 began again
+       9 % control began again
+      10 & the line is no longer trusted
+      11 = terminal 1 is ready
+      12 = arrived to 1: |NO|
+";
+
+/// The addresses of the third station only.
+const LATE_NAME: &str = "+0 terminal 2 is C, selected as c\n";
+
+const LATE_NAME_DRAWN: &str = "    time control            0   1
+       0 |                  |   |   2 C, selected as c
+";
+
 /// Ladders.
 const DRAWN: &[Row] = &[
     (FATES, ASCII, IN_ASCII),
@@ -116,6 +153,8 @@ const DRAWN: &[Row] = &[
     (LONG, NARROW, LONG_CUT),
     (LONG, ASCII, LONG_WHOLE),
     (MANY, ASCII, MANY_DRAWN),
+    (MARKS, ASCII, MARKS_DRAWN),
+    (LATE_NAME, ASCII, LATE_NAME_DRAWN),
     ("", BOXES, ""),
     ("\n \r\n", BOXES, ""),
 ];
