@@ -1,5 +1,5 @@
 -- The ladder of a trace, as text: for each line one row, in order.
-use Rattle.std.specs.Prelude.{ℕ, ◌+◌, ◌-◌, ◌==◌, nat_lt, List, [], ◌∷◌, ◌++◌, if◌then◌else◌}
+use Rattle.std.specs.Prelude.{ℕ, ◌+◌, ◌-◌, ◌==◌, nat_lt, List, [], ◌++◌, if◌then◌else◌}
 use Rattle.bsc_ladder.specs.Texts.{header_text, row_text}
 use Rattle.bsc_ladder.specs.declared.row.Course.{Course}
 use Rattle.bsc_ladder.specs.declared.row.Course.TheVariants.{ToAll, ToOne, From}
@@ -9,7 +9,7 @@ use Rattle.bsc_ladder.specs.declared.row.Sign.{Sign}
 use Rattle.bsc_ladder.specs.declared.row.Sign.TheVariants.{Named}
 use Rattle.bsc_ladder.specs.declared.text.Layout.{Layout}
 use Rattle.bsc_chart.specs.Rows.{row_of}
-use Rattle.bsc_chart.specs.declared.text.Drawing.{Drawing}
+use Rattle.bsc_chart.specs.declared.drawing.Drawing.{Drawing}
 use Rattle.bsc_trace.specs.Lines.{TraceValue, transmission, silence, told}
 
 -- How many columns there are up to this one, at most 255. A trace has columns below 100.
@@ -68,18 +68,3 @@ abbrev pub line_text : Drawing → ℕ → TraceValue → List ℕ
 line_text drawing columns value =
     labels_before columns value
     ++ row_text (layout_with drawing (columns_after columns value)) (row_of value)
-
--- The columns after some lines.
-abbrev pub columns_from : ℕ → List TraceValue → ℕ
-columns_from columns [] = columns
-columns_from columns (value ∷ values) = columns_from (columns_after columns value) values
-
--- The text for some lines.
-abbrev pub ladder_from : Drawing → ℕ → List TraceValue → List ℕ
-ladder_from drawing columns [] = []
-ladder_from drawing columns (value ∷ values) =
-    line_text drawing columns value ++ ladder_from drawing (columns_after columns value) values
-
--- The ladder of a trace.
-abbrev pub ladder_text : Drawing → List TraceValue → List ℕ
-ladder_text drawing values = ladder_from drawing 0 values
