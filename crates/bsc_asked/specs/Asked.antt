@@ -1,8 +1,9 @@
 -- The work that is asked of the command, with its arguments as texts.
-use Rattle.std.specs.Prelude.{ℕ, List, Bool, Option, option_map, string_bytes}
+use Rattle.std.specs.Prelude.{ℕ, List, Bool, string_bytes}
 use Rattle.bsc_asked.specs.declared.asked.Asked.{Asked}
 use Rattle.bsc_asked.specs.declared.asked.Asked.TheVariants.{Names, Name, Show, Chart, Run}
 use Rattle.bsc_asked.specs.declared.asked.Asked.TheVariants.{Station}
+use Rattle.bsc_asked.specs.ChartWords.{AskedChart, chart_words}
 use Rattle.bsc_asked.specs.StationWords.{AskedWords, asked_words}
 
 -- The work that is asked for.
@@ -10,7 +11,7 @@ pub data AskedValue : Type 0 where
   names : AskedValue
   name : List ℕ → AskedValue
   show : AskedValue
-  chart : Bool → Option (List ℕ) → AskedValue
+  chart : AskedChart → AskedValue
   run : List ℕ → List ℕ → Bool → Bool → Bool → AskedValue
   station : AskedWords → AskedValue
 
@@ -19,7 +20,7 @@ abbrev pub asked : Asked → AskedValue
 asked Names = names
 asked (Name hex) = name (string_bytes hex)
 asked Show = show
-asked (Chart ascii width) = chart ascii (option_map string_bytes width)
+asked (Chart words) = chart (chart_words words)
 asked (Run config script check trace quiet) =
     run (string_bytes config) (string_bytes script) check trace quiet
 asked (Station words) = station (asked_words words)

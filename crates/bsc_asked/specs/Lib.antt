@@ -1,2 +1,3 @@
+pub mod ChartWords
 pub mod StationWords
 pub mod Asked

@@ -1,6 +1,6 @@
 //! The work that the command line asks for.
 
-use crate::StationWords;
+use crate::{ChartWords, StationWords};
 
 /// The work that the command line asks for.
 #[derive(Debug, Drop)]
@@ -15,12 +15,8 @@ pub enum Asked {
     /// texts.
     Show,
 
-    /// Draw the ladder of the trace on standard input: in ASCII characters only, or in box-drawing
-    /// characters; and in this width.
-    Chart {
-        ascii: bool,
-        width: Option<String>,
-    },
+    /// Draw the ladder of the trace on standard input.
+    Chart(ChartWords),
 
     /// Run a line with this configuration and the events of this script. Both are paths; `-` is
     /// standard input. With `check` both are only read and checked. With `trace` a trace of the

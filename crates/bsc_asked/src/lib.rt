@@ -5,7 +5,9 @@
 #![tactic(auto)]
 
 mod asked;
+mod chart_words;
 mod station_words;
 
 pub use asked::Asked;
+pub use chart_words::ChartWords;
 pub use station_words::StationWords;

@@ -1,5 +1,5 @@
 -- The ladder of the lines of an input so far.
-use Rattle.std.proofs.Common.{◌≡◌, ◌<◌, ◌≤◌, ℕ, ◌+◌, ◌||◌, ◌&&◌, not, map, List, [], ◌∷◌, ◌++◌, Bool}
+use Rattle.std.proofs.Common.{◌≡◌, ◌<◌, ◌≤◌, ℕ, ◌+◌, ◌||◌, ◌&&◌, not, map, List, [], ◌∷◌, ◌++◌, Bool, suc}
 use Rattle.std.proofs.Common.{true, false, Option, Some, None, length, refl, sym, ap}
 use Rattle.std.proofs.Common.{subst, ◌∙◌, append_assoc, append-nil, length-append, arith, get_or, take}
 use Rattle.std.proofs.KnownBytes.{Appends-nil, Appends-trans}
@@ -21,64 +21,84 @@ use Rattle.bsc_naming.specs.Inputs.{is_too_long}
 use Rattle.bsc_naming.proofs.Lists.{NonePasses, NonePasses-more, position-append, position_none}
 use Rattle.bsc_trace.specs.Lines.{TraceValue}
 use Rattle.bsc_chart.specs.Errors.{IsWrongOrPrintError, input_error}
-use Rattle.bsc_chart.specs.Inputs.{DrawsFirst, DrawsInput, HasStopped, StopsAt, is_misspelt}
+use Rattle.bsc_chart.specs.Inputs.{DrawsFirst, DrawsInput, HasStopped, ReadsInput, StopsAt}
+use Rattle.bsc_chart.specs.Inputs.{StopsFull, is_misspelt}
 use Rattle.bsc_chart.specs.Inputs.{is_refused, is_wrong, values_at, values_of}
-use Rattle.bsc_chart.specs.Ladders.{columns_after, columns_from, ladder_from, ladder_text, line_text}
+use Rattle.bsc_chart.specs.Pages.{PageValue, blank_page, early_text, is_full, ladder_text, late_text}
+use Rattle.bsc_chart.specs.Pages.{page_by, page_from, page_of, text_by, text_from}
 use Rattle.bsc_chart.specs.declared.error.ChartError.{ChartError}
 use Rattle.bsc_chart.specs.declared.error.ChartError.TheVariants as chart
-use Rattle.bsc_chart.specs.declared.text.Drawing.{Drawing}
+use Rattle.bsc_chart.specs.declared.drawing.Drawing.{Drawing}
 
--- lists of values one after another
-columns_append : (columns : ℕ) (xs ys : List TraceValue)
-    → columns_from columns (xs ++ ys) ≡ columns_from (columns_from columns xs) ys
-columns_append columns [] ys = refl
-columns_append columns (x ∷ xs) ys = columns_append (columns_after columns x) xs ys
+-- one more line
+page_append : (d : Drawing) (n : ℕ) (p : PageValue) (xs : List (List TraceValue))
+    (y : List TraceValue)
+    → page_from d n p (xs ++ y ∷ []) ≡ page_by d (n + length xs) (page_from d n p xs) y
+page_append d n p [] y =
+    let e : n ≡ n + 0 = omega arith in ap (λ m. page_by d m p y) e
+page_append d n p (x ∷ xs) y =
+    let e : n + 1 + length xs ≡ n + length (x ∷ xs) = omega arith in
+    page_append d (n + 1) (page_by d n p x) xs y
+    ∙ ap (λ m. page_by d m (page_from d (n + 1) (page_by d n p x) xs) y) e
 
-ladder_append : (drawing : Drawing) (columns : ℕ) (xs ys : List TraceValue)
-    → ladder_from drawing columns (xs ++ ys)
-    ≡ ladder_from drawing columns xs ++ ladder_from drawing (columns_from columns xs) ys
-ladder_append drawing columns [] ys = refl
-ladder_append drawing columns (x ∷ xs) ys =
-    ap (λ text. line_text drawing columns x ++ text)
-    (ladder_append drawing (columns_after columns x) xs ys)
-    ∙ sym (append_assoc (line_text drawing columns x)
-    (ladder_from drawing (columns_after columns x) xs)
-    (ladder_from drawing (columns_from (columns_after columns x) xs) ys))
+text_append : (d : Drawing) (n : ℕ) (p : PageValue) (xs : List (List TraceValue))
+    (y : List TraceValue)
+    → text_from d n p (xs ++ y ∷ [])
+    ≡ text_from d n p xs ++ text_by d (n + length xs) (page_from d n p xs) y
+text_append d n p [] y =
+    let e : n ≡ n + 0 = omega arith in
+    append-nil (text_by d n p y) ∙ ap (λ m. text_by d m p y) e
+text_append d n p (x ∷ xs) y =
+    let e : n + 1 + length xs ≡ n + length (x ∷ xs) = omega arith in
+    let q = page_by d n p x in
+    ap (λ text. text_by d n p x ++ text) (text_append d (n + 1) q xs y)
+    ∙ sym (append_assoc (text_by d n p x) (text_from d (n + 1) q xs)
+    (text_by d (n + 1 + length xs) (page_from d (n + 1) q xs) y))
+    ∙ ap (λ m. text_by d n p x ++ text_from d (n + 1) q xs
+    ++ text_by d m (page_from d (n + 1) q xs) y) e
 
-values_append : (xs ys : List (List ℕ)) → values_of (xs ++ ys) ≡ values_of xs ++ values_of ys
-values_append [] ys = refl
-values_append (x ∷ xs) ys =
-    ap (λ vs. values_at x ++ vs) (values_append xs ys)
-    ∙ sym (append_assoc (values_at x) (values_of xs) (values_of ys))
+-- the values of some parts
+abbrev values_in : List (List ℕ) → List (List TraceValue)
+values_in parts = values_of (map strip_carriage_return parts)
+
+values_count : (parts : List (List ℕ)) → length (values_in parts) ≡ length parts
+values_count [] = refl
+values_count (x ∷ xs) = ap suc (values_count xs)
+
+values_more : (parts : List (List ℕ)) (part : List ℕ)
+    → values_in (parts ++ part ∷ []) ≡ values_in parts ++ values_at (strip_carriage_return part) ∷ []
+values_more [] part = refl
+values_more (x ∷ xs) part =
+    ap (λ l. values_at (strip_carriage_return x) ∷ l) (values_more xs part)
 
 -- the first lines, of which the next one has this number, are not refused and their ladder was
 -- written; the others are left
-pub record HasDrawn (drawing : Drawing) (all left : List (List ℕ)) (number columns : ℕ)
-    (old new : Option (List ℕ)) : Type 0 where
+pub record HasDrawn (drawing : Drawing) (all left : List (List ℕ)) (number : ℕ)
+    (page : PageValue) (old new : Option (List ℕ)) : Type 0 where
   pub done : List (List ℕ)
   pub whole : all ≡ done ++ left
   pub count : length done + 1 ≡ number
   pub right : NonePasses is_refused done
-  pub columns_are : columns ≡ columns_from 0 (values_of (map strip_carriage_return done))
-  pub drawn : Appends old new (ladder_text drawing (values_of (map strip_carriage_return done)))
+  pub kept : page ≡ page_of drawing (values_in done)
+  pub drawn : Appends old new (early_text drawing (values_in done))
 
 -- the same of the lines of what a reader had and of what it has left, where these are known
-abbrev pub HasDrawnOf : Option (List ℕ) → Option (List ℕ) → Drawing → ℕ → ℕ → Option (List ℕ)
-    → Option (List ℕ) → Type 0
-HasDrawnOf None left drawing number columns old new = Unit {0}
-HasDrawnOf (Some all) None drawing number columns old new = ⊥
-HasDrawnOf (Some all) (Some left) drawing number columns old new =
-    HasDrawn drawing (parts_of all) (parts_of left) number columns old new
+abbrev pub HasDrawnOf : Option (List ℕ) → Option (List ℕ) → Drawing → ℕ → PageValue
+    → Option (List ℕ) → Option (List ℕ) → Type 0
+HasDrawnOf None left drawing number page old new = Unit {0}
+HasDrawnOf (Some all) None drawing number page old new = ⊥
+HasDrawnOf (Some all) (Some left) drawing number page old new =
+    HasDrawn drawing (parts_of all) (parts_of left) number page old new
 
 pub drawn_none : (all : Option (List ℕ)) (drawing : Drawing) (a : Option (List ℕ))
-    → HasDrawnOf all all drawing 1 0 a a
+    → HasDrawnOf all all drawing 1 blank_page a a
 drawn_none None drawing a = tt
 drawn_none (Some all) drawing a = record {
   done = [];
   whole = refl;
   count = refl;
   right = tt;
-  columns_are = refl;
+  kept = refl;
   drawn = Appends-nil a;
 }
 
@@ -114,25 +134,19 @@ not_long part h = grind (arith, nat_tests)
 long : (part : List ℕ) → 1048576 < length part → is_too_long part ≡ true
 long part h = grind (arith, nat_tests)
 
-module _ {drawing : Drawing} {n k : ℕ} {a b : Option (List ℕ)} where
-  has_drawn_more : (all : List (List ℕ)) (part line : List ℕ) (left : List (List ℕ)) (more : ℕ)
-      (c : Option (List ℕ)) → HasDrawn drawing all (part ∷ left) n k a b → length part ≤ 1048576
-      → line ≡ strip_carriage_return part → is_wrong line ≡ false
-      → more ≡ columns_from k (values_at line)
-      → Appends b c (ladder_from drawing k (values_at line))
+module _ {drawing : Drawing} {n : ℕ} {k : PageValue} {a b : Option (List ℕ)} where
+  has_drawn_more : (all : List (List ℕ)) (part line : List ℕ) (left : List (List ℕ))
+      (more : PageValue) (c : Option (List ℕ)) → HasDrawn drawing all (part ∷ left) n k a b
+      → length part ≤ 1048576 → line ≡ strip_carriage_return part → is_wrong line ≡ false
+      → more ≡ page_by drawing n k (values_at line)
+      → Appends b c (text_by drawing n k (values_at line))
       → HasDrawn drawing all left (n + 1) more a c
   has_drawn_more all part line left more c h fits same right grown p =
-      let before = values_of (map strip_carriage_return h.done) in
+      let before = values_in h.done in
       let now = values_at line in
-      let lines : map strip_carriage_return (h.done ++ part ∷ [])
-      ≡ map strip_carriage_return h.done ++ line ∷ [] =
-      map-append strip_carriage_return h.done (part ∷ [])
-      ∙ ap (λ l. map strip_carriage_return h.done ++ l ∷ []) (sym same) in
-      let one : values_of (line ∷ []) ≡ now = append-nil now in
-      let values : values_of (map strip_carriage_return (h.done ++ part ∷ [])) ≡ before ++ now =
-      ap values_of lines
-      ∙ values_append (map strip_carriage_return h.done) (line ∷ [])
-      ∙ ap (λ vs. before ++ vs) one in
+      let place : n ≡ 1 + length before = omega (arith, h.count, values_count h.done) in
+      let values : values_in (h.done ++ part ∷ []) ≡ before ++ now ∷ [] =
+      values_more h.done part ∙ ap (λ l. before ++ values_at l ∷ []) (sym same) in
       record {
         done = h.done ++ part ∷ [];
         whole = h.whole ∙ sym (append_assoc h.done (part ∷ []) left);
@@ -141,15 +155,19 @@ module _ {drawing : Drawing} {n k : ℕ} {a b : Option (List ℕ)} where
             NonePasses-more is_refused h.done part h.right
             (fits_by (is_too_long part) (is_wrong (strip_carriage_return part))
             (not_long part fits) (rw same at right));
-        columns_are =
-            grown ∙ ap (λ m. columns_from m now) h.columns_are
-            ∙ sym (columns_append 0 before now) ∙ ap (columns_from 0) (sym values);
+        kept =
+            grown ∙ ap (λ m. page_by drawing m k now) place
+            ∙ ap (λ q. page_by drawing (1 + length before) q now) h.kept
+            ∙ sym (page_append drawing 1 blank_page before now)
+            ∙ ap (page_from drawing 1 blank_page) (sym values);
         drawn =
-            subst (λ vs. Appends a c (ladder_text drawing vs)) (sym values)
-            (subst (λ text. Appends a c text) (sym (ladder_append drawing 0 before now))
-            (Appends-trans a b c (ladder_text drawing before)
-            (ladder_from drawing (columns_from 0 before) now) h.drawn
-            (subst (λ m. Appends b c (ladder_from drawing m now)) h.columns_are p)));
+            subst (λ vs. Appends a c (early_text drawing vs)) (sym values)
+            (subst (λ text. Appends a c text)
+            (sym (text_append drawing 1 blank_page before now))
+            (Appends-trans a b c (early_text drawing before)
+            (text_by drawing (1 + length before) (page_of drawing before) now) h.drawn
+            (subst (λ q. Appends b c (text_by drawing (1 + length before) q now)) h.kept
+            (subst (λ m. Appends b c (text_by drawing m k now)) place p))));
       }
 
   -- the next line is refused
@@ -164,21 +182,36 @@ module _ {drawing : Drawing} {n k : ℕ} {a b : Option (List ℕ)} where
         ap (λ parts. is_fault (get_or parts (length h.done) [])) h.whole
         ∙ ap is_fault (get_or_seam h.done part left []) ∙ fault;
     before =
-        subst (λ lines. Appends a b (ladder_text drawing (values_of lines)))
+        subst (λ lines. Appends a b (early_text drawing (values_of lines)))
         (sym (first_lines octets h.done (part ∷ left) h.whole)) h.drawn;
   }
 
   -- no line is left
   has_drawn_all : (octets : List ℕ) → HasDrawn drawing (parts_of octets) [] n k a b
-      → DrawsInput drawing octets a b
+      → ReadsInput drawing octets k a b
   has_drawn_all octets h =
       let all_done : parts_of octets ≡ h.done = h.whole ∙ append-nil h.done in
       record {
         right = rw all_done (position_none is_refused h.done h.right);
+        kept = h.kept ∙ ap (λ parts. page_of drawing (values_in parts)) (sym all_done);
         drawn =
-            subst (λ parts. Appends a b
-            (ladder_text drawing (values_of (map strip_carriage_return parts))))
+            subst (λ parts. Appends a b (early_text drawing (values_in parts)))
             (sym all_done) h.drawn;
+      }
+
+  -- the page is full
+  has_drawn_full : (octets : List ℕ) (left : List (List ℕ))
+      → HasDrawn drawing (parts_of octets) left n k a b → is_full k ≡ true
+      → StopsFull drawing octets a b
+  has_drawn_full octets left h full =
+      let first = sym (first_lines octets h.done left h.whole) in
+      record {
+        place = length h.done;
+        full =
+            subst (λ lines. is_full (page_of drawing (values_of lines)) ≡ true) first
+            (subst (λ q. is_full q ≡ true) h.kept full);
+        before =
+            subst (λ lines. Appends a b (early_text drawing (values_of lines))) first h.drawn;
       }
 
   has_drawn_first : (octets : List ℕ) (left : List (List ℕ))
@@ -186,7 +219,7 @@ module _ {drawing : Drawing} {n k : ℕ} {a b : Option (List ℕ)} where
   has_drawn_first octets left h = record {
     place = length h.done;
     before =
-        subst (λ lines. Appends a b (ladder_text drawing (values_of lines)))
+        subst (λ lines. Appends a b (early_text drawing (values_of lines)))
         (sym (first_lines octets h.done left h.whole)) h.drawn;
   }
 
@@ -197,13 +230,13 @@ part_left : (old new : List ℕ) (end : LineEnd) (part : List ℕ)
 part_left old new LineFeed part e = (parts_of new, e)
 part_left old new InputEnd part e = ([], e.0)
 
-module _ (drawing : Drawing) (n k : ℕ) (a b c : Option (List ℕ)) where
+module _ (drawing : Drawing) (n : ℕ) (k : PageValue) (a b c : Option (List ℕ)) where
   -- a line that ends with a line feed was drawn
-  pub drawn_line : (given left next : Option (List ℕ)) (part line : List ℕ) (more : ℕ)
+  pub drawn_line : (given left next : Option (List ℕ)) (part line : List ℕ) (more : PageValue)
       → HasDrawnOf given left drawing n k a b → ReadsLine left next LineFeed part
       → length part ≤ 1048576 → line ≡ strip_carriage_return part → is_wrong line ≡ false
-      → more ≡ columns_from k (values_at line)
-      → Appends b c (ladder_from drawing k (values_at line))
+      → more ≡ page_by drawing n k (values_at line)
+      → Appends b c (text_by drawing n k (values_at line))
       → HasDrawnOf given next drawing (n + 1) more a c
   drawn_line None left next part line more h read fits same right grown p = tt
   drawn_line (Some all) None next part line more h read fits same right grown p = absurd h
@@ -215,12 +248,12 @@ module _ (drawing : Drawing) (n k : ℕ) (a b c : Option (List ℕ)) where
       grown p
 
   -- the last line was drawn
-  pub drawn_last : (given left next : Option (List ℕ)) (part line : List ℕ) (more : ℕ)
+  pub drawn_last : (given left next : Option (List ℕ)) (part line : List ℕ) (more : PageValue)
       → HasDrawnOf given left drawing n k a b → ReadsLine left next InputEnd part
       → length part ≤ 1048576 → line ≡ strip_carriage_return part → is_wrong line ≡ false
-      → more ≡ columns_from k (values_at line)
-      → Appends b c (ladder_from drawing k (values_at line))
-      → IfSome given (λ octets. DrawsInput drawing octets a c)
+      → more ≡ page_by drawing n k (values_at line)
+      → Appends b c (text_by drawing n k (values_at line))
+      → IfSome given (λ octets. ReadsInput drawing octets more a c)
   drawn_last None left next part line more h read fits same right grown p = tt
   drawn_last (Some all) None next part line more h read fits same right grown p = absurd h
   drawn_last (Some all) (Some old) None part line more h read fits same right grown p =
@@ -276,19 +309,43 @@ module _ (drawing : Drawing) (n k : ℕ) (a b c : Option (List ℕ)) where
   stopped_read None left input.Memory h more = tt
   stopped_read (Some all) left input.Memory h more = tt
 
+  -- the page is full
+  stopped_full : (given left : Option (List ℕ)) → HasDrawnOf given left drawing n k a b
+      → is_full k ≡ true → IfSome given (λ octets. StopsFull drawing octets a b)
+  stopped_full None left h full = tt
+  stopped_full (Some all) None h full = absurd h
+  stopped_full (Some all) (Some old) h full = has_drawn_full all (parts_of old) h full
+
   -- the line that was read was not drawn, or in part
   pub stopped_write : (given left next : Option (List ℕ)) (end : LineEnd) (part line : List ℕ)
       (e : ChartError) → HasDrawnOf given left drawing n k a b → ReadsLine left next end part
       → length part ≤ 1048576 → line ≡ strip_carriage_return part
       → ((m : ℕ) → e ≡ chart.NotATraceAt m
       → (m ≡ n) × (is_wrong line ≡ true) × (c ≡ b))
+      → (e ≡ chart.TooMany → (is_full k ≡ true) × (c ≡ b))
       → IsWrongOrPrintError e → IfSome given (λ octets. HasStopped drawing e octets a c)
-  stopped_write given left next end part line (chart.NotATraceAt m) h read fits same wrong kind =
+  stopped_write given left next end part line (chart.NotATraceAt m) h read fits same wrong full kind =
       let told = wrong m refl in
       rw (told.0, told.2) (stopped_wrong given left next end part line h read fits same told.1)
-  stopped_write None left next end part line e h read fits same wrong kind = tt
-  stopped_write (Some all) left next end part line (chart.TooLongAt m) h read fits same wrong kind = absurd kind
-  stopped_write (Some all) left next end part line chart.Width h read fits same wrong kind = tt
-  stopped_write (Some all) left next end part line chart.Input h read fits same wrong kind = absurd kind
-  stopped_write (Some all) left next end part line chart.Output h read fits same wrong kind = tt
-  stopped_write (Some all) left next end part line chart.Memory h read fits same wrong kind = tt
+  stopped_write given left next end part line chart.TooMany h read fits same wrong full kind =
+      let told = full refl in rw told.1 (stopped_full given left h told.0)
+  stopped_write None left next end part line e h read fits same wrong full kind = tt
+  stopped_write (Some all) left next end part line (chart.TooLongAt m) h read fits same wrong full kind = absurd kind
+  stopped_write (Some all) left next end part line chart.Width h read fits same wrong full kind = tt
+  stopped_write (Some all) left next end part line chart.Forms h read fits same wrong full kind = tt
+  stopped_write (Some all) left next end part line chart.Lines h read fits same wrong full kind = tt
+  stopped_write (Some all) left next end part line chart.Input h read fits same wrong full kind = absurd kind
+  stopped_write (Some all) left next end part line chart.Output h read fits same wrong full kind = tt
+  stopped_write (Some all) left next end part line chart.Memory h read fits same wrong full kind = tt
+
+-- the rows of a text were written, and then the picture, if it is one
+pub drawn_end : (drawing : Drawing) (octets : List ℕ) (k : PageValue) (a b c : Option (List ℕ))
+    → ReadsInput drawing octets k a b → Appends b c (late_text drawing.form k)
+    → DrawsInput drawing octets a c
+drawn_end drawing octets k a b c h p = record {
+  right = h.right;
+  drawn =
+      Appends-trans a b c (early_text drawing (values_of (lines_of octets)))
+      (late_text drawing.form (page_of drawing (values_of (lines_of octets)))) h.drawn
+      (subst (λ q. Appends b c (late_text drawing.form q)) h.kept p);
+}

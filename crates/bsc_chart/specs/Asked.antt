@@ -1,34 +1,78 @@
 -- The ladder that the words of the command ask for.
-use Rattle.std.specs.Prelude.{◌≡◌, ℕ, Bool, List, Option, Some, None, option_map, IfSome}
+use Rattle.std.specs.Prelude.{◌≡◌, ℕ, Bool, true, false, List, Option, Some, None, Result, Ok, Err}
 use Rattle.std.specs.Prelude.{if◌then◌else◌}
+use Rattle.bsc_asked.specs.ChartWords.{AskedChart}
 use Rattle.bsc_ladder.specs.declared.glyphs.Style.{Style}
 use Rattle.bsc_ladder.specs.declared.glyphs.Style.TheVariants.{Boxes, Ascii}
 use Rattle.bsc_options.specs.Numbers.{number_within}
 use Rattle.bsc_chart.specs.Inputs.{HasStopped}
+use Rattle.bsc_chart.specs.declared.drawing.Drawing.{Drawing}
+use Rattle.bsc_chart.specs.declared.drawing.Form.{Form}
+use Rattle.bsc_chart.specs.declared.drawing.Form.TheVariants.{Text, Svg}
+use Rattle.bsc_chart.specs.declared.drawing.Range.{Range}
 use Rattle.bsc_chart.specs.declared.error.ChartError.{ChartError}
-use Rattle.bsc_chart.specs.declared.error.ChartError.TheVariants.{Width}
-use Rattle.bsc_chart.specs.declared.text.Drawing.{Drawing}
+use Rattle.bsc_chart.specs.declared.error.ChartError.TheVariants.{Forms, Width, Lines}
 
 abbrev pub style_of : Bool → Style
 style_of ascii = if ascii then Ascii else Boxes
 
--- The width that a text spells: from 40 to 1000.
-abbrev pub width_in : List ℕ → Option ℕ
-width_in text = number_within 40 1000 text
+-- The form that is asked for: a text if it is none.
+abbrev pub form_of : Bool → Bool → Result Form ChartError
+form_of text false = Ok Text
+form_of false true = Ok Svg
+form_of true true = Err Forms
 
--- The width that was given: 80 if none was.
-abbrev pub width_of : Option (List ℕ) → Option ℕ
-width_of None = Some 80
-width_of (Some text) = width_in text
+abbrev pub width_from : Option ℕ → Result ℕ ChartError
+width_from (Some width) = Ok width
+width_from None = Err Width
 
--- How the words ask to draw; none if the width is wrong.
-abbrev pub drawing_of : Bool → Option (List ℕ) → Option Drawing
-drawing_of ascii width =
-    option_map (λ n. record { style = style_of ascii; width = n }) (width_of width)
+-- The width that was given, from 40 to 1000: 80 if none was.
+abbrev pub width_of : Option (List ℕ) → Result ℕ ChartError
+width_of None = Ok 80
+width_of (Some text) = width_from (number_within 40 1000 text)
+
+abbrev pub line_from : Option ℕ → Result ℕ ChartError
+line_from (Some line) = Ok line
+line_from None = Err Lines
+
+-- The number of a line that was given: this one if none was.
+abbrev pub line_of : ℕ → Option (List ℕ) → Result ℕ ChartError
+line_of least None = Ok least
+line_of least (Some text) = line_from (number_within 1 18446744073709551615 text)
+
+abbrev pub range_with : Result ℕ ChartError → Result ℕ ChartError → Result Range ChartError
+range_with (Err error) last = Err error
+range_with (Ok first) (Err error) = Err error
+range_with (Ok first) (Ok last) = Ok (record { first = first; last = last })
+
+-- The lines that are drawn: all of them if neither the first nor the last was given.
+abbrev pub range_of : Option (List ℕ) → Option (List ℕ) → Result Range ChartError
+range_of first last = range_with (line_of 1 first) (line_of 18446744073709551615 last)
+
+-- A drawing of these parts, or the first error.
+abbrev pub drawing_with : Style → Result Form ChartError → Result ℕ ChartError
+    → Result Range ChartError → Result Drawing ChartError
+drawing_with style (Err error) width range = Err error
+drawing_with style (Ok form) (Err error) range = Err error
+drawing_with style (Ok form) (Ok width) (Err error) = Err error
+drawing_with style (Ok form) (Ok width) (Ok range) =
+    Ok (record { form = form; style = style; width = width; range = range })
+
+-- How the words ask to draw.
+abbrev pub drawing_of : AskedChart → Result Drawing ChartError
+drawing_of words =
+    drawing_with (style_of words.ascii) (form_of words.text words.svg) (width_of words.width)
+    (range_of words.from words.to)
+
+-- The errors of the words, before anything is read or written.
+abbrev pub IsEarly : ChartError → Type 0
+IsEarly Forms = Unit {0}
+IsEarly Width = Unit {0}
+IsEarly Lines = Unit {0}
+IsEarly error = ⊥
 
 -- What an error says of the words, of the input and of the output.
-abbrev pub HasFailed : Option Drawing → ChartError → List ℕ → Option (List ℕ)
+abbrev pub HasFailed : Result Drawing ChartError → ChartError → List ℕ → Option (List ℕ)
     → Option (List ℕ) → Type 0
-HasFailed drawing Width input old new = drawing ≡ None
-HasFailed drawing error input old new =
-    IfSome drawing (λ d. HasStopped d error input old new)
+HasFailed (Err why) error input old new = error ≡ why
+HasFailed (Ok drawing) error input old new = HasStopped drawing error input old new

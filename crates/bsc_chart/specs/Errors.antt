@@ -6,6 +6,7 @@ use Rattle.bsc_print.specs.declared.error.PrintError.{PrintError}
 use Rattle.bsc_print.specs.declared.error.PrintError.TheVariants as print
 use Rattle.bsc_chart.specs.declared.error.ChartError.{ChartError}
 use Rattle.bsc_chart.specs.declared.error.ChartError.TheVariants.{NotATraceAt, TooLongAt, Width}
+use Rattle.bsc_chart.specs.declared.error.ChartError.TheVariants.{Forms, Lines, TooMany}
 use Rattle.bsc_chart.specs.declared.error.ChartError.TheVariants.{Input, Output, Memory}
 
 -- The error for a failure to print.
@@ -13,9 +14,29 @@ abbrev pub print_error : PrintError → ChartError
 print_error print.Output = Output
 print_error print.Memory = Memory
 
+-- The errors of keeping a row.
+abbrev pub IsKeepError : ChartError → Type 0
+IsKeepError TooMany = Unit {0}
+IsKeepError Memory = Unit {0}
+IsKeepError _ = ⊥
+
+-- The errors of writing.
+abbrev pub IsEndError : ChartError → Type 0
+IsEndError Output = Unit {0}
+IsEndError Memory = Unit {0}
+IsEndError _ = ⊥
+
+-- The errors of writing or keeping a row.
+abbrev pub IsDrawError : ChartError → Type 0
+IsDrawError TooMany = Unit {0}
+IsDrawError Output = Unit {0}
+IsDrawError Memory = Unit {0}
+IsDrawError _ = ⊥
+
 -- The errors of drawing one of many lines.
 abbrev pub IsWrongOrPrintError : ChartError → Type 0
 IsWrongOrPrintError (NotATraceAt line) = Unit {0}
+IsWrongOrPrintError TooMany = Unit {0}
 IsWrongOrPrintError Output = Unit {0}
 IsWrongOrPrintError Memory = Unit {0}
 IsWrongOrPrintError _ = ⊥
@@ -29,4 +50,6 @@ input_error number input.Memory = Memory
 -- The errors of drawing many lines.
 abbrev pub IsLineError : ChartError → Type 0
 IsLineError Width = ⊥
+IsLineError Lines = ⊥
+IsLineError Forms = ⊥
 IsLineError _ = Unit {0}

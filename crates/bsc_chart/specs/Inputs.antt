@@ -1,26 +1,26 @@
 -- The ladder of the trace in a whole input.
-use Rattle.std.specs.Prelude.{◌≡◌, ℕ, ◌+◌, ◌&&◌, ◌||◌, not, Bool, true, List, [], take}
+use Rattle.std.specs.Prelude.{◌≡◌, ℕ, ◌+◌, ◌&&◌, ◌||◌, not, Bool, true, List, [], map, take}
 use Rattle.std.specs.Prelude.{position, slice_index_or, is_none, Option, Some, None}
 use Rattle.std.specs.Prelude.{if◌then◌else◌}
 use Rattle.std.specs.Io.KnownBytes.{Appends}
-use Rattle.std.specs.List.{flat_map}
 use Rattle.std.specs.Option.{option_to_list}
 use Rattle.std.specs.Str.Lines.{strip_carriage_return}
 use Rattle.bsc_input.specs.Lines.{is_blank, lines_of, parts_of}
 use Rattle.bsc_naming.specs.Inputs.{is_too_long}
 use Rattle.bsc_trace.specs.Lines.{TraceValue, value_of}
-use Rattle.bsc_chart.specs.Ladders.{ladder_text}
+use Rattle.bsc_chart.specs.Pages.{PageValue, early_text, is_full, ladder_text, page_of}
 use Rattle.bsc_chart.specs.declared.error.ChartError.{ChartError}
-use Rattle.bsc_chart.specs.declared.error.ChartError.TheVariants.{NotATraceAt, TooLongAt, Input}
-use Rattle.bsc_chart.specs.declared.text.Drawing.{Drawing}
+use Rattle.bsc_chart.specs.declared.error.ChartError.TheVariants.{NotATraceAt, TooLongAt}
+use Rattle.bsc_chart.specs.declared.error.ChartError.TheVariants.{TooMany, Input}
+use Rattle.bsc_chart.specs.declared.drawing.Drawing.{Drawing}
 
 -- The value of a line: none if it is blank.
 abbrev pub values_at : List ℕ → List TraceValue
 values_at line = if is_blank line then [] else option_to_list (value_of line)
 
 -- The values of lines, in order.
-abbrev pub values_of : List (List ℕ) → List TraceValue
-values_of lines = flat_map values_at lines
+abbrev pub values_of : List (List ℕ) → List (List TraceValue)
+values_of lines = map values_at lines
 
 -- Whether a line is wrong: it is neither blank nor a line of a trace.
 abbrev pub is_wrong : List ℕ → Bool
@@ -41,21 +41,36 @@ pub record DrawsInput (drawing : Drawing) (input : List ℕ) (old new : Option (
   pub right : position is_refused (parts_of input) ≡ None
   pub drawn : Appends old new (ladder_text drawing (values_of (lines_of input)))
 
+-- No line of the input is refused, the rows of a text were written, and this was kept.
+pub record ReadsInput (drawing : Drawing) (input : List ℕ) (page : PageValue)
+    (old new : Option (List ℕ)) : Type 0 where
+  pub right : position is_refused (parts_of input) ≡ None
+  pub kept : page ≡ page_of drawing (values_of (lines_of input))
+  pub drawn : Appends old new (early_text drawing (values_of (lines_of input)))
+
 -- The line with this number, counted from 1, is the first of the input that is refused, and it is
--- so for this reason. The ladder of the lines before it was written, and nothing else.
+-- so for this reason. Of the lines before it the rows of a text were written, and nothing else.
 pub record StopsAt (is_fault : List ℕ → Bool) (drawing : Drawing) (number : ℕ) (input : List ℕ)
     (old new : Option (List ℕ)) : Type 0 where
   pub place : ℕ
   pub counted : number ≡ place + 1
   pub first : position is_refused (parts_of input) ≡ Some place
   pub reason : is_fault (slice_index_or (parts_of input) place []) ≡ true
-  pub before : Appends old new (ladder_text drawing (values_of (take place (lines_of input))))
+  pub before : Appends old new (early_text drawing (values_of (take place (lines_of input))))
 
--- The ladder of some first lines of the input was written, and nothing else.
+-- The page of some first lines of the input is full, and what is written for them early was written,
+-- and nothing else.
+pub record StopsFull (drawing : Drawing) (input : List ℕ) (old new : Option (List ℕ))
+    : Type 0 where
+  pub place : ℕ
+  pub full : is_full (page_of drawing (values_of (take place (lines_of input)))) ≡ true
+  pub before : Appends old new (early_text drawing (values_of (take place (lines_of input))))
+
+-- The rows of some first lines of the input were written, if it is a text, and nothing else.
 pub record DrawsFirst (drawing : Drawing) (input : List ℕ) (old new : Option (List ℕ))
     : Type 0 where
   pub place : ℕ
-  pub before : Appends old new (ladder_text drawing (values_of (take place (lines_of input))))
+  pub before : Appends old new (early_text drawing (values_of (take place (lines_of input))))
 
 -- What an error says of the input and of the output. Of an error while a line was written it says
 -- nothing.
@@ -65,5 +80,6 @@ HasStopped drawing (NotATraceAt number) input old new =
     StopsAt is_misspelt drawing number input old new
 HasStopped drawing (TooLongAt number) input old new =
     StopsAt is_too_long drawing number input old new
+HasStopped drawing TooMany input old new = StopsFull drawing input old new
 HasStopped drawing Input input old new = DrawsFirst drawing input old new
 HasStopped drawing _ input old new = Unit {0}

@@ -37,6 +37,6 @@ note_of h = flat_map unit_note (units_of h)
 abbrev pub row_of : TraceValue → RowValue
 row_of (transmission time course fate octets) =
     row.arrow time course (seen_fate (heard octets) fate) (name_of (heard octets))
-    (note_of (heard octets))
+    (note_of (heard octets)) octets
 row_of (silence time) = row.silence time
-row_of (told time text) = row.mark time text
+row_of (told time mark text) = row.mark time mark text

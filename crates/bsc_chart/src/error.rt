@@ -23,6 +23,19 @@ pub enum ChartError {
     #[error("--width is not from 40 to 1000")]
     Width,
 
+    /// More than one form was asked for.
+    #[error("--text and --svg exclude one another")]
+    Forms,
+
+    /// `--from` or `--to` is not the number of a line, from 1 on.
+    #[error("--from or --to is not the number of a line")]
+    Lines,
+
+    /// A picture has room for no more than [`MAX_ARROWS`](crate::MAX_ARROWS) arrows and
+    /// [`MAX_ROWS`](bsc_picture::MAX_ROWS) rows.
+    #[error("more than 5000 arrows or 20000 rows: draw a part with --from and --to")]
+    TooMany,
+
     /// The input could not be read: a read failed or was interrupted, or the lines are too many for
     /// their numbers, 2^64 - 1 or more.
     #[error("input fault")]

@@ -3,11 +3,17 @@
 //! The transmissions are those of GA27-3004. The ladder is this project's own.
 #![tactic(auto)]
 
+mod columns;
+mod drawing;
 mod error;
+mod lines;
+mod pages;
 mod rows;
 mod text;
 mod words;
 
+pub use drawing::{Drawing, Form, Range};
 pub use error::ChartError;
-pub use text::{Drawing, chart};
-pub use words::{ChartWords, draw};
+pub use lines::chart;
+pub use pages::MAX_ARROWS;
+pub use words::draw;

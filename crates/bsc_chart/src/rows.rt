@@ -3,13 +3,15 @@ ghost use Rattle.std.specs.Prelude.{◌≡◌, IfOk, OnOk};
 ghost use Rattle.std.specs.Io.KnownBytes.{Appends};
 ghost use Rattle.std.specs.List.{flat_map};
 ghost use Rattle.bsc_ladder.specs.Texts.{row_text};
+ghost use Rattle.bsc_picture.specs.Rows.{kept_in};
 ghost use Rattle.bsc_print.specs.Names.{name_of};
 ghost use Rattle.bsc_trace.specs.Lines.{value_in};
 ghost use Rattle.bsc_chart.specs.Rows.{failed_fate, note_of, row_of, seen_fate, unit_note};
 
 use bsc_frame::laws::{one_reading, reading};
 use bsc_frame::{Heard, Message, Text, TextBuffer, decode};
-use bsc_ladder::{Fate, Layout, Row, write_row};
+use bsc_ladder::{Fate, Layout, write_row};
+use bsc_picture::{PictureRow, owned};
 use bsc_print::{PrintError, put, write_heard_name};
 use bsc_trace::TraceLine;
 use std::alloc::Allocator;
@@ -81,15 +83,12 @@ fn note_in<A: Allocator>(alloc: A, heard: &Heard<'_>) -> Result<Vec<u8, A>, Prin
     }
 }
 
-/// Writes the row for a line of a trace.
-pub(crate) fn write_line_row<A: Allocator + Copy, W: Write>(
+/// Returns the row for a line of a trace.
+pub(crate) fn kept_row<A: Allocator + Copy>(
     alloc: A,
-    layout: Layout,
     line: &TraceLine<'_, A>,
-    out: &mut W,
-) -> Result<(), PrintError>
-    ensures { OnOk result (Appends (W.contents out.old) (W.contents out.new)
-        (row_text layout (row_of (value_in line.now)))) }
+) -> Result<PictureRow<A>, PrintError>
+    ensures { IfOk result (λ row. kept_in row ≡ row_of (value_in line.now)) }
 {
     match line {
         TraceLine::Transmission {
@@ -102,18 +101,36 @@ pub(crate) fn write_line_row<A: Allocator + Copy, W: Write>(
             reading();
             let mut buffer = TextBuffer::new();
             let heard = decode(octets, &mut buffer);
-            let name = name_in(alloc, &heard)?;
-            let note = note_in(alloc, &heard)?;
-            let row = Row::Arrow {
-                time,
+            Ok(PictureRow::Arrow {
+                time: owned(alloc, time)?,
                 course: *course,
                 fate: seen(&heard, *fate),
-                name: &name,
-                note: &note,
-            };
-            write_row(layout, &row, out)
+                name: name_in(alloc, &heard)?,
+                note: note_in(alloc, &heard)?,
+                octets: owned(alloc, octets)?,
+            })
         }
-        TraceLine::Silence { time } => write_row(layout, &Row::Silence { time }, out),
-        TraceLine::Told { time, text } => write_row(layout, &Row::Mark { time, text }, out),
+        TraceLine::Silence { time } => Ok(PictureRow::Silence {
+            time: owned(alloc, time)?,
+        }),
+        TraceLine::Told { time, mark, text } => Ok(PictureRow::Mark {
+            time: owned(alloc, time)?,
+            mark: *mark,
+            text: owned(alloc, text)?,
+        }),
     }
+}
+
+/// Writes the row for a line of a trace.
+pub(crate) fn write_line_row<A: Allocator + Copy, W: Write>(
+    alloc: A,
+    layout: Layout,
+    line: &TraceLine<'_, A>,
+    out: &mut W,
+) -> Result<(), PrintError>
+    ensures { OnOk result (Appends (W.contents out.old) (W.contents out.new)
+        (row_text layout (row_of (value_in line.now)))) }
+{
+    let kept = kept_row(alloc, line)?;
+    write_row(layout, &kept.row(), out)
 }

@@ -1,60 +1,81 @@
 //! The ladder that the words of the command ask for.
-ghost use Rattle.std.specs.Prelude.{◌≡◌, None, OnOk, IfErr, IfSome, IsSomeAnd, option_map};
+ghost use Rattle.std.specs.Prelude.{◌≡◌, OnOk, IfErr, IfSome, IsOkAnd, option_map, string_bytes};
+ghost use Rattle.bsc_asked.specs.ChartWords.{chart_words};
+ghost use Rattle.bsc_chart.specs.Asked.{HasFailed, IsEarly, drawing_of, drawing_with, form_of};
+ghost use Rattle.bsc_chart.specs.Asked.{line_of, range_of, style_of, width_of};
 ghost use Rattle.bsc_chart.specs.Inputs.{DrawsInput};
-ghost use Rattle.bsc_chart.specs.Asked.{HasFailed, drawing_of, style_of, width_in};
 
-use crate::{ChartError, Drawing, chart};
+use crate::{ChartError, Drawing, Form, Range, chart};
+use bsc_asked::ChartWords;
 use bsc_ladder::Style;
 use bsc_options::number_within;
 use std::alloc::Allocator;
 use std::io::{Read, Write};
 
-/// The words of `chart`.
-#[derive(Clone, Copy)]
-pub struct ChartWords<'a> {
-    /// Whether it is drawn in ASCII characters only.
-    pub ascii: bool,
-
-    /// Its width as it was given.
-    pub width: Option<&'a str>,
-}
-
-/// Draws the ladder of the trace in the input as these words ask for. Returns `Width`, and has read
-/// and written nothing, if the width is not a number from 40 to 1000; without a width it is 80.
-/// Otherwise the same as [`chart`].
+/// Draws the ladder of the trace in the input as these words ask for. Before anything is read or
+/// written, the error is `Forms` if both forms are asked for, `Width` if the width is not a number
+/// from 40 to 1000, and `Lines` if the first or the last line is no number from 1 on. A text is
+/// drawn if no form is asked for; its width is 80 if none is given. Otherwise the same as [`chart`].
 pub fn draw<A: Allocator + Copy, R: Read, W: Write>(
     alloc: A,
-    words: ChartWords<'_>,
+    words: &ChartWords,
     input: &mut R,
     out: &mut W,
 ) -> Result<(), ChartError>
     ensures ok { OnOk result (IfSome (R.remaining input.old) (λ octets.
-        IsSomeAnd (drawing_of words.entry.ascii (option_map (λ w. w.now) words.entry.width))
+        IsOkAnd (drawing_of (chart_words words.now))
         (λ drawing. DrawsInput drawing octets (W.contents out.old) (W.contents out.new)))) }
     ensures failed { IfErr result (λ error. IfSome (R.remaining input.old) (λ octets.
-        HasFailed (drawing_of words.entry.ascii (option_map (λ w. w.now) words.entry.width)) error
-        octets (W.contents out.old) (W.contents out.new))) }
-    ensures early { result ≡ Err ChartError.Width → out.new ≡ out.old }
+        HasFailed (drawing_of (chart_words words.now)) error octets (W.contents out.old)
+        (W.contents out.new))) }
+    ensures early { IfErr result (λ error. IsEarly error → out.new ≡ out.old) }
 {
     match read_drawing(words) {
-        Some(drawing) => chart(alloc, drawing, input, out),
-        None => Err(ChartError::Width),
+        Ok(drawing) => chart(alloc, drawing, input, out),
+        Err(error) => Err(error),
     }
 }
 
-/// Returns how the words ask to draw; `None` if the width is wrong.
-fn read_drawing(words: ChartWords<'_>) -> Option<Drawing>
-    ensures { result
-        ≡ drawing_of words.entry.ascii (option_map (λ w. w.now) words.entry.width) }
+/// Returns how the words ask to draw.
+fn read_drawing(words: &ChartWords) -> Result<Drawing, ChartError>
+    ensures { result ≡ drawing_of (chart_words words.now) }
 {
-    let width = match words.width {
-        Some(text) => read_width(text)?,
-        None => 80,
-    };
-    Some(Drawing {
-        style: style(words.ascii),
-        width,
-    })
+    let form = read_form(words.text, words.svg);
+    let width = read_width(text_of(&words.width));
+    let range = read_range(text_of(&words.from), text_of(&words.to));
+    drawing(style(words.ascii), form, width, range)
+}
+
+/// Returns a drawing of these parts, or the first error.
+fn drawing(
+    style: Style,
+    form: Result<Form, ChartError>,
+    width: Result<usize, ChartError>,
+    range: Result<Range, ChartError>,
+) -> Result<Drawing, ChartError>
+    ensures { result ≡ drawing_with style form width range }
+{
+    match (form, width, range) {
+        (Err(error), _, _) => Err(error),
+        (Ok(_), Err(error), _) => Err(error),
+        (Ok(_), Ok(_), Err(error)) => Err(error),
+        (Ok(form), Ok(width), Ok(range)) => Ok(Drawing {
+            form,
+            style,
+            width,
+            range,
+        }),
+    }
+}
+
+/// Returns a word as it was given.
+fn text_of(word: &Option<String>) -> Option<&str>
+    ensures { option_map (λ w. w.now) result ≡ option_map string_bytes word.now }
+{
+    match word {
+        Some(text) => Some(text.as_str()),
+        None => None,
+    }
 }
 
 /// Returns the style of a ladder.
@@ -64,12 +85,51 @@ fn style(ascii: bool) -> Style
     if ascii { Style::Ascii } else { Style::Boxes }
 }
 
-/// Returns the width that the text spells, from 40 to 1000.
-fn read_width(text: &str) -> Option<usize>
-    ensures { result ≡ width_in text.now }
+/// Returns the form of a ladder.
+fn read_form(text: bool, svg: bool) -> Result<Form, ChartError>
+    ensures { result ≡ form_of text svg }
 {
-    match number_within(text, 40, 1000) {
-        Some(width) => Some(width as usize),
-        None => None,
+    match (svg, text) {
+        (false, _) => Ok(Form::Text),
+        (true, false) => Ok(Form::Svg),
+        (true, true) => Err(ChartError::Forms),
+    }
+}
+
+/// Returns the width that was given, from 40 to 1000, or 80.
+fn read_width(word: Option<&str>) -> Result<usize, ChartError>
+    ensures { result ≡ width_of (option_map (λ w. w.now) word.entry) }
+{
+    match word {
+        None => Ok(80),
+        Some(text) => match number_within(text, 40, 1000) {
+            Some(width) => Ok(width as usize),
+            None => Err(ChartError::Width),
+        },
+    }
+}
+
+/// Returns the number of a line that was given, from 1 on, or this one.
+fn read_line_number(least: u64, word: Option<&str>) -> Result<u64, ChartError>
+    ensures { result ≡ line_of least (option_map (λ w. w.now) word.entry) }
+{
+    match word {
+        None => Ok(least),
+        Some(text) => match number_within(text, 1, u64::MAX) {
+            Some(line) => Ok(line),
+            None => Err(ChartError::Lines),
+        },
+    }
+}
+
+/// Returns the range of these lines.
+fn read_range(first: Option<&str>, last: Option<&str>) -> Result<Range, ChartError>
+    ensures { result ≡ range_of (option_map (λ w. w.now) first.entry)
+        (option_map (λ w. w.now) last.entry) }
+{
+    match (read_line_number(1, first), read_line_number(u64::MAX, last)) {
+        (Err(error), _) => Err(error),
+        (Ok(_), Err(error)) => Err(error),
+        (Ok(first), Ok(last)) => Ok(Range { first, last }),
     }
 }

@@ -1,17 +1,18 @@
 -- Work that succeeded, or that failed, stays so while the writer keeps its contents.
 use Rattle.std.proofs.Common.{ℕ, List, ◌++◌, Bool, true, false, Option, None, Some, Result, Ok, Err}
-use Rattle.std.proofs.Common.{IsSomeAnd, inl, inr, take}
+use Rattle.std.proofs.Common.{IsOkAnd, IsSomeAnd, inl, inr, take}
 use Rattle.std.specs.Io.KnownBytes.{Keeps}
 use Rattle.std.proofs.KnownBytes.{Appends-kept, Keeps-trans}
 use Rattle.clap.specs.Words.{Text}
+use Rattle.bsc_asked.specs.ChartWords.{AskedChart}
 use Rattle.bsc_asked.specs.Asked.{AskedValue, names, name, show, chart, run, station}
 use Rattle.bsc_chart.specs.Asked.{HasFailed as HasFailedDrawing, drawing_of}
 use Rattle.bsc_chart.specs.Inputs.{DrawsInput, HasStopped as HasStoppedDrawing}
 use Rattle.bsc_chart.specs.Inputs.{StopsAt as StopsDrawingAt, is_misspelt as is_misread, values_of}
-use Rattle.bsc_chart.specs.Ladders.{ladder_text}
+use Rattle.bsc_chart.specs.Pages.{early_text, ladder_text}
 use Rattle.bsc_chart.specs.declared.error.ChartError.{ChartError}
 use Rattle.bsc_chart.specs.declared.error.ChartError.TheVariants as drawing
-use Rattle.bsc_chart.specs.declared.text.Drawing.{Drawing}
+use Rattle.bsc_chart.specs.declared.drawing.Drawing.{Drawing}
 use Rattle.bsc_frame.specs.declared.message.Heard.{Heard}
 use Rattle.bsc_input.specs.Hexadecimal.{octets_of}
 use Rattle.bsc_input.specs.Lines.{lines_of}
@@ -109,17 +110,17 @@ draws_kept d octets a b c p k = record {
   drawn = Appends-kept a b c (ladder_text d (values_of (lines_of octets))) p.drawn k;
 }
 
-drawing_kept : (d : Option Drawing) (octets : List ℕ) (a b c : Option (List ℕ))
-    → IsSomeAnd d (λ d. DrawsInput d octets a b) → Keeps b c
-    → IsSomeAnd d (λ d. DrawsInput d octets a c)
-drawing_kept None octets a b c p k = absurd p
-drawing_kept (Some d) octets a b c p k = draws_kept d octets a b c p k
+drawing_kept : (d : Result Drawing ChartError) (octets : List ℕ) (a b c : Option (List ℕ))
+    → IsOkAnd d (λ d. DrawsInput d octets a b) → Keeps b c
+    → IsOkAnd d (λ d. DrawsInput d octets a c)
+drawing_kept (Err error) octets a b c p k = absurd p
+drawing_kept (Ok d) octets a b c p k = draws_kept d octets a b c p k
 
-charted_kept : (ascii : Bool) (width input a b c : Option (List ℕ))
-    → IsCharted ascii width input a b → Keeps b c → IsCharted ascii width input a c
-charted_kept ascii width None a b c p k = tt
-charted_kept ascii width (Some octets) a b c p k =
-    drawing_kept (drawing_of ascii width) octets a b c p k
+charted_kept : (words : AskedChart) (input a b c : Option (List ℕ))
+    → IsCharted words input a b → Keeps b c → IsCharted words input a c
+charted_kept words None a b c p k = tt
+charted_kept words (Some octets) a b c p k =
+    drawing_kept (drawing_of words) octets a b c p k
 
 drawing_stop_kept : (is_fault : List ℕ → Bool) (d : Drawing) (n : ℕ) (octets : List ℕ)
     (a b c : Option (List ℕ)) → StopsDrawingAt is_fault d n octets a b → Keeps b c
@@ -130,7 +131,7 @@ drawing_stop_kept is_fault d n octets a b c p k = record {
   first = p.first;
   reason = p.reason;
   before =
-      Appends-kept a b c (ladder_text d (values_of (take p.place (lines_of octets)))) p.before k;
+      Appends-kept a b c (early_text d (values_of (take p.place (lines_of octets)))) p.before k;
 }
 
 drawing_stopped_kept : (e : ChartError) (d : Drawing) (octets : List ℕ) (a b c : Option (List ℕ))
@@ -139,45 +140,40 @@ drawing_stopped_kept (drawing.NotATraceAt n) d octets a b c p k =
     drawing_stop_kept is_misread d n octets a b c p k
 drawing_stopped_kept (drawing.TooLongAt n) d octets a b c p k =
     drawing_stop_kept is_too_long d n octets a b c p k
+drawing_stopped_kept drawing.Forms d octets a b c p k = tt
 drawing_stopped_kept drawing.Width d octets a b c p k = tt
+drawing_stopped_kept drawing.Lines d octets a b c p k = tt
+drawing_stopped_kept drawing.TooMany d octets a b c p k = record {
+  place = p.place;
+  full = p.full;
+  before =
+      Appends-kept a b c (early_text d (values_of (take p.place (lines_of octets)))) p.before k;
+}
 drawing_stopped_kept drawing.Input d octets a b c p k = record {
   place = p.place;
   before =
-      Appends-kept a b c (ladder_text d (values_of (take p.place (lines_of octets)))) p.before k;
+      Appends-kept a b c (early_text d (values_of (take p.place (lines_of octets)))) p.before k;
 }
 drawing_stopped_kept drawing.Output d octets a b c p k = tt
 drawing_stopped_kept drawing.Memory d octets a b c p k = tt
 
-drawing_failed_kept : (d : Option Drawing) (e : ChartError) (octets : List ℕ)
+drawing_failed_kept : (d : Result Drawing ChartError) (e : ChartError) (octets : List ℕ)
     (a b c : Option (List ℕ)) → HasFailedDrawing d e octets a b → Keeps b c
     → HasFailedDrawing d e octets a c
-drawing_failed_kept d drawing.Width octets a b c p k = p
-drawing_failed_kept None (drawing.NotATraceAt n) octets a b c p k = tt
-drawing_failed_kept None (drawing.TooLongAt n) octets a b c p k = tt
-drawing_failed_kept None drawing.Input octets a b c p k = tt
-drawing_failed_kept None drawing.Output octets a b c p k = tt
-drawing_failed_kept None drawing.Memory octets a b c p k = tt
-drawing_failed_kept (Some d) (drawing.NotATraceAt n) octets a b c p k =
-    drawing_stopped_kept (drawing.NotATraceAt n) d octets a b c p k
-drawing_failed_kept (Some d) (drawing.TooLongAt n) octets a b c p k =
-    drawing_stopped_kept (drawing.TooLongAt n) d octets a b c p k
-drawing_failed_kept (Some d) drawing.Input octets a b c p k =
-    drawing_stopped_kept drawing.Input d octets a b c p k
-drawing_failed_kept (Some d) drawing.Output octets a b c p k = tt
-drawing_failed_kept (Some d) drawing.Memory octets a b c p k = tt
+drawing_failed_kept (Err why) e octets a b c p k = p
+drawing_failed_kept (Ok d) e octets a b c p k = drawing_stopped_kept e d octets a b c p k
 
-chart_kept : (f : Fault) (ascii : Bool) (width given a b c : Option (List ℕ))
-    → HasFailedChart f ascii width given a b → Keeps b c
-    → HasFailedChart f ascii width given a c
-chart_kept (fault.Naming error) ascii width given a b c p k = tt
-chart_kept (fault.Charting error) ascii width None a b c p k = tt
-chart_kept (fault.Charting error) ascii width (Some octets) a b c p k =
-    drawing_failed_kept (drawing_of ascii width) error octets a b c p k
-chart_kept (fault.Running error) ascii width given a b c p k = tt
-chart_kept (fault.Attending error) ascii width given a b c p k = tt
-chart_kept fault.Output ascii width given a b c p k = tt
-chart_kept fault.OutOfMemory ascii width given a b c p k = tt
-chart_kept (fault.Usage error) ascii width given a b c p k = tt
+chart_kept : (f : Fault) (words : AskedChart) (given a b c : Option (List ℕ))
+    → HasFailedChart f words given a b → Keeps b c → HasFailedChart f words given a c
+chart_kept (fault.Charting error) words None a b c p k = tt
+chart_kept (fault.Charting error) words (Some octets) a b c p k =
+    drawing_failed_kept (drawing_of words) error octets a b c p k
+chart_kept (fault.Naming error) words given a b c p k = tt
+chart_kept (fault.Running error) words given a b c p k = tt
+chart_kept (fault.Attending error) words given a b c p k = tt
+chart_kept fault.Output words given a b c p k = tt
+chart_kept fault.OutOfMemory words given a b c p k = tt
+chart_kept (fault.Usage error) words given a b c p k = tt
 
 module _ {S : Type 0} (contents remaining : S → Option (List ℕ)) where
   has_run_kept : (tracing : Bool) (paths : TextPaths) (result : Result (Unit {0}) RunError)
@@ -235,7 +231,7 @@ module _ {S : Type 0} (contents remaining : S → Option (List ℕ)) where
   done_kept (name text) input a b c p k = name_kept (octets_of text) a b c p k
   done_kept show None a b c p k = p
   done_kept show (Some octets) a b c p k = input_kept Units octets a b c p k
-  done_kept (chart ascii width) input a b c p k = charted_kept ascii width input a b c p k
+  done_kept (chart words) input a b c p k = charted_kept words input a b c p k
   done_kept (run config script check trace quiet) input a b c p k = record {
     told = p.told;
     tells = p.tells;
@@ -297,7 +293,7 @@ module _ {S : Type 0} (contents remaining : S → Option (List ℕ)) where
   work_failed_kept names f given a b c p k = lines_kept f Name given a b c p k
   work_failed_kept (name text) f given a b c p k = p
   work_failed_kept show f given a b c p k = lines_kept f Units given a b c p k
-  work_failed_kept (chart ascii width) f given a b c p k = chart_kept f ascii width given a b c p k
+  work_failed_kept (chart words) f given a b c p k = chart_kept f words given a b c p k
   work_failed_kept (run config script check trace quiet) f given a b c p k =
       failed_run_kept f check trace
       (record { config = config; script = script; input = given }) a b c p k

@@ -1,3 +1,4 @@
+pub mod Charts
 pub mod Keeping
 pub mod Outcomes
 pub mod Stations

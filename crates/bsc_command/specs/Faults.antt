@@ -93,9 +93,12 @@ abbrev pub IsRunningFault : RunningError → Fault → Type 0
 IsRunningFault running.BothStandardInput fault = IsUsageOf kind.ArgumentConflict fault
 IsRunningFault error fault = fault ≡ Running error
 
--- The fault for a trace that was not drawn. A wrong width is wrong usage.
+-- The fault for a trace that was not drawn. Two forms, a wrong width and a wrong line are wrong
+-- usage.
 abbrev pub IsChartFault : ChartError → Fault → Type 0
+IsChartFault chart.Forms fault = IsUsageOf kind.ArgumentConflict fault
 IsChartFault chart.Width fault = IsUsageOf kind.InvalidValue fault
+IsChartFault chart.Lines fault = IsUsageOf kind.InvalidValue fault
 IsChartFault error fault = fault ≡ Charting error
 
 -- The kind of wrong usage for refused options: they conflict or one is missing, or a value is
@@ -121,7 +124,7 @@ IsNamesFault _ = ⊥
 -- The faults of drawing a trace.
 abbrev pub IsChartingFault : Fault → Type 0
 IsChartingFault (Charting error) = Unit {0}
-IsChartingFault fault = IsUsageOf kind.InvalidValue fault
+IsChartingFault fault = IsUsageOf kind.InvalidValue fault ⊎ IsUsageOf kind.ArgumentConflict fault
 
 -- The faults of a run.
 abbrev pub IsRunFault : Fault → Type 0

@@ -1,7 +1,9 @@
 -- The output of the program for its work.
-use Rattle.std.specs.Prelude.{◌≡◌, ◌⊎◌, ℕ, Bool, List, [], Option, None, IfSome, IsSomeAnd, Ok, Err}
+use Rattle.std.specs.Prelude.{◌≡◌, ◌⊎◌, ℕ, Bool, List, [], Option, None, IfSome, IsOkAnd, IsSomeAnd}
+use Rattle.std.specs.Prelude.{Ok, Err}
 use Rattle.clap.specs.Words.{HasKind, Text as WordText, kind_of}
 use Rattle.clap.specs.declared.error.Error.{Error}
+use Rattle.bsc_asked.specs.ChartWords.{AskedChart}
 use Rattle.bsc_asked.specs.StationWords.{AskedWords}
 use Rattle.bsc_asked.specs.Asked.{AskedValue, names, name, show, chart, run, station}
 use Rattle.bsc_attending.specs.Outcomes.{IsAnswer}
@@ -52,18 +54,18 @@ HasFailedStation (Usage error) words input =
 HasFailedStation fault words input = Unit {0}
 
 -- What a fault of drawing a trace says: the line with this number is the first that is wrong or too
--- long, and the rows of the lines before it were written.
-abbrev pub HasFailedChart : Fault → Bool → Option (List ℕ) → Option (List ℕ)
-    → Option (List ℕ) → Option (List ℕ) → Type 0
-HasFailedChart (Charting error) ascii width input old new =
-    IfSome input (λ octets. HasFailedDrawing (drawing_of ascii width) error octets old new)
-HasFailedChart fault ascii width input old new = Unit {0}
+-- long, and of the lines before it the rows of a text were written, and nothing of a picture; or the
+-- page is full.
+abbrev pub HasFailedChart : Fault → AskedChart → Option (List ℕ) → Option (List ℕ)
+    → Option (List ℕ) → Type 0
+HasFailedChart (Charting error) words input old new =
+    IfSome input (λ octets. HasFailedDrawing (drawing_of words) error octets old new)
+HasFailedChart fault words input old new = Unit {0}
 
 -- The ladder of the trace in the input was written as it was asked for.
-abbrev pub IsCharted : Bool → Option (List ℕ) → Option (List ℕ) → Option (List ℕ)
-    → Option (List ℕ) → Type 0
-IsCharted ascii width input old new =
-    IfSome input (λ octets. IsSomeAnd (drawing_of ascii width)
+abbrev pub IsCharted : AskedChart → Option (List ℕ) → Option (List ℕ) → Option (List ℕ) → Type 0
+IsCharted words input old new =
+    IfSome input (λ octets. IsOkAnd (drawing_of words)
     (λ drawing. DrawsInput drawing octets old new))
 
 -- For the streams of a run's cable, `contents` is what was written to a stream, and `remaining` is
@@ -83,7 +85,7 @@ module _ {S : Type 0} (contents remaining : S → Option (List ℕ)) where
   IsDone (name text) input old new =
       IsSomeAnd (octets_of text) (λ octets. Prints name_line octets old new)
   IsDone show input old new = IfSome input (λ octets. PrintsInput Units octets old new)
-  IsDone (chart ascii width) input old new = IsCharted ascii width input old new
+  IsDone (chart words) input old new = IsCharted words input old new
   IsDone (run config script check trace quiet) input old new =
       HasDoneRun check trace (record { config = config; script = script; input = input }) old new
   IsDone (station words) input old new = IsAnswer words input (Ok tt)
@@ -112,8 +114,7 @@ module _ {S : Type 0} (contents remaining : S → Option (List ℕ)) where
   HasFailedAs names fault input old new = HasFailedLines fault Name input old new
   HasFailedAs (name text) fault input old new = HasFailedName fault text
   HasFailedAs show fault input old new = HasFailedLines fault Units input old new
-  HasFailedAs (chart ascii width) fault input old new =
-      HasFailedChart fault ascii width input old new
+  HasFailedAs (chart words) fault input old new = HasFailedChart fault words input old new
   HasFailedAs (run config script check trace quiet) fault input old new =
       HasFailedRun fault check trace
       (record { config = config; script = script; input = input }) old new
@@ -124,7 +125,7 @@ abbrev pub IsFaultOf : AskedValue → Fault → Type 0
 IsFaultOf names fault = IsNamesFault fault
 IsFaultOf (name text) fault = IsNameFault fault
 IsFaultOf show fault = IsNamesFault fault
-IsFaultOf (chart ascii width) fault = IsChartingFault fault
+IsFaultOf (chart words) fault = IsChartingFault fault
 IsFaultOf (run config script check trace quiet) fault = IsRunFault fault
 IsFaultOf (station words) fault = IsStationFault fault
 

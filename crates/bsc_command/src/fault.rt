@@ -93,11 +93,20 @@ fn words_fault(alloc: Global, shown: Shown, kind: ErrorKind, why: &str) -> Fault
     Fault::from(wrong_words(alloc, shown, kind, why))
 }
 
-/// Returns the fault for a trace that was not drawn. A wrong width is wrong usage.
+/// Returns the fault for a trace that was not drawn. Two forms, a wrong width and a wrong line are
+/// wrong usage.
 pub(crate) fn chart_fault(alloc: Global, error: ChartError) -> Fault
     ensures { IsChartFault error result }
 {
     match error {
+        ChartError::Forms => {
+            let why = "--text and --svg exclude one another";
+            words_fault(alloc, Shown::Chart, ErrorKind::ArgumentConflict, why)
+        }
+        ChartError::Lines => {
+            let why = "--from or --to is not the number of a line";
+            words_fault(alloc, Shown::Chart, ErrorKind::InvalidValue, why)
+        }
         ChartError::Width => {
             let why = "--width is not from 40 to 1000";
             words_fault(alloc, Shown::Chart, ErrorKind::InvalidValue, why)

@@ -1,18 +1,19 @@
 //! The work of the program, over any reader, writer and machine.
-ghost use Rattle.std.specs.Prelude.{◌≡◌, ℕ, Bool, OnOk, IfErr, List, option_map, string_bytes};
+ghost use Rattle.std.specs.Prelude.{◌≡◌, ℕ, Bool, OnOk, IfErr, List};
 ghost use Rattle.std.specs.Prelude.{IsTrue, true};
 ghost use Rattle.bsc_asked.specs.Asked.{asked as asked_now, name as name_asked, run as run_asked};
-ghost use Rattle.bsc_command.specs.Faults.{IsEarly};
+ghost use Rattle.bsc_asked.specs.ChartWords.{chart_words};
+ghost use Rattle.bsc_command.specs.Faults.{IsChartingFault, IsEarly};
 ghost use Rattle.bsc_command.specs.Program.{HasDoneRun, HasFailedAs, HasFailedWith, IsDone};
-ghost use Rattle.bsc_command.specs.Program.{IsFaultOf};
+ghost use Rattle.bsc_command.specs.Program.{HasFailedChart, IsCharted, IsFaultOf};
 ghost use Rattle.bsc_running.specs.Errors.{IsEarly as IsEarlyRunning};
 ghost use Rattle.bsc_running.specs.Running.{paths_of};
 
 use crate::Fault;
 use crate::fault::{attending_fault, chart_fault, running_fault};
-use bsc_asked::Asked;
+use bsc_asked::{Asked, ChartWords};
 use bsc_attending::{Network, station};
-use bsc_chart::{ChartWords, draw};
+use bsc_chart::draw;
 use bsc_input::Files;
 use bsc_naming::{name, names, show};
 use bsc_running::{Cables, RunWords, RunningError, run};
@@ -49,16 +50,7 @@ pub fn perform<R: Read, H: Files + Cables + Network, W: Write>(
         Asked::Names => Ok(names(alloc, input, out)?),
         Asked::Name(text) => Ok(name(alloc, text.as_str(), out)?),
         Asked::Show => Ok(show(alloc, input, out)?),
-        Asked::Chart { ascii, width } => {
-            let words = ChartWords {
-                ascii: *ascii,
-                width: width_text(width),
-            };
-            match draw(alloc, words, input, out) {
-                Ok(()) => Ok(()),
-                Err(error) => Err(chart_fault(alloc, error)),
-            }
-        }
+        Asked::Chart(words) => draw_chart(alloc, words, input, out),
         Asked::Run {
             config,
             script,
@@ -107,12 +99,22 @@ fn run_traced<R: Read, H: Files + Cables + Network, W: Write>(
     run(alloc, words, input, machine, out, &mut trace)
 }
 
-/// Returns the width of a ladder as it was given.
-fn width_text(width: &Option<String>) -> Option<&str>
-    ensures { option_map (λ w. w.now) result ≡ option_map string_bytes width.now }
+/// Draws a ladder.
+fn draw_chart<R: Read, W: Write>(
+    alloc: Global,
+    words: &ChartWords,
+    input: &mut R,
+    out: &mut W,
+) -> Result<(), Fault>
+    ensures ok { OnOk result (IsCharted (chart_words words.now) (R.remaining input.old)
+        (W.contents out.old) (W.contents out.new)) }
+    ensures fault { IfErr result IsChartingFault }
+    ensures failed { IfErr result (λ fault. HasFailedChart fault (chart_words words.now)
+        (R.remaining input.old) (W.contents out.old) (W.contents out.new)) }
+    ensures early { IfErr result (λ fault. IsEarly fault → out.new ≡ out.old) }
 {
-    match width {
-        Some(text) => Some(text.as_str()),
-        None => None,
+    match draw(alloc, words, input, out) {
+        Ok(()) => Ok(()),
+        Err(error) => Err(chart_fault(alloc, error)),
     }
 }

@@ -7,6 +7,9 @@ use Rattle.bsc_ladder.specs.declared.glyphs.Style.TheVariants.{Boxes, Ascii}
 use Rattle.bsc_ladder.specs.declared.row.Fate.{Fate}
 use Rattle.bsc_ladder.specs.declared.row.Fate.TheVariants.{Heard, Failed, Turned, Ignored}
 use Rattle.bsc_ladder.specs.declared.row.Fate.TheVariants.{Withheld}
+use Rattle.bsc_ladder.specs.declared.row.Sign.{Sign}
+use Rattle.bsc_ladder.specs.declared.row.Sign.TheVariants.{Told, Named, Arrived, DoubtBegins}
+use Rattle.bsc_ladder.specs.declared.row.Sign.TheVariants.{DoubtEnds, Restart, TrustEnds}
 
 -- The text of this style.
 abbrev pub either_text : Style → List ℕ → List ℕ → List ℕ
@@ -34,6 +37,16 @@ abbrev pub end_text : Style → Fate → List ℕ
 end_text style Withheld = either_text style (226 ∷ 128 ∷ 150 ∷ []) (33 ∷ [])
 end_text style _ = either_text style (226 ∷ 156 ∷ 149 ∷ []) (120 ∷ [])
 
+-- The beginning of a mark. Each sign that may stand at a station has its own.
+abbrev pub mark_glyph : Style → Sign → List ℕ
+mark_glyph style Told = either_text style (226 ∷ 151 ∷ 143 ∷ []) (61 ∷ [])
+mark_glyph style Named = either_text style (226 ∷ 151 ∷ 143 ∷ []) (61 ∷ [])
+mark_glyph style Arrived = either_text style (226 ∷ 151 ∷ 134 ∷ []) (64 ∷ [])
+mark_glyph style DoubtBegins = either_text style (226 ∷ 151 ∷ 135 ∷ []) (126 ∷ [])
+mark_glyph style DoubtEnds = either_text style (226 ∷ 156 ∷ 147 ∷ []) (94 ∷ [])
+mark_glyph style Restart = either_text style (226 ∷ 134 ∷ 187 ∷ []) (37 ∷ [])
+mark_glyph style TrustEnds = either_text style (226 ∷ 156 ∷ 151 ∷ []) (38 ∷ [])
+
 -- A part that is one character wide.
 abbrev pub glyph_text : Style → Glyph → List ℕ
 glyph_text style glyph.Space = 32 ∷ []
@@ -47,7 +60,7 @@ glyph_text style (glyph.HeadLeft fate) = head_left_text style fate
 glyph_text style (glyph.End fate) = end_text style fate
 glyph_text style glyph.Pause = either_text style (226 ∷ 148 ∷ 138 ∷ []) (58 ∷ [])
 glyph_text style glyph.Dash = either_text style (226 ∷ 148 ∷ 132 ∷ []) (46 ∷ [])
-glyph_text style glyph.Dot = either_text style (226 ∷ 151 ∷ 143 ∷ []) (61 ∷ [])
+glyph_text style (glyph.Of sign) = mark_glyph style sign
 
 -- A part, this many times.
 abbrev pub glyphs_text : Style → Glyph → ℕ → List ℕ

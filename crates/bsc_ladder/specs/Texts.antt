@@ -4,7 +4,8 @@ use Rattle.std.specs.Prelude.{length, map, take, codes, if◌then◌else◌}
 use Rattle.std.specs.Fmt.{decimal}
 use Rattle.bsc_print.specs.Forms.{is_printable}
 use Rattle.bsc_report.specs.Channels.{each_below}
-use Rattle.bsc_ladder.specs.declared.glyphs.Glyph.TheVariants.{Space, Line, End, Pause, Dash, Dot}
+use Rattle.bsc_ladder.specs.declared.glyphs.Glyph.TheVariants.{Space, Rail, Line, End, Pause, Dash}
+use Rattle.bsc_ladder.specs.declared.glyphs.Glyph.TheVariants.{Of}
 use Rattle.bsc_ladder.specs.declared.glyphs.Style.{Style}
 use Rattle.bsc_ladder.specs.declared.glyphs.Style.TheVariants.{Ascii}
 use Rattle.bsc_ladder.specs.declared.row.Course.{Course}
@@ -12,6 +13,11 @@ use Rattle.bsc_ladder.specs.declared.row.Course.TheVariants.{ToAll, ToOne, From}
 use Rattle.bsc_ladder.specs.declared.row.Fate.{Fate}
 use Rattle.bsc_ladder.specs.declared.row.Fate.TheVariants.{Sent, Heard, Failed, Turned, Ignored}
 use Rattle.bsc_ladder.specs.declared.row.Fate.TheVariants.{Lost, Withheld}
+use Rattle.bsc_ladder.specs.declared.row.Mark.{Mark}
+use Rattle.bsc_ladder.specs.declared.row.Place.{Place}
+use Rattle.bsc_ladder.specs.declared.row.Place.TheVariants.{Control, Station}
+use Rattle.bsc_ladder.specs.declared.row.Sign.{Sign}
+use Rattle.bsc_ladder.specs.declared.row.Sign.TheVariants.{Named}
 use Rattle.bsc_ladder.specs.declared.text.Layout.{Layout}
 use Rattle.bsc_ladder.specs.Arrows.{arrives, control_glyph, gap_glyph, station_glyph}
 use Rattle.bsc_ladder.specs.Glyphs.{glyph_text, glyphs_text}
@@ -38,9 +44,14 @@ column_label column =
     (if nat_lt column 9 then codes "   " else codes "  ") ++ decimal (column + 1)
 
 -- The labels of the columns, of which this many come after the first.
-abbrev pub header_text : ℕ → List ℕ
-header_text more =
+abbrev pub labels_text : ℕ → List ℕ
+labels_text more =
     codes "    time control            0" ++ each_below column_label more ++ codes "\n"
+
+-- The labels of this many columns.
+abbrev pub header_text : ℕ → List ℕ
+header_text columns =
+    if columns == 0 then codes "    time control\n" else labels_text (columns - 1)
 
 -- A name between two spaces.
 abbrev pub name_text : List ℕ → List ℕ
@@ -135,18 +146,59 @@ silence_text layout =
     glyph_text layout.style Pause ++ pause_lane layout.style ++ glyph_text layout.style Pause
     ++ pause_columns layout ++ codes "\n"
 
+-- A station after the first to which nothing happens.
+abbrev pub rail_column : Style → List ℕ
+rail_column style = glyphs_text style Space 3 ++ glyph_text style Rail
+
+-- The stations beside the control station before one after the first, of which this many are after
+-- the first, and the space before it.
+abbrev pub first_rails : Style → ℕ → List ℕ
+first_rails style more =
+    glyph_text style Rail ++ each_below (λ column. rail_column style) more
+    ++ glyphs_text style Space 3
+
+-- The same before the station of any column.
+abbrev pub rails_before : Style → ℕ → List ℕ
+rails_before style column = if column == 0 then [] else first_rails style (column - 1)
+
+-- The control station, and the stations before that of this column.
+abbrev pub station_rails : Style → ℕ → List ℕ
+station_rails style column =
+    glyph_text style Rail ++ glyphs_text style Space 18 ++ rails_before style column
+
+-- The stations before a place.
+abbrev pub rails_text : Style → Place → List ℕ
+rails_text style Control = []
+rails_text style (Station column) = station_rails style column
+
+-- The characters before the text of a mark at a place.
+abbrev pub mark_indent : Place → ℕ
+mark_indent Control = 11
+mark_indent (Station column) = 31 + 4 * column
+
+-- The number of the column at a place.
+abbrev pub number_text : Place → List ℕ
+number_text Control = []
+number_text (Station column) = decimal column
+
+-- What stands at the place of a mark: the number of the column if it is the addresses of the
+-- station, and otherwise the sign.
+abbrev pub sign_text : Style → Place → Sign → List ℕ
+sign_text style place Named = number_text place
+sign_text style place sign = glyph_text style (Of sign)
+
 -- The row for a mark, without its time.
-abbrev pub mark_text : Layout → List ℕ → List ℕ
-mark_text layout text =
-    glyph_text layout.style Dot ++ codes " " ++ first_visible (layout.width - 11) text
-    ++ codes "\n"
+abbrev pub mark_text : Layout → Mark → List ℕ → List ℕ
+mark_text layout m text =
+    rails_text layout.style m.place ++ sign_text layout.style m.place m.sign ++ codes " "
+    ++ first_visible (layout.width - mark_indent m.place) text ++ codes "\n"
 
 -- A row without its time.
 abbrev pub happening_text : Layout → RowValue → List ℕ
-happening_text layout (arrow time course fate name note) =
+happening_text layout (arrow time course fate name note octets) =
     arrow_text layout course fate name note
 happening_text layout (silence time) = silence_text layout
-happening_text layout (mark time text) = mark_text layout text
+happening_text layout (mark time m text) = mark_text layout m text
 
 -- A row: its time, and then what happened.
 abbrev pub row_text : Layout → RowValue → List ℕ

@@ -8,7 +8,7 @@ use crate::glyphs::Glyph;
 use crate::{Course, Fate};
 
 /// Whether a transmission with this fate came to a station.
-pub(crate) fn arrives(fate: Fate) -> bool
+pub fn arrives(fate: Fate) -> bool
     ensures { result ≡ arrives_at_all fate }
 {
     match fate {

@@ -1,9 +1,9 @@
 //! The characters of which a ladder is drawn.
 ghost use Rattle.std.specs.Prelude.{◌≡◌};
 ghost use Rattle.bsc_ladder.specs.Glyphs.{either_text, end_text, glyph_text};
-ghost use Rattle.bsc_ladder.specs.Glyphs.{head_left_text, head_right_text};
+ghost use Rattle.bsc_ladder.specs.Glyphs.{head_left_text, head_right_text, mark_glyph};
 
-use crate::Fate;
+use crate::{Fate, Sign};
 
 /// The characters in which a ladder is drawn.
 #[derive(Clone, Copy, Debug, PartialEq, Eq)]
@@ -52,7 +52,7 @@ pub(crate) enum Glyph {
     Dash,
 
     /// The beginning of a mark.
-    Dot,
+    Of { sign: Sign },
 }
 
 /// Returns the text of a part.
@@ -71,7 +71,7 @@ pub(crate) fn glyph_bytes(style: Style, glyph: Glyph) -> &'static [u8]
         Glyph::End { fate } => end(style, fate),
         Glyph::Pause => either(style, b"\xe2\x94\x8a", b":"),
         Glyph::Dash => either(style, b"\xe2\x94\x84", b"."),
-        Glyph::Dot => either(style, b"\xe2\x97\x8f", b"="),
+        Glyph::Of { sign } => sign_text(style, sign),
     }
 }
 
@@ -118,5 +118,19 @@ fn end(style: Style, fate: Fate) -> &'static [u8]
     match fate {
         Fate::Withheld => either(style, b"\xe2\x80\x96", b"!"),
         _ => either(style, b"\xe2\x9c\x95", b"x"),
+    }
+}
+
+/// Returns the beginning of a mark.
+fn sign_text(style: Style, sign: Sign) -> &'static [u8]
+    ensures { result.now ≡ mark_glyph style sign }
+{
+    match sign {
+        Sign::Told | Sign::Named => either(style, b"\xe2\x97\x8f", b"="),
+        Sign::Arrived => either(style, b"\xe2\x97\x86", b"@"),
+        Sign::DoubtBegins => either(style, b"\xe2\x97\x87", b"~"),
+        Sign::DoubtEnds => either(style, b"\xe2\x9c\x93", b"^"),
+        Sign::Restart => either(style, b"\xe2\x86\xbb", b"%"),
+        Sign::TrustEnds => either(style, b"\xe2\x9c\x97", b"&"),
     }
 }

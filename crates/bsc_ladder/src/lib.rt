@@ -8,6 +8,7 @@ mod glyphs;
 mod row;
 mod text;
 
+pub use arrows::arrives;
 pub use glyphs::Style;
-pub use row::{Course, Fate, Row};
-pub use text::{Layout, write_header, write_row};
+pub use row::{Course, Fate, Mark, Place, Row, Sign};
+pub use text::{Layout, word_of, write_header, write_row};

@@ -39,6 +39,51 @@ pub enum Fate {
     Withheld,
 }
 
+/// The station at which a mark stands.
+#[derive(Clone, Copy, Debug, PartialEq, Eq)]
+pub enum Place {
+    /// The control station.
+    Control,
+
+    /// The station of this column.
+    Station { column: u8 },
+}
+
+/// What a mark is.
+#[derive(Clone, Copy, Debug, PartialEq, Eq)]
+pub enum Sign {
+    /// Anything that was told.
+    Told,
+
+    /// The addresses of the station, at its column.
+    Named,
+
+    /// A record that arrived at the station.
+    Arrived,
+
+    /// A doubt of the station about what it sent begins.
+    DoubtBegins,
+
+    /// A doubt of the station about what it sent is ended.
+    DoubtEnds,
+
+    /// The station began again.
+    Restart,
+
+    /// The line is no longer trusted.
+    TrustEnds,
+}
+
+/// Where a mark stands, and what it is.
+#[derive(Clone, Copy, Debug, PartialEq, Eq)]
+pub struct Mark {
+    /// The station at which it stands.
+    pub place: Place,
+
+    /// What it is.
+    pub sign: Sign,
+}
+
 /// A row of a ladder.
 #[derive(Clone, Copy, Debug)]
 pub enum Row<'a> {
@@ -58,6 +103,9 @@ pub enum Row<'a> {
 
         /// The characters of its records.
         note: &'a [u8],
+
+        /// Its octets.
+        octets: &'a [u8],
     },
 
     /// A time-out in which nothing was heard.
@@ -70,6 +118,9 @@ pub enum Row<'a> {
     Mark {
         /// When it was told, in decimal digits.
         time: &'a [u8],
+
+        /// Where it stands, and what it is.
+        mark: Mark,
 
         /// What was told.
         text: &'a [u8],

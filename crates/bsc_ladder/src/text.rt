@@ -1,5 +1,5 @@
 //! A ladder as text.
-ghost use Rattle.std.specs.Prelude.{◌≡◌, ◌+◌, ◌≤◌, OnOk};
+ghost use Rattle.std.specs.Prelude.{◌≡◌, ◌+◌, ◌≤◌, length, OnOk};
 ghost use Rattle.std.specs.Io.KnownBytes.{Appends};
 ghost use Rattle.bsc_ladder.specs.Glyphs.{glyph_text, glyphs_text};
 ghost use Rattle.bsc_ladder.specs.Rows.{row_in, time_in};
@@ -9,11 +9,14 @@ ghost use Rattle.bsc_ladder.specs.Texts.{arrived_lane, lost_from_lane, lost_to_l
 ghost use Rattle.bsc_ladder.specs.Texts.{note_room as room_of, note_text, pause_column, row_text};
 ghost use Rattle.bsc_ladder.specs.Texts.{happening_text, name_text, pause_columns, pause_lane};
 ghost use Rattle.bsc_ladder.specs.Texts.{silence_text, time_text, visible, visible_code};
+ghost use Rattle.bsc_ladder.specs.Texts.{first_rails, labels_text, mark_indent, number_text};
+ghost use Rattle.bsc_ladder.specs.Texts.{rail_column, rails_before, rails_text, sign_text};
+ghost use Rattle.bsc_ladder.specs.Texts.{station_rails};
 ghost use Rattle.bsc_report.specs.Channels.{each_below};
 
 use crate::arrows::{arrives, at_control, at_station, before_station};
 use crate::glyphs::{Glyph, glyph_bytes};
-use crate::{Course, Fate, Row, Style};
+use crate::{Course, Fate, Mark, Place, Row, Sign, Style};
 use bsc_print::{PrintError, put};
 use std::io::Write;
 
@@ -125,14 +128,25 @@ fn put_labels<W: Write>(more: u8, out: &mut W) -> Result<(), PrintError>
 }
 
 /// Writes the labels of the columns, of which this many come after the first.
-pub fn write_header<W: Write>(more: u8, out: &mut W) -> Result<(), PrintError>
+fn write_labels<W: Write>(more: u8, out: &mut W) -> Result<(), PrintError>
     ensures { OnOk result
-        (Appends (W.contents out.old) (W.contents out.new) (header_text more)) }
+        (Appends (W.contents out.old) (W.contents out.new) (labels_text more)) }
 {
     put(b"    time control            0", out)?;
     put_labels(more, out)?;
     put(b"\n", out)?;
     Ok(())
+}
+
+/// Writes the labels of this many columns. That of the control station is always there.
+pub fn write_header<W: Write>(columns: u8, out: &mut W) -> Result<(), PrintError>
+    ensures { OnOk result
+        (Appends (W.contents out.old) (W.contents out.new) (header_text columns)) }
+{
+    if columns == 0 {
+        return put(b"    time control\n", out);
+    }
+    write_labels(columns - 1, out)
 }
 
 /// The transmission of a row.
@@ -252,9 +266,11 @@ fn write_columns<W: Write>(
     Ok(())
 }
 
-/// Returns the word for what became of a transmission; empty if the head of its arrow tells it.
-fn word_of(fate: Fate) -> &'static [u8]
-    ensures { result.now ≡ fate_word fate }
+/// Returns the word for what became of a transmission after two spaces; empty if the head of its
+/// arrow tells it.
+pub fn word_of(fate: Fate) -> &'static [u8]
+    ensures value { result.now ≡ fate_word fate }
+    ensures most { length result.now ≤ 10 }
 {
     match fate {
         Fate::Sent | Fate::Heard => b"",
@@ -347,14 +363,120 @@ fn write_silence<W: Write>(layout: Layout, out: &mut W) -> Result<(), PrintError
     Ok(())
 }
 
-/// Writes the row for a mark, without its time.
-fn write_mark<W: Write>(layout: Layout, text: &[u8], out: &mut W) -> Result<(), PrintError>
+/// Writes the space before a station after the first, and this station, to which nothing happens.
+fn write_rail<W: Write>(style: Style, out: &mut W) -> Result<(), PrintError>
     ensures { OnOk result
-        (Appends (W.contents out.old) (W.contents out.new) (mark_text layout text.now)) }
+        (Appends (W.contents out.old) (W.contents out.new) (rail_column style)) }
 {
-    put_glyph(layout.style, Glyph::Dot, out)?;
+    put_glyphs(style, Glyph::Space, 3, out)?;
+    put_glyph(style, Glyph::Rail, out)
+}
+
+/// Writes this many stations after the first, to which nothing happens.
+fn write_rails<W: Write>(style: Style, more: u8, out: &mut W) -> Result<(), PrintError>
+    ensures { OnOk result (Appends (W.contents out.old) (W.contents out.new)
+        (each_below (λ column. rail_column style) more)) }
+{
+    'columns: for column in 0..more {
+        write_rail(style, out)?;
+    }
+    Ok(())
+}
+
+/// Writes the first station beside the control station, this many after it, and the space before
+/// the next one.
+fn write_first_rails<W: Write>(style: Style, more: u8, out: &mut W) -> Result<(), PrintError>
+    ensures { OnOk result
+        (Appends (W.contents out.old) (W.contents out.new) (first_rails style more)) }
+{
+    put_glyph(style, Glyph::Rail, out)?;
+    write_rails(style, more, out)?;
+    put_glyphs(style, Glyph::Space, 3, out)
+}
+
+/// Writes the stations before that of this column, without the control station.
+fn write_rails_before<W: Write>(style: Style, column: u8, out: &mut W) -> Result<(), PrintError>
+    ensures { OnOk result
+        (Appends (W.contents out.old) (W.contents out.new) (rails_before style column)) }
+{
+    if column == 0 {
+        return Ok(());
+    }
+    write_first_rails(style, column - 1, out)
+}
+
+/// Writes the control station, and the stations before that of this column.
+fn write_station_rails<W: Write>(style: Style, column: u8, out: &mut W) -> Result<(), PrintError>
+    ensures { OnOk result
+        (Appends (W.contents out.old) (W.contents out.new) (station_rails style column)) }
+{
+    put_glyph(style, Glyph::Rail, out)?;
+    put_glyphs(style, Glyph::Space, 18, out)?;
+    write_rails_before(style, column, out)?;
+    Ok(())
+}
+
+/// Writes the stations before a place.
+fn write_rails_to<W: Write>(style: Style, place: Place, out: &mut W) -> Result<(), PrintError>
+    ensures { OnOk result
+        (Appends (W.contents out.old) (W.contents out.new) (rails_text style place)) }
+{
+    match place {
+        Place::Control => Ok(()),
+        Place::Station { column } => write_station_rails(style, column, out),
+    }
+}
+
+/// Returns how many characters come before the text of a mark.
+fn indent(place: Place) -> usize
+    ensures { result ≡ mark_indent place }
+{
+    match place {
+        Place::Control => 11,
+        Place::Station { column } => 31 + 4 * usize::from(column),
+    }
+}
+
+/// Writes the number of the column at a place.
+fn put_number<W: Write>(place: Place, out: &mut W) -> Result<(), PrintError>
+    ensures { OnOk result
+        (Appends (W.contents out.old) (W.contents out.new) (number_text place)) }
+{
+    match place {
+        Place::Control => Ok(()),
+        Place::Station { column } => match write!(out, "{column}") {
+            Ok(()) => Ok(()),
+            Err(_) => Err(PrintError::Output),
+        },
+    }
+}
+
+/// Writes what stands at the place of a mark.
+fn put_sign<W: Write>(style: Style, mark: Mark, out: &mut W) -> Result<(), PrintError>
+    ensures { OnOk result (Appends (W.contents out.old) (W.contents out.new)
+        (sign_text style mark.place mark.sign)) }
+{
+    match mark.sign {
+        Sign::Named => put_number(mark.place, out),
+        sign => put_glyph(style, Glyph::Of { sign }, out),
+    }
+}
+
+/// Writes the row for a mark, without its time.
+fn write_mark<W: Write>(
+    layout: Layout,
+    mark: Mark,
+    text: &[u8],
+    out: &mut W,
+) -> Result<(), PrintError>
+    ensures { OnOk result
+        (Appends (W.contents out.old) (W.contents out.new) (mark_text layout mark text.now)) }
+{
+    write_rails_to(layout.style, mark.place, out)?;
+    put_sign(layout.style, mark, out)?;
     put(b" ", out)?;
-    put_first(text, layout.width.saturating_sub(11), out)?;
+    let room = layout.width.saturating_sub(indent(mark.place));
+    put_first(text, room, out)?;
     put(b"\n", out)
 }
 
@@ -389,7 +511,7 @@ fn write_happening<W: Write>(layout: Layout, row: &Row<'_>, out: &mut W) -> Resu
             write_arrow(layout, &drawn, out)
         }
         Row::Silence { .. } => write_silence(layout, out),
-        Row::Mark { text, .. } => write_mark(layout, text, out),
+        Row::Mark { mark, text, .. } => write_mark(layout, *mark, text, out),
     }
 }
 

@@ -1,3 +1,4 @@
 pub mod Words
 pub mod Speaking
+pub mod Marks
 pub mod Lines

@@ -8,25 +8,27 @@ use Rattle.bsc_input.specs.Lines.{is_blank}
 use Rattle.bsc_input.specs.Parts.{after_octet, before_octet, parts_at}
 use Rattle.bsc_ladder.specs.declared.row.Course.{Course}
 use Rattle.bsc_ladder.specs.declared.row.Fate.{Fate}
+use Rattle.bsc_ladder.specs.declared.row.Mark.{Mark}
 use Rattle.bsc_naming.specs.Lines.{last_part}
+use Rattle.bsc_trace.specs.Marks.{MarkedValue, marked_of}
 use Rattle.bsc_trace.specs.Speaking.{SpokenValue, spoken_of}
 use Rattle.bsc_trace.specs.Words.{is_time}
 use Rattle.bsc_trace.specs.declared.line.TraceLine.{TraceLine}
 use Rattle.bsc_trace.specs.declared.line.TraceLine.TheVariants as line
 
 -- A line of a trace: a transmission with its time, its course, its fate and its octets; a silence
--- with its time; or anything else that was told, with its time and its text.
+-- with its time; or anything else that was told, with its time, its mark and its text.
 pub data TraceValue : Type 0 where
   transmission : List ℕ → Course → Fate → List ℕ → TraceValue
   silence : List ℕ → TraceValue
-  told : List ℕ → List ℕ → TraceValue
+  told : List ℕ → Mark → List ℕ → TraceValue
 
 -- The value of a line.
 abbrev pub value_in : {A : Type 0} → TraceLine A → TraceValue
 value_in (line.Transmission time course fate octets) =
     transmission time.now course fate octets.items
 value_in (line.Silence time) = silence time.now
-value_in (line.Told time text) = told time.now text.now
+value_in (line.Told time mark text) = told time.now mark text.now
 
 -- The octets that a word gives: hexadecimal text, or `-` for none.
 abbrev pub octets_given : List ℕ → Option (List ℕ)
@@ -40,10 +42,14 @@ transmission_at time spoken =
     option_map (transmission time spoken.course spoken.fate)
     (octets_given (last_part (parts_at 32 spoken.rest)))
 
+-- This mark at this time.
+abbrev pub told_at : List ℕ → MarkedValue → TraceValue
+told_at time m = told time m.mark m.text
+
 -- What was told at this time, if it is no transmission: a silence, or something else.
 abbrev pub other_at : List ℕ → List ℕ → TraceValue
 other_at time text =
-    if bytes_eq text (codes "silence") then silence time else told time text
+    if bytes_eq text (codes "silence") then silence time else told_at time (marked_of text)
 
 -- What was told at this time.
 abbrev pub value_told : List ℕ → List ℕ → Option SpokenValue → Option TraceValue

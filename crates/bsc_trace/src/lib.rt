@@ -4,6 +4,7 @@
 #![tactic(auto)]
 
 mod line;
+mod marks;
 mod octets;
 mod speaking;
 mod words;

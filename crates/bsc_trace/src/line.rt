@@ -4,10 +4,11 @@ ghost use Rattle.bsc_trace.specs.Lines.{other_at, transmission_at, value_after, 
 ghost use Rattle.bsc_trace.specs.Lines.{value_timed};
 ghost use Rattle.bsc_trace.specs.Speaking.{spoken_in};
 
+use crate::marks::{Marked, read_mark};
 use crate::octets::read_given;
 use crate::speaking::{Spoken, read_spoken};
 use crate::words::{is_time, spells, split_word};
-use bsc_ladder::{Course, Fate};
+use bsc_ladder::{Course, Fate, Mark};
 use bsc_naming::last_word;
 use std::alloc::{AllocError, Allocator};
 
@@ -40,7 +41,10 @@ pub enum TraceLine<'a, A: Allocator> {
         /// The same as that of a transmission.
         time: &'a [u8],
 
-        /// What was told.
+        /// Where its mark stands, and what it is.
+        mark: Mark,
+
+        /// What was told; of a station's addresses only these.
         text: &'a [u8],
     },
 }
@@ -98,7 +102,8 @@ fn other<'a, A: Allocator>(time: &'a [u8], text: &'a [u8]) -> TraceLine<'a, A>
     if spells(text, "silence") {
         TraceLine::Silence { time }
     } else {
-        TraceLine::Told { time, text }
+        let Marked { mark, text } = read_mark(text);
+        TraceLine::Told { time, mark, text }
     }
 }
 

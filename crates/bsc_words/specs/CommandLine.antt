@@ -18,10 +18,13 @@ name_app = with_rules (new_app (codes "name")) (required (codes "HEX") ∷ [])
 abbrev pub show_app : App
 show_app = new_app (codes "show")
 
--- `chart`, with the flag `--ascii` and the option `--width`.
+-- `chart`, with the flags `--text`, `--svg` and `--ascii` and the options `--width`, `--from` and
+-- `--to`.
 abbrev pub chart_app : App
 chart_app =
-    with_rules (new_app (codes "chart")) (flag (codes "ascii") ∷ option (codes "width") ∷ [])
+    with_rules (new_app (codes "chart"))
+    (flag (codes "text") ∷ flag (codes "svg") ∷ flag (codes "ascii") ∷ option (codes "width")
+    ∷ option (codes "from") ∷ option (codes "to") ∷ [])
 
 -- `run CONFIG SCRIPT`, with the flags `--check`, `--trace` and `--quiet`.
 abbrev pub run_app : App
@@ -45,10 +48,16 @@ bscline_app =
 unfoldable pub faults_at : List Text → Kinds
 faults_at words = fault_of bscline_app words
 
--- A ladder: whether it is drawn in ASCII characters only, and its width.
+-- A ladder, with its arguments.
 abbrev pub asked_chart : List Row → AskedValue
-asked_chart rows =
-    chart (is_true_text (value_at (codes "ascii") rows)) (first_of (codes "width") rows)
+asked_chart rows = chart (record {
+  text = is_true_text (value_at (codes "text") rows);
+  svg = is_true_text (value_at (codes "svg") rows);
+  ascii = is_true_text (value_at (codes "ascii") rows);
+  width = first_of (codes "width") rows;
+  from = first_of (codes "from") rows;
+  to = first_of (codes "to") rows;
+})
 
 -- A run: the paths of the configuration and the script, whether they are only checked, whether a
 -- trace is printed, and whether no progress is shown.

@@ -31,16 +31,40 @@ pub(crate) const CHART: Subcommand = Subcommand {
     example: "Example: bscline chart < examples/ladder/trace.txt",
     entries: &[
         Entry {
+            id: "text",
+            given: Flag,
+            value: "",
+            help: "Draw a text, as without a form",
+        },
+        Entry {
+            id: "svg",
+            given: Flag,
+            value: "",
+            help: "Draw a picture, as an SVG document of at most 5000 arrows",
+        },
+        Entry {
             id: "ascii",
             given: Flag,
             value: "",
-            help: "Draw in ASCII characters only",
+            help: "Draw a text in ASCII characters only",
         },
         Entry {
             id: "width",
             given: Value,
             value: "N",
-            help: "Cut records and messages to N characters a line, 40 to 1000, 80 unless given",
+            help: "Cut the records and messages of a text to N characters a line, 40 to 1000, or 80",
+        },
+        Entry {
+            id: "from",
+            given: Value,
+            value: "N",
+            help: "Draw from line N of the trace on; its first line is 1",
+        },
+        Entry {
+            id: "to",
+            given: Value,
+            value: "M",
+            help: "Draw up to line M of the trace",
         },
     ],
 };

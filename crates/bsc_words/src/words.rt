@@ -9,7 +9,7 @@ use crate::entries::{Subcommand, command_of, with_subcommands};
 use crate::station_words::station_words;
 use crate::tables::{CHART, COMMANDS, RUN, STATION};
 use crate::values::{is_given, option_text, required_text};
-use bsc_asked::Asked;
+use bsc_asked::{Asked, ChartWords};
 use clap::error::ErrorKind;
 use clap::{ArgMatches, Command, Error};
 use std::alloc::{AllocError, Global};
@@ -35,10 +35,14 @@ fn command_line<'a>(alloc: Global) -> Result<Command<'a>, AllocError>
 fn chart_of(alloc: Global, matches: &ArgMatches<'_>) -> Result<Asked, AllocError>
     ensures { IfOk result (λ w. asked w ≡ asked_chart (rows_of (found_of matches.now))) }
 {
-    Ok(Asked::Chart {
+    Ok(Asked::Chart(ChartWords {
+        text: is_given(matches, "text"),
+        svg: is_given(matches, "svg"),
         ascii: is_given(matches, "ascii"),
         width: option_text(alloc, matches, "width")?,
-    })
+        from: option_text(alloc, matches, "from")?,
+        to: option_text(alloc, matches, "to")?,
+    }))
 }
 
 /// Returns the run that the matches of `run` ask for.

@@ -1,7 +1,7 @@
 //! Lines that are refused, widths at their bounds, and streams that fail.
 
-use crate::ladders::{BOXES, drawn};
-use bsc_chart::{ChartError, ChartWords, draw};
+use crate::ladders::{Asked, BOXES, drawn, words_of};
+use bsc_chart::{ChartError, draw};
 use std::alloc::Global;
 use std::io;
 use std::io::{Error, ErrorKind, Read};
@@ -78,9 +78,9 @@ const WIDTHS: &[(&str, bool)] = &[
 /// The place of the first width with another result.
 fn first_wrong_width(alloc: Global) -> Option<usize> {
     for (place, (width, is_right)) in WIDTHS.iter().enumerate() {
-        let words = ChartWords {
-            ascii: false,
+        let words = Asked {
             width: Some(*width),
+            ..BOXES
         };
         let due = match is_right {
             true => Ok(()),
@@ -101,10 +101,13 @@ fn widths_at_their_bounds(rt: HostRuntime) -> Result<(), Fail> {
 }
 
 /// The first of the first 20 numbers of successful writes after which a failing one is not told.
-fn first_untold(alloc: Global) -> Option<usize> {
+fn first_untold(alloc: Global, asked: Asked) -> Option<usize> {
+    let Ok(words) = words_of(alloc, asked) else {
+        return Some(99);
+    };
     for left in 0..20 {
         let mut trace = "+7 silence\n+8 terminal 0 heard TEXT ETX 1 161602c84919839bff".as_bytes();
-        if draw(alloc, BOXES, &mut trace, &mut Full { left }) != Err(ChartError::Output) {
+        if draw(alloc, &words, &mut trace, &mut Full { left }) != Err(ChartError::Output) {
             return Some(left);
         }
     }
@@ -113,7 +116,7 @@ fn first_untold(alloc: Global) -> Option<usize> {
 
 #[test]
 fn failing_write(rt: HostRuntime) -> Result<(), Fail> {
-    assert_eq!(rt; first_untold(rt.alloc()), None);
+    assert_eq!(rt; first_untold(rt.alloc(), BOXES), None);
     Ok(())
 }
 
@@ -139,7 +142,8 @@ fn failing_read(rt: HostRuntime) -> Result<(), Fail> {
     let mut input = Broken {
         text: b"+7 silence\n+8 silence",
     };
-    let answer = draw(rt.alloc(), BOXES, &mut input, &mut out);
+    let words = words_of(rt.alloc(), BOXES)?;
+    let answer = draw(rt.alloc(), &words, &mut input, &mut out);
     let (_, before) = drawn(rt.alloc(), "+7 silence", BOXES);
     assert!(rt; answer == Err(ChartError::Input));
     assert!(rt; out.as_slice() == before.as_slice());

@@ -1,6 +1,6 @@
 //! Growths are refused: each one in turn, and all from each one on.
 
-use crate::ladders::BOXES;
+use crate::ladders::{Asked, BOXES, words_of};
 use bsc_chart::{ChartError, draw};
 use std::alloc::Global;
 use std::test::Fail;
@@ -10,9 +10,12 @@ use test_alloc::{Refusal, Refusing, TurnError};
 const TRACE: &str = "+7 silence\n+8 terminal 0 heard TEXT ETX 1 161602c84919839bff\n";
 
 /// Whether the result is right: out of memory if a growth was refused, and otherwise the ladder.
-fn is_due(alloc: Global, refusing: &Refusing<Global>) -> bool {
+fn is_due(alloc: Global, asked: Asked, refusing: &Refusing<Global>) -> bool {
+    let Ok(words) = words_of(alloc, asked) else {
+        return false;
+    };
     let mut out = Vec::new(alloc);
-    let answer = draw(refusing, BOXES, &mut TRACE.as_bytes(), &mut out);
+    let answer = draw(refusing, &words, &mut TRACE.as_bytes(), &mut out);
     let is_refused = refusing.refused() > 0;
     match answer {
         Ok(()) => !is_refused,
@@ -24,12 +27,13 @@ fn is_due(alloc: Global, refusing: &Refusing<Global>) -> bool {
 /// The first number of a growth whose refusal has another result.
 fn first_wrong(
     alloc: Global,
+    asked: Asked,
     refusing: &Refusing<Global>,
 ) -> Result<Option<(Refusal, usize)>, TurnError> {
     for refusal in [Refusal::Nth, Refusal::From] {
         for number in refusing.in_turn(refusal, 4..99) {
             let number = number?;
-            if !is_due(alloc, refusing) {
+            if !is_due(alloc, asked, refusing) {
                 return Ok(Some((refusal, number)));
             }
         }
@@ -40,6 +44,6 @@ fn first_wrong(
 #[test]
 fn each_growth_is_refused(rt: HostRuntime) -> Result<(), Fail> {
     let refusing = Refusing::new(rt.alloc());
-    assert_eq!(rt; first_wrong(rt.alloc(), &refusing)?, None);
+    assert_eq!(rt; first_wrong(rt.alloc(), BOXES, &refusing)?, None);
     Ok(())
 }

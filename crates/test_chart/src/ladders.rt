@@ -1,29 +1,83 @@
 //! Traces, and the ladders that are drawn of them.
 
-use bsc_chart::{ChartError, ChartWords, draw};
-use std::alloc::Global;
+use bsc_asked::ChartWords;
+use bsc_chart::{ChartError, draw};
+use std::alloc::{AllocError, Global};
 use std::test::Fail;
 
-/// A trace, the words, and the ladder.
-pub(crate) type Row = (&'static str, ChartWords<'static>, &'static str);
+/// A trace, how it is drawn, and the ladder.
+pub(crate) type Row = (&'static str, Asked, &'static str);
+
+/// The words, of which each is as it is given.
+#[derive(Clone, Copy)]
+pub(crate) struct Asked {
+    pub(crate) text: bool,
+    pub(crate) svg: bool,
+    pub(crate) ascii: bool,
+    pub(crate) width: Option<&'static str>,
+    pub(crate) from: Option<&'static str>,
+    pub(crate) to: Option<&'static str>,
+}
 
 /// In box-drawing characters, of the width that is taken if none is given.
-pub(crate) const BOXES: ChartWords<'static> = ChartWords {
+pub(crate) const BOXES: Asked = Asked {
+    text: false,
+    svg: false,
     ascii: false,
     width: None,
+    from: None,
+    to: None,
 };
 
 /// In ASCII characters.
-const ASCII: ChartWords<'static> = ChartWords {
+pub(crate) const ASCII: Asked = Asked {
+    text: true,
+    svg: false,
     ascii: true,
     width: None,
+    from: None,
+    to: None,
 };
 
 /// In ASCII characters, and as narrow as can be.
-const NARROW: ChartWords<'static> = ChartWords {
+const NARROW: Asked = Asked {
+    text: false,
+    svg: false,
     ascii: true,
     width: Some("40"),
+    from: None,
+    to: None,
 };
+
+/// In ASCII characters, the fifth line and the sixth.
+const PART: Asked = Asked {
+    text: false,
+    svg: false,
+    ascii: true,
+    width: None,
+    from: Some("5"),
+    to: Some("6"),
+};
+
+/// Returns an owned word.
+fn word(alloc: Global, text: Option<&str>) -> Result<Option<String>, AllocError> {
+    match text {
+        Some(text) => Ok(Some(String::from_str(alloc, text)?)),
+        None => Ok(None),
+    }
+}
+
+/// Returns the words.
+pub(crate) fn words_of(alloc: Global, asked: Asked) -> Result<ChartWords, AllocError> {
+    Ok(ChartWords {
+        text: asked.text,
+        svg: asked.svg,
+        ascii: asked.ascii,
+        width: word(alloc, asked.width)?,
+        from: word(alloc, asked.from)?,
+        to: word(alloc, asked.to)?,
+    })
+}
 
 /// Each fate of what the control station and another station sent, to all and to one.
 const FATES: &str = "+0 listening at 127.0.0.1:2780
@@ -109,6 +163,51 @@ const MANY_DRAWN: &str = "    time control            0   1   2   3   4   5   6 
        1 (- EOT ------------+---+---+---+---+---+---+---+---+---+---*
 ";
 
+/// The addresses of stations, and each mark; texts that are nearly marks.
+const MARKS: &str = "+0 terminal 0 is A, selected as a
++0 terminal 1 is B, selected as b c
++3 control heard CALL A 161604ff1616c185ff
++4 arrived from 1: |HI|
++5 arrived to 1.0: |BYE|
++6 the doubt from 1 begins
++7 the doubt to 0.0 is ended
++8 terminal 1 began again
++9 control began again
++10 the line is no longer trusted
++11 terminal 1 is ready
++12 arrived to 1: |NO|
+";
+
+const MARKS_DRAWN: &str = "    time control
+       0 |                  0 A, selected as a
+       0 |                  |   1 B, selected as b c
+       3 *- CALL A --------->--->
+       4 @ arrived from 1: |HI|
+       5 |                  |   @ arrived to 1.0: |BYE|
+       6 |                  |   ~ the doubt from 1 begins
+       7 ^ the doubt to 0.0 is ended
+       8 |                  |   % terminal 1 began again
+       9 % control began again
+      10 & the line is no longer trusted
+      11 = terminal 1 is ready
+      12 = arrived to 1: |NO|
+";
+
+/// The fifth line and the sixth, and the addresses.
+const PART_DRAWN: &str = "    time control
+       0 |                  0 A, selected as a
+       0 |                  |   1 B, selected as b c
+       5 |                  |   @ arrived to 1.0: |BYE|
+       6 |                  |   ~ the doubt from 1 begins
+";
+
+/// The addresses of the third station only.
+const LATE_NAME: &str = "+0 terminal 2 is C, selected as c\n";
+
+const LATE_NAME_DRAWN: &str = "    time control            0   1
+       0 |                  |   |   2 C, selected as c
+";
+
 /// Ladders.
 const DRAWN: &[Row] = &[
     (FATES, ASCII, IN_ASCII),
@@ -116,18 +215,20 @@ const DRAWN: &[Row] = &[
     (LONG, NARROW, LONG_CUT),
     (LONG, ASCII, LONG_WHOLE),
     (MANY, ASCII, MANY_DRAWN),
+    (MARKS, ASCII, MARKS_DRAWN),
+    (LATE_NAME, ASCII, LATE_NAME_DRAWN),
+    (MARKS, PART, PART_DRAWN),
     ("", BOXES, ""),
     ("\n \r\n", BOXES, ""),
 ];
 
 /// Draws a trace.
-pub(crate) fn drawn(
-    alloc: Global,
-    trace: &str,
-    words: ChartWords<'_>,
-) -> (Result<(), ChartError>, Vec<u8>) {
+pub(crate) fn drawn(alloc: Global, trace: &str, asked: Asked) -> (Result<(), ChartError>, Vec<u8>) {
     let mut out = Vec::new(alloc);
-    let result = draw(alloc, words, &mut trace.as_bytes(), &mut out);
+    let result = match words_of(alloc, asked) {
+        Ok(words) => draw(alloc, &words, &mut trace.as_bytes(), &mut out),
+        Err(_) => Err(ChartError::Memory),
+    };
     (result, out)
 }
 

@@ -1,4 +1,4 @@
-//! Tests of ladders: traces that are drawn, faults, widths, streams that fail, and refused growths.
+//! Tests of ladders: traces that are drawn, pictures, faults, widths, streams that fail, and refused growths.
 //!
 //! The transmissions are those of GA27-3004. Traces and ladders are this project's own.
 #![tactic(auto)]
@@ -9,3 +9,5 @@ mod faults;
 mod growths;
 #[cfg(test)]
 mod ladders;
+#[cfg(test)]
+mod pictures;

@@ -80,6 +80,20 @@ const CASES: &[Case] = &[
         },
     },
     Case {
+        words: Some(&["chart", "--svg", "--text"]),
+        input: Some("+5 silence\n"),
+        takes: true,
+        scene: SILENT,
+        due: Due {
+            out: "",
+            errors: "error: --text and --svg exclude one another\n\n\
+            Usage: bscline chart [OPTIONS]\n\n\
+            For more information, try '--help'.\n",
+            status: 2,
+            asking: None,
+        },
+    },
+    Case {
         words: Some(&["--version"]),
         input: Some(""),
         takes: true,

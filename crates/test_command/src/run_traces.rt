@@ -1,7 +1,8 @@
 //! The traces of examples, drawn as ladders.
 
 use crate::runs::{Case, EXAMPLES, Machine};
-use bsc_chart::{ChartWords, draw};
+use bsc_asked::ChartWords;
+use bsc_chart::draw;
 use bsc_running::{RunWords, run};
 use std::alloc::Global;
 use std::net::Net;
@@ -86,10 +87,14 @@ fn is_drawn<R: Net>(runtime: &R, alloc: Global, case: &Case, ladder: &str) -> Re
     let (mut trace, mut drawn) = (Vec::<u8>::new(alloc), Vec::<u8>::new(alloc));
     run(alloc, words, &mut input, &mut machine, &mut out, &mut trace)?;
     let words = ChartWords {
+        text: false,
+        svg: false,
         ascii: true,
         width: None,
+        from: None,
+        to: None,
     };
-    draw(alloc, words, &mut trace.as_slice(), &mut drawn)?;
+    draw(alloc, &words, &mut trace.as_slice(), &mut drawn)?;
     Ok(out.as_slice() == case.printed.as_bytes() && drawn.as_slice() == ladder.as_bytes())
 }
 

@@ -92,10 +92,18 @@ sync: true, trace: 3, quiet: true })",
     ),
     (&["bscline"], "Names"),
     (&["bscline", "show"], "Show"),
-    (&["bscline", "chart"], "Chart { ascii: false, width: None }"),
     (
-        &["bscline", "chart", "--width", "100", "--ascii"],
-        "Chart { ascii: true, width: Some(\"100\") }",
+        &["bscline", "chart"],
+        "Chart(ChartWords { text: false, svg: false, ascii: false, width: None, from: None, \
+to: None })",
+    ),
+    (
+        &[
+            "bscline", "chart", "--width", "100", "--ascii", "--text", "--svg", "--from", "2",
+            "--to", "9",
+        ],
+        "Chart(ChartWords { text: true, svg: true, ascii: true, width: Some(\"100\"), \
+from: Some(\"2\"), to: Some(\"9\") })",
     ),
     (&["bscline", "name", "161610B0FF"], "Name(\"161610B0FF\")"),
     (&["bscline", "name", "16 04"], "Name(\"16 04\")"),
@@ -167,8 +175,12 @@ const CHART_HELP: &str = "Draw the trace on standard input as a ladder of statio
 Usage: bscline chart [OPTIONS]
 
 Options:
-      --ascii      Draw in ASCII characters only
-      --width <N>  Cut records and messages to N characters a line, 40 to 1000, 80 unless given
+      --text       Draw a text, as without a form
+      --svg        Draw a picture, as an SVG document of at most 5000 arrows
+      --ascii      Draw a text in ASCII characters only
+      --width <N>  Cut the records and messages of a text to N characters a line, 40 to 1000, or 80
+      --from <N>   Draw from line N of the trace on; its first line is 1
+      --to <M>     Draw up to line M of the trace
   -h, --help       Print help
 
 Example: bscline chart < examples/ladder/trace.txt

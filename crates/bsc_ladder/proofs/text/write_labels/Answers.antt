@@ -1,6 +1,6 @@
 -- The labels are written between the beginning and the end of the line.
 use Rattle.std.proofs.KnownBytes.{Appends-trans}
-use Rattle.bsc_ladder.proofs.text.write_header.Goals as goal
+use Rattle.bsc_ladder.proofs.text.write_labels.Goals as goal
 
 pub returns : goal.returns
 returns g c =

@@ -1,0 +1,254 @@
+//! Draws the ladder of a trace, line by line as it is read.
+ghost use Rattle.std.specs.Prelude.{◌≡◌, ◌≤◌, ℕ, length, Err, false, true, OnOk, IfErr, IfOk};
+ghost use Rattle.std.specs.Prelude.{IfSome, ◌&&◌, nat_le};
+ghost use Rattle.std.specs.Io.KnownBytes.{Appends};
+ghost use Rattle.bsc_trace.specs.Lines.{value_in};
+ghost use Rattle.bsc_chart.specs.Errors.{IsDrawError, IsEndError, IsLineError};
+ghost use Rattle.bsc_chart.specs.Errors.{IsWrongOrPrintError, input_error};
+ghost use Rattle.bsc_chart.specs.Inputs.{DrawsInput, HasStopped, ReadsInput, is_wrong, values_at};
+ghost use Rattle.bsc_chart.specs.Pages.{is_drawn, is_full, late_text, page_after, page_by};
+ghost use Rattle.bsc_chart.specs.Pages.{page_in, page_with, text_after, text_by, text_with};
+ghost use Rattle.bsc_chart.specs.Pages.{widened};
+ghost use Rattle.bsc_chart.specs.Ladders.{line_text};
+
+use crate::pages::{Page, keep, tells_names, widen};
+use crate::text::write_line;
+use crate::{ChartError, Drawing, Form, Range};
+use bsc_input::{InputError, LineEnd, is_blank, read_line, without_return};
+use bsc_picture::{Picture, write_svg};
+use bsc_trace::{TraceLine, read_trace_line};
+use std::alloc::Allocator;
+use std::io::{BufRead, BufReader, Read, Write};
+
+/// Draws the ladder of the trace in the input: a row for each line of the range, in order. Blank
+/// lines are skipped and counted. Stops at the first other line that is no line of a trace, and at a
+/// line of more than `MAX_INPUT` octets, whether they are in the range or not; the rows of a text for
+/// the lines before it stay written. The input may have any length: for a text one line of it is
+/// kept at a time, for a picture the rows of the range. The error is `TooMany` if these are too
+/// many.
+pub fn chart<A: Allocator + Copy, R: Read, W: Write>(
+    alloc: A,
+    drawing: Drawing,
+    input: &mut R,
+    out: &mut W,
+) -> Result<(), ChartError>
+    ensures ok { OnOk result (IfSome (R.remaining input.old) (λ octets.
+        DrawsInput drawing octets (W.contents out.old) (W.contents out.new))) }
+    ensures stopped { IfErr result (λ error. IfSome (R.remaining input.old) (λ octets.
+        HasStopped drawing error octets (W.contents out.old) (W.contents out.new))) }
+    ensures faults { IfErr result IsLineError }
+{
+    match BufReader::new(alloc, input) {
+        Ok(mut reader) => draw_lines(alloc, drawing, &mut reader, out),
+        Err(_) => Err(ChartError::Memory),
+    }
+}
+
+/// Draws the lines that the reader has left.
+fn draw_lines<A: Allocator + Copy, B: BufRead, W: Write>(
+    alloc: A,
+    drawing: Drawing,
+    reader: &mut B,
+    out: &mut W,
+) -> Result<(), ChartError>
+    ensures ok { OnOk result (IfSome (B.remaining reader.old) (λ octets.
+        DrawsInput drawing octets (W.contents out.old) (W.contents out.new))) }
+    ensures stopped { IfErr result (λ error. IfSome (B.remaining reader.old) (λ octets.
+        HasStopped drawing error octets (W.contents out.old) (W.contents out.new))) }
+    ensures faults { IfErr result IsLineError }
+{
+    match read_lines(alloc, drawing, reader, out) {
+        Ok(page) => finish(alloc, drawing.form, &page, out),
+        Err(error) => Err(error),
+    }
+}
+
+/// Writes what comes after the last line: the picture, if it is one.
+fn finish<A: Allocator + Copy, W: Write>(
+    alloc: A,
+    form: Form,
+    page: &Page<A>,
+    out: &mut W,
+) -> Result<(), ChartError>
+    requires { length page.now.rows.items ≤ 20000 }
+    ensures ok { OnOk result (Appends (W.contents out.old) (W.contents out.new)
+        (late_text form (page_in page.now))) }
+    ensures faults { IfErr result IsEndError }
+{
+    match form {
+        Form::Text => Ok(()),
+        Form::Svg => {
+            let picture = Picture {
+                columns: page.columns,
+                names: &page.names,
+                rows: &page.rows,
+            };
+            Ok(write_svg(alloc, &picture, out)?)
+        }
+    }
+}
+
+/// Reads the lines that the reader has left, and writes the rows of a text. Returns what was kept of
+/// them.
+fn read_lines<A: Allocator + Copy, B: BufRead, W: Write>(
+    alloc: A,
+    drawing: Drawing,
+    reader: &mut B,
+    out: &mut W,
+) -> Result<Page<A>, ChartError>
+    ensures ok { IfOk result (λ page. IfSome (B.remaining reader.old) (λ octets.
+        ReadsInput drawing octets (page_in page) (W.contents out.old) (W.contents out.new))) }
+    ensures fits { IfOk result (λ page. length page.rows.items ≤ 20000) }
+    ensures stopped { IfErr result (λ error. IfSome (B.remaining reader.old) (λ octets.
+        HasStopped drawing error octets (W.contents out.old) (W.contents out.new))) }
+    ensures faults { IfErr result IsLineError }
+{
+    let mut line = Vec::new(alloc);
+    let mut page = Page::new(alloc);
+    'lines: for number in 1..u64::MAX {
+        let end = match read_line(reader, &mut line) {
+            Ok(end) => end,
+            Err(error) => return Err(read_error(number, error)),
+        };
+        let pen = Pen { drawing, number };
+        draw_line(alloc, pen, &mut page, without_return(&line), out)?;
+        match end {
+            LineEnd::InputEnd => return Ok(page),
+            LineEnd::LineFeed => {}
+        }
+    }
+    Err(ChartError::Input)
+}
+
+/// Returns the error for a line with this number that could not be read.
+fn read_error(number: u64, error: InputError) -> ChartError
+    ensures { result ≡ input_error number error }
+{
+    match error {
+        InputError::TooLong => ChartError::TooLongAt { line: number },
+        InputError::Device { .. } => ChartError::Input,
+        InputError::Memory => ChartError::Memory,
+    }
+}
+
+/// Where the next line is drawn.
+#[derive(Clone, Copy)]
+struct Pen {
+    /// How it is drawn.
+    drawing: Drawing,
+
+    /// Its number.
+    number: u64,
+}
+
+/// Draws a line, or keeps its row for a picture.
+fn draw_line<A: Allocator + Copy, W: Write>(
+    alloc: A,
+    pen: Pen,
+    page: &mut Page<A>,
+    line: &[u8],
+    out: &mut W,
+) -> Result<(), ChartError>
+    ensures right { OnOk result (is_wrong line.now ≡ false) }
+    ensures page { OnOk result (page_in page.new
+        ≡ page_by pen.drawing pen.number (page_in page.old) (values_at line.now)) }
+    ensures fits { OnOk result
+        (length page.old.rows.items ≤ 20000 → length page.new.rows.items ≤ 20000) }
+    ensures drawn { OnOk result (Appends (W.contents out.old) (W.contents out.new)
+        (text_by pen.drawing pen.number (page_in page.old) (values_at line.now))) }
+    ensures wrong { (n : ℕ) → result ≡ Err (ChartError.NotATraceAt n) →
+        (n ≡ pen.number) × (is_wrong line.now ≡ true) × (out.new ≡ out.old) }
+    ensures full { result ≡ Err ChartError.TooMany →
+        (is_full (page_in page.old) ≡ true) × (out.new ≡ out.old) }
+    ensures faults { IfErr result IsWrongOrPrintError }
+{
+    if is_blank(line) {
+        return Ok(());
+    }
+    match read_trace_line(alloc, line)? {
+        Some(value) => draw_value(alloc, pen, page, &value, out),
+        None => Err(ChartError::NotATraceAt { line: pen.number }),
+    }
+}
+
+/// Whether a line with this number is in the range.
+fn is_within(range: Range, number: u64) -> bool
+    ensures { result ≡ (nat_le range.first number && nat_le number range.last) }
+{
+    range.first <= number && number <= range.last
+}
+
+/// Whether a line with this number is drawn.
+fn shows<A: Allocator>(range: Range, number: u64, value: &TraceLine<'_, A>) -> bool
+    ensures { result ≡ is_drawn range number (value_in value.now) }
+{
+    is_within(range, number) || tells_names(value)
+}
+
+/// Draws the row for a line, if it is drawn, or keeps it for a picture.
+fn draw_value<A: Allocator + Copy, W: Write>(
+    alloc: A,
+    pen: Pen,
+    page: &mut Page<A>,
+    value: &TraceLine<'_, A>,
+    out: &mut W,
+) -> Result<(), ChartError>
+    ensures page { OnOk result (page_in page.new
+        ≡ page_after pen.drawing pen.number (page_in page.old) (value_in value.now)) }
+    ensures fits { OnOk result
+        (length page.old.rows.items ≤ 20000 → length page.new.rows.items ≤ 20000) }
+    ensures drawn { OnOk result (Appends (W.contents out.old) (W.contents out.new)
+        (text_after pen.drawing pen.number (page_in page.old) (value_in value.now))) }
+    ensures full { result ≡ Err ChartError.TooMany →
+        (is_full (page_in page.old) ≡ true) × (out.new ≡ out.old) }
+    ensures faults { IfErr result IsDrawError }
+{
+    if shows(pen.drawing.range, pen.number, value) {
+        return draw_row(alloc, pen.drawing, page, value, out);
+    }
+    Ok(())
+}
+
+/// Draws the row for a line as text, or keeps it for a picture.
+fn draw_row<A: Allocator + Copy, W: Write>(
+    alloc: A,
+    drawing: Drawing,
+    page: &mut Page<A>,
+    value: &TraceLine<'_, A>,
+    out: &mut W,
+) -> Result<(), ChartError>
+    ensures page { OnOk result (page_in page.new
+        ≡ page_with drawing.form (page_in page.old) (value_in value.now)) }
+    ensures fits { OnOk result
+        (length page.old.rows.items ≤ 20000 → length page.new.rows.items ≤ 20000) }
+    ensures drawn { OnOk result (Appends (W.contents out.old) (W.contents out.new)
+        (text_with drawing.form drawing page.old.columns (value_in value.now))) }
+    ensures full { result ≡ Err ChartError.TooMany →
+        (is_full (page_in page.old) ≡ true) × (out.new ≡ out.old) }
+    ensures faults { IfErr result IsDrawError }
+{
+    match drawing.form {
+        Form::Text => write_wide(alloc, drawing, page, value, out),
+        Form::Svg => keep(alloc, page, value),
+    }
+}
+
+/// Draws the row for a line as text.
+fn write_wide<A: Allocator + Copy, W: Write>(
+    alloc: A,
+    drawing: Drawing,
+    page: &mut Page<A>,
+    value: &TraceLine<'_, A>,
+    out: &mut W,
+) -> Result<(), ChartError>
+    ensures page { OnOk result (page_in page.new
+        ≡ widened (page_in page.old) (value_in value.now)) }
+    ensures same { OnOk result (page.new.rows ≡ page.old.rows) }
+    ensures drawn { OnOk result (Appends (W.contents out.old) (W.contents out.new)
+        (line_text drawing page.old.columns (value_in value.now))) }
+    ensures faults { IfErr result IsEndError }
+{
+    write_line(alloc, &drawing, page.columns, value, out)?;
+    widen(page, value);
+    Ok(())
+}

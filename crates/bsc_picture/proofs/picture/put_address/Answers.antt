@@ -1,0 +1,11 @@
+-- The parts are written one after another.
+use Rattle.std.proofs.KnownBytes.{Appends-trans}
+use Rattle.bsc_picture.proofs.picture.put_address.Goals as goal
+
+pub returns : goal.returns
+returns g c =
+    Appends-trans _ _ _ _ _ (Appends-trans _ _ _ _ _ (Appends-trans _ _ _ _ _ (Appends-trans _ _ _ _ _ c.in_ok-put.ensures.ok
+    (rw c.station_at.ensures.value at c.in_ok-put_number.ensures))
+    c.in_ok-put-2.ensures.ok)
+    (rw c.shown_part.ensures.value at c.in_ok-put_escaped.ensures))
+    c.in_ok-put-3.ensures.ok

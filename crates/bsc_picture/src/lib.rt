@@ -1,0 +1,17 @@
+//! The ladder of a line as a picture, an SVG document.
+//!
+//! The standard, GA27-3004, draws no ladder; the picture is this project's own.
+#![tactic(auto)]
+
+mod arrows;
+mod escapes;
+mod frame;
+pub mod laws;
+mod parts;
+mod picture;
+mod row_pictures;
+mod rows;
+mod style;
+
+pub use picture::{MAX_ROWS, Picture, write_svg};
+pub use rows::{PictureRow, owned};
