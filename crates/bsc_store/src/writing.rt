@@ -4,7 +4,8 @@ ghost use Rattle.sqlite.specs.Held.{state};
 ghost use Rattle.sqlite.specs.State.{HasCleanDisk, KeepsCommit, Survives};
 ghost use Rattle.bsc_store.specs.Tables.{Ran, RanAll, IsAfter, IsAsBefore, SurvivesStep};
 
-use crate::step::Change;
+use crate::channels::{address, way};
+use bsc_kept::Change;
 use sqlite::{Alter, Connection, Error, ErrorCode, Transaction, params};
 
 const OFFER: &str = "INSERT INTO offered (way, address, record) VALUES (?1, ?2, ?3)";
@@ -14,8 +15,10 @@ const KNOW: &str =
 
 const ARRIVE: &str = "INSERT INTO arrived (way, address, record) VALUES (?1, ?2, ?3)";
 
+const PRINT: &str = "INSERT OR REPLACE INTO printed (way, address, printed) VALUES (?1, ?2, ?3)";
+
 /// Runs the statement of a change.
-fn write<S: Alter>(tx: &mut Transaction<'_, S>, change: &Change<'_>) -> Result<usize, Error>
+fn write<S: Alter>(tx: &mut Transaction<'_, S>, change: &Change) -> Result<usize, Error>
     ensures same_reference { tx.new.conn.ghost_name ≡ tx.old.conn.ghost_name }
     ensures ran { HasCleanDisk (state S.Store tx.new.conn.now)
         → IsTrue tx.old.conn.now.in_transaction
@@ -29,7 +32,7 @@ fn write<S: Alter>(tx: &mut Transaction<'_, S>, change: &Change<'_>) -> Result<u
     match change {
         Change::Offered { channel, record } => tx.execute(
             OFFER,
-            params![channel.way(), channel.address(), record.chars()],
+            params![way(channel), address(channel), record.chars()],
         ),
         Change::Known {
             channel,
@@ -37,17 +40,20 @@ fn write<S: Alter>(tx: &mut Transaction<'_, S>, change: &Change<'_>) -> Result<u
             in_doubt,
         } => tx.execute(
             KNOW,
-            params![channel.way(), channel.address(), *known, *in_doubt],
+            params![way(channel), address(channel), *known, *in_doubt],
         ),
         Change::Arrived { channel, record } => tx.execute(
             ARRIVE,
-            params![channel.way(), channel.address(), record.chars()],
+            params![way(channel), address(channel), record.chars()],
         ),
+        Change::Printed { channel, count } => {
+            tx.execute(PRINT, params![way(channel), address(channel), *count])
+        }
     }
 }
 
 /// Runs the statements of the changes, in order, up to the first that is refused.
-fn write_all<S: Alter>(tx: &mut Transaction<'_, S>, step: &[Change<'_>]) -> Result<(), Error>
+fn write_all<S: Alter>(tx: &mut Transaction<'_, S>, step: &[Change]) -> Result<(), Error>
     ensures same_reference { tx.new.conn.ghost_name ≡ tx.old.conn.ghost_name }
     ensures ran { HasCleanDisk (state S.Store tx.new.conn.now)
         → IsTrue tx.old.conn.now.in_transaction
@@ -68,7 +74,7 @@ fn write_all<S: Alter>(tx: &mut Transaction<'_, S>, step: &[Change<'_>]) -> Resu
 }
 
 /// Makes the changes of a step and commits them, all or none.
-pub(crate) fn commit<S: Alter>(conn: &mut Connection<S>, step: &[Change<'_>]) -> Result<(), Error>
+pub(crate) fn commit<S: Alter>(conn: &mut Connection<S>, step: &[Change]) -> Result<(), Error>
     ensures kept { HasCleanDisk (state S.Store conn.new)
         → OnOk result (IsAfter S.Store step.now conn.old (state S.Store conn.new).committed) }
     ensures unchanged { HasCleanDisk (state S.Store conn.new)

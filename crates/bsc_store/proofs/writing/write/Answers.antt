@@ -28,3 +28,12 @@ returns-in-Arrived-clause-ran g c clean inside =
 pub returns-in-Arrived-clause-kept : goal.returns-in-Arrived-clause-kept
 returns-in-Arrived-clause-kept g c clean inside =
     keeps_inside _ _ _ _ _ (c.execute-in-Arrived.ensures.runs clean inside)
+
+pub returns-in-Printed-clause-ran : goal.returns-in-Printed-clause-ran
+returns-in-Printed-clause-ran g c clean inside =
+    ran_inside g.S.Store c.args.change.now _ _ _ _ c.execute-in-Printed.result (search rules) (search rules)
+    (c.execute-in-Printed.ensures.runs clean inside)
+
+pub returns-in-Printed-clause-kept : goal.returns-in-Printed-clause-kept
+returns-in-Printed-clause-kept g c clean inside =
+    keeps_inside _ _ _ _ _ (c.execute-in-Printed.ensures.runs clean inside)
