@@ -5,6 +5,10 @@
 #[cfg(test)]
 mod cut;
 #[cfg(test)]
+mod facts;
+#[cfg(test)]
 mod faults;
+#[cfg(test)]
+mod files;
 #[cfg(test)]
 mod kept;
