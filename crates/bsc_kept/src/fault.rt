@@ -1,0 +1,49 @@
+//! Why a store is not used.
+
+use thiserror::Error;
+
+/// Why a store was refused, or a step was not kept. What is kept is as it was, also where a step
+/// was refused. After `Unreachable`, `Full` and `OutOfMemory` the store is to be opened again: the
+/// step was kept or not, and never in part.
+#[derive(Clone, Copy, Debug, PartialEq, Eq, Error)]
+pub enum StoreFault {
+    /// The store keeps the records of another line, or of another station of this line.
+    #[error("the store is of another line or another station")]
+    OtherLine,
+
+    /// The store was made by a newer version of this program.
+    #[error("the store has version {version}, which is newer than this program's")]
+    Newer { version: u32 },
+
+    /// Another process or another part of this one has the store open.
+    #[error("the store is in use")]
+    InUse,
+
+    /// There is no store.
+    #[error("there is no store")]
+    Missing,
+
+    /// There is something where a store is to be made.
+    #[error("there is something in the file already")]
+    Taken,
+
+    /// It is no store, or what it holds breaks the rules of a store.
+    #[error("the file is damaged or not a store")]
+    Damaged,
+
+    /// A change of the step breaks a rule of the store.
+    #[error("the step does not fit what is kept")]
+    Refused,
+
+    /// The disk is full.
+    #[error("the disk is full")]
+    Full,
+
+    /// The store cannot be opened, read or written.
+    #[error("the store cannot be read or written")]
+    Unreachable,
+
+    /// An allocation was refused.
+    #[error("out of memory")]
+    OutOfMemory,
+}

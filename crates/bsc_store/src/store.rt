@@ -1,0 +1,175 @@
+//! The store.
+ghost use Rattle.std.specs.Prelude.{IfOk, IsTrue, List, OnOk, OnErr};
+ghost use Rattle.sqlite.specs.Held.{state};
+ghost use Rattle.sqlite.specs.State.{HasCleanDisk};
+ghost use Rattle.bsc_store.specs.Reading.{IsFound, IsProgress, IsStoreOf, OnlyRead};
+ghost use Rattle.bsc_store.specs.Reading.{place_values, query_text};
+ghost use Rattle.bsc_store.specs.declared.queries.Query.TheVariants as query;
+ghost use Rattle.bsc_store.specs.Tables.{IsAsBefore, Keeps, Stays, SurvivesStep};
+
+use crate::fault::fault_of;
+use crate::queries::Query;
+use crate::writing::commit;
+use crate::{reading, tables};
+use bsc_kept::{Change, Channel, Found, Progress, Store, StoreFault};
+use sqlite::{Alter, Connection, Error as SqlError, params};
+
+/// The store of a station, in the tables of a database.
+#[derive(Drop)]
+pub struct TableStore<S: Alter> {
+    pub(crate) conn: Connection<S>,
+}
+
+impl<S: Alter + Drop> TableStore<S> {
+    /// Makes a store of an empty database. `line` is the text of the line's configuration and of
+    /// which station this is. Fails with `Taken` if the database has a table. It is made at once or
+    /// not at all.
+    pub fn begin(mut conn: Connection<S>, line: &str) -> Result<TableStore<S>, StoreFault> {
+        if reading::number(&mut conn, Query::Tables)? != 0 {
+            return Err(StoreFault::Taken);
+        }
+        match make(&mut conn, line) {
+            Ok(()) => Ok(TableStore { conn }),
+            Err(error) => Err(fault_of(error)),
+        }
+    }
+
+    /// Goes on with a store. The faults, in the order in which they are tested: `Damaged` if the
+    /// database is not a store, `Newer`, `OtherLine`, `Damaged` if a channel has more records known
+    /// or in doubt than were offered, or more printed than arrived.
+    pub fn resume(mut conn: Connection<S>, line: &str) -> Result<TableStore<S>, StoreFault>
+        ensures is { IfOk result (λ store. HasCleanDisk (state S.Store store.conn)
+            → IsStoreOf S.Store line.now conn store.conn) }
+        ensures read { IfOk result (λ store. OnlyRead S.Store conn store.conn) }
+    {
+        check(&mut conn, line)?;
+        Ok(TableStore { conn })
+    }
+}
+
+/// Checks that the database is a store of this line.
+fn check<S: Alter>(conn: &mut Connection<S>, line: &str) -> Result<(), StoreFault>
+    ensures is { HasCleanDisk (state S.Store conn.new)
+        → OnOk result (IsStoreOf S.Store line.now conn.old conn.new) }
+    ensures read { OnlyRead S.Store conn.old conn.new }
+{
+    let version = reading::number(conn, Query::Version)?;
+    if version > tables::VERSION {
+        return Err(StoreFault::Newer { version });
+    }
+    if version < tables::VERSION {
+        return Err(StoreFault::Damaged);
+    }
+    if !reading::is_text(conn, Query::Line, line)? {
+        return Err(StoreFault::OtherLine);
+    }
+    if reading::number(conn, Query::WrongKnown)? != 0 {
+        return Err(StoreFault::Damaged);
+    }
+    if reading::number(conn, Query::WrongPrinted)? != 0 {
+        return Err(StoreFault::Damaged);
+    }
+    Ok(())
+}
+
+/// Makes the tables and keeps the line, in one commit.
+fn make<S: Alter>(conn: &mut Connection<S>, line: &str) -> Result<(), SqlError> {
+    if !conn.is_autocommit() {
+        return Err(SqlError::SqliteFailure(sqlite::ErrorCode::TransactionState));
+    }
+    let mut tx = conn.transaction();
+    tx.execute_batch(tables::MAKE)?;
+    tx.execute(tables::NAME, params![tables::VERSION, line])?;
+    tx.commit()
+}
+
+impl<S: Alter> TableStore<S> {
+    /// Keeps the changes of a step, all or none. Each change must fit the changes before it: the
+    /// records that are known or in doubt were offered, and those that are printed arrived.
+    pub fn keep(&mut self, step: &[Change]) -> Result<(), StoreFault>
+        ensures kept { OnOk result (Keeps S.Store step.now self.old.conn self.new.conn) }
+        ensures unchanged { HasCleanDisk (state S.Store self.new.conn)
+            → IsTrue (state S.Store self.new.conn).is_open
+            → OnErr result (IsAsBefore S.Store self.old.conn self.new.conn) }
+        ensures crash { SurvivesStep S.Store step.now self.old.conn self.new.conn }
+    {
+        match commit(&mut self.conn, step) {
+            Ok(()) => Ok(()),
+            Err(error) => Err(fault_of(error)),
+        }
+    }
+
+    /// Returns what is kept of a channel, in numbers.
+    pub fn numbers(&mut self, channel: &Channel) -> Result<Progress, StoreFault>
+        ensures is { HasCleanDisk (state S.Store self.new.conn) → IfOk result
+            (IsProgress S.Store channel.now self.old.conn self.new.conn) }
+        ensures read { OnlyRead S.Store self.old.conn self.new.conn }
+    {
+        reading::progress(&mut self.conn, channel)
+    }
+
+    /// Returns an offered record of a channel: the one after `mark`, of which 0 is before the
+    /// first, and after this many more.
+    pub fn offered_after(
+        &mut self,
+        channel: &Channel,
+        mark: i64,
+        more: u32,
+    ) -> Result<Option<Found>, StoreFault>
+        ensures is { HasCleanDisk (state S.Store self.new.conn) → IfOk result
+            (IsFound S.Store (query_text query.NextOffered) (place_values channel.now mark more)
+            self.old.conn self.new.conn) }
+        ensures read { OnlyRead S.Store self.old.conn self.new.conn }
+    {
+        reading::next(&mut self.conn, Query::NextOffered, channel, mark, more)
+    }
+
+    /// Returns a record that arrived on a channel, as `offered_after` does.
+    pub fn arrived_after(
+        &mut self,
+        channel: &Channel,
+        mark: i64,
+        more: u32,
+    ) -> Result<Option<Found>, StoreFault>
+        ensures is { HasCleanDisk (state S.Store self.new.conn) → IfOk result
+            (IsFound S.Store (query_text query.NextArrived) (place_values channel.now mark more)
+            self.old.conn self.new.conn) }
+        ensures read { OnlyRead S.Store self.old.conn self.new.conn }
+    {
+        reading::next(&mut self.conn, Query::NextArrived, channel, mark, more)
+    }
+}
+
+impl<S: Alter> Store for TableStore<S> {
+    ghost keeps = { λ step old new. Keeps S.Store step old.conn new.conn };
+
+    ghost stays = { λ old new. Stays S.Store old.conn new.conn };
+
+    ghost survives = { λ step old new. SurvivesStep S.Store step old.conn new.conn };
+
+    fn commit(&mut self, step: &[Change]) -> Result<(), StoreFault> {
+        self.keep(step)
+    }
+
+    fn progress(&mut self, channel: &Channel) -> Result<Progress, StoreFault> {
+        self.numbers(channel)
+    }
+
+    fn offered(
+        &mut self,
+        channel: &Channel,
+        mark: i64,
+        more: u32,
+    ) -> Result<Option<Found>, StoreFault> {
+        self.offered_after(channel, mark, more)
+    }
+
+    fn arrived(
+        &mut self,
+        channel: &Channel,
+        mark: i64,
+        more: u32,
+    ) -> Result<Option<Found>, StoreFault> {
+        self.arrived_after(channel, mark, more)
+    }
+}
