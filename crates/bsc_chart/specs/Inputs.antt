@@ -58,8 +58,8 @@ pub record StopsAt (is_fault : List ℕ → Bool) (drawing : Drawing) (number : 
   pub reason : is_fault (slice_index_or (parts_of input) place []) ≡ true
   pub before : Appends old new (early_text drawing (values_of (take place (lines_of input))))
 
--- The page of some first lines of the input is full, and what is written for them early was written,
--- and nothing else.
+-- The page of some first lines of the input is full, and what is written for them early was
+-- written, and nothing else.
 pub record StopsFull (drawing : Drawing) (input : List ℕ) (old new : Option (List ℕ))
     : Type 0 where
   pub place : ℕ

@@ -21,10 +21,10 @@ use std::alloc::Allocator;
 use std::io::{BufRead, BufReader, Read, Write};
 
 /// Draws the ladder of the trace in the input: a row for each line of the range, in order. Blank
-/// lines are skipped and counted. Stops at the first other line that is no line of a trace, and at a
-/// line of more than `MAX_INPUT` octets, whether they are in the range or not; the rows of a text for
-/// the lines before it stay written. The input may have any length: for a text one line of it is
-/// kept at a time, for a picture the rows of the range. The error is `TooMany` if these are too
+/// lines are skipped and counted. Stops at the first other line that is no line of a trace, and at
+/// a line of more than `MAX_INPUT` octets, whether they are in the range or not; the rows of a text
+/// for the lines before it stay written. The input may have any length: for a text one line of it
+/// is kept at a time, for a picture the rows of the range. The error is `TooMany` if these are too
 /// many.
 pub fn chart<A: Allocator + Copy, R: Read, W: Write>(
     alloc: A,
@@ -88,8 +88,8 @@ fn finish<A: Allocator + Copy, W: Write>(
     }
 }
 
-/// Reads the lines that the reader has left, and writes the rows of a text. Returns what was kept of
-/// them.
+/// Reads the lines that the reader has left, and writes the rows of a text. Returns what was kept
+/// of them.
 fn read_lines<A: Allocator + Copy, B: BufRead, W: Write>(
     alloc: A,
     drawing: Drawing,

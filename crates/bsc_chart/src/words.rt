@@ -15,7 +15,8 @@ use std::io::{Read, Write};
 /// Draws the ladder of the trace in the input as these words ask for. Before anything is read or
 /// written, the error is `Forms` if both forms are asked for, `Width` if the width is not a number
 /// from 40 to 1000, and `Lines` if the first or the last line is no number from 1 on. A text is
-/// drawn if no form is asked for; its width is 80 if none is given. Otherwise the same as [`chart`].
+/// drawn if no form is asked for; its width is 80 if none is given. Otherwise the same as
+/// [`chart`].
 pub fn draw<A: Allocator + Copy, R: Read, W: Write>(
     alloc: A,
     words: &ChartWords,

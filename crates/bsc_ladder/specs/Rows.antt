@@ -6,8 +6,8 @@ use Rattle.bsc_ladder.specs.declared.row.Mark.{Mark}
 use Rattle.bsc_ladder.specs.declared.row.Row.{Row}
 use Rattle.bsc_ladder.specs.declared.row.Row.TheVariants as row
 
--- A row: a transmission with its time, its course, its fate, its name, the characters of its records
--- and its octets; a silence with its time; or a mark with its time and its text.
+-- A row: a transmission with its time, its course, its fate, its name, the characters of its
+-- records and its octets; a silence with its time; or a mark with its time and its text.
 pub data RowValue : Type 0 where
   arrow : List ℕ → Course → Fate → List ℕ → List ℕ → List ℕ → RowValue
   silence : List ℕ → RowValue

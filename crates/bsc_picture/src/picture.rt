@@ -194,8 +194,8 @@ fn put_rows<A: Allocator + Copy, W: Write>(
     Ok(())
 }
 
-/// Writes a picture as an SVG document, which has no script and refers to nothing else. An arrow has
-/// a title with its octets. Of records and messages at most 64 characters are shown.
+/// Writes a picture as an SVG document, which has no script and refers to nothing else. An arrow
+/// has a title with its octets. Of records and messages at most 64 characters are shown.
 pub fn write_svg<A: Allocator + Copy, W: Write>(
     alloc: A,
     picture: &Picture<'_, A>,

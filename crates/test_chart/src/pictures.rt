@@ -11,9 +11,10 @@ pub(crate) const SVG: Asked = Asked { svg: true, ..BOXES };
 
 /// Whether the text is in the octets.
 fn has(octets: &[u8], text: &str) -> bool {
-    octets
-        .windows(text.len())
-        .any(|part| part == text.as_bytes())
+    match str::from_utf8(octets) {
+        Ok(all) => all.contains(text),
+        Err(_) => false,
+    }
 }
 
 /// What a trace tells with characters that have a meaning in a document, and with control codes.

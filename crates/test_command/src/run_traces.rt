@@ -39,7 +39,7 @@ const LOSSY_LINE_LADDER: &str = "    time control            0
       31 *- CALL B --------->--->
       32 <- EOT ------------+---*
       33 *- CALL A --------->--->
-      36 = the doubt from 0 is ended
+      36 |                  ^ the doubt from 0 is ended
 ";
 
 /// The ladder of the trace of `examples/two_spools`.
