@@ -49,6 +49,7 @@ live_error live.Wait = attending.Connections sockets.Sockets
 live_error live.Count = attending.Connections sockets.Sockets
 live_error live.Output = attending.Output
 live_error live.Unprinted = attending.Unprinted
+live_error live.Unkept = attending.Output
 live_error live.Memory = attending.Memory
 
 -- The reasons for refusing options that are found after the configuration is read.

@@ -159,6 +159,8 @@ impl From<LiveError> for AttendingError {
             },
             LiveError::Output => AttendingError::Output,
             LiveError::Unprinted => AttendingError::Unprinted,
+            // The command keeps nothing.
+            LiveError::Unkept => AttendingError::Output,
             LiveError::Memory => AttendingError::Memory,
         }
     }

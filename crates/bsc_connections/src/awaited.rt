@@ -81,6 +81,11 @@ pub enum LiveError {
     #[error("records that arrived could not be printed")]
     Unprinted,
 
+    /// What the station has changed of its records could not be kept. Nothing that rests on it is
+    /// sent.
+    #[error("what happened could not be kept")]
+    Unkept,
+
     /// Memory could not be allocated.
     #[error("out of memory")]
     Memory,

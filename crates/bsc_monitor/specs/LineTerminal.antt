@@ -1,8 +1,9 @@
 -- A terminal of a configured line.
-use Rattle.std.specs.Prelude.{◌≡◌, ℕ, Option}
+use Rattle.std.specs.Prelude.{◌≡◌, ℕ, Option, slice_set}
 use Rattle.bsc_frame.specs.declared.message.Message.{Message}
 use Rattle.bsc_frame.specs.declared.message.Heard.{Heard}
 use Rattle.bsc_spool.specs.Queue.{QueueValue}
+use Rattle.bsc_spool.specs.Spool.{SpoolValue}
 use Rattle.bsc_tributary.specs.Tributary.{TributaryValue}
 use Rattle.bsc_tributary.specs.Kept.{IsHearing, IsSilence}
 
@@ -17,6 +18,12 @@ line_terminal_of number tributary = record { number = number; tributary = tribut
 -- The terminal with this queue, and otherwise the same.
 abbrev pub with_own_queue : LineTerminalValue → QueueValue → LineTerminalValue
 with_own_queue l queue = line_terminal_of l.number (record l.tributary { queue = queue })
+
+-- The terminal with this spool for the selection address of this number, and otherwise the same.
+abbrev pub with_spool : LineTerminalValue → ℕ → SpoolValue → LineTerminalValue
+with_spool l select spool =
+    line_terminal_of l.number
+    (record l.tributary { spools = slice_set l.tributary.spools select spool })
 
 -- The terminal hears a transmission, and keeps its number.
 pub record Hears (old : LineTerminalValue) (heard : Heard) (new : LineTerminalValue)

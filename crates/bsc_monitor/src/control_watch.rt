@@ -1,6 +1,6 @@
 //! The monitor of a control station.
 
-ghost use Rattle.std.specs.Prelude.{◌≡◌, ◌-◌, false, length};
+ghost use Rattle.std.specs.Prelude.{◌≡◌, ◌-◌, false, length, slice_get};
 ghost use Rattle.bsc_connections.specs.declared.awaited.Pace.TheVariants.{AtOnce};
 ghost use Rattle.bsc_monitor.specs.Answering.{new_answering};
 ghost use Rattle.bsc_monitor.specs.Progress.{progress_of};
@@ -81,6 +81,14 @@ impl<'a, A: Allocator + Copy, T: Timer + Meter + Drop, W: Write, D: Write> Contr
         ensures { result ≡ self.now.trusting.trust }
     {
         self.trusting.trust()
+    }
+
+    /// Returns how many records of the channel with this number were printed, among those on which
+    /// the station receives; `None` if there is no such channel.
+    pub fn printed(&self, number: usize) -> Option<usize>
+        ensures { result ≡ slice_get self.now.watch.printed.items number }
+    {
+        self.watch.printed(number)
     }
 
     /// Returns the monitor that remains until the last call is answered.

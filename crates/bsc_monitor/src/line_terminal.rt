@@ -2,15 +2,18 @@
 
 ghost use Rattle.std.specs.Prelude.{◌≡◌, ◌≤◌, ◌<◌, length, IfErr, OnErr, OnOk};
 ghost use Rattle.bsc_monitor.specs.Ends.{IsWay};
-ghost use Rattle.bsc_monitor.specs.LineTerminal.{line_terminal_of, with_own_queue};
+ghost use Rattle.bsc_monitor.specs.LineTerminal.{line_terminal_of, with_own_queue, with_spool};
 ghost use Rattle.bsc_spool.specs.Queue.{with_offered};
+ghost use Rattle.bsc_spool.specs.Spool.{GainsRecord};
+ghost use Rattle.bsc_bid.specs.Stored.{kept_of, recall_step};
 ghost use Rattle.bsc_bid.specs.Terminal.{HasDistinctAddresses};
 ghost use Rattle.bsc_tributary.specs.Kept.{IsNewTerminal};
-ghost use Rattle.bsc_tributary.specs.Tributary.{is_control_mode};
+ghost use Rattle.bsc_tributary.specs.Stored.{after_recall};
+ghost use Rattle.bsc_tributary.specs.Tributary.{is_control_mode, spool_at};
 
 use crate::channel_end::queue_end;
 use crate::{ChannelEnd, Party, Received};
-use bsc_bid::{Setup, Station, Terminal};
+use bsc_bid::{KeptSender, RecallError, Setup, Station, Terminal};
 use bsc_block::Record;
 use bsc_control::Way;
 use bsc_frame::{Heard, MessageBuffer};
@@ -86,6 +89,41 @@ impl<A: Allocator> LineTerminal<A> {
         ensures given_back { IfErr result (λ r. r ≡ «record») }
     {
         self.tributary.offer(record)
+    }
+
+    /// Returns what is to be kept now of the sending side of the terminal, beside its records.
+    pub fn kept(&self) -> KeptSender
+        ensures { result ≡ kept_of self.now.tributary.sender self.now.tributary.queue }
+    {
+        // Reading a field makes the invariant known here.
+        let _ = &self.terminal;
+        self.tributary.kept()
+    }
+
+    /// Adds a record that had arrived for the selection address of this number, counted from 0,
+    /// before the process of the terminal ended. The terminal must have the address. If memory runs
+    /// out, nothing changes and the record is returned.
+    pub fn keep_arrived(&mut self, select: usize, record: Record) -> Result<(), Record>
+        requires { select < length self.old.tributary.terminal.selects }
+        ensures ok { OnOk result (GainsRecord (spool_at self.old.tributary.spools select) «record»
+            (spool_at self.new.tributary.spools select)) }
+        ensures err { OnErr result (self.new ≡ self.old) }
+        ensures given_back { IfErr result (λ r. r ≡ «record») }
+        ensures others { self.new ≡ with_spool self.old select
+            (spool_at self.new.tributary.spools select) }
+    {
+        self.tributary.keep_arrived(select, record)
+    }
+
+    /// Recalls what was kept, once the records that had been offered are offered again. The errors
+    /// are those of [`Tributary::recall`]; all change nothing.
+    pub fn recall(&mut self, kept: KeptSender) -> Result<(), RecallError>
+        ensures state { self.new
+            ≡ line_terminal_of self.old.number (after_recall self.old.tributary kept) }
+        ensures answer { result
+            ≡ (recall_step self.old.tributary.sender self.old.tributary.queue kept).answer }
+    {
+        self.tributary.recall(kept)
     }
 }
 

@@ -1,6 +1,6 @@
 //! The monitor of a terminal.
 
-ghost use Rattle.std.specs.Prelude.{◌≡◌, None, false};
+ghost use Rattle.std.specs.Prelude.{◌≡◌, None, false, slice_get};
 
 use crate::held::{Calls, Seen};
 use crate::trace::Who;
@@ -51,6 +51,14 @@ impl<'a, A: Allocator + Copy, T: Timer + Meter + Drop, W: Write, D: Write> Termi
         ensures { result ≡ self.now.closed }
     {
         self.closed
+    }
+
+    /// Returns how many records of the channel with this number were printed, among those on which
+    /// the station receives; `None` if there is no such channel.
+    pub fn printed(&self, number: usize) -> Option<usize>
+        ensures { result ≡ slice_get self.now.watch.printed.items number }
+    {
+        self.watch.printed(number)
     }
 }
 

@@ -62,7 +62,7 @@ pub struct Watch<'a, A: Allocator, T: Drop, W, D> {
 }
 
 impl<'a, A: Allocator + Copy, T: Timer + Meter + Drop, W: Write, D: Write> Watch<'a, A, T, W, D> {
-    ghost use Rattle.std.specs.Prelude.{None, replicate};
+    ghost use Rattle.std.specs.Prelude.{None, replicate, slice_get, slice_set};
 
     /// Returns the output of a station at which nothing has arrived.
     pub fn new<P: Party>(
@@ -92,6 +92,29 @@ impl<'a, A: Allocator + Copy, T: Timer + Meter + Drop, W: Write, D: Write> Watch
             out: RecordWriter::new(out),
             errors,
         })
+    }
+
+    /// Returns how many records of the channel with this number were printed, among those on which
+    /// the station receives; `None` if there is no such channel.
+    pub(crate) fn printed(&self, number: usize) -> Option<usize>
+        ensures { result ≡ slice_get self.now.printed.items number }
+    {
+        self.printed.get(number).copied()
+    }
+
+    /// Counts this many records of the channel with this number as printed, from the first, because
+    /// they were printed before the process of the station began. Nothing changes if there is no
+    /// such channel.
+    pub fn count_printed(&mut self, number: usize, count: usize)
+        ensures counted { self.new.printed.items ≡ slice_set self.old.printed.items number count }
+        ensures printing { self.new.printing ≡ self.old.printing }
+        ensures held { self.new.held ≡ self.old.held }
+        ensures out { self.new.out.now ≡ self.old.out.now }
+        ensures errors { self.new.errors.now ≡ self.old.errors.now }
+    {
+        if number < self.printed.len() {
+            self.printed[number] = count;
+        }
     }
 
     /// Returns the milliseconds since the start of the station.

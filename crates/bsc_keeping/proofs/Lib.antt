@@ -1,0 +1,4 @@
+mod Tellings
+mod Kept
+mod Lists
+mod Filled

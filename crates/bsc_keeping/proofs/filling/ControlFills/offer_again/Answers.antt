@@ -1,0 +1,10 @@
+-- A queue that gains a record is part of the records.
+use Rattle.std.proofs.Common.{ap, refl, ◌∙◌}
+use Rattle.bsc_control.specs.Stored.{apart_from_records}
+use Rattle.bsc_keeping.proofs.Filled.{peer_filled}
+use Rattle.bsc_keeping.proofs.filling.ControlFills.offer_again.Goals as goal
+
+pub returns-in-Ok-clause-fills : goal.returns-in-Ok-clause-fills
+returns-in-Ok-clause-fills g c =
+    ap apart_from_records c.in-Ok.ensures.ok
+    ∙ peer_filled c.args.self.now c.args.terminal _ refl

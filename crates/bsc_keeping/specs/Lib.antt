@@ -1,0 +1,6 @@
+pub mod Ends
+pub mod Changes
+pub mod Keeping
+pub mod Sessions
+pub mod Filling
+pub mod OwnText

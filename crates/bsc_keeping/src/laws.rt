@@ -1,0 +1,33 @@
+//! The law of a station whose records are kept, stated over the definitions that the contracts
+//! cite.
+
+ghost use Rattle.bsc_connections.specs.Parts.{session_parts};
+ghost use Rattle.bsc_keeping.specs.Sessions.{KeepsBeforeSending};
+
+use crate::{Keeping, Prints, Sends};
+use bsc_bid::Station;
+use bsc_connections::{Framing, Monitor, Waiter};
+use bsc_kept::Store;
+use bsc_monitor::Party;
+use std::io::{Read, Write};
+
+/// What a station sends whose records are kept, it sends after all that it has changed is kept: in
+/// every step of a session in which something is sent, exactly the changes that were not kept
+/// before are kept at once. A crash at any moment of any step leaves what was kept before the step,
+/// or all of the step. So whatever a peer was sent rests on what a store has.
+pub fn kept_before_sent<
+    S: Station + Party + Sends,
+    R: Read + Drop,
+    W: Write + Drop,
+    F: Framing + Drop,
+    T: Waiter<R, W>,
+    M: Monitor<S> + Prints + 'static,
+    K: Store + Drop + 'static,
+>()
+    ensures { KeepsBeforeSending S.Party S.kept_at K.Store M.printed
+        (session_parts S.Station R.Read W.Write F.Framing
+        ⟦<Keeping<'static, M, K> as Monitor<S>>⟧.is_told
+        ⟦<Keeping<'static, M, K> as Monitor<S>>⟧.admits
+        ⟦<Keeping<'static, M, K> as Monitor<S>>⟧.paces
+        T.Waiter) }
+{}
