@@ -5,7 +5,7 @@ ghost use Rattle.bsc_bid.specs.declared.kept.KeptSender.{KeptSender as KeptSende
 
 use bsc_bid::KeptSender;
 use bsc_control::Control;
-use bsc_monitor::{ControlWatch, LineTerminal, TerminalWatch, Timer};
+use bsc_monitor::{ControlWatch, LineTerminal, Meter, TerminalWatch, Timer};
 use std::alloc::Allocator;
 use std::io::Write;
 
@@ -57,7 +57,7 @@ pub trait Prints {
         ensures { result ≡ printed self.now number };
 }
 
-impl<'a, A: Allocator + Copy, T: Timer + Drop, W: Write, D: Write> Prints
+impl<'a, A: Allocator + Copy, T: Timer + Meter + Drop, W: Write, D: Write> Prints
     for ControlWatch<'a, A, T, W, D> {
     ghost use Rattle.std.specs.Prelude.{slice_get};
 
@@ -68,7 +68,7 @@ impl<'a, A: Allocator + Copy, T: Timer + Drop, W: Write, D: Write> Prints
     }
 }
 
-impl<'a, A: Allocator + Copy, T: Timer + Drop, W: Write, D: Write> Prints
+impl<'a, A: Allocator + Copy, T: Timer + Meter + Drop, W: Write, D: Write> Prints
     for TerminalWatch<'a, A, T, W, D> {
     ghost use Rattle.std.specs.Prelude.{slice_get};
 
