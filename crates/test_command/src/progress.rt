@@ -42,7 +42,14 @@ fn shown(
 }
 
 /// The words without an option.
-const PLAIN: &[&str] = &["station", "line.toml", "--terminal", "0", "--connect", "h:1"];
+const PLAIN: &[&str] = &[
+    "station",
+    "line.toml",
+    "--terminal",
+    "0",
+    "--connect",
+    "h:1",
+];
 
 /// The words by which no progress is shown.
 const QUIET: &[&str] = &[
