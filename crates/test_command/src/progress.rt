@@ -62,11 +62,11 @@ const QUIET: &[&str] = &[
     "--quiet",
 ];
 
-/// The station hears five transmissions, answers four of them, and its connection is closed.
+/// The station hears five transmissions and answers three of them, and its connection is closed.
 #[test]
 fn station_tells_its_progress_unless_it_is_quiet(rt: HostRuntime) -> Result<(), Fail> {
     let counts = Counts {
-        done: 10,
+        done: 9,
         known: 0,
         arrived: 1,
         doubts: 0,
