@@ -195,6 +195,8 @@ module _ {S : Type 0} (contents remaining : S → Option (List ℕ)) where
             begun = runs.begun;
             ended = runs.ended;
             new_line = runs.new_line;
+            told = runs.told;
+            addresses = runs.addresses;
             runs = record {
               text = runs.runs.text;
               events = runs.runs.events;

@@ -43,7 +43,13 @@ pub struct ControlWatch<'a, A: Allocator, T: Drop, W, D> {
     answering: Answering,
 }
 
-impl<'a, A: Allocator + Copy, T: Timer + Meter + Drop, W: Write, D: Write> ControlWatch<'a, A, T, W, D> {
+impl<'a, A: Allocator + Copy, T: Timer + Meter + Drop, W: Write, D: Write> ControlWatch<
+    'a,
+    A,
+    T,
+    W,
+    D,
+> {
     /// Returns the monitor of a control station that has sent nothing. `listens` tells whether
     /// other peers may connect later. `trust` is what is known of the premises.
     pub fn new<B: Allocator>(
@@ -113,8 +119,9 @@ impl<'a, A: Allocator + Copy, T: Timer + Meter + Drop, W: Write, D: Write> Contr
     }
 }
 
-impl<'a, A: Allocator + Copy, T: Timer + Meter + Drop, W: Write, D: Write, B: Allocator> Monitor<Control<B>>
-    for ControlWatch<'a, A, T, W, D> {
+impl<'a, A: Allocator + Copy, T: Timer + Meter + Drop, W: Write, D: Write, B: Allocator> Monitor<
+    Control<B>,
+> for ControlWatch<'a, A, T, W, D> {
     ghost use Rattle.std.specs.Prelude.{◌≡◌, IfErr, OnOk};
     ghost use Rattle.bsc_monitor.specs.Answering.{answering_after};
     ghost use Rattle.bsc_monitor.specs.Progress.{pace_after};
@@ -165,7 +172,8 @@ impl<'a, A: Allocator + Copy, T: Timer + Meter + Drop, W: Write, D: Write, B: Al
         self.watch.tell_unanswered(unanswered)?;
         self.pace = self.progress.pace_after(station, &note);
         let goes_on = self.progress.note(station, &note, found);
-        self.watch.show_progress(station, Some(self.progress.rounds()));
+        self.watch
+            .show_progress(station, Some(self.progress.rounds()));
         Ok(goes_on)
     }
 

@@ -2,11 +2,11 @@
 
 ghost use Rattle.std.specs.Prelude.{◌≡◌, false};
 
-use crate::{Meter, Timer};
 use crate::held::{Calls, Seen};
 use crate::trace::Who;
 use crate::trusting::Trusting;
 use crate::watch::{Watch, live};
+use crate::{Meter, Timer};
 use bsc_bid::Station;
 use bsc_connections::{LiveError, Monitor, Note, Pace};
 use bsc_frame::{Heard, MessageBuffer};
@@ -61,7 +61,13 @@ pub struct LastWatch<'a, A: Allocator, T: Drop, W, D> {
     pub(crate) ended: bool,
 }
 
-impl<'a, A: Allocator + Copy, T: Timer + Meter + Drop, W: Write, D: Write> LastWatch<'a, A, T, W, D> {
+impl<'a, A: Allocator + Copy, T: Timer + Meter + Drop, W: Write, D: Write> LastWatch<
+    'a,
+    A,
+    T,
+    W,
+    D,
+> {
     /// Returns what is known of the premises.
     pub fn trust(&self) -> Trust
         ensures { result ≡ self.now.trusting.trust }

@@ -29,7 +29,13 @@ pub struct TerminalWatch<'a, A: Allocator, T: Drop, W, D> {
     ended: bool,
 }
 
-impl<'a, A: Allocator + Copy, T: Timer + Meter + Drop, W: Write, D: Write> TerminalWatch<'a, A, T, W, D> {
+impl<'a, A: Allocator + Copy, T: Timer + Meter + Drop, W: Write, D: Write> TerminalWatch<
+    'a,
+    A,
+    T,
+    W,
+    D,
+> {
     /// Returns the monitor of a terminal at which nothing has arrived.
     pub fn new(watch: Watch<'a, A, T, W, D>) -> TerminalWatch<'a, A, T, W, D>
         ensures watch { result.watch ≡ watch.entry }

@@ -8,8 +8,8 @@ use bsc_command::{Fault, command};
 use bsc_connections::{Awaited, Handled, LiveError, Pace, Waiter};
 use bsc_input::{Files, InputError, Unreadable};
 use bsc_loopback::LoopbackError;
-use bsc_progress::{Unmetered, Work};
 use bsc_options::Place;
+use bsc_progress::{Unmetered, Work};
 use bsc_running::Cables;
 use bsc_sockets::SocketsError;
 use std::alloc::{AllocError, Global};
@@ -399,6 +399,7 @@ impl Due {
 }
 
 /// A command, and its expected results.
+#[derive(Clone, Copy)]
 pub(crate) struct Case {
     /// The words after the program's name; None if they could not be read.
     pub(crate) words: Option<&'static [&'static str]>,

@@ -88,7 +88,9 @@ fn line_is_cleared_and_counts_are_added(rt: HostRuntime) -> Result<(), Fail> {
     let mut text = Vec::<u8>::new(rt.alloc());
     write_cleared(&mut text)?;
     assert!(rt; text.as_slice() == b"\r\x1b[K".as_slice());
-    let sum = Counts::of(12).and(Counts::sending(3, true)).and(Counts::receiving(4));
+    let sum = Counts::of(12)
+        .and(Counts::sending(3, true))
+        .and(Counts::receiving(4));
     assert!(rt; sum == COUNTS);
     Ok(())
 }
