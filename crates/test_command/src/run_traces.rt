@@ -9,32 +9,31 @@ use std::net::Net;
 use std::test::Fail;
 
 /// The ladder of the trace of `examples/lossy_line`.
-const LOSSY_LINE_LADDER: &str = "    time control            0
-       0 = terminal 0 is A, selected as a.
-       0 = terminal 1 is B, selected as b.
+const LOSSY_LINE_LADDER: &str = "    time control
+       0 |                  0 A, selected as a.
+       0 |                  |   1 B, selected as b.
        2 = offered at terminal 0: |HI|
        3 = offered for terminal 1.0: |BYE|
-       7 :. silence ........:
-       8 *- CALL A --------->
-       9 ?- FAILED ---------*  failed
-      10 *- NAK ------------>
-      11 <- TEXT ETX 1 -----*  |HI
-      11 = arrived from 0: |HI|
-      15 *- ACK1 ---------x |  lost
-      16 :. silence ........:
-      17 | x ENQ -----------*  lost
-      18 :. silence ........:
-      18 = the doubt from 0 begins
-      19 <- EOT ------------*
-      23 *- CALL b -------x |  lost
-    time control            0   1
+       7 :. silence ........:...:
+       8 *- CALL A --------->--->
+       9 ?- FAILED ---------*   |  failed
+      10 *- NAK ------------>--->
+      11 <- TEXT ETX 1 -----*   |  |HI
+      11 @ arrived from 0: |HI|
+      15 *- ACK1 ---------x |   |  lost
+      16 :. silence ........:...:
+      17 | x ENQ -----------*   |  lost
+      18 :. silence ........:...:
+      18 |                  ~ the doubt from 0 begins
+      19 <- EOT ------------*   |
+      23 *- CALL b -------x |   |  lost
       23 *- NOISE ----------+---?  failed
       24 :. silence ........:...:
       25 *- CALL b --------->--->
       26 <- ACK0 -----------+---*
       29 *- TEXT ETX 1 ---x |   |  lost  |BYE
       29 *- TEXT ETX 1 -----+--->  |BYE
-      29 = arrived to 1.0: |BYE|
+      29 |                  |   @ arrived to 1.0: |BYE|
       30 <- ACK1 -----------+---*
       31 *- CALL B --------->--->
       32 <- EOT ------------+---*
@@ -43,26 +42,25 @@ const LOSSY_LINE_LADDER: &str = "    time control            0
 ";
 
 /// The ladder of the trace of `examples/two_spools`.
-const TWO_SPOOLS_LADDER: &str = "    time control            0
-       0 = terminal 0 is A, selected as a c.
-       0 = terminal 1 is B, selected as b.
+const TWO_SPOOLS_LADDER: &str = "    time control
+       0 |                  0 A, selected as a c.
+       0 |                  |   1 B, selected as b.
        2 = offered for terminal 0.0: |HI|
        3 = offered for terminal 0.1: ||
-       7 :. silence ........:
-       8 *- CALL a --------->
-       9 <- ACK0 -----------*
-      10 *- TEXT ETX 1 ----->  |HI
-      10 = arrived to 0.0: |HI|
-      11 <- ACK1 -----------*
-      12 *- CALL c --------->
-      13 <- ACK0 -----------*
-      14 *- TEXT ETX 1 ----->  |
-      14 = arrived to 0.1: ||
-      15 <- ACK1 -----------*
-      16 *- CALL A --------->
-      17 <- EOT ------------*
-      18 *- CALL B --------->
-    time control            0   1
+       7 :. silence ........:...:
+       8 *- CALL a --------->--->
+       9 <- ACK0 -----------*   |
+      10 *- TEXT ETX 1 ----->--->  |HI
+      10 |                  @ arrived to 0.0: |HI|
+      11 <- ACK1 -----------*   |
+      12 *- CALL c --------->--->
+      13 <- ACK0 -----------*   |
+      14 *- TEXT ETX 1 ----->--->  |
+      14 |                  @ arrived to 0.1: ||
+      15 <- ACK1 -----------*   |
+      16 *- CALL A --------->--->
+      17 <- EOT ------------*   |
+      18 *- CALL B --------->--->
       19 <- EOT ------------+---*
 ";
 
