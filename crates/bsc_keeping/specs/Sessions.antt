@@ -27,9 +27,10 @@ module _ {S M K Z : Type 0} (party : party_of.Ghosts S Z)
   -- All that the station has changed is kept, and known to be kept.
   pub record IsKept (station : S) (old new : Keeping M K) : Type 0 where
     pub changes : KeepsAll store
-        (step_of party kept_at store (printed old.watch.now) station old.keeper.now) old.keeper.now.store
-        new.keeper.now.store
-    pub sending : new.keeper.now.sending.items ≡ sending_now kept_at station old.keeper.now.sending.items
+        (step_of party kept_at store (printed old.watch.now) station old.keeper.now)
+        old.keeper.now.store new.keeper.now.store
+    pub sending : new.keeper.now.sending.items
+        ≡ sending_now kept_at station old.keeper.now.sending.items
     pub receiving : new.keeper.now.receiving.items
         ≡ receiving_now party station (printed old.watch.now) old.keeper.now.receiving.items
 

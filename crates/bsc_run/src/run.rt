@@ -29,9 +29,9 @@ use std::io::{Read, Write};
 /// With `tracing` a trace of the run is written to `trace`, in the form of that of a station: first
 /// the addresses of each terminal, and then the lines of each accepted event. Each begins with the
 /// number of the line of the script, and tells what became of the transmission that was pending,
-/// who heard it, its name and its octets as they were read; or what the event is. Further lines tell
-/// each record that landed, each doubt that begins, and the end of trust. While it runs, `meter` is
-/// shown how far it has come, each time that it is due.
+/// who heard it, its name and its octets as they were read; or what the event is. Further lines
+/// tell each record that landed, each doubt that begins, and the end of trust. While it runs,
+/// `meter` is shown how far it has come, each time that it is due.
 ///
 /// `Refused` is returned after the report is printed, with the number of the line of the refused
 /// event; nothing crossed the cable for that event. After `Output`, `Socket` and `Memory` there is

@@ -1,5 +1,6 @@
 -- What is read of the tables.
-use Rattle.std.specs.Prelude.{◌≡◌, ℕ, ℤ, pos, List, [], ◌∷◌, ◌++◌, codes, Option, Some, None, Ok, Err}
+use Rattle.std.specs.Prelude.{◌≡◌, ℕ, ℤ, pos, List, [], ◌∷◌, ◌++◌, codes}
+use Rattle.std.specs.Prelude.{Option, Some, None, Ok, Err}
 use Rattle.sqlite.specs.Store.{Ghosts}
 use Rattle.sqlite.specs.Order.{Row, column}
 use Rattle.sqlite.specs.declared.types.Value.{Value}
@@ -74,7 +75,8 @@ IsProgress g channel old new it = (row : Row)
     × AreNumbers row it
 
 -- A record is the one that the query gives, with its mark; none if the query gives none.
-abbrev pub IsFound : {S : Type 0} → Ghosts S → List ℕ → Row → Held S → Held S → Option Found → Type 0
+abbrev pub IsFound : {S : Type 0} → Ghosts S → List ℕ → Row → Held S → Held S → Option Found
+    → Type 0
 IsFound g text values old new (Some it) = (row : Row) × Gives g text values old new (Some row)
     × (column row 0 ≡ Int it.mark) × (column row 1 ≡ Blob it.«record»)
 IsFound g text values old new None = Gives g text values old new None

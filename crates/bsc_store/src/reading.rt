@@ -131,7 +131,8 @@ pub(crate) fn next<S: Alter>(
     more: u32,
 ) -> Result<Option<Found>, StoreFault>
     ensures is { HasCleanDisk (state S.Store conn.new) → IfOk result
-        (IsFound S.Store (query_text query) (place_values channel.now mark more) conn.old conn.new) }
+        (IsFound S.Store (query_text query) (place_values channel.now mark more)
+        conn.old conn.new) }
     ensures read { OnlyRead S.Store conn.old conn.new }
 {
     let values = params![way(channel), address(channel), mark, more];

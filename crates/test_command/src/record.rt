@@ -43,8 +43,8 @@ impl Record {
     }
 }
 
-/// A clock that stands still. Each time is one to show the progress, if there is work whose progress
-/// is to be shown.
+/// A clock that stands still. Each time is one to show the progress, if there is work whose
+/// progress is to be shown.
 #[derive(Drop)]
 pub(crate) struct Metered<'a> {
     pub(crate) work: Option<Work>,
