@@ -109,7 +109,7 @@ impl<'a, A: Allocator + Copy, T: Timer + Meter + Drop, W: Write, D: Write> Watch
         ensures counted { self.new.printed.items ≡ slice_set self.old.printed.items number count }
         ensures printing { self.new.printing ≡ self.old.printing }
         ensures held { self.new.held ≡ self.old.held }
-        ensures out { self.new.out.now ≡ self.old.out.now }
+        ensures out { self.new.out ≡ self.old.out }
         ensures errors { self.new.errors.now ≡ self.old.errors.now }
     {
         if number < self.printed.len() {
