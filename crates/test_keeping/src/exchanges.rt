@@ -1,0 +1,182 @@
+//! Exchanges of two stations whose processes are killed at any moment and begun again.
+
+use crate::memory::Memory;
+use crate::stations::{
+    Kept, control, from_terminal, line, offering, record, terminal, to_terminal,
+};
+use bsc_config::Config;
+use bsc_connections::LiveError;
+use bsc_control::Control;
+use bsc_frame::Wire;
+use bsc_kept::{Change, Channel, Store, StoreFault};
+use bsc_monitor::{LineTerminal, Party};
+use std::alloc::Global;
+use std::test::Fail;
+use test_fixtures::Random;
+
+/// How many records each channel carries.
+const RECORDS: usize = 40;
+
+/// What is on the way.
+#[derive(Clone, Copy, PartialEq, Eq)]
+enum Sent {
+    Nothing,
+    ByControl,
+    ByTerminal,
+}
+
+/// The control station, a terminal, and what is on the way between them.
+#[derive(Drop)]
+struct Line {
+    control: Kept<Control<Global>>,
+    terminal: Kept<LineTerminal<Global>>,
+    wire: Wire,
+    sent: Sent,
+}
+
+/// Returns a store with all records of these channels.
+fn store_of(alloc: Global, channels: &[Channel]) -> Result<Memory, Fail> {
+    let mut store = Memory::new(alloc);
+    for channel in channels {
+        for number in 0..RECORDS {
+            store.commit(&[offering(*channel, number)?])?;
+        }
+    }
+    Ok(store)
+}
+
+/// Returns the line with all records to send.
+fn begun(alloc: Global, config: &Config) -> Result<Line, Fail> {
+    let outward = store_of(alloc, &[to_terminal(b'a')?, to_terminal(b'c')?])?;
+    let inward = store_of(alloc, &[from_terminal()?])?;
+    Ok(Line {
+        control: control(alloc, config, outward)?,
+        terminal: terminal(alloc, config, inward)?,
+        wire: Wire::new(),
+        sent: Sent::Nothing,
+    })
+}
+
+/// Delivers what is on the way, or tells a station of a silence.
+fn step(line: &mut Line) -> Result<(), Fail> {
+    let mut answer = Wire::new();
+    let (is_sent, by) = match line.sent {
+        Sent::ByControl => (
+            line.terminal.hear(&line.wire, &mut answer)?,
+            Sent::ByTerminal,
+        ),
+        Sent::ByTerminal => (line.control.hear(&line.wire, &mut answer)?, Sent::ByControl),
+        Sent::Nothing => (line.control.silence(&mut answer)?, Sent::ByControl),
+    };
+    line.wire = answer;
+    line.sent = if is_sent { by } else { Sent::Nothing };
+    Ok(())
+}
+
+/// Releases the doubt of a channel: the other end has this many records.
+fn reconcile(store: &mut Memory, channel: Channel, other: &mut Memory) -> Result<(), Fail> {
+    let (own, far) = (store.progress(&channel)?, other.progress(&channel)?);
+    if own.in_doubt > 0 {
+        store.commit(&[Change::Known {
+            channel,
+            known: far.arrived,
+            in_doubt: 0,
+        }])?;
+    }
+    Ok(())
+}
+
+/// Kills both stations, releases their doubts, and begins both again.
+fn killed(alloc: Global, config: &Config, line: Line) -> Result<Line, Fail> {
+    let Line {
+        control: first,
+        terminal: second,
+        ..
+    } = line;
+    let (mut outward, mut inward) = (first.into_store(), second.into_store());
+    reconcile(&mut outward, to_terminal(b'a')?, &mut inward)?;
+    reconcile(&mut outward, to_terminal(b'c')?, &mut inward)?;
+    reconcile(&mut inward, from_terminal()?, &mut outward)?;
+    Ok(Line {
+        control: control(alloc, config, outward)?,
+        terminal: terminal(alloc, config, inward)?,
+        wire: Wire::new(),
+        sent: Sent::Nothing,
+    })
+}
+
+/// Whether a station has received all records of the channel with this number, each once and in
+/// order.
+fn has_all<S: Party>(station: &S, number: usize) -> Result<bool, Fail> {
+    if number >= station.spools() {
+        return Ok(false);
+    }
+    let records = station.received(number).records;
+    for place in 0..records.len() {
+        if records.chars(place) != record(place)?.chars() {
+            return Ok(false);
+        }
+    }
+    Ok(records.len() == RECORDS)
+}
+
+/// Plays a line whose stations are killed and whose transmissions are lost at random, until all has
+/// arrived. Returns how many steps that took.
+fn play(alloc: Global, seed: u64) -> Result<usize, Fail> {
+    let config = line(alloc)?;
+    let mut random = Random::new(seed);
+    let mut line = begun(alloc, &config)?;
+    for steps in 0..5_000 {
+        if random.one_in(12) {
+            line.sent = Sent::Nothing;
+        }
+        if random.one_in(15) {
+            line = killed(alloc, &config, line)?;
+        }
+        step(&mut line)?;
+        if arrived(&line)? {
+            return Ok(steps);
+        }
+    }
+    Err(Fail::new("not all records arrived"))
+}
+
+/// Whether all records of the line have arrived.
+fn arrived(line: &Line) -> Result<bool, Fail> {
+    Ok(
+        has_all(&line.control.station, 0)?
+            && has_all(&line.terminal.station, 0)?
+            && has_all(&line.terminal.station, 1)?,
+    )
+}
+
+#[test]
+fn all_records_arrive_in_order_and_once_over_kills(rt: HostRuntime) -> Result<(), Fail> {
+    for seed in 1..20 {
+        let steps = play(rt.alloc(), seed)?;
+        assert!(rt; steps > 30);
+    }
+    Ok(())
+}
+
+/// The octets of ACK0, as they are sent.
+const ACK0: &[u8] = &[0x16, 0x16, 0x10, 0xb0, 0xff];
+
+/// What the control station answers to ACK0 after it has selected a terminal, over a store that
+/// keeps nothing more.
+fn answered_over(store: Memory, alloc: Global) -> Result<bool, Fail> {
+    let config = line(alloc)?;
+    let mut station = control(alloc, &config, store)?;
+    let mut wire = Wire::new();
+    let called = station.silence(&mut wire)?;
+    let refused = matches!(station.hear(ACK0, &mut wire), Err(LiveError::Unkept));
+    Ok(called && refused && station.fault() == Some(StoreFault::Full))
+}
+
+#[test]
+fn a_text_that_is_not_kept_as_unanswered_is_refused(rt: HostRuntime) -> Result<(), Fail> {
+    let mut store = store_of(rt.alloc(), &[to_terminal(b'a')?])?;
+    store.left = 0;
+    assert!(rt; answered_over(store, rt.alloc())?);
+    Ok(())
+}
