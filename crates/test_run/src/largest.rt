@@ -107,14 +107,29 @@ fn printed_of(alloc: Global, count: usize) -> Result<String, Fail> {
     Ok(text)
 }
 
+/// The lines of the trace for the addresses of this many terminals.
+fn addresses_of(alloc: Global, count: usize) -> Result<String, Fail> {
+    let mut text = String::new(alloc);
+    for number in 0..count {
+        write!(
+            text,
+            "+0 terminal {number} is A{number}, \
+            selected as a{number} b{number} c{number} d{number}.\n"
+        )?;
+    }
+    Ok(text)
+}
+
 /// The trace of this script on a line of this many terminals.
 fn traced_of(alloc: Global, count: usize) -> Result<String, Fail> {
-    let mut text = String::from_str(alloc, "+1 offered at terminal 0: |HI|\n+2 silence\n")?;
+    let mut text = addresses_of(alloc, count)?;
+    text.push_str("+1 offered at terminal 0: |HI|\n+2 silence\n")?;
     for number in 0..count {
         write!(text, "+3 control heard at {number} CALL A0 {CALL}\n")?;
     }
     text.push_str(
         "+4 terminal 0 heard TEXT ETX 1 161602c84919839bff
++4 arrived from 0: |HI|
 +5 control heard ACK1 16161031ff
 +6 terminal 0 heard EOT 161604ff
 ",
