@@ -76,12 +76,6 @@ pub record IsWordsFault (error : Error) (fault : Fault) : Type 0 where
   pub memory : kind_of error ≡ kind.OutOfMemory → fault ≡ OutOfMemory
   pub usage : kind_of error ≢ kind.OutOfMemory → fault ≡ Usage error
 
--- The fault is wrong usage, unless memory ran out.
-abbrev pub IsUsage : Fault → Type 0
-IsUsage (Usage text) = Unit {0}
-IsUsage OutOfMemory = Unit {0}
-IsUsage _ = ⊥
-
 -- The fault is wrong usage of this kind, unless memory ran out.
 abbrev pub IsUsageOf : ErrorKind → Fault → Type 0
 IsUsageOf kind (Usage error) = kind_of error ≡ kind

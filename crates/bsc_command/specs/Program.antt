@@ -25,9 +25,9 @@ use Rattle.bsc_running.specs.declared.error.RunningError.TheVariants.{BothStanda
 use Rattle.bsc_words.specs.CommandLine.{IsHelp, asked_of, faults_at}
 use Rattle.bsc_command.specs.declared.fault.Fault.{Fault}
 use Rattle.bsc_command.specs.declared.fault.Fault.TheVariants.{Naming, Charting, Running}
-use Rattle.bsc_command.specs.declared.fault.Fault.TheVariants.{Attending, Usage}
+use Rattle.bsc_command.specs.declared.fault.Fault.TheVariants.{Attending, OutOfMemory, Usage}
 use Rattle.bsc_command.specs.Faults.{IsChartingFault, IsNameFault, IsNamesFault}
-use Rattle.bsc_command.specs.Faults.{IsPrintFault, IsRunFault, IsStationFault, IsUsage}
+use Rattle.bsc_command.specs.Faults.{IsPrintFault, IsRunFault, IsStationFault}
 use Rattle.bsc_command.specs.Faults.{options_kind}
 
 -- What a fault of naming one transmission says: its text is not hexadecimal.
@@ -53,9 +53,9 @@ HasFailedStation (Usage error) words input =
     × IsAnswer words input (Err (attending.Options why))
 HasFailedStation fault words input = Unit {0}
 
--- What a fault of drawing a trace says: the line with this number is the first that is wrong or too
--- long, and of the lines before it the rows of a text were written, and nothing of a picture; or the
--- page is full.
+-- What a fault of drawing a trace says: the line with this number is the first that is wrong or
+-- too long, and of the lines before it the rows of a text were written, and nothing of a picture;
+-- or the page is full.
 abbrev pub HasFailedChart : Fault → AskedChart → Option (List ℕ) → Option (List ℕ)
     → Option (List ℕ) → Type 0
 HasFailedChart (Charting error) words input old new =
@@ -147,10 +147,18 @@ pub record IsFailure {S : Type 0} (contents remaining : S → Option (List ℕ))
   pub kind : IsFaultOf asked fault
   pub says : HasFailedAs contents remaining asked fault input old new
 
+-- A fault of the arguments: wrong usage of a kind that `clap` reports for them, and not that the
+-- help or the version was asked for; unless memory ran out.
+abbrev pub IsWordsUsage : List WordText → Fault → Type 0
+IsWordsUsage words (Usage error) =
+    HasKind (faults_at words) error × (IsHelp (kind_of error) → ⊥)
+IsWordsUsage words OutOfMemory = Unit {0}
+IsWordsUsage words _ = ⊥
+
 -- A fault of the arguments, of printing, or of the work that the arguments ask for.
 abbrev pub IsFaultAt : {S : Type 0} (contents remaining : S → Option (List ℕ)) → List WordText
     → Fault → Option (List ℕ) → Option (List ℕ) → Option (List ℕ) → Type 0
 IsFaultAt contents remaining words fault input old new =
-    IsUsage fault
+    IsWordsUsage words fault
     ⊎ (IsPrintFault fault
     ⊎ IsFailure contents remaining (asked_of words) fault input old new)
