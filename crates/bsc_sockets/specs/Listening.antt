@@ -6,6 +6,12 @@ use Rattle.bsc_sockets.specs.declared.error.SocketsError.TheVariants.{CannotList
 use Rattle.bsc_sockets.specs.declared.error.SocketsError.TheVariants.{CannotWatchInput}
 use Rattle.bsc_sockets.specs.declared.error.SocketsError.TheVariants.{NobodyConnected, NobodyThere}
 use Rattle.bsc_sockets.specs.declared.error.SocketsError.TheVariants.{Sockets, Stopped}
+use Rattle.bsc_sockets.specs.declared.waiting.NotTaken.{NotTaken}
+use Rattle.bsc_sockets.specs.declared.waiting.NotTaken.TheVariants.{Nobody, Gone, Refused}
+use Rattle.bsc_connections.specs.declared.awaited.LiveError.{LiveError}
+use Rattle.bsc_connections.specs.declared.awaited.LiveError.TheVariants as live
+use Rattle.std.specs.declared.io.ErrorKind.{ErrorKind}
+use Rattle.std.specs.declared.io.ErrorKind.TheVariants as kind
 
 -- The text is not an address, or none of its addresses can be bound.
 abbrev pub IsBindError : SocketsError → Type 0
@@ -13,6 +19,23 @@ IsBindError Address = ⊤
 IsBindError AddressInUse = ⊤
 IsBindError CannotListen = ⊤
 IsBindError _ = ⊥
+
+-- Why an address cannot be bound, by the kind of the error.
+abbrev pub bind_error : ErrorKind → SocketsError
+bind_error kind.AddrInUse = AddressInUse
+bind_error _ = CannotListen
+
+-- What it means that a peer cannot be accepted, by the kind of the error.
+abbrev pub not_taken_by : ErrorKind → NotTaken
+not_taken_by kind.WouldBlock = Nobody
+not_taken_by kind.ConnectionAborted = Gone
+not_taken_by kind.Interrupted = Gone
+not_taken_by _ = Refused
+
+-- Why the next peer is not taken, if waiting for it fails with this.
+abbrev pub peer_error : LiveError → SocketsError
+peer_error live.Memory = Memory
+peer_error _ = Sockets
 
 -- The system refuses what a connection needs, or memory is refused.
 abbrev pub IsDenied : SocketsError → Type 0

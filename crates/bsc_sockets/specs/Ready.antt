@@ -2,11 +2,23 @@
 use Rattle.std.specs.Prelude.{◌≡◌, ◌∷◌, ◌++◌, ◌==◌, [], List, ℕ, Option, None, Some, if◌then◌else◌}
 use Rattle.std.specs.Prelude.{not, filter}
 use Rattle.std.specs.List.{list_any}
+use Rattle.mio.specs.Event.{event_token}
+use Rattle.mio.specs.declared.event.event.Event.{Event}
+use Rattle.bsc_sockets.specs.declared.stopping.TheConstants.{INPUT}
 
 -- These places, followed by this one unless it is one of them.
 abbrev pub with_place : List ℕ → ℕ → List ℕ
 with_place places place =
     if list_any (λ other. other == place) places then places else (places ++ place ∷ [])
+
+-- These places, followed by that of an event, unless it is that of the input.
+abbrev pub with_event : List ℕ → ℕ → List ℕ
+with_event places place = if place == INPUT then places else with_place places place
+
+-- These places, followed by those of these events, in order.
+abbrev pub with_events : List ℕ → List Event → List ℕ
+with_events places [] = places
+with_events places (event ∷ events) = with_events (with_event places (event_token event).0) events
 
 -- These places without this one.
 abbrev pub without_place : List ℕ → ℕ → List ℕ

@@ -1,5 +1,5 @@
 -- Whether a station is asked to end, and how often it was told so.
-use Rattle.std.specs.Prelude.{ℕ, ◌==◌, ◌&&◌, Bool, true, false}
+use Rattle.std.specs.Prelude.{◌≡◌, ℕ, ◌==◌, ◌&&◌, Bool, true, false}
 use Rattle.std.specs.List.{list_any}
 use Rattle.mio.specs.Event.{event_token, is_read_closed}
 use Rattle.mio.specs.Events.{items}
@@ -9,6 +9,8 @@ use Rattle.bsc_connections.specs.declared.awaited.Awaited.TheVariants as awaited
 use Rattle.bsc_sockets.specs.declared.stopping.Stopping.{Stopping}
 use Rattle.bsc_sockets.specs.declared.stopping.Stopping.TheVariants.{NotAsked, Asked, Told}
 use Rattle.bsc_sockets.specs.declared.stopping.Stopping.TheVariants.{ToldAgain}
+use Rattle.bsc_sockets.specs.Times.{HasBegun}
+use Rattle.std.specs.declared.time.Duration.{Duration}
 
 -- How often the station was told: at most twice.
 abbrev pub times_told : Stopping → ℕ
@@ -50,3 +52,10 @@ count_if false = 0
 abbrev pub stops_in : Awaited → ℕ
 stops_in awaited.Stopped = 1
 stops_in _ = 0
+
+-- If the station was told once, the time after which it is told a second time has begun, and has
+-- this length; else nothing changes.
+abbrev pub StopRuns : Duration → Stopping → Stopping → Type 0
+StopRuns whole (Told since) (Told later) = HasBegun whole since later
+StopRuns whole (Told since) _ = ⊥
+StopRuns whole before after = after ≡ before

@@ -1,10 +1,13 @@
--- The time of the time-out.
-use Rattle.std.specs.Prelude.{◌≡◌, ⊤, ℕ, Option, None, Some}
+-- The times of the time-out and of the gaps.
+use Rattle.std.specs.Prelude.{◌≡◌, ⊤, ℕ, List, Option, None, Some, IsSome, nat_le}
+use Rattle.std.specs.Prelude.{slice_index_or, slice_set, if◌then◌else◌}
 use Rattle.bsc_connections.specs.declared.awaited.Awaited.{Awaited}
 use Rattle.bsc_connections.specs.declared.awaited.Awaited.TheVariants.{Gap, TimeOut}
 use Rattle.bsc_sockets.specs.declared.times.Time.{Time}
 use Rattle.std.specs.declared.time.Duration.{Duration}
 use Rattle.bsc_sockets.specs.declared.times.Time.TheVariants.{Anew, Since}
+use Rattle.bsc_sockets.specs.declared.times.End.{End}
+use Rattle.std.specs.Duration.{as_nanos}
 
 -- A time that has begun runs on since the same moment; one that begins with the next wait may
 -- begin.
@@ -29,3 +32,48 @@ IsEnd _ = ⊥
 abbrev pub event_of : Option ℕ → Awaited
 event_of None = TimeOut
 event_of (Some place) = Gap place
+
+-- The time of the gap at this place, if one is awaited there.
+abbrev pub gap_at : List (Option Time) → ℕ → Option Time
+gap_at gaps place = slice_index_or gaps place None
+
+-- If a gap is awaited its time has begun, and has this length; if none is, none is.
+abbrev pub GapRuns : Duration → Option Time → Option Time → Type 0
+GapRuns whole None new = new ≡ None
+GapRuns whole (Some time) None = ⊥
+GapRuns whole (Some time) (Some new) = HasBegun whole time new
+
+-- This is so at each place.
+abbrev pub GapsRun : Duration → List (Option Time) → List (Option Time) → Type 0
+GapsRun whole old new = (place : ℕ) → GapRuns whole (gap_at old place) (gap_at new place)
+
+-- What ends next, with a gap at this place of which this is left: the gap, if no more is left of
+-- it.
+abbrev pub earlier : End → Duration → ℕ → End
+earlier next left place =
+    if nat_le (as_nanos left) (as_nanos next.left) then record { left = left; gap = Some place }
+    else next
+
+-- The gaps that are awaited after the end of the gap at this place, or of the time-out.
+abbrev pub without_ended : Option ℕ → List (Option Time) → List (Option Time)
+without_ended None gaps = gaps
+without_ended (Some place) gaps = slice_set gaps place None
+
+-- The gap at this place, if one ends, is awaited.
+abbrev pub IsAwaited : Option ℕ → List (Option Time) → Type 0
+IsAwaited None gaps = ⊤
+IsAwaited (Some place) gaps = IsSome (gap_at gaps place)
+
+-- The place of the gap that ends with an event, if one does.
+abbrev pub ended_gap : Awaited → Option ℕ
+ended_gap (Gap place) = Some place
+ended_gap _ = None
+
+-- In a wait that ends with this event each gap that was awaited has begun, and has this length. A
+-- gap that has ended was awaited, and is awaited no more.
+pub record RunGaps (whole : Duration) (awaited : Awaited) (old new : List (Option Time))
+    : Type 0 where
+  pub between : List (Option Time)
+  pub run : GapsRun whole old between
+  pub was_awaited : IsAwaited (ended_gap awaited) old
+  pub ended : new ≡ without_ended (ended_gap awaited) between

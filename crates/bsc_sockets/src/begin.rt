@@ -2,6 +2,7 @@
 
 ghost use Rattle.std.specs.Prelude.{◌≡◌, ◌<◌, ◌^◌, ◌+◌, [], false, is_some, length, IfErr, IfOk};
 ghost use Rattle.std.specs.Prelude.{IsNone, OnOk};
+ghost use Rattle.std.specs.Net.ToAddrs.{host_addrs};
 ghost use Rattle.bsc_sockets.specs.Listening.{IsAddressError, IsConnectError, IsDenied};
 ghost use Rattle.bsc_sockets.specs.Listening.{IsListenError, IsPeerError, IsUnwatched};
 
@@ -14,7 +15,7 @@ use mio::net::TcpStream;
 use std::alloc::Allocator;
 use std::io;
 use std::io::ErrorKind;
-use std::net::{Net, SocketAddr};
+use std::net::{HostAddrs, Net, SocketAddr};
 use std::time::{Clock, Duration};
 
 /// The peers that one waits for. (Own.)
@@ -66,13 +67,23 @@ pub fn connect<'a, N: Net + Clock, A: Allocator + Copy>(
     settings: ConnectionSettings,
 ) -> Result<Begun<'a, N, A>, SocketsError>
     ensures count { IfOk result (λ begun. length begun.connections.items ≡ 1) }
+    ensures settings { IfOk result (λ begun. begun.sockets.settings ≡ settings) }
     ensures failed { IfErr result (IsAddressError (is_some settings.stops_with)) }
 {
-    let mut hosts = Vec::new(alloc);
-    for host in addresses(runtime, address)? {
-        hosts.push(host)?;
-    }
+    let hosts = collected(alloc, addresses(runtime, address)?)?;
     connect_to_any(runtime, alloc, &hosts, patience, settings)
+}
+
+/// Returns all addresses of a host, in order.
+fn collected<A: Allocator>(alloc: A, hosts: HostAddrs) -> Result<Vec<SocketAddr, A>, SocketsError>
+    ensures all { IfOk result (λ all. all.items ≡ host_addrs hosts) }
+    ensures failed { IfErr result (λ why. why ≡ SocketsError.Memory) }
+{
+    let mut all = Vec::new(alloc);
+    'hosts: for host in hosts {
+        all.push(host)?;
+    }
+    Ok(all)
 }
 
 /// Connects to the first of these addresses that answers. Fails with `NobodyThere` if no address
@@ -88,6 +99,7 @@ pub fn connect_to_any<'a, N: Net + Clock, A: Allocator + Copy>(
     settings: ConnectionSettings,
 ) -> Result<Begun<'a, N, A>, SocketsError>
     ensures count { IfOk result (λ begun. length begun.connections.items ≡ 1) }
+    ensures settings { IfOk result (λ begun. begun.sockets.settings ≡ settings) }
     ensures failed { IfErr result (IsConnectError (is_some settings.stops_with)) }
 {
     let mut begun = Begun::new(runtime, alloc, 1, settings)?;
@@ -148,6 +160,7 @@ pub fn listen<'a, N: Net + Clock, A: Allocator + Copy, H: Reception>(
 ) -> Result<Begun<'a, N, A>, SocketsError>
     requires { peers.count < 2 ^ 16 }
     ensures count { IfOk result (λ begun. length begun.connections.items ≡ peers.count) }
+    ensures settings { IfOk result (λ begun. begun.sockets.settings ≡ settings) }
     ensures refuses { peers.keeps_listening ≡ false
         → IfOk result (λ begun. IsNone begun.sockets.listener) }
     ensures failed { IfErr result (IsListenError (is_some settings.stops_with)) }
@@ -167,6 +180,7 @@ impl<'a, N: Net + Clock, A: Allocator + Copy> Begun<'a, N, A> {
     ) -> Result<Begun<'a, N, A>, SocketsError>
         requires { places < 2 ^ 16 }
         ensures none { IfOk result (λ begun. begun.connections.items ≡ []) }
+        ensures settings { IfOk result (λ begun. begun.sockets.settings ≡ settings) }
         ensures failed { IfErr result (IsUnwatched (is_some settings.stops_with)) }
     {
         let sockets = Sockets::new(runtime, alloc, places, settings)?;
@@ -186,6 +200,7 @@ impl<'a, N: Net + Clock, A: Allocator + Copy> Begun<'a, N, A> {
     ) -> Result<(), SocketsError>
         ensures count { OnOk result
             (length self.new.connections.items ≡ length self.old.connections.items + 1) }
+        ensures settings { self.new.sockets.settings ≡ self.old.sockets.settings }
         ensures failed { IfErr result IsDenied }
     {
         let directions = self.sockets.open(place, stream, peer)?;
@@ -202,6 +217,7 @@ impl<'a, N: Net + Clock, A: Allocator + Copy> Begun<'a, N, A> {
     ) -> Result<(), SocketsError>
         requires { self.old.connections.items ≡ [] }
         ensures count { OnOk result (length self.new.connections.items ≡ peers.count) }
+        ensures settings { self.new.sockets.settings ≡ self.old.sockets.settings }
         ensures refuses { peers.keeps_listening ≡ false
             → OnOk result (IsNone self.new.sockets.listener) }
         ensures failed { IfErr result IsPeerError }
@@ -226,6 +242,7 @@ impl<'a, N: Net + Clock, A: Allocator + Copy> Begun<'a, N, A> {
     ) -> Result<(), SocketsError>
         requires { self.old.connections.items ≡ [] }
         ensures count { OnOk result (length self.new.connections.items ≡ peers) }
+        ensures settings { self.new.sockets.settings ≡ self.old.sockets.settings }
         ensures failed { IfErr result IsPeerError }
     {
         'peers: for place in 0..peers {

@@ -1,7 +1,7 @@
 //! An address at which peers connect.
 
 ghost use Rattle.std.specs.Prelude.{◌≡◌, IfErr};
-ghost use Rattle.bsc_sockets.specs.Listening.{IsBindError};
+ghost use Rattle.bsc_sockets.specs.Listening.{IsBindError, bind_error};
 
 use crate::SocketsError;
 use mio::net::TcpListener;
@@ -26,10 +26,7 @@ impl Listening {
         'addresses: for address in addresses(runtime, address)? {
             match TcpListener::bind(runtime, address) {
                 Ok(listener) => return Ok(Listening { listener }),
-                Err(error) if error.kind() == ErrorKind::AddrInUse => {
-                    why = SocketsError::AddressInUse;
-                }
-                Err(_) => why = SocketsError::CannotListen,
+                Err(error) => why = unbound(error.kind()),
             }
         }
         Err(why)
@@ -41,6 +38,17 @@ impl Listening {
         ensures { IfErr result (λ why. why ≡ SocketsError.Sockets) }
     {
         Ok(self.listener.local_addr()?)
+    }
+}
+
+/// Returns why an address cannot be bound, if that fails with an error of this kind.
+fn unbound(kind: ErrorKind) -> SocketsError
+    ensures error { result ≡ bind_error kind }
+    ensures fault { IsBindError result }
+{
+    match kind {
+        ErrorKind::AddrInUse => SocketsError::AddressInUse,
+        _ => SocketsError::CannotListen,
     }
 }
 

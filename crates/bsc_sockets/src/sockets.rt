@@ -1,9 +1,11 @@
 //! The connections of a station, and its waiter.
 
 ghost use Rattle.std.specs.Prelude.{◌≡◌, ◌<◌, ◌^◌, IfErr, IfOk, IfSome, IsNone, IsSome, OnOk};
-ghost use Rattle.std.specs.Prelude.{true, false, is_some, slice_get};
+ghost use Rattle.std.specs.Prelude.{None, true, false, is_some, slice_get, slice_set};
 ghost use Rattle.bsc_sockets.specs.Answers.{may_connect, newcomer_address, newcomer_may};
+ghost use Rattle.bsc_sockets.specs.Beginning.{HasBegunSockets};
 ghost use Rattle.bsc_sockets.specs.Listening.{IsDenied, IsUnwatched};
+ghost use Rattle.bsc_sockets.specs.Ready.{without_place};
 ghost use Rattle.bsc_sockets.specs.Standings.{after_joining, is_known, moves_time_out};
 ghost use Rattle.bsc_sockets.specs.Standings.{standings_value};
 
@@ -70,6 +72,11 @@ impl<'a, N: Net + Clock, A: Allocator + Copy> Sockets<'a, N, A> {
     ) -> Result<Sockets<'a, N, A>, SocketsError>
         requires { places < 2 ^ 16 }
         ensures settings { IfOk result (λ sockets. sockets.settings ≡ settings) }
+        ensures places { IfOk result (λ sockets. sockets.places ≡ places) }
+        ensures begun { IfOk result (λ sockets.
+            HasBegunSockets places sockets.ready sockets.standings sockets.times) }
+        ensures counts { IfOk result
+            (λ sockets. (sockets.unasked ≡ 0) × (sockets.overdue ≡ 0)) }
         ensures failed { IfErr result (IsUnwatched (is_some settings.stops_with)) }
     {
         let poll = Poll::new(runtime)?;
@@ -113,6 +120,7 @@ impl<'a, N: Net + Clock, A: Allocator + Copy> Sockets<'a, N, A> {
     pub(crate) fn stop_listening(&mut self)
         ensures listener { IsNone self.new.listener }
         ensures newcomer { IsNone self.new.newcomer }
+        ensures settings { self.new.settings ≡ self.old.settings }
     {
         self.listener = None;
         self.newcomer = None;
@@ -131,6 +139,9 @@ impl<'a, N: Net + Clock, A: Allocator + Copy> Sockets<'a, N, A> {
         ensures settings { self.new.settings ≡ self.old.settings }
         ensures stopping { self.new.stopping ≡ self.old.stopping }
         ensures time_out { self.new.times.time_out ≡ self.old.times.time_out }
+        ensures gaps { OnOk result (self.new.times.gaps.items
+            ≡ slice_set self.old.times.gaps.items place None) }
+        ensures ready { OnOk result (self.new.ready ≡ without_place self.old.ready place) }
         ensures stranger { IfOk result
             (λ _. is_known (standings_value self.new.standings) place ≡ false) }
         ensures peer { OnOk result (standings_value self.new.standings
@@ -175,6 +186,7 @@ impl<'a, N: Net + Clock, A: Allocator + Copy> Sockets<'a, N, A> {
         ensures settings { self.new.settings ≡ self.old.settings }
         ensures stopping { self.new.stopping ≡ self.old.stopping }
         ensures times { self.new.times ≡ self.old.times }
+        ensures ready { self.new.ready ≡ self.old.ready }
         ensures standings { self.new.standings ≡ self.old.standings }
     {
         let peer = self.newcomer.take()?;
@@ -197,6 +209,10 @@ impl<'a, N: Net + Clock, A: Allocator + Copy> Sockets<'a, N, A> {
         ensures settings { self.new.settings ≡ self.old.settings }
         ensures stopping { self.new.stopping ≡ self.old.stopping }
         ensures time_out { self.new.times.time_out ≡ self.old.times.time_out }
+        ensures gaps { IfOk result (λ joined. IfSome joined (λ _. self.new.times.gaps.items
+            ≡ slice_set self.old.times.gaps.items place None)) }
+        ensures ready { IfOk result (λ joined. IfSome joined
+            (λ _. self.new.ready ≡ without_place self.old.ready place)) }
         ensures stranger { IfOk result (λ joined. IfSome joined
             (λ _. is_known (standings_value self.new.standings) place ≡ false)) }
         ensures peer { IfOk result (λ joined. IfSome joined
@@ -219,7 +235,8 @@ impl<'a, N: Net + Clock, A: Allocator + Copy> Sockets<'a, N, A> {
 impl<'a, N: Net + Clock, A: Allocator + Copy> Waiter<Reading, Writing<'a, N, A>>
     for Sockets<'a, N, A> {
     ghost use Rattle.std.specs.Duration.{as_nanos};
-    ghost use Rattle.std.specs.Prelude.{◌≡◌, ◌+◌, IfErr, IfOk, IfSome, IsNone, IsSome, OnOk, Some};
+    ghost use Rattle.std.specs.Prelude.{◌≡◌, ◌+◌, IfErr, IfOk, IfSome, IsNone, IsSome, OnOk, None};
+    ghost use Rattle.std.specs.Prelude.{Some};
     ghost use Rattle.std.specs.Prelude.{true, false, is_some, length, slice_get, slice_set};
     ghost use Rattle.bsc_connections.specs.declared.awaited.Pace.TheVariants.{AtOnce};
     ghost use Rattle.bsc_sockets.specs.Answers.{IsAnswer, IsWaitError, newcomer_address};
@@ -229,7 +246,7 @@ impl<'a, N: Net + Clock, A: Allocator + Copy> Waiter<Reading, Writing<'a, N, A>>
     ghost use Rattle.bsc_sockets.specs.Standings.{is_known, moves_time_out, peer_of, silence_of};
     ghost use Rattle.bsc_sockets.specs.Standings.{standings_after, standings_value, time_after};
     ghost use Rattle.bsc_sockets.specs.Stopping.{stops_in, times_told};
-    ghost use Rattle.bsc_sockets.specs.Times.{HasBegun, IsKept};
+    ghost use Rattle.bsc_sockets.specs.Times.{HasBegun, IsKept, RunGaps};
     ghost use Rattle.bsc_sockets.specs.declared.times.Time.TheVariants.{Anew};
 
     ghost waits = { λ before result after.
@@ -244,6 +261,8 @@ impl<'a, N: Net + Clock, A: Allocator + Copy> Waiter<Reading, Writing<'a, N, A>>
         (HasBegun before.settings.time_out before.times.time_out after.times.time_out))
         × (OnOk result (after.times.pace ≡ AtOnce))
         × (after.standings.places ≡ before.standings.places)
+        × (IfOk result (λ awaited. RunGaps before.settings.gap awaited before.times.gaps.items
+        after.times.gaps.items))
         × (IfOk result (λ awaited. after.standings.silence
         ≡ counted_after
         (silence_of before.settings.begins (as_nanos before.settings.time_out)) awaited
@@ -259,7 +278,9 @@ impl<'a, N: Net + Clock, A: Allocator + Copy> Waiter<Reading, Writing<'a, N, A>>
         (after.times.time_out ≡ time_after
         (moves_time_out (is_some before.listener) standings what) before.times.time_out)
         × (after.times.pace ≡ pace)
-        × (standings_value after.standings ≡ standings_after standings what) };
+        × (after.times.gaps ≡ before.times.gaps)
+        × (standings_value after.standings ≡ standings_after standings what)
+        × (after ≡ record before { times = after.times; standings = after.standings }) };
 
     ghost permits = { λ before in_time after.
         (after ≡ record before { unread = after.unread })
@@ -270,23 +291,26 @@ impl<'a, N: Net + Clock, A: Allocator + Copy> Waiter<Reading, Writing<'a, N, A>>
     ghost begins_gap = { λ before place after.
         (after.times.time_out ≡ before.times.time_out)
         × (after.times.gaps.items ≡ slice_set before.times.gaps.items place (Some Anew))
-        × (after.standings ≡ before.standings) };
+        × (after.times.pace ≡ before.times.pace)
+        × (after ≡ record before { times = after.times }) };
 
     ghost has_nothing_left = { λ before place after.
         after ≡ record before { ready = without_place before.ready place } };
 
     ghost joins = { λ before place joined after. (IsNone after.newcomer)
         × (IsSome joined → newcomer_may before.settings.allowed before.newcomer ≡ Some true)
+        × (after.settings ≡ before.settings)
         × (after.times.time_out ≡ before.times.time_out)
+        × (IfSome joined (λ _. after.times.gaps.items
+        ≡ slice_set before.times.gaps.items place None))
+        × (IfSome joined (λ _. after.ready ≡ without_place before.ready place))
         × (IfSome joined (λ _. is_known (standings_value after.standings) place ≡ false))
         × (IfSome joined (λ _. standings_value after.standings
         ≡ after_joining (newcomer_address before.newcomer) (standings_value before.standings)
         place (slice_get before.standings.places.items place)))
         × (IfSome joined (λ opened. opened.1.time_out ≡ before.settings.time_out)) };
 
-    ghost turns_away = { λ before after.
-        (IsNone after.newcomer) × (after.times ≡ before.times)
-        × (after.standings ≡ before.standings) };
+    ghost turns_away = { λ before after. after ≡ record before { newcomer = None } };
 
     ghost may_replace = { λ waiter named.
         let standings = standings_value waiter.standings in

@@ -1,9 +1,9 @@
 //! How a station is asked to end.
 
-ghost use Rattle.std.specs.Prelude.{◌≡◌, ◌+◌, true, IfErr, IfOk, IsSome};
+ghost use Rattle.std.specs.Prelude.{◌≡◌, ◌+◌, true, IfErr, IfOk, IsSome, OnOk};
 ghost use Rattle.bsc_sockets.specs.Answers.{IsWaitError};
 ghost use Rattle.bsc_sockets.specs.Stopping.{asked_if, count_if, is_asked, is_closed_in};
-ghost use Rattle.bsc_sockets.specs.Stopping.{times_told};
+ghost use Rattle.bsc_sockets.specs.Stopping.{StopRuns, times_told};
 
 use crate::SocketsError;
 use crate::times::{Time, running};
@@ -85,6 +85,7 @@ impl Stopping {
         ensures told { times_told self.new ≡ times_told self.old }
         ensures failed { IfErr result IsWaitError }
         ensures once { IfOk result (λ left. IsSome left → times_told self.new ≡ 1) }
+        ensures runs { OnOk result (StopRuns time_out self.old self.new) }
     {
         let Stopping::Told { since } = *self else {
             return Ok(None);

@@ -1,8 +1,10 @@
 //! The times of the time-out and of the gaps.
 
-ghost use Rattle.std.specs.Prelude.{◌≡◌, IfErr, IfOk, None, OnOk, Some, replicate, slice_set};
+ghost use Rattle.std.specs.Prelude.{◌≡◌, IfErr, IfOk, IsSome, None, OnOk, Some, replicate};
+ghost use Rattle.std.specs.Prelude.{slice_set};
 ghost use Rattle.bsc_sockets.specs.Answers.{IsWaitError};
-ghost use Rattle.bsc_sockets.specs.Times.{HasBegun, IsEnd, IsKept, event_of};
+ghost use Rattle.bsc_sockets.specs.Times.{GapRuns, GapsRun, HasBegun, IsAwaited, IsEnd, IsKept};
+ghost use Rattle.bsc_sockets.specs.Times.{earlier, event_of, without_ended};
 
 use crate::time_limit::TimeLimit;
 use bsc_connections::{Awaited, LiveError, Pace};
@@ -62,6 +64,7 @@ impl<A: Allocator> Times<A> {
     pub(crate) fn begin_time_out(&mut self)
         ensures time_out { self.new.time_out ≡ Time.Anew }
         ensures pace { self.new.pace ≡ self.old.pace }
+        ensures gaps { self.new.gaps ≡ self.old.gaps }
     {
         self.time_out = Time::Anew;
     }
@@ -82,6 +85,7 @@ impl<A: Allocator> Times<A> {
     pub(crate) fn set_pace(&mut self, pace: Pace)
         ensures time_out { self.new.time_out ≡ self.old.time_out }
         ensures pace { self.new.pace ≡ pace }
+        ensures gaps { self.new.gaps ≡ self.old.gaps }
     {
         self.pace = pace;
     }
@@ -90,6 +94,7 @@ impl<A: Allocator> Times<A> {
     pub(crate) fn take_pace(&mut self) -> Pace
         ensures time_out { self.new.time_out ≡ self.old.time_out }
         ensures pace { self.new.pace ≡ Pace.AtOnce }
+        ensures gaps { self.new.gaps ≡ self.old.gaps }
         ensures taken { result ≡ self.old.pace }
     {
         let pace = self.pace;
@@ -121,20 +126,15 @@ impl<A: Allocator> Times<A> {
         ensures begun { OnOk result (HasBegun time_out self.old.time_out self.new.time_out) }
         ensures failed { IfErr result IsWaitError }
         ensures pace { self.new.pace ≡ self.old.pace }
+        ensures gaps { OnOk result (GapsRun gap self.old.gaps.items self.new.gaps.items) }
+        ensures awaited { IfOk result (λ end. IsAwaited end.gap self.old.gaps.items) }
     {
         let (limit, left) = running(clock, self.time_out, time_out)?;
         self.time_out = Time::Since(limit);
         let mut next = End { left, gap: None };
         'gaps: for place in 0..self.gaps.len() {
-            if let Some(time) = self.gaps[place] {
-                let (limit, left) = running(clock, time, gap)?;
-                self.gaps[place] = Some(Time::Since(limit));
-                if left <= next.left {
-                    next = End {
-                        left,
-                        gap: Some(place),
-                    };
-                }
+            if let Some(left) = run_gap(clock, &mut self.gaps[place], gap)? {
+                next = sooner(next, left, place);
             }
         }
         Ok(next)
@@ -146,12 +146,46 @@ impl<A: Allocator> Times<A> {
         ensures whose { result ≡ event_of end.gap }
         ensures time_out { self.new.time_out ≡ self.old.time_out }
         ensures pace { self.new.pace ≡ self.old.pace }
+        ensures gaps { self.new.gaps.items ≡ without_ended end.gap self.old.gaps.items }
     {
         let Some(connection) = end.gap else {
             return Awaited::TimeOut;
         };
         self.stop_gap(connection);
         Awaited::Gap { connection }
+    }
+}
+
+/// Begins the time of a gap, if one is awaited and is to begin with this wait. Returns what is left
+/// of it; None if none is awaited.
+fn run_gap<C: Clock>(
+    clock: &C,
+    time: &mut Option<Time>,
+    gap: Duration,
+) -> Result<Option<Duration>, LiveError>
+    ensures runs { OnOk result (GapRuns gap time.old time.new) }
+    ensures awaited { IfOk result (λ left. IsSome left → IsSome time.old) }
+    ensures failed { IfErr result IsWaitError }
+{
+    let Some(begun) = *time else {
+        return Ok(None);
+    };
+    let (limit, left) = running(clock, begun, gap)?;
+    *time = Some(Time::Since(limit));
+    Ok(Some(left))
+}
+
+/// Returns what ends next, with a gap at this place of which this is left.
+fn sooner(next: End, left: Duration, place: usize) -> End
+    ensures { result ≡ earlier next left place }
+{
+    if left.as_nanos() <= next.left.as_nanos() {
+        End {
+            left,
+            gap: Some(place),
+        }
+    } else {
+        next
     }
 }
 

@@ -1,14 +1,17 @@
 //! Waits for what is ready.
 
 ghost use Rattle.std.specs.Prelude.{◌≡◌, ◌+◌, ◌↔◌, IfErr, IfOk, IfSome, IsSome, IsTrue, OnOk};
-ghost use Rattle.std.specs.Prelude.{true};
+ghost use Rattle.std.specs.Prelude.{◌==◌, None, true};
 ghost use Rattle.std.specs.Duration.{as_nanos};
 ghost use Rattle.std.specs.Option.{option_map_or};
+ghost use Rattle.mio.specs.Events.{items};
 ghost use Rattle.bsc_sockets.specs.Answers.{IsAnswer, IsWaitError, may_connect};
-ghost use Rattle.bsc_sockets.specs.Listening.{IsPeerError};
+ghost use Rattle.bsc_sockets.specs.Listening.{IsPeerError, peer_error, not_taken_by};
+ghost use Rattle.bsc_sockets.specs.Ready.{with_event, with_events};
+ghost use Rattle.bsc_sockets.specs.Serving.{is_overdue, served_after, served_overdue};
 ghost use Rattle.bsc_sockets.specs.Standings.{counted_after};
 ghost use Rattle.bsc_sockets.specs.Stopping.{asked_if, is_closed_in, stops_in, times_told};
-ghost use Rattle.bsc_sockets.specs.Times.{IsEnd};
+ghost use Rattle.bsc_sockets.specs.Times.{IsEnd, ended_gap, event_of, without_ended};
 
 use crate::ready::Ready;
 use crate::sockets::Peer;
@@ -49,6 +52,7 @@ impl<'a, N: Net + Clock, A: Allocator + Copy> Sockets<'a, N, A> {
             (IsAnswer self.new.settings.allowed self.new.places self.new.newcomer
             self.new.ready) }
         ensures failed { IfErr result IsWaitError }
+        ensures no_gap { IfOk result (λ awaited. ended_gap awaited ≡ None) }
         ensures settings { self.new.settings ≡ self.old.settings }
         ensures stops { IfOk result (λ awaited. times_told self.new.stopping
             ≡ times_told self.old.stopping + stops_in awaited) }
@@ -71,6 +75,7 @@ impl<'a, N: Net + Clock, A: Allocator + Copy> Sockets<'a, N, A> {
             (IsAnswer self.new.settings.allowed self.new.places self.new.newcomer
             self.new.ready) }
         ensures failed { IfErr result IsWaitError }
+        ensures no_gap { IfOk result (λ awaited. ended_gap awaited ≡ None) }
         ensures settings { self.new.settings ≡ self.old.settings }
         ensures stops { IfOk result (λ awaited. times_told self.new.stopping
             ≡ times_told self.old.stopping + stops_in awaited) }
@@ -86,6 +91,10 @@ impl<'a, N: Net + Clock, A: Allocator + Copy> Sockets<'a, N, A> {
 
     /// Returns whether no time is left and enough was served since.
     fn is_overdue(&mut self, left: Duration) -> bool
+        ensures overdue { let served = served_overdue (as_nanos left == 0) self.old.overdue in
+            result ≡ is_overdue self.old.places served }
+        ensures counted { let served = served_overdue (as_nanos left == 0) self.old.overdue in
+            self.new.overdue ≡ served_after self.old.places served }
         ensures settings { self.new.settings ≡ self.old.settings }
         ensures stopping { self.new.stopping ≡ self.old.stopping }
         ensures times { self.new.times ≡ self.old.times }
@@ -111,6 +120,7 @@ impl<'a, N: Net + Clock, A: Allocator + Copy> Sockets<'a, N, A> {
             (IsAnswer self.new.settings.allowed self.new.places self.new.newcomer
             self.new.ready) }
         ensures failed { IfErr result IsWaitError }
+        ensures no_gap { IfOk result (λ awaited. ended_gap awaited ≡ None) }
         ensures settings { self.new.settings ≡ self.old.settings }
         ensures stops { IfOk result (λ awaited. times_told self.new.stopping
             ≡ times_told self.old.stopping + stops_in awaited) }
@@ -141,6 +151,7 @@ impl<'a, N: Net + Clock, A: Allocator + Copy> Sockets<'a, N, A> {
             (IsAnswer self.new.settings.allowed self.new.places self.new.newcomer
             self.new.ready) }
         ensures failed { IfErr result IsWaitError }
+        ensures no_gap { IfOk result (λ awaited. ended_gap awaited ≡ None) }
         ensures settings { self.new.settings ≡ self.old.settings }
         ensures stops { IfOk result (λ awaited. times_told self.new.stopping
             ≡ times_told self.old.stopping + stops_in awaited) }
@@ -179,6 +190,7 @@ impl<'a, N: Net + Clock, A: Allocator + Copy> Sockets<'a, N, A> {
         ensures answer { IfSome result
             (IsAnswer self.new.settings.allowed self.new.places self.new.newcomer
             self.new.ready) }
+        ensures no_gap { IfSome result (λ awaited. ended_gap awaited ≡ None) }
         ensures settings { self.new.settings ≡ self.old.settings }
         ensures stops { times_told self.new.stopping
             ≡ times_told self.old.stopping + option_map_or stops_in result 0 }
@@ -202,6 +214,7 @@ impl<'a, N: Net + Clock, A: Allocator + Copy> Sockets<'a, N, A> {
         ensures answer { IfSome result
             (IsAnswer self.new.settings.allowed self.new.places self.new.newcomer
             self.new.ready) }
+        ensures no_gap { IfSome result (λ awaited. ended_gap awaited ≡ None) }
         ensures settings { self.new.settings ≡ self.old.settings }
         ensures stopping { self.new.stopping ≡ self.old.stopping }
         ensures asked_nothing { option_map_or stops_in result 0 ≡ 0 }
@@ -232,6 +245,7 @@ impl<'a, N: Net + Clock, A: Allocator + Copy> Sockets<'a, N, A> {
             self.now.newcomer
             self.now.ready result }
         ensures stops { stops_in result ≡ 0 }
+        ensures no_gap { ended_gap result ≡ None }
     {
         match &self.newcomer {
             Some(peer) if !self.settings.allowed.allows(peer.address.ip()) => Awaited::NotAllowed,
@@ -262,12 +276,10 @@ impl<'a, N: Net + Clock, A: Allocator + Copy> Sockets<'a, N, A> {
                 true
             }
             Err(error) => {
-                match error.kind() {
-                    ErrorKind::WouldBlock => self.ready.clear(self.places),
-                    // The peer has left, or a signal came: another peer may be waiting.
-                    ErrorKind::ConnectionAborted | ErrorKind::Interrupted => {}
-                    // For example, no descriptor is left: the system is asked again later.
-                    _ => self.refuses = true,
+                match why_not_taken(error.kind()) {
+                    NotTaken::Nobody => self.ready.clear(self.places),
+                    NotTaken::Gone => {}
+                    NotTaken::Refused => self.refuses = true,
                 }
                 false
             }
@@ -280,6 +292,7 @@ impl<'a, N: Net + Clock, A: Allocator + Copy> Sockets<'a, N, A> {
         ensures settings { self.new.settings ≡ self.old.settings }
         ensures told { times_told self.new.stopping ≡ times_told self.old.stopping }
         ensures time_out { self.new.times.time_out ≡ self.old.times.time_out }
+        ensures gaps { self.new.times.gaps ≡ self.old.times.gaps }
         ensures pace { OnOk result (self.new.times.pace ≡ Pace.AtOnce) }
         ensures standings { self.new.standings ≡ self.old.standings }
     {
@@ -317,6 +330,8 @@ impl<'a, N: Net + Clock, A: Allocator + Copy> Sockets<'a, N, A> {
         ensures settings { self.new.settings ≡ self.old.settings }
         ensures asked { self.new.stopping
             ≡ asked_if (is_closed_in INPUT self.new.events) self.old.stopping }
+        ensures reported { OnOk result
+            (self.new.ready ≡ with_events self.old.ready (items self.new.events)) }
         ensures told { times_told self.new.stopping ≡ times_told self.old.stopping }
         ensures times { self.new.times ≡ self.old.times }
         ensures standings { self.new.standings ≡ self.old.standings }
@@ -341,6 +356,9 @@ impl<'a, N: Net + Clock, A: Allocator + Copy> Sockets<'a, N, A> {
         ensures stopping { self.new.stopping ≡ self.old.stopping }
         ensures time_out { self.new.times.time_out ≡ self.old.times.time_out }
         ensures pace { self.new.times.pace ≡ self.old.times.pace }
+        ensures whose { result ≡ event_of end.gap }
+        ensures gaps { self.new.times.gaps.items
+            ≡ without_ended end.gap self.old.times.gaps.items }
         ensures places { self.new.standings.places ≡ self.old.standings.places }
         ensures silence { self.new.standings.silence
             ≡ counted_after (as_nanos silence) result self.old.standings.silence }
@@ -372,6 +390,7 @@ impl<'a, N: Net + Clock, A: Allocator + Copy> Sockets<'a, N, A> {
         patience: Duration,
         reception: &mut H,
     ) -> Result<Peer, SocketsError>
+        ensures settings { self.new.settings ≡ self.old.settings }
         ensures admitted { IfOk result
             (λ peer. may_connect self.old.settings.allowed peer ≡ true) }
         ensures failed { IfErr result IsPeerError }
@@ -413,8 +432,7 @@ impl<'a, N: Net + Clock, A: Allocator + Copy> Sockets<'a, N, A> {
             }
             Ok(Awaited::Stopped) => Err(SocketsError::Stopped),
             Ok(_) => Err(SocketsError::NobodyConnected),
-            Err(LiveError::Memory) => Err(SocketsError::Memory),
-            Err(_) => Err(SocketsError::Sockets),
+            Err(error) => Err(peer_error(error)),
         }
     }
 }
@@ -423,12 +441,57 @@ impl<'a, N: Net + Clock, A: Allocator + Copy> Sockets<'a, N, A> {
 fn set_all<A: Allocator, B: Allocator>(
     ready: &mut Ready<A>,
     events: &Events<B>,
-) -> Result<(), AllocError> {
-    for event in events {
-        let place = event.token().0;
-        if place != INPUT {
-            ready.set(place)?;
-        }
+) -> Result<(), AllocError>
+    ensures { OnOk result (ready.new ≡ with_events ready.old (items events.now)) }
+{
+    'events: for event in events {
+        set_one(ready, event.token().0)?;
     }
     Ok(())
+}
+
+/// Records that something has arrived at this place, unless it is that of the input.
+fn set_one<A: Allocator>(ready: &mut Ready<A>, place: usize) -> Result<(), AllocError>
+    ensures { OnOk result (ready.new ≡ with_event ready.old place) }
+{
+    if place == INPUT {
+        return Ok(());
+    }
+    ready.set(place)
+}
+
+/// What it means that a peer cannot be accepted.
+#[derive(Clone, Copy)]
+pub(crate) enum NotTaken {
+    /// There is no peer.
+    Nobody,
+
+    /// The peer has left, or a signal came: another peer may be waiting.
+    Gone,
+
+    /// The system could not accept the peer, for example because no descriptor is left. It is asked
+    /// again later.
+    Refused,
+}
+
+/// Returns what an error of this kind means to a peer that is accepted.
+fn why_not_taken(kind: ErrorKind) -> NotTaken
+    ensures { result ≡ not_taken_by kind }
+{
+    match kind {
+        ErrorKind::WouldBlock => NotTaken::Nobody,
+        ErrorKind::ConnectionAborted | ErrorKind::Interrupted => NotTaken::Gone,
+        _ => NotTaken::Refused,
+    }
+}
+
+/// Returns why the next peer is not taken, if waiting for it fails with this.
+fn peer_error(error: LiveError) -> SocketsError
+    ensures error { result ≡ peer_error error }
+    ensures fault { IsPeerError result }
+{
+    match error {
+        LiveError::Memory => SocketsError::Memory,
+        _ => SocketsError::Sockets,
+    }
 }
