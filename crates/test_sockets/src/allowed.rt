@@ -5,6 +5,7 @@ use crate::acts::Act::{
 };
 use crate::acts::Busy;
 use crate::beginning::{has_passed, is_told};
+use crate::meeting;
 use crate::meeting::{Encounter, Told, bound, patience, peer, play_one, settings};
 use bsc_connections::Awaited;
 use bsc_peers::{Network, NetworkError, Networks};
@@ -74,7 +75,20 @@ struct Insists<'a> {
     address: SocketAddr,
     last: Option<TcpStream>,
     refused: u32,
+
+    /// How many of these were named by the address of the last peer.
+    named: u32,
     joined: bool,
+}
+
+impl Insists<'_> {
+    /// Whether this is the address of the last peer.
+    fn is_last(&self, peer: SocketAddr) -> bool {
+        match &self.last {
+            Some(last) => last.local_addr().ok() == Some(peer),
+            None => false,
+        }
+    }
 }
 
 impl Reception for Insists<'_> {
@@ -86,10 +100,13 @@ impl Reception for Insists<'_> {
         self.joined = true;
     }
 
-    fn refused(&mut self, _peer: SocketAddr) {
+    fn refused(&mut self, peer: SocketAddr) {
         self.refused = self.refused.saturating_add(1);
+        if self.is_last(peer) {
+            self.named = self.named.saturating_add(1);
+        }
         if self.refused < 200 && passes(self.rt, 5) {
-            self.last = peer(self.rt, self.address).ok();
+            self.last = meeting::peer(self.rt, self.address).ok();
         }
     }
 }
@@ -131,12 +148,12 @@ fn waits_for_another<R: Reception>(
 #[test]
 fn peers_that_are_refused_use_up_the_patience(rt: HostRuntime) -> Result<(), Fail> {
     let (listening, address) = bound(&rt)?;
-    let first = peer(&rt, address)?;
     let mut insists = Insists {
         rt: &rt,
         address,
-        last: None,
+        last: Some(peer(&rt, address)?),
         refused: 0,
+        named: 0,
         joined: false,
     };
     let start = Instant::now(&rt)?;
@@ -144,8 +161,8 @@ fn peers_that_are_refused_use_up_the_patience(rt: HostRuntime) -> Result<(), Fai
     is_told(waited, SocketsError::NobodyConnected)?;
     has_passed(&rt, start, 60)?;
     assert!(rt; 1 < insists.refused && insists.refused < 20);
+    assert_eq!(rt; insists.named, insists.refused);
     assert!(rt; !insists.joined);
-    drop(first);
     Ok(())
 }
 

@@ -13,32 +13,32 @@ use std::io::ErrorKind;
 use std::test::Fail;
 
 /// The octets and waits of a station, and what has to come of them.
-struct Attended {
+pub(crate) struct Attended {
     /// What the case shows.
-    shows: &'static str,
+    pub(crate) shows: &'static str,
 
-    first: Ends,
-    second: Ends,
-    newcomer: Ends,
+    pub(crate) first: Ends,
+    pub(crate) second: Ends,
+    pub(crate) newcomer: Ends,
 
     /// The place of the connection that a newcomer may replace.
-    replaceable: Option<usize>,
+    pub(crate) replaceable: Option<usize>,
 
     /// The results of the waits.
-    waits: &'static [Awaited],
+    pub(crate) waits: &'static [Awaited],
 
     /// The notes that the monitor has to receive. It ends the station at the last note, or the next
     /// wait fails.
-    notes: &'static [Note<'static>],
-    result: Result<(), LiveError>,
+    pub(crate) notes: &'static [Note<'static>],
+    pub(crate) result: Result<(), LiveError>,
 
     /// What the waiter was told. It is told of each transmission that is heard and of each silence,
     /// and of nothing else, that it was handled.
-    counts: Counts,
+    pub(crate) counts: Counts,
 }
 
 /// The first connection has octets to read.
-const FIRST: Awaited = Awaited::Octets { connection: 0 };
+pub(crate) const FIRST: Awaited = Awaited::Octets { connection: 0 };
 
 /// The second connection has octets to read.
 const SECOND: Awaited = Awaited::Octets { connection: 1 };
@@ -62,7 +62,7 @@ const EOT_THEN_ACK0: &[u8] = &[0x16, 0x16, 0x04, 0xff, 0x16, 0x16, 0x10, 0xb0, 0
 /// The octets of a transmission that the monitor does not admit.
 const STRANGE: &[u8] = &[0x16, 0x16, 0x02, 0x41, 0x83, 0x00, 0xff];
 
-const NONE: Ends = (&[], &[]);
+pub(crate) const NONE: Ends = (&[], &[]);
 
 const OVER_RECORDS: &[Attended] = &[
     Attended {
@@ -471,7 +471,7 @@ fn goes<F: Framing + Drop>(alloc: Global, attended: &Attended) -> Result<bool, F
 }
 
 /// Fails unless each case goes as it says.
-fn play<F: Framing + Drop>(alloc: Global, table: &[Attended]) -> Result<(), Fail> {
+pub(crate) fn play<F: Framing + Drop>(alloc: Global, table: &[Attended]) -> Result<(), Fail> {
     for attended in table {
         if !goes::<F>(alloc, attended)? {
             return Err(Fail::new(attended.shows));

@@ -171,16 +171,19 @@ fn listens_to<P, Q: Write>(
     Ok(meets && third == Err(SocketsError::NobodyThere))
 }
 
-/// Whether a station that connects and one that listens exchange an octet, and a third one is
-/// refused.
+/// Whether a station that connects knows the address of its peer, it and one that listens exchange
+/// an octet, and a third one is refused.
 fn meet(
     rt: &HostRuntime,
     alloc: Global,
     listening: Listening,
     address: &str,
 ) -> Result<bool, SocketsError> {
+    let there = listening.address()?;
     let mut near = connect(rt, alloc, address, patience(), settings())?;
-    listens_to(rt, alloc, listening, &mut near.connections, address)
+    let is_named = near.sockets.peer(0) == Some(there);
+    let meets = listens_to(rt, alloc, listening, &mut near.connections, address)?;
+    Ok(is_named && meets)
 }
 
 #[test]

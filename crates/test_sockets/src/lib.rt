@@ -17,7 +17,13 @@ mod ending;
 #[cfg(test)]
 mod framings;
 #[cfg(test)]
+mod largest;
+#[cfg(test)]
 mod late;
+#[cfg(test)]
+mod lengths;
+#[cfg(test)]
+mod longest;
 #[cfg(test)]
 mod meeting;
 #[cfg(test)]

@@ -54,8 +54,14 @@ pub(crate) struct Told {
     /// The number of waits; each has to be told of as many connections.
     waits: usize,
 
+    /// The number of peers that are wanted, by the last wait.
+    wanted: usize,
+
     /// The number of peers that joined; each has to be told of its place.
     joined: usize,
+
+    /// The peer that joined last.
+    last: Option<SocketAddr>,
 
     /// The number of peers that were turned away.
     pub(crate) refused: usize,
@@ -67,9 +73,23 @@ impl Told {
         Told {
             address: None,
             waits: 0,
+            wanted: 0,
             joined: 0,
+            last: None,
             refused: 0,
         }
+    }
+
+    /// Whether this address was told, and that each of these peers was waited for and joined.
+    fn is_of(&self, address: SocketAddr, peers: &[TcpStream]) -> bool {
+        let count = peers.len();
+        let last = match peers.last() {
+            Some(peer) => peer.local_addr().ok(),
+            None => None,
+        };
+        self.address == Some(address)
+            && (self.waits, self.wanted, self.joined) == (count, count, count)
+            && self.last == last
     }
 }
 
@@ -78,16 +98,18 @@ impl Reception for Told {
         self.address = Some(address);
     }
 
-    fn waits(&mut self, connected: usize, _wanted: usize) {
+    fn waits(&mut self, connected: usize, wanted: usize) {
         if connected == self.waits {
             self.waits = self.waits.saturating_add(1);
         }
+        self.wanted = wanted;
     }
 
-    fn joined(&mut self, place: usize, _peer: SocketAddr) {
+    fn joined(&mut self, place: usize, peer: SocketAddr) {
         if place == self.joined {
             self.joined = self.joined.saturating_add(1);
         }
+        self.last = Some(peer);
     }
 
     fn refused(&mut self, _peer: SocketAddr) {
@@ -100,12 +122,12 @@ impl Reception for Told {
 pub(crate) struct Meeting<'a> {
     rt: &'a HostRuntime,
     address: SocketAddr,
-    begun: Begun<'a, HostRuntime, Global>,
-    peers: Vec<TcpStream>,
+    pub(crate) begun: Begun<'a, HostRuntime, Global>,
+    pub(crate) peers: Vec<TcpStream>,
 }
 
 /// A station that waited until this many peers had connected, and still listens.
-fn meet<'a>(
+pub(crate) fn meet<'a>(
     rt: &'a HostRuntime,
     alloc: Global,
     count: u16,
@@ -120,8 +142,7 @@ fn meet<'a>(
     };
     let mut told = Told::new();
     let begun = listen(rt, alloc, listening, wanted, settings, &mut told)?;
-    let count = wanted.count;
-    if told.address != Some(address) || (told.waits, told.joined) != (count, count) {
+    if !told.is_of(address, &peers) {
         return Err(Fail::new(format_args!("{told:?}, and not of {count}")));
     }
     Ok(Meeting {

@@ -5,7 +5,7 @@ use crate::meeting::{Told, bound, patience, peer, settings};
 use bsc_connections::{Awaited, Waiter};
 use bsc_sockets::{Peers, Sockets, SocketsError, listen};
 use std::alloc::{Allocator, Global};
-use std::io::Read;
+use std::io::{Read, Write};
 use std::net::SocketAddr;
 use std::test::Fail;
 use test_alloc::{Refusal, Refusing};
@@ -120,4 +120,34 @@ fn a_growth_for_a_newcomer(rt: HostRuntime) -> Result<(), Fail> {
     let alloc = Refusing::new(rt.alloc());
     let (mut sockets, address) = without_peer(&rt, &alloc)?;
     two_newcomers(&rt, &alloc, &mut sockets, address)
+}
+
+/// Whether a station that has begun tells of octets of its peer, and then of a newcomer.
+fn tells_of_both<R, W, S: Waiter<R, W>>(
+    rt: &HostRuntime,
+    sockets: &mut S,
+    address: SocketAddr,
+) -> Result<bool, Fail> {
+    let octets = sockets.wait()? == Awaited::Octets { connection: 0 };
+    sockets.nothing_left(0);
+    let _newcomer = peer(rt, address)?;
+    Ok(octets && sockets.wait()? == Awaited::Newcomer)
+}
+
+#[test]
+fn a_wait_needs_no_growth(rt: HostRuntime) -> Result<(), Fail> {
+    let alloc = Refusing::new(rt.alloc());
+    let (listening, address) = bound(&rt)?;
+    let mut far = peer(&rt, address)?;
+    let peers = Peers {
+        count: 1,
+        patience: patience(),
+        keeps_listening: true,
+    };
+    let mut begun = listen(&rt, &alloc, listening, peers, settings(), &mut Told::new())?;
+    alloc.refuse_nth(1);
+    far.write_all(b"here")?;
+    assert!(rt; tells_of_both(&rt, &mut begun.sockets, address)?);
+    assert_eq!(rt; alloc.refused(), 0);
+    Ok(())
 }

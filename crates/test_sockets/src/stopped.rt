@@ -15,7 +15,7 @@ use std::test::Fail;
 use std::time::Instant;
 
 /// An input, and its other end.
-fn input(rt: &HostRuntime) -> io::Result<(TcpStream, TcpStream)> {
+pub(crate) fn input(rt: &HostRuntime) -> io::Result<(TcpStream, TcpStream)> {
     let listener = TcpListener::bind(rt, "127.0.0.1:0")?;
     let other = peer(rt, listener.local_addr()?)?;
     let (input, _) = listener.accept()?;
@@ -23,7 +23,7 @@ fn input(rt: &HostRuntime) -> io::Result<(TcpStream, TcpStream)> {
 }
 
 /// Settings by which a station ends when this input does.
-fn stopping_with<I: AsRawFd>(input: &I) -> ConnectionSettings {
+pub(crate) fn stopping_with<I: AsRawFd>(input: &I) -> ConnectionSettings {
     let mut settings = settings();
     settings.stops_with = Some(input.as_raw_fd());
     settings
