@@ -24,6 +24,9 @@ use test_fixtures::octets::{
 /// The characters of an empty record.
 const EMPTY: &[u8] = b"";
 
+/// The characters of another record.
+const HI: &[u8] = b"HI";
+
 /// Terminals are polled.
 const POLLS: &[Exchange<'static>] = &[
     Exchange {
@@ -361,6 +364,37 @@ const KEPT: &[Exchange<'static>] = &[
     },
 ];
 
+/// Records are offered, and kept as arrived, whatever the control station does.
+const ACCEPTED: &[Exchange<'static>] = &[Exchange {
+    shows: "records are accepted during each task, urgent or not, and in doubt",
+    poll_list: &[0, 1],
+    steps: &[
+        AsksForLine(0),
+        KeepsHi(true),
+        Takes(0, 0, &[b"HI"]),
+        Hears(SILENCE, CALL_SELECT_A),
+        KeepsHi(true),
+        Takes(1, 0, &[b"HI"]),
+        Hears(ACK0, TEXT_HI),
+        KeepsHi(true),
+        Takes(0, 0, &[b"HI"]),
+        Hears(SILENCE, ENQ),
+        AsksForLine(0),
+        KeepsHi(true),
+        Takes(0, 0, &[b"HI"]),
+        Hears(SILENCE, ENQ),
+        Hears(SILENCE, ENQ),
+        Hears(SILENCE, CALL_POLL_A),
+        Known(0, true),
+        KeepsHi(true),
+        Takes(0, 0, &[b"HI"]),
+        Hears(EOT, CALL_SELECT_B),
+        KeepsHi(true),
+        Takes(0, 0, &[b"HI"]),
+        Spooled(&[HI; 6]),
+    ],
+}];
+
 /// What is recalled, and what is refused.
 const RECALLS: &[Exchange<'static>] = &[
     Exchange {
@@ -418,6 +452,7 @@ const RECALLS: &[Exchange<'static>] = &[
 #[test]
 fn a_control_station_keeps_and_recalls(rt: HostRuntime) -> Result<(), Fail> {
     play_each(rt.alloc(), setup(3)?, KEPT)?;
+    play_each(rt.alloc(), setup(3)?, ACCEPTED)?;
     play_each(rt.alloc(), setup(3)?, RECALLS)?;
     Ok(())
 }

@@ -1,5 +1,5 @@
-//! Stations with the most terminals and the most selection addresses: each keeps whatever had
-//! arrived, while memory is granted.
+//! Stations with the most terminals, entries of the poll list and selection addresses: each keeps
+//! whatever had arrived, while memory is granted.
 
 ghost use Rattle.std.specs.Prelude.{◌≡◌, ◌<◌, IfOk, length};
 
@@ -15,8 +15,11 @@ use test_fixtures::lines::setup;
 /// The second code of the addresses of the first terminal.
 const FIRST_CODE: u8 = 0x21;
 
-/// The number of records that had arrived at each place.
+/// The number of records that had arrived at each place but the last.
 const RECORDS: usize = 4_000;
+
+/// The number of records that had arrived at the last place.
+const MOST_RECORDS: usize = 100_000;
 
 /// A terminal with the polling address P and the selection addresses a, b, c and d, each followed
 /// by this code.
@@ -54,10 +57,11 @@ fn a_control_station_keeps_thousands_of_records_from_each_of_64_terminals(
     for (terminal, code) in terminals.iter_mut().zip(FIRST_CODE..=0x7e) {
         *terminal = coded_terminal(code)?;
     }
-    let mut control = Control::new(rt.alloc(), setup(3)?, &terminals, &[0])?;
-    for terminal in 0..64usize {
+    let mut control = Control::new(rt.alloc(), setup(3)?, &terminals, &[63; 255])?;
+    for terminal in 0..63usize {
         assert!(rt; keeps_from(&mut control, terminal, RECORDS));
     }
+    assert!(rt; keeps_from(&mut control, 63, MOST_RECORDS));
     Ok(())
 }
 
@@ -88,8 +92,9 @@ fn a_terminal_keeps_thousands_of_records_at_each_of_4_addresses(
         return Err("two addresses are the same".into());
     }
     let mut tributary = Tributary::new(rt.alloc(), setup(3)?, terminal);
-    for select in 0..4usize {
+    for select in 0..3usize {
         assert!(rt; keeps_at(&mut tributary, select, RECORDS));
     }
+    assert!(rt; keeps_at(&mut tributary, 3, MOST_RECORDS));
     Ok(())
 }

@@ -25,6 +25,9 @@ use test_fixtures::octets::{
 /// The characters of an empty record.
 const EMPTY: &[u8] = b"";
 
+/// The characters of another record.
+const HI: &[u8] = b"HI";
+
 /// A terminal is polled and selected.
 const CALLS: &[Exchange<'static>] = &[
     Exchange {
@@ -275,6 +278,39 @@ const KEPT: &[Exchange<'static>] = &[
     },
 ];
 
+/// Records are offered, and kept as arrived, whatever the terminal does.
+const ACCEPTED: &[Exchange<'static>] = &[Exchange {
+    shows: "records are accepted in each mode, urgent or not, ready or not, and in doubt",
+    steps: &[
+        AsksForLine,
+        Ready(false),
+        KeepsHi(0, true),
+        Hears(CALL_SELECT_A, NAK),
+        Ready(true),
+        Hears(CALL_SELECT_A, ACK0),
+        KeepsHi(0, true),
+        Hears(TEXT_HI, RVI),
+        KeepsHi(1, true),
+        OfferHi(true),
+        Hears(CALL_POLL_A, TEXT_HI),
+        KeepsHi(1, true),
+        OfferHi(true),
+        Hears(SILENCE, ENQ),
+        KeepsHi(0, true),
+        OfferHi(true),
+        Hears(EOT, QUIET),
+        Known(0, true),
+        KeepsHi(0, true),
+        OfferHi(true),
+        AsksForLine,
+        Ready(false),
+        KeepsHi(0, true),
+        OfferHi(true),
+        Spooled(0, &[HI; 6]),
+        Spooled(1, &[HI; 2]),
+    ],
+}];
+
 /// What is recalled, and what is refused.
 const RECALLS: &[Exchange<'static>] = &[
     Exchange {
@@ -344,6 +380,7 @@ const RECALLS: &[Exchange<'static>] = &[
 #[test]
 fn a_terminal_keeps_and_recalls(rt: HostRuntime) -> Result<(), Fail> {
     play_each(rt.alloc(), setup(3)?, KEPT)?;
+    play_each(rt.alloc(), setup(3)?, ACCEPTED)?;
     play_each(rt.alloc(), setup(3)?, RECALLS)?;
     Ok(())
 }
