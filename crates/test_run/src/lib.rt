@@ -12,6 +12,8 @@ mod growths;
 #[cfg(test)]
 mod largest;
 #[cfg(test)]
+mod long;
+#[cfg(test)]
 mod loopback;
 #[cfg(test)]
 mod memory;

@@ -7,14 +7,14 @@ use test_fixtures::configurations::TWO_TERMINALS;
 
 /// Keeps what it was last shown.
 #[derive(Drop)]
-struct Kept {
+pub(crate) struct Kept {
     /// Whether it is time.
-    due: bool,
+    pub(crate) due: bool,
 
     /// How often it was shown something.
-    times: usize,
+    pub(crate) times: usize,
 
-    last: Option<Counts>,
+    pub(crate) last: Option<Counts>,
 }
 
 impl Meter for Kept {

@@ -1,6 +1,6 @@
 //! Runs with their complete output.
 
-use crate::loopback::run;
+use crate::loopback::{run, run_traced};
 use bsc_run::RunError;
 use std::alloc::Global;
 use std::test::Fail;
@@ -216,6 +216,56 @@ fn each_worked_run_prints_its_trace_and_its_report(rt: HostRuntime) -> Result<()
     for wanted in RUNS {
         assert!(rt; is_right(&rt, wanted)?, "{}", wanted.script);
     }
+    Ok(())
+}
+
+/// What is accepted on a line that is not trusted, in doubt, urgent and not ready.
+const MORE: &str = "offer-at 0 HI
+urgent-at 0
+offer-at 0 HI
+offer-for 0 HI
+urgent-for 0
+offer-for 0 HI
+unready 0
+offer-at 0
+ready 0
+";
+
+/// The end of the output of `COUNTED_TWICE` without its release, and with `MORE` in its place.
+const MORE_REPORTED: &[u8] = b"terminal 0 EOT
+from 0: offered 4, known 0, spooled 2, in doubt
+  4849
+  4849
+to 0: offered 2, known 0, spooled 0
+from 1: offered 0, known 0, spooled 0
+to 1: offered 0, known 0, spooled 0
+not trusted
+";
+
+/// The end of its trace.
+const MORE_TRACED: &[u8] = b"+14 offered at terminal 0: |HI|
++15 terminal 0 asks for the line
++16 offered at terminal 0: |HI|
++17 offered for terminal 0.0: |HI|
++18 control asks terminal 0 for the line
++19 offered for terminal 0.0: |HI|
++20 terminal 0 is not ready
++21 offered at terminal 0: ||
++22 terminal 0 is ready
+";
+
+#[test]
+fn events_are_accepted_in_doubt_and_without_trust(rt: HostRuntime) -> Result<(), Fail> {
+    let alloc = rt.alloc();
+    let Some(before) = COUNTED_TWICE.strip_suffix("release 0 from\n") else {
+        return Err(Fail::new("no release"));
+    };
+    let script = format!(in alloc; "{before}{MORE}")?;
+    let (mut out, mut again, mut trace) = (Vec::new(alloc), Vec::new(alloc), Vec::new(alloc));
+    run(&rt, TWO_TERMINALS, &script, &mut out)??;
+    run_traced(&rt, TWO_TERMINALS, &script, &mut again, &mut trace)??;
+    assert!(rt; out.ends_with(MORE_REPORTED) && out.as_slice() == again.as_slice());
+    assert!(rt; trace.ends_with(MORE_TRACED));
     Ok(())
 }
 

@@ -1,0 +1,140 @@
+//! Runs of more events than the longest script that the command reads, and of as many records as
+//! such a script offers.
+
+use crate::progress::Kept;
+use crate::watched::{Connections, NO_TROUBLE, RunWatch};
+use bsc_config::{Config, read_config};
+use bsc_progress::Counts;
+use bsc_run::{RunError, run_line};
+use bsc_script::{Script, read_script};
+use std::alloc::{AllocError, Global};
+use std::test::Fail;
+use test_fixtures::configurations::TWO_TERMINALS;
+
+/// What a run writes, and what it tells of its progress.
+#[derive(Drop)]
+struct Written {
+    out: Vec<u8>,
+    trace: Vec<u8>,
+    kept: Kept,
+}
+
+/// A writer of nothing yet.
+fn nothing_written(alloc: Global) -> Written {
+    Written {
+        out: Vec::new(alloc),
+        trace: Vec::new(alloc),
+        kept: Kept {
+            due: true,
+            times: 0,
+            last: None,
+        },
+    }
+}
+
+/// Runs a script on a new line of two terminals, over connections in memory.
+fn run_long(
+    alloc: Global,
+    config: &Config,
+    script: &Script<'_, Global>,
+    tracing: bool,
+    written: &mut Written,
+) -> Result<Result<(), RunError>, Fail> {
+    let (connections, watch) = (Connections::new(alloc), RunWatch::new(NO_TROUBLE));
+    let mut cable = connections.cable(alloc, &watch)?;
+    if config.terminals() != 2 {
+        return Err(Fail::new("not two terminals"));
+    }
+    Ok(run_line(
+        alloc,
+        config,
+        script,
+        &mut cable,
+        &mut written.out,
+        tracing,
+        &mut written.trace,
+        &mut written.kept,
+    ))
+}
+
+/// What a script writes that is not refused.
+fn written_by(alloc: Global, script: &str, tracing: bool) -> Result<Written, Fail> {
+    let config = read_config(alloc, TWO_TERMINALS.as_bytes())?;
+    let script = read_script(alloc, script.as_bytes())?;
+    let mut written = nothing_written(alloc);
+    run_long(alloc, &config, &script, tracing, &mut written)??;
+    Ok(written)
+}
+
+/// The number of lines of a text.
+fn count_lines(text: &[u8]) -> usize {
+    text.iter().filter(|octet| **octet == b'\n').count()
+}
+
+/// The report after two million events, of which every second one is the loss of a call.
+const NOTHING_DELIVERED: &[u8] = b"quiet
+from 0: offered 0, known 0, spooled 0
+to 0: offered 0, known 0, spooled 0
+from 1: offered 0, known 0, spooled 0
+to 1: offered 0, known 0, spooled 0
+trusted
+";
+
+#[test]
+fn two_million_events_are_run(rt: HostRuntime) -> Result<(), Fail> {
+    let script = "silence\nlose\n".repeat(rt.alloc(), 1_000_000)?;
+    let written = written_by(rt.alloc(), &script, false)?;
+    assert!(rt; written.out.ends_with(NOTHING_DELIVERED) && written.trace.is_empty());
+    assert_eq!(rt; count_lines(&written.out), 2_000_005);
+    let counts = Counts {
+        done: 2_000_000,
+        known: 0,
+        arrived: 0,
+        doubts: 0,
+    };
+    assert!(rt; written.kept.times == 2_000_000 && written.kept.last == Some(counts));
+    Ok(())
+}
+
+/// The number of records in each direction.
+const COUNT: usize = 66_000;
+
+/// A script in which this many records are offered at terminal 0 and for terminal 1, and all of
+/// them are delivered.
+fn deliveries(alloc: Global) -> Result<String, AllocError> {
+    let mut text = "offer-at 0 HI\noffer-for 1 BYE\n".repeat(alloc, COUNT)?;
+    text.push_str("silence\n")?;
+    text.push_str(&"carry\n".repeat(alloc, 40_000)?)?;
+    Ok(text)
+}
+
+/// The report after these deliveries.
+fn delivered(alloc: Global) -> Result<String, Fail> {
+    let mut text = format!(in alloc; "from 0: offered {COUNT}, known {COUNT}, spooled {COUNT}\n")?;
+    text.push_str(&"  4849\n".repeat(alloc, COUNT)?)?;
+    write!(
+        text,
+        "to 0: offered 0, known 0, spooled 0\nfrom 1: offered 0, known 0, spooled 0\n\
+        to 1: offered {COUNT}, known {COUNT}, spooled {COUNT}\n"
+    )?;
+    text.push_str(&"  425945\n".repeat(alloc, COUNT)?)?;
+    text.push_str("trusted\n")?;
+    Ok(text)
+}
+
+/// The trace has a line for each terminal, for each event, and for each record that arrived.
+#[test]
+fn as_many_records_as_a_script_offers_are_delivered(rt: HostRuntime) -> Result<(), Fail> {
+    let written = written_by(rt.alloc(), &deliveries(rt.alloc())?, true)?;
+    assert!(rt; written.out.ends_with(delivered(rt.alloc())?.as_bytes()));
+    assert_eq!(rt; count_lines(&written.out), 172_006);
+    assert_eq!(rt; count_lines(&written.trace), 304_003);
+    let counts = Counts {
+        done: 172_001,
+        known: 132_000,
+        arrived: 132_000,
+        doubts: 0,
+    };
+    assert!(rt; written.kept.last == Some(counts));
+    Ok(())
+}
