@@ -5,6 +5,7 @@ mod fixtures;
 mod hearings;
 mod memory;
 mod named;
+mod others;
 mod restarts;
 mod texts;
 mod unseen;

@@ -2,6 +2,7 @@
 
 use crate::tests::exchanges::Exchange;
 use crate::{Broken, LineWatch};
+use bsc_bid::Terminal;
 use bsc_line::{Event, Line, LineError};
 use std::alloc::Global;
 use std::test::Fail;
@@ -24,9 +25,18 @@ impl Watched {
     /// A new line: terminal 0 is polled by A and selected by a, terminal 1 is polled by B and
     /// selected by b, and they are called in turn.
     pub(crate) fn new(alloc: Global) -> Result<Watched, Fail> {
-        let (setup, terminals) = (setup(3)?, two_terminals());
-        let watch = LineWatch::new(alloc, setup, &terminals)?;
-        let line = Line::new(alloc, setup, &terminals, &[0, 1])?;
+        Watched::of(alloc, &two_terminals(), &two_terminals())
+    }
+
+    /// A new line of these terminals, whose watch takes it for one of others.
+    pub(crate) fn of(
+        alloc: Global,
+        terminals: &[Terminal],
+        others: &[Terminal],
+    ) -> Result<Watched, Fail> {
+        let setup = setup(3)?;
+        let watch = LineWatch::new(alloc, setup, others)?;
+        let line = Line::new(alloc, setup, terminals, &[0, 1])?;
         Ok(Watched {
             line,
             watch,
