@@ -4,6 +4,15 @@ use Rattle.std.proofs.Common.{Err, refl, sym, ◌∙◌, ap, subst, inl, inr}
 use Rattle.bsc_bid.specs.declared.kept.KeptSender.{KeptSender}
 use Rattle.bsc_kept.specs.declared.fault.StoreFault.{StoreFault}
 use Rattle.bsc_kept.specs.declared.store.Store as store_of
+use Rattle.std.specs.declared.io.Read as read
+use Rattle.std.specs.declared.io.Write as write
+use Rattle.bsc_bid.specs.declared.station.Station as station_of
+use Rattle.bsc_connections.specs.declared.awaited.Pace.{Pace}
+use Rattle.bsc_connections.specs.declared.awaited.Waiter as waiter_of
+use Rattle.bsc_connections.specs.declared.framing.Framing as framing_of
+use Rattle.bsc_connections.specs.Parts.{session_parts}
+use Rattle.bsc_connections.specs.Connections.{ConnectionValue}
+use Rattle.bsc_connections.specs.Attending.{Session, Steps}
 use Rattle.bsc_connections.specs.declared.awaited.LiveError.{LiveError}
 use Rattle.bsc_connections.specs.Histories.{Happening, WasHeard, WasSilent, WasSent, WasIgnored}
 use Rattle.bsc_connections.specs.Histories.{WasWithheld, HasJoined, WasRefused, HasClosed}
@@ -14,7 +23,7 @@ use Rattle.bsc_keeping.specs.Keeping.{KeepsAndTells, TellsIfKept}
 use Rattle.bsc_keeping.specs.Sessions.{Survives, IsKept}
 use Rattle.bsc_keeping.specs.declared.keeper.Keeper.{Keeper}
 use Rattle.bsc_keeping.specs.declared.keeping.Keeping.{Keeping}
-use Rattle.bsc_keeping.proofs.Tellings.{IsStep}
+use Rattle.bsc_keeping.proofs.Tellings.{IsOther, IsStep, ShownOf, shown_of_step}
 
 module _ {S M K Z : Type 0} (party : party_of.Ghosts S Z)
     (kept_at : S → ℕ → ℕ → Option KeptSender) (store : store_of.Ghosts K)
@@ -81,6 +90,28 @@ module _ {S M K Z : Type 0} (party : party_of.Ghosts S Z)
   leaves_told station before WasStopped result after tells =
       unchanged station before after tells.keeps.1
 
+  -- What is kept is the same.
+  abbrev pub IsSame : Keeping M K → Keeping M K → Type 0
+  IsSame before after = after.keeper.now ≡ before.keeper.now
+
+  pub same_idle : (before : Keeping M K) → IsSame before before
+  same_idle before = refl
+
+  -- What is told of anything else changes nothing of what is kept.
+  pub same_of_other : (station : S) (before : Keeping M K) (happening : Happening)
+      (result : Result Bool LiveError) (after : Keeping M K) → IsOther happening
+      → Tells before station happening result after → IsSame before after
+  same_of_other station before (WasHeard place octets) result after is tells = absurd is
+  same_of_other station before WasSilent result after is tells = absurd is
+  same_of_other station before (WasIgnored place octets) result after is tells = tells.keeps.1
+  same_of_other station before (WasSent octets) result after is tells = tells.keeps.1
+  same_of_other station before (WasWithheld octets) result after is tells = tells.keeps.1
+  same_of_other station before (HasJoined place peer replaces) result after is tells =
+      tells.keeps.1
+  same_of_other station before (WasRefused peer why) result after is tells = tells.keeps.1
+  same_of_other station before (HasClosed place peer why) result after is tells = tells.keeps.1
+  same_of_other station before WasStopped result after is tells = tells.keeps.1
+
   kept_if_told : (kept : Result (Unit {0}) StoreFault) (happening : Happening) (station : S)
       (goes_on : Bool) (before after : Keeping M K)
       → KeepsStep party kept_at store (printed before.watch.now) station kept before.keeper.now
@@ -135,3 +166,18 @@ module _ {S M K Z : Type 0} (party : party_of.Ghosts S Z)
   kept_later station first before in_time octets result after tells =
       kept_further station first before after
       (same_later station before in_time octets result after tells)
+
+  -- What is shown of each step of a session with such a monitor.
+  pub shown_by : {R W F T : Type 0} (station : station_of.Ghosts S) (reader : read.Ghosts R)
+      (writer : write.Ghosts W) (framing : framing_of.Ghosts F)
+      (admits : Keeping M K → S → ℕ → List ℕ → Bool) (paces : Keeping M K → Pace)
+      (waiter : waiter_of.Ghosts T R W)
+      (old new : Session S (ConnectionValue R W F) (Keeping M K) T) (happened : List Happening)
+      (result : Result Bool LiveError)
+      → Steps (session_parts station reader writer framing Tells admits paces waiter) old happened
+      result new
+      → ShownOf Leaves Kept IsSame old.station old.monitor happened result new.station new.monitor
+  shown_by station reader writer framing admits paces waiter old new happened result step =
+      shown_of_step (session_parts station reader writer framing Tells admits paces waiter) Leaves
+      Kept IsSame leaves_idle same_idle leaves_told kept_accepted leaves_later kept_later
+      same_of_other old new happened result step

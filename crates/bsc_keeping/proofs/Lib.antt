@@ -2,3 +2,5 @@ mod Tellings
 mod Kept
 mod Lists
 mod Filled
+mod Throughout
+mod AllKept

@@ -2,6 +2,7 @@
 //! cite.
 
 ghost use Rattle.bsc_connections.specs.Parts.{session_parts};
+ghost use Rattle.bsc_keeping.specs.AllKept.{HasAllThroughout, KeepsEachChange};
 ghost use Rattle.bsc_keeping.specs.Sessions.{KeepsBeforeSending};
 
 use crate::{Keeping, Prints, Sends};
@@ -14,7 +15,9 @@ use std::io::{Read, Write};
 /// What a station sends whose records are kept, it sends after all that it has changed is kept: in
 /// every step of a session in which something is sent, exactly the changes that were not kept
 /// before are kept at once. A crash at any moment of any step leaves what was kept before the step,
-/// or all of the step. So whatever a peer was sent rests on what a store has.
+/// or all of the step. So whatever a peer was sent rests on what a store has. And a step that is
+/// not refused keeps all that the station has changed in it; so before each wait of a session the
+/// store has all that is to be kept of the station, if it had it at the beginning.
 pub fn kept_before_sent<
     S: Station + Party + Sends,
     R: Read + Drop,
@@ -24,7 +27,19 @@ pub fn kept_before_sent<
     M: Monitor<S> + Prints + 'static,
     K: Store + Drop + 'static,
 >()
-    ensures { KeepsBeforeSending S.Party S.kept_at K.Store M.printed
+    ensures sent { KeepsBeforeSending S.Party S.kept_at K.Store M.printed
+        (session_parts S.Station R.Read W.Write F.Framing
+        ⟦<Keeping<'static, M, K> as Monitor<S>>⟧.is_told
+        ⟦<Keeping<'static, M, K> as Monitor<S>>⟧.admits
+        ⟦<Keeping<'static, M, K> as Monitor<S>>⟧.paces
+        T.Waiter) }
+    ensures changed { KeepsEachChange S.Party S.kept_at K.Store M.printed
+        (session_parts S.Station R.Read W.Write F.Framing
+        ⟦<Keeping<'static, M, K> as Monitor<S>>⟧.is_told
+        ⟦<Keeping<'static, M, K> as Monitor<S>>⟧.admits
+        ⟦<Keeping<'static, M, K> as Monitor<S>>⟧.paces
+        T.Waiter) }
+    ensures throughout { HasAllThroughout S.Party S.kept_at K.Store M.printed
         (session_parts S.Station R.Read W.Write F.Framing
         ⟦<Keeping<'static, M, K> as Monitor<S>>⟧.is_told
         ⟦<Keeping<'static, M, K> as Monitor<S>>⟧.admits

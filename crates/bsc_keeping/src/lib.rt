@@ -9,6 +9,7 @@
 //! This is the project's own; GA27-3004 has nothing of it.
 #![tactic(auto)]
 
+mod attending;
 mod changes;
 mod ends;
 mod filling;
@@ -18,6 +19,7 @@ pub mod laws;
 mod own;
 mod own_text;
 
+pub use attending::attend_kept;
 pub use ends::{Prints, Sends};
 pub use filling::{begin_control, begin_terminal};
 pub use keeper::Keeper;
