@@ -37,8 +37,8 @@ pub trait Network {
         wanted: &Wanted<'_>,
     ) -> Result<Opened<Self::Reader, Self::Writer, Self::Waiter>, SocketsError>;
 
-    /// Returns a clock that starts now. Progress is shown of this work, or none; and only if standard
-    /// error is a terminal.
+    /// Returns a clock that starts now. Progress is shown of this work, or none; and only if
+    /// standard error is a terminal.
     fn timer(&mut self, progress: Option<Work>) -> Self::Timer;
 
     /// Returns the writer for the trace, which is standard error.

@@ -22,6 +22,7 @@ pub trait Cables {
         requires most { count ≤ MAX_CONNECTIONS }
         ensures count { IfOk result (λ cable. length cable.control_ends ≡ count) };
 
-    /// Returns what shows the progress of this work, or of none; only if standard error is a terminal.
+    /// Returns what shows the progress of this work, or of none; only if standard error is a
+    /// terminal.
     fn meter(&mut self, progress: Option<Work>) -> Self::Meter;
 }

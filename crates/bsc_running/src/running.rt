@@ -41,8 +41,8 @@ pub struct RunWords<'a> {
 /// prints what is on the line after each event that is heard, and a report at the end, also if an
 /// event is refused. Both are read before what they say is checked, the configuration first. With
 /// `check` nothing is run or printed. If the words ask for a trace, it is written to `trace` as
-/// `run_line` does, and otherwise nothing is. Without a trace the progress is shown, unless the words
-/// ask for none. (Own.)
+/// `run_line` does, and otherwise nothing is. Without a trace the progress is shown, unless the
+/// words ask for none. (Own.)
 pub fn run<R: Read, H: Files + Cables, W: Write, D: Write>(
     alloc: Global,
     words: RunWords<'_>,
@@ -86,8 +86,8 @@ pub fn run<R: Read, H: Files + Cables, W: Write, D: Write>(
     )
 }
 
-/// Returns of what work the progress is shown: of the events, or of none with a trace, or if none is
-/// wanted.
+/// Returns of what work the progress is shown: of the events, or of none with a trace, or if none
+/// is wanted.
 fn progress_of(words: RunWords<'_>) -> Option<Work>
     ensures { result ≡ progress_in words.entry.trace words.entry.quiet }
 {

@@ -52,7 +52,8 @@ pub(crate) const CHART: Subcommand = Subcommand {
             id: "width",
             given: Value,
             value: "N",
-            help: "Cut the records and messages of a text to N characters a line, 40 to 1000, or 80",
+            help: "Cut the records and messages of a text to N characters a line, 40 to 1000, \
+                or 80",
         },
         Entry {
             id: "from",

@@ -1,4 +1,5 @@
-//! Tests of ladders: traces that are drawn, pictures, faults, widths, streams that fail, and refused growths.
+//! Tests of ladders: traces that are drawn, pictures, faults, widths, streams that fail, and
+//! refused growths.
 //!
 //! The transmissions are those of GA27-3004. Traces and ladders are this project's own.
 #![tactic(auto)]
