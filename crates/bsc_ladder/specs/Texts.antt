@@ -19,7 +19,8 @@ use Rattle.bsc_ladder.specs.declared.row.Place.TheVariants.{Control, Station}
 use Rattle.bsc_ladder.specs.declared.row.Sign.{Sign}
 use Rattle.bsc_ladder.specs.declared.row.Sign.TheVariants.{Named}
 use Rattle.bsc_ladder.specs.declared.text.Layout.{Layout}
-use Rattle.bsc_ladder.specs.Arrows.{arrives, control_glyph, gap_glyph, station_glyph}
+use Rattle.bsc_ladder.specs.Arrows.{arrives, control_glyph, ends_before, gap_glyph}
+use Rattle.bsc_ladder.specs.Arrows.{station_glyph}
 use Rattle.bsc_ladder.specs.Glyphs.{glyph_text, glyphs_text}
 use Rattle.bsc_ladder.specs.Rows.{RowValue, arrow, silence, mark, time_in}
 
@@ -62,7 +63,8 @@ abbrev pub arrived_lane : Style → List ℕ → List ℕ
 arrived_lane style name =
     glyph_text style Line ++ name_text name ++ glyphs_text style Line (15 - length name)
 
--- The name of what the control station sent and did not arrive: its line ends before the column.
+-- The name of what the control station sent and did not arrive: its line ends before the first
+-- column.
 abbrev pub lost_to_lane : Style → Fate → List ℕ → List ℕ
 lost_to_lane style fate name =
     glyph_text style Line ++ name_text name ++ glyphs_text style Line (13 - length name)
@@ -74,20 +76,30 @@ lost_from_lane style fate name =
     codes " " ++ glyph_text style (End fate) ++ name_text name
     ++ glyphs_text style Line (14 - length name)
 
-abbrev pub lost_lane : Style → Course → Fate → List ℕ → List ℕ
-lost_lane style ToAll fate name = lost_to_lane style fate name
-lost_lane style (ToOne to) fate name = lost_to_lane style fate name
-lost_lane style (From from) fate name = lost_from_lane style fate name
+-- The same of what goes away from the control station: its line ends here, or passes.
+abbrev pub sent_lane : Style → Course → Fate → List ℕ → List ℕ
+sent_lane style course fate name =
+    if ends_before course fate 0 then lost_to_lane style fate name else arrived_lane style name
+
+abbrev pub came_lane : Style → Fate → List ℕ → List ℕ
+came_lane style fate name =
+    if arrives fate then arrived_lane style name else lost_from_lane style fate name
 
 abbrev pub lane_text : Style → Course → Fate → List ℕ → List ℕ
-lane_text style course fate name =
-    if arrives fate then arrived_lane style name else lost_lane style course fate name
+lane_text style (From from) fate name = came_lane style fate name
+lane_text style course fate name = sent_lane style course fate name
 
--- Before a column after the first, and at it.
+-- Before a column after the first: where the line ends, or a line or a space.
+abbrev pub gap_text : Style → Course → Fate → ℕ → List ℕ
+gap_text style course fate column =
+    if ends_before course fate column
+    then glyph_text style Line ++ glyph_text style (End fate) ++ codes " "
+    else glyphs_text style (gap_glyph course fate column) 3
+
+-- The same, and at the column.
 abbrev pub arrow_column : Style → Course → Fate → ℕ → List ℕ
 arrow_column style course fate column =
-    glyphs_text style (gap_glyph course fate column) 3
-    ++ glyph_text style (station_glyph course fate column)
+    gap_text style course fate column ++ glyph_text style (station_glyph course fate column)
 
 -- The columns after the first, of which there are this many.
 abbrev pub arrow_columns : Style → Course → Fate → ℕ → List ℕ
@@ -108,16 +120,35 @@ fate_word Withheld = codes "  withheld"
 abbrev pub note_room : Layout → ℕ → ℕ
 note_room layout used = layout.width - (31 + 4 * layout.more + used)
 
+-- The number of the column at which a transmission did not arrive, if it went to that only.
+abbrev pub missed_text : Course → Fate → List ℕ
+missed_text (ToOne to) fate = if arrives fate then [] else codes " at " ++ decimal to
+missed_text course fate = []
+
+-- The room that is kept for that.
+abbrev pub missed_room : Course → Fate → ℕ
+missed_room (ToOne to) fate = if arrives fate then 0 else 7
+missed_room course fate = 0
+
+-- The room that is taken before the characters of the records.
+abbrev pub fate_room : Course → Fate → ℕ
+fate_room course fate = length (fate_word fate) + missed_room course fate
+
 -- The characters of the records, as far as there is room.
-abbrev pub records_text : Layout → Fate → List ℕ → List ℕ
-records_text layout fate note =
-    codes "  " ++ first_visible (note_room layout (length (fate_word fate))) note
+abbrev pub records_text : Layout → Course → Fate → List ℕ → List ℕ
+records_text layout course fate note =
+    codes "  " ++ first_visible (note_room layout (fate_room course fate)) note
+
+-- The same, if there are records.
+abbrev pub records_if : Layout → Course → Fate → List ℕ → List ℕ
+records_if layout course fate note =
+    if length note == 0 then [] else records_text layout course fate note
 
 -- What became of a transmission, and the characters of its records.
-abbrev pub note_text : Layout → Fate → List ℕ → List ℕ
-note_text layout fate note =
-    fate_word fate
-    ++ (if length note == 0 then [] else records_text layout fate note) ++ codes "\n"
+abbrev pub note_text : Layout → Course → Fate → List ℕ → List ℕ
+note_text layout course fate note =
+    fate_word fate ++ missed_text course fate ++ records_if layout course fate note
+    ++ codes "\n"
 
 -- The row for a transmission, without its time: from the control station to the last column, the
 -- parts of one arrow, and then what became of it.
@@ -127,7 +158,7 @@ arrow_text layout course fate name note =
     ++ lane_text layout.style course fate name
     ++ glyph_text layout.style (station_glyph course fate 0)
     ++ arrow_columns layout.style course fate layout.more
-    ++ note_text layout fate note
+    ++ note_text layout course fate note
 
 -- A silence before a column after the first, and at it.
 abbrev pub pause_column : Style → List ℕ

@@ -1,7 +1,7 @@
 //! The parts of an arrow: which glyph stands at which station, and which between two stations.
 ghost use Rattle.std.specs.Prelude.{◌≡◌};
 ghost use Rattle.bsc_ladder.specs.Arrows.{arrives as arrives_at_all, control_glyph};
-ghost use Rattle.bsc_ladder.specs.Arrows.{gap_glyph, head_glyph, line_glyph, passed_glyph};
+ghost use Rattle.bsc_ladder.specs.Arrows.{ends_before as ends, gap_glyph, head_glyph, line_glyph};
 ghost use Rattle.bsc_ladder.specs.Arrows.{station_glyph, tail_glyph};
 
 use crate::glyphs::Glyph;
@@ -34,7 +34,7 @@ pub(crate) fn at_station(course: Course, fate: Fate, column: u8) -> Glyph
 {
     match course {
         Course::ToAll => head_if(arrives(fate), fate),
-        Course::ToOne { column: to } if column < to => passed_if(arrives(fate)),
+        Course::ToOne { column: to } if column < to => Glyph::Cross,
         Course::ToOne { column: to } => head_if(column == to && arrives(fate), fate),
         Course::From { column: from } if column < from => Glyph::Cross,
         Course::From { column: from } => tail_if(column == from),
@@ -50,13 +50,6 @@ fn head_if(is_head: bool, fate: Fate) -> Glyph
     } else {
         Glyph::Rail
     }
-}
-
-/// Returns the crossing of an arrow, or a rail.
-fn passed_if(is_passed: bool) -> Glyph
-    ensures { result ≡ passed_glyph is_passed }
-{
-    if is_passed { Glyph::Cross } else { Glyph::Rail }
 }
 
 /// Returns the tail of an arrow, or a rail.
@@ -76,8 +69,19 @@ pub(crate) fn before_station(course: Course, fate: Fate, column: u8) -> Glyph
 {
     match course {
         Course::ToAll => line_if(arrives(fate)),
-        Course::ToOne { column: to } => line_if(column <= to && arrives(fate)),
+        Course::ToOne { column: to } => line_if(column <= to),
         Course::From { column: from } => line_if(column <= from),
+    }
+}
+
+/// Whether an arrow ends before the station of a column.
+pub(crate) fn ends_before(course: Course, fate: Fate, column: u8) -> bool
+    ensures { result ≡ ends course fate column }
+{
+    match course {
+        Course::ToAll => column == 0 && !arrives(fate),
+        Course::ToOne { column: to } => column == to && !arrives(fate),
+        Course::From { .. } => false,
     }
 }
 

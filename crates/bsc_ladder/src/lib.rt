@@ -5,6 +5,7 @@
 
 mod arrows;
 mod glyphs;
+mod lanes;
 mod row;
 mod text;
 

@@ -1,21 +1,24 @@
 //! A ladder as text.
-ghost use Rattle.std.specs.Prelude.{◌≡◌, ◌+◌, ◌≤◌, length, OnOk};
+ghost use Rattle.std.specs.Prelude.{◌≡◌, ◌+◌, ◌≤◌, ◌++◌, length, OnOk, codes};
+ghost use Rattle.std.specs.Fmt.{decimal};
 ghost use Rattle.std.specs.Io.KnownBytes.{Appends};
 ghost use Rattle.bsc_ladder.specs.Glyphs.{glyph_text, glyphs_text};
 ghost use Rattle.bsc_ladder.specs.Rows.{row_in, time_in};
 ghost use Rattle.bsc_ladder.specs.Texts.{arrow_column, arrow_columns, arrow_text, column_label};
-ghost use Rattle.bsc_ladder.specs.Texts.{fate_word, first_visible, header_text, lane_text};
-ghost use Rattle.bsc_ladder.specs.Texts.{arrived_lane, lost_from_lane, lost_to_lane, mark_text};
+ghost use Rattle.bsc_ladder.specs.Texts.{fate_word, first_visible, header_text, happening_text};
+ghost use Rattle.bsc_ladder.specs.Texts.{fate_room as room_taken, mark_text, missed_text};
+ghost use Rattle.bsc_ladder.specs.Texts.{missed_room as room_missed, pause_columns, pause_lane};
+ghost use Rattle.bsc_ladder.specs.Texts.{records_if};
 ghost use Rattle.bsc_ladder.specs.Texts.{note_room as room_of, note_text, pause_column, row_text};
-ghost use Rattle.bsc_ladder.specs.Texts.{happening_text, name_text, pause_columns, pause_lane};
 ghost use Rattle.bsc_ladder.specs.Texts.{silence_text, time_text, visible, visible_code};
 ghost use Rattle.bsc_ladder.specs.Texts.{first_rails, labels_text, mark_indent, number_text};
 ghost use Rattle.bsc_ladder.specs.Texts.{rail_column, rails_before, rails_text, sign_text};
 ghost use Rattle.bsc_ladder.specs.Texts.{station_rails};
 ghost use Rattle.bsc_report.specs.Channels.{each_below};
 
-use crate::arrows::{arrives, at_control, at_station, before_station};
+use crate::arrows::{arrives, at_control, at_station};
 use crate::glyphs::{Glyph, glyph_bytes};
+use crate::lanes::{Drawn, write_gap, write_lane};
 use crate::{Course, Fate, Mark, Place, Row, Sign, Style};
 use bsc_print::{PrintError, put};
 use std::io::Write;
@@ -34,7 +37,7 @@ pub struct Layout {
 }
 
 /// Writes a glyph.
-fn put_glyph<W: Write>(style: Style, glyph: Glyph, out: &mut W) -> Result<(), PrintError>
+pub(crate) fn put_glyph<W: Write>(style: Style, glyph: Glyph, out: &mut W) -> Result<(), PrintError>
     ensures { OnOk result
         (Appends (W.contents out.old) (W.contents out.new) (glyph_text style glyph)) }
 {
@@ -42,7 +45,7 @@ fn put_glyph<W: Write>(style: Style, glyph: Glyph, out: &mut W) -> Result<(), Pr
 }
 
 /// Writes a glyph this many times.
-fn put_glyphs<W: Write>(
+pub(crate) fn put_glyphs<W: Write>(
     style: Style,
     glyph: Glyph,
     count: usize,
@@ -58,7 +61,7 @@ fn put_glyphs<W: Write>(
 }
 
 /// Writes characters, each that is not printable as a dot.
-fn put_visible<W: Write>(chars: &[u8], out: &mut W) -> Result<(), PrintError>
+pub(crate) fn put_visible<W: Write>(chars: &[u8], out: &mut W) -> Result<(), PrintError>
     ensures { OnOk result
         (Appends (W.contents out.old) (W.contents out.new) (visible chars.now)) }
 {
@@ -149,92 +152,6 @@ pub fn write_header<W: Write>(columns: u8, out: &mut W) -> Result<(), PrintError
     write_labels(columns - 1, out)
 }
 
-/// The transmission of a row.
-#[derive(Clone, Copy)]
-struct Drawn<'a> {
-    /// From where to where it went.
-    course: Course,
-
-    /// What became of it.
-    fate: Fate,
-
-    /// Its name.
-    name: &'a [u8],
-
-    /// The characters of its records.
-    note: &'a [u8],
-}
-
-/// Writes the name of a transmission between two spaces.
-fn put_name<W: Write>(name: &[u8], out: &mut W) -> Result<(), PrintError>
-    ensures { OnOk result
-        (Appends (W.contents out.old) (W.contents out.new) (name_text name.now)) }
-{
-    put(b" ", out)?;
-    put_visible(name, out)?;
-    put(b" ", out)
-}
-
-/// Writes what is between the control station and the first column, for a transmission that
-/// arrived.
-fn write_arrived<W: Write>(style: Style, name: &[u8], out: &mut W) -> Result<(), PrintError>
-    ensures { OnOk result
-        (Appends (W.contents out.old) (W.contents out.new) (arrived_lane style name.now)) }
-{
-    put_glyph(style, Glyph::Line, out)?;
-    put_name(name, out)?;
-    put_glyphs(style, Glyph::Line, 15usize.saturating_sub(name.len()), out)
-}
-
-/// Writes the same for one that the control station sent and that did not arrive.
-fn write_lost_to<W: Write>(
-    style: Style,
-    fate: Fate,
-    name: &[u8],
-    out: &mut W,
-) -> Result<(), PrintError>
-    ensures { OnOk result
-        (Appends (W.contents out.old) (W.contents out.new) (lost_to_lane style fate name.now)) }
-{
-    put_glyph(style, Glyph::Line, out)?;
-    put_name(name, out)?;
-    put_glyphs(style, Glyph::Line, 13usize.saturating_sub(name.len()), out)?;
-    put_glyph(style, Glyph::End { fate }, out)?;
-    put(b" ", out)
-}
-
-/// Writes the same for one that another station sent and that did not arrive.
-fn write_lost_from<W: Write>(
-    style: Style,
-    fate: Fate,
-    name: &[u8],
-    out: &mut W,
-) -> Result<(), PrintError>
-    ensures { OnOk result
-        (Appends (W.contents out.old) (W.contents out.new) (lost_from_lane style fate name.now)) }
-{
-    put(b" ", out)?;
-    put_glyph(style, Glyph::End { fate }, out)?;
-    put_name(name, out)?;
-    put_glyphs(style, Glyph::Line, 14usize.saturating_sub(name.len()), out)
-}
-
-/// Writes what is between the control station and the first column.
-fn write_lane<W: Write>(style: Style, drawn: &Drawn<'_>, out: &mut W) -> Result<(), PrintError>
-    ensures { OnOk result (Appends (W.contents out.old) (W.contents out.new)
-        (lane_text style drawn.now.course drawn.now.fate drawn.now.name.now)) }
-{
-    if arrives(drawn.fate) {
-        return write_arrived(style, drawn.name, out);
-    }
-    match drawn.course {
-        Course::From { .. } => write_lost_from(style, drawn.fate, drawn.name, out),
-        Course::ToAll | Course::ToOne { .. } => {
-            write_lost_to(style, drawn.fate, drawn.name, out)
-        }
-    }
-}
-
 /// Writes the part of an arrow before a column, and at it.
 fn write_column<W: Write>(
     style: Style,
@@ -245,8 +162,7 @@ fn write_column<W: Write>(
     ensures { OnOk result (Appends (W.contents out.old) (W.contents out.new)
         (arrow_column style drawn.now.course drawn.now.fate column)) }
 {
-    let before = before_station(drawn.course, drawn.fate, column);
-    put_glyphs(style, before, 3, out)?;
+    write_gap(style, drawn, column, out)?;
     put_glyph(style, at_station(drawn.course, drawn.fate, column), out)
 }
 
@@ -284,25 +200,75 @@ pub fn word_of(fate: Fate) -> &'static [u8]
 
 /// Returns the room for a note, in characters.
 fn note_room(layout: Layout, used: usize) -> usize
-    requires { used ≤ 16 }
+    requires { used ≤ 32 }
     ensures { result ≡ room_of layout used }
 {
     let taken = 31 + 4 * usize::from(layout.more) + used;
     layout.width.saturating_sub(taken)
 }
 
+/// Writes the number of a column after ` at `.
+fn write_place<W: Write>(column: u8, out: &mut W) -> Result<(), PrintError>
+    ensures { OnOk result (Appends (W.contents out.old) (W.contents out.new)
+        (codes " at " ++ decimal column)) }
+{
+    match write!(out, " at {column}") {
+        Ok(()) => Ok(()),
+        Err(_) => Err(PrintError::Output),
+    }
+}
+
+/// Writes the number of the column at which a transmission did not arrive, if it went to that only.
+fn write_missed<W: Write>(course: Course, fate: Fate, out: &mut W) -> Result<(), PrintError>
+    ensures { OnOk result (Appends (W.contents out.old) (W.contents out.new)
+        (missed_text course fate)) }
+{
+    match course {
+        Course::ToOne { column } if !arrives(fate) => write_place(column, out),
+        _ => Ok(()),
+    }
+}
+
+/// Returns the room that is kept for that.
+fn missed_room(course: Course, fate: Fate) -> usize
+    ensures value { result ≡ room_missed course fate }
+    ensures most { result ≤ 7 }
+{
+    match course {
+        Course::ToOne { .. } if !arrives(fate) => 7,
+        _ => 0,
+    }
+}
+
+/// Returns the room that is taken before the characters of the records.
+fn fate_room(course: Course, fate: Fate) -> usize
+    ensures value { result ≡ room_taken course fate }
+    ensures most { result ≤ 17 }
+{
+    word_of(fate).len() + missed_room(course, fate)
+}
+
+/// Writes the characters of the records of a transmission, if it has any.
+fn write_records<W: Write>(layout: Layout, drawn: &Drawn<'_>, out: &mut W) -> Result<(), PrintError>
+    ensures { OnOk result (Appends (W.contents out.old) (W.contents out.new)
+        (records_if layout drawn.now.course drawn.now.fate drawn.now.note.now)) }
+{
+    if drawn.note.is_empty() {
+        return Ok(());
+    }
+    put(b"  ", out)?;
+    let room = note_room(layout, fate_room(drawn.course, drawn.fate));
+    put_first(drawn.note, room, out)
+}
+
 /// Writes what became of a transmission, and the characters of its records.
 fn write_notes<W: Write>(layout: Layout, drawn: &Drawn<'_>, out: &mut W) -> Result<(), PrintError>
     ensures { OnOk result (Appends (W.contents out.old) (W.contents out.new)
-        (note_text layout drawn.now.fate drawn.now.note.now)) }
+        (note_text layout drawn.now.course drawn.now.fate drawn.now.note.now)) }
 {
-    let word = word_of(drawn.fate);
-    put(word, out)?;
-    if drawn.note.is_empty() {
-        return put(b"\n", out);
-    }
-    put(b"  ", out)?;
-    put_first(drawn.note, note_room(layout, word.len()), out)?;
+    put(word_of(drawn.fate), out)?;
+    write_missed(drawn.course, drawn.fate, out)?;
+    write_records(layout, drawn, out)?;
     put(b"\n", out)
 }
 

@@ -22,8 +22,9 @@ fn put_code<W: Write>(code: u8, out: &mut W) -> Result<(), PrintError>
     }
 }
 
-/// Writes characters, so that they have no meaning in a document.
-pub(crate) fn put_escaped<W: Write>(chars: &[u8], out: &mut W) -> Result<(), PrintError>
+/// Writes characters, so that they have no meaning in a document: the five that have one by their
+/// names, and each that is not printable as a dot.
+pub fn put_escaped<W: Write>(chars: &[u8], out: &mut W) -> Result<(), PrintError>
     ensures { OnOk result
         (Appends (W.contents out.old) (W.contents out.new) (escaped chars.now)) }
 {

@@ -46,8 +46,8 @@ pub(crate) fn row_place(number: usize) -> usize
     96 + 24 * number
 }
 
-/// Returns the first characters of a text that are shown.
-pub(crate) fn shown_part(chars: &[u8]) -> &[u8]
+/// Returns the first characters of a text that are shown, at most 64.
+pub fn shown_part(chars: &[u8]) -> &[u8]
     ensures value { result.now ≡ shown chars.now }
     ensures most { length result.now ≤ 64 }
 {

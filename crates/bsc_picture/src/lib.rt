@@ -13,5 +13,8 @@ mod row_pictures;
 mod rows;
 mod style;
 
+pub use escapes::put_escaped;
+pub use frame::shown_part;
+pub use parts::{put_column_number, put_number};
 pub use picture::{MAX_ROWS, Picture, write_svg};
 pub use rows::{PictureRow, owned};

@@ -15,7 +15,7 @@ use bsc_print::{PrintError, put};
 use std::io::Write;
 
 /// Writes a number in decimal digits.
-pub(crate) fn put_number<W: Write>(number: usize, out: &mut W) -> Result<(), PrintError>
+pub fn put_number<W: Write>(number: usize, out: &mut W) -> Result<(), PrintError>
     ensures { OnOk result (Appends (W.contents out.old) (W.contents out.new) (decimal number)) }
 {
     match write!(out, "{number}") {
@@ -25,7 +25,7 @@ pub(crate) fn put_number<W: Write>(number: usize, out: &mut W) -> Result<(), Pri
 }
 
 /// Writes the number of a column in decimal digits.
-pub(crate) fn put_column_number<W: Write>(column: u8, out: &mut W) -> Result<(), PrintError>
+pub fn put_column_number<W: Write>(column: u8, out: &mut W) -> Result<(), PrintError>
     ensures { OnOk result (Appends (W.contents out.old) (W.contents out.new) (decimal column)) }
 {
     match write!(out, "{column}") {

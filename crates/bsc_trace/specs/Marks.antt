@@ -139,13 +139,20 @@ arrived_by text word rest =
 abbrev pub arrived_mark : List ℕ → List ℕ → Option MarkedValue
 arrived_mark text rest = option_and_then (arrived_by text (first_word rest)) (after_word rest)
 
+-- The end of trust that a control station tells, after `not`.
+abbrev pub trust_mark : List ℕ → List ℕ → Option MarkedValue
+trust_mark text rest =
+    if bytes_eq (first_word rest) (codes "trusted:")
+    then Some (marked text (mark_at Control TrustEnds)) else None
+
 -- A mark by its first word, with the text after that.
 abbrev pub mark_by : List ℕ → List ℕ → List ℕ → Option MarkedValue
 mark_by text word rest =
     if bytes_eq word (codes "terminal") then terminal_mark text rest
     else (if bytes_eq word (codes "control") then control_mark text rest
     else (if bytes_eq word (codes "the") then line_mark text rest
-    else (if bytes_eq word (codes "arrived") then arrived_mark text rest else None)))
+    else (if bytes_eq word (codes "arrived") then arrived_mark text rest
+    else (if bytes_eq word (codes "not") then trust_mark text rest else None))))
 
 -- A mark that is known by its form.
 abbrev pub sign_in : List ℕ → Option MarkedValue

@@ -4,7 +4,7 @@ ghost use Rattle.bsc_trace.specs.Marks.{after_this, arrived_from, arrived_mark, 
 ghost use Rattle.bsc_trace.specs.Marks.{control_mark, doubt_at, doubt_from, doubt_mark, doubt_sign};
 ghost use Rattle.bsc_trace.specs.Marks.{doubt_to, line_mark, mark_at as mark_with, mark_by, marked};
 ghost use Rattle.bsc_trace.specs.Marks.{marked_in, marked_of, named_at, numbered_in, numbered_of};
-ghost use Rattle.bsc_trace.specs.Marks.{selects_in, sign_in, terminal_mark};
+ghost use Rattle.bsc_trace.specs.Marks.{selects_in, sign_in, terminal_mark, trust_mark};
 
 use crate::words::{read_column, spells, split_word};
 use bsc_input::split_at_first;
@@ -195,6 +195,17 @@ fn read_arrived<'a>(text: &'a [u8], rest: &[u8]) -> Option<Marked<'a>>
     None
 }
 
+/// Reads the end of trust that a control station tells.
+fn read_distrust<'a>(text: &'a [u8], rest: &[u8]) -> Option<Marked<'a>>
+    ensures { option_map marked_in result ≡ trust_mark text.now rest.now }
+{
+    let (word, _) = split_word(rest);
+    if spells(word, "trusted:") {
+        return Some(mark_at(text, Place::Control, Sign::TrustEnds));
+    }
+    None
+}
+
 /// Reads a mark by its first word.
 fn read_by<'a>(text: &'a [u8], word: &[u8], rest: &'a [u8]) -> Option<Marked<'a>>
     ensures { option_map marked_in result ≡ mark_by text.now word.now rest.now }
@@ -207,6 +218,8 @@ fn read_by<'a>(text: &'a [u8], word: &[u8], rest: &'a [u8]) -> Option<Marked<'a>
         read_line_mark(text, rest)
     } else if spells(word, "arrived") {
         read_arrived(text, rest)
+    } else if spells(word, "not") {
+        read_distrust(text, rest)
     } else {
         None
     }
