@@ -1,0 +1,11 @@
+-- The parts are written one after another.
+use Rattle.std.proofs.KnownBytes.{Appends-trans}
+use Rattle.bsc_summary.proofs.page.write_html.Goals as goal
+
+pub returns : goal.returns
+returns g c =
+    Appends-trans _ _ _ _ _ (Appends-trans _ _ _ _ _ (Appends-trans _ _ _ _ _ (Appends-trans _ _ _ _ _ c.in_ok-put.ensures.ok
+    c.in_ok-put_summary.ensures)
+    c.in_ok-put-2.ensures.ok)
+    c.in_ok-write_svg.ensures)
+    c.in_ok-put-3.ensures.ok

@@ -1,0 +1,10 @@
+-- The parts are written one after another.
+use Rattle.std.proofs.KnownBytes.{Appends-trans}
+use Rattle.bsc_summary.proofs.times.put_divided.Goals as goal
+
+pub returns : goal.returns
+returns g c =
+    Appends-trans _ _ _ _ _ (Appends-trans _ _ _ _ _ (Appends-trans _ _ _ _ _ c.in_ok-put.ensures.ok
+    (rw c.silent_tenths-tenths.ensures.value at c.in_ok-put_time_line.ensures))
+    (rw c.silent_tenths-tenths.ensures.value at c.in_ok-put_time_line-2.ensures))
+    c.in_ok-put-2.ensures.ok

@@ -1,0 +1,15 @@
+//! The ladder of a line as a page, an HTML document: a picture under a summary of it.
+//!
+//! The transmissions are those of GA27-3004. The summary and the page are this project's own.
+#![tactic(auto)]
+
+mod clock;
+mod counts;
+mod kinds;
+pub mod laws;
+mod page;
+mod stations;
+mod style;
+mod times;
+
+pub use page::write_html;
