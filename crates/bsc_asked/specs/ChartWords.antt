@@ -4,8 +4,10 @@ use Rattle.bsc_asked.specs.declared.chart_words.ChartWords.{ChartWords}
 
 -- The arguments as texts.
 pub record AskedChart : Type 0 where
+  pub file : Option (List ℕ)
   pub text : Bool
   pub svg : Bool
+  pub html : Bool
   pub ascii : Bool
   pub width : Option (List ℕ)
   pub from : Option (List ℕ)
@@ -14,8 +16,10 @@ pub record AskedChart : Type 0 where
 -- The value of the arguments in the code.
 abbrev pub chart_words : ChartWords → AskedChart
 chart_words w = record {
+  file = option_map string_bytes w.file;
   text = w.text;
   svg = w.svg;
+  html = w.html;
   ascii = w.ascii;
   width = option_map string_bytes w.width;
   from = option_map string_bytes w.from;

@@ -1,3 +1,4 @@
 pub mod ChartWords
 pub mod StationWords
+pub mod StoreWords
 pub mod Asked

@@ -22,6 +22,7 @@ pub record AskedWords : Type 0 where
   pub idle_rounds : Option (List ℕ)
   pub until_input_ends : Bool
   pub offers : List (List ℕ)
+  pub store : Option (List ℕ)
   pub text : Bool
   pub bytes : Bool
   pub report_records : Bool
@@ -50,6 +51,7 @@ asked_words w = record {
   idle_rounds = option_map string_bytes w.idle_rounds;
   until_input_ends = w.until_input_ends;
   offers = map string_bytes w.offers.items;
+  store = option_map string_bytes w.store;
   text = w.text;
   bytes = w.bytes;
   report_records = w.report_records;

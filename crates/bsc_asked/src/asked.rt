@@ -1,6 +1,6 @@
 //! The work that the command line asks for.
 
-use crate::{ChartWords, StationWords};
+use crate::{ChartWords, StationWords, StoreWords};
 
 /// The work that the command line asks for.
 #[derive(Debug, Drop)]
@@ -15,7 +15,7 @@ pub enum Asked {
     /// texts.
     Show,
 
-    /// Draw the ladder of the trace on standard input.
+    /// Draw the ladder of a trace.
     Chart(ChartWords),
 
     /// Run a line with this configuration and the events of this script. Both are paths; `-` is
@@ -31,4 +31,7 @@ pub enum Asked {
 
     /// Run one station of a line over TCP.
     Station(StationWords),
+
+    /// Do a work on the store of a station.
+    Store(StoreWords),
 }

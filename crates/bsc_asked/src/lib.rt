@@ -7,7 +7,9 @@
 mod asked;
 mod chart_words;
 mod station_words;
+mod store_words;
 
 pub use asked::Asked;
 pub use chart_words::ChartWords;
 pub use station_words::StationWords;
+pub use store_words::StoreWords;

@@ -58,6 +58,9 @@ pub struct StationWords {
     /// The records that are offered, as paths; at the control station each with its channel.
     pub offers: Vec<String>,
 
+    /// The store of the station, as a path.
+    pub store: Option<String>,
+
     /// Whether records are printed as text, with escapes.
     pub text: bool,
 

@@ -1,5 +1,5 @@
 -- The reasons for refusing options, in words.
-use Rattle.std.specs.Prelude.{ℕ, List, Bool, true, false, codes}
+use Rattle.std.specs.Prelude.{ℕ, List, ◌++◌, Bool, true, false, codes}
 use Rattle.bsc_options.specs.declared.error.OptionError.{OptionError}
 use Rattle.bsc_options.specs.declared.error.OptionError.TheVariants.{Station, TerminalNumber, Place}
 use Rattle.bsc_options.specs.declared.error.OptionError.TheVariants.{ConnectNeedsShared}
@@ -11,12 +11,16 @@ use Rattle.bsc_options.specs.declared.error.OptionError.TheVariants.{PauseNotBel
 use Rattle.bsc_options.specs.declared.error.OptionError.TheVariants.{AllowNeedsListen}
 use Rattle.bsc_options.specs.declared.error.OptionError.TheVariants.{PeerNeedsListen}
 use Rattle.bsc_options.specs.declared.error.OptionError.TheVariants.{GapNeedsRaw, TextAndBytes}
+use Rattle.bsc_options.specs.declared.error.OptionError.TheVariants.{StoreAndOffer}
 use Rattle.bsc_options.specs.declared.error.OptionError.TheVariants.{RepeatedInput, Gap, TimeOut}
 use Rattle.bsc_options.specs.declared.error.OptionError.TheVariants.{GapNotBelowTimeOut, Patience}
 use Rattle.bsc_options.specs.declared.error.OptionError.TheVariants.{Rounds, IdleRounds, NoTerminal}
 use Rattle.bsc_options.specs.declared.error.OptionError.TheVariants.{OfferForm, NoChannel, NoPeer}
 use Rattle.bsc_options.specs.declared.error.OptionError.TheVariants.{AllowForm, TooManyNetworks}
 use Rattle.bsc_options.specs.declared.error.OptionError.TheVariants.{PeerForm, RepeatedPeer}
+use Rattle.bsc_options.specs.declared.error.OptionError.TheVariants.{StoreWork, NeedsInit}
+use Rattle.bsc_options.specs.declared.error.OptionError.TheVariants.{NeedsArrived, ChannelForm}
+use Rattle.bsc_options.specs.declared.error.OptionError.TheVariants.{Count, From}
 
 -- Each reason names the options at fault.
 abbrev pub reason : OptionError → List ℕ
@@ -31,6 +35,7 @@ reason AllowNeedsListen = codes "--allow needs --listen"
 reason PeerNeedsListen = codes "--peer needs --control and --listen, and not --shared"
 reason GapNeedsRaw = codes "--gap needs --raw"
 reason TextAndBytes = codes "--text and --bytes cannot both be given"
+reason StoreAndOffer = codes "--store and --offer cannot both be given"
 reason RepeatedInput =
     codes "CONFIG, --offer and --until-input-ends cannot use standard input more than once"
 reason Gap = codes "--gap takes milliseconds, 1 to 3600000"
@@ -50,6 +55,14 @@ reason NoTerminal = codes "--terminal names a terminal that is not in CONFIG"
 reason NoPeer = codes "--peer names a terminal that is not in CONFIG"
 reason OfferForm = codes "--offer takes T.S=PATH at the control station"
 reason NoChannel = codes "--offer names a channel that is not in CONFIG"
+reason StoreWork =
+    codes "a work is init CONFIG, offer CHANNEL PATH, arrived CHANNEL, status, "
+    ++ codes "release CHANNEL COUNT or reconcile OTHER"
+reason NeedsInit = codes "--control and --terminal need init"
+reason NeedsArrived = codes "--from and --text need arrived"
+reason ChannelForm = codes "CHANNEL takes T or T.S"
+reason Count = codes "COUNT takes a number, 0 to 4294967295"
+reason From = codes "--from takes a number, 0 to 4294967295"
 
 -- Whether options contradict one another or one is missing; otherwise the value of one is wrong.
 abbrev pub is_conflict : OptionError → Bool
@@ -64,6 +77,7 @@ is_conflict AllowNeedsListen = true
 is_conflict PeerNeedsListen = true
 is_conflict GapNeedsRaw = true
 is_conflict TextAndBytes = true
+is_conflict StoreAndOffer = true
 is_conflict RepeatedInput = true
 is_conflict Gap = false
 is_conflict TimeOut = false
@@ -82,3 +96,9 @@ is_conflict NoTerminal = false
 is_conflict NoPeer = false
 is_conflict OfferForm = false
 is_conflict NoChannel = false
+is_conflict StoreWork = false
+is_conflict NeedsInit = true
+is_conflict NeedsArrived = true
+is_conflict ChannelForm = false
+is_conflict Count = false
+is_conflict From = false

@@ -5,3 +5,4 @@ pub mod Inputs
 pub mod Offers
 pub mod Admission
 pub mod Settings
+pub mod StoreWorks

@@ -79,6 +79,7 @@ fits_together w role = do
       error.PeerNeedsListen
   gap ← unless (is_some w.gap && not w.raw) error.GapNeedsRaw
   form ← unless (w.text && w.bytes) error.TextAndBytes
+  store ← unless (is_some w.store && is_any w.offers) error.StoreAndOffer
   unless (repeats_input w role) error.RepeatedInput
 
 -- The number in the text of an option, from `least` to `most`, or `absent` if it is not given.
@@ -152,6 +153,7 @@ pub record SettingsValue : Type 0 where
   pub times : Times
   pub limits : Limits
   pub until_input_ends : Bool
+  pub is_kept : Bool
   pub sync : Bool
   pub quiet : Bool
   pub printing : Printing
@@ -166,6 +168,7 @@ settings_value s = record {
   times = s.times;
   limits = s.limits;
   until_input_ends = s.until_input_ends;
+  is_kept = s.is_kept;
   sync = s.sync;
   quiet = s.quiet;
   printing = s.printing;
@@ -192,6 +195,7 @@ settings_in w = do
     times = times;
     limits = limits;
     until_input_ends = w.until_input_ends;
+    is_kept = is_some w.store;
     sync = w.sync;
     quiet = w.quiet;
     printing = printing_in w;

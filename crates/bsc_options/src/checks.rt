@@ -17,7 +17,7 @@ pub(crate) fn unless(is_broken: bool, why: OptionError) -> Result<(), OptionErro
 }
 
 /// Whether an option is given.
-fn is_given(option: &Option<String>) -> bool
+pub(crate) fn is_given(option: &Option<String>) -> bool
     ensures { result ≡ is_some (option_map string_bytes option.now) }
 {
     match option {
@@ -72,5 +72,7 @@ pub(crate) fn check_together(words: &StationWords, role: Role) -> Result<(), Opt
     unless(is_broken, OptionError::PeerNeedsListen)?;
     unless(is_given(&words.gap) && !words.raw, OptionError::GapNeedsRaw)?;
     unless(words.text && words.bytes, OptionError::TextAndBytes)?;
+    let is_broken = is_given(&words.store) && has_any(&words.offers);
+    unless(is_broken, OptionError::StoreAndOffer)?;
     unless(repeats_input(words, role), OptionError::RepeatedInput)
 }

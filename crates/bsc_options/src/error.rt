@@ -1,4 +1,4 @@
-//! The reasons for refusing the options of a station.
+//! The reasons for refusing the options of a station, and the words of `store`.
 
 ghost use Rattle.std.specs.Prelude.{◌≡◌};
 ghost use Rattle.bsc_options.specs.Errors.{is_conflict, reason};
@@ -6,8 +6,8 @@ ghost use Rattle.bsc_options.specs.Errors.{is_conflict, reason};
 use std::fmt;
 
 /// The reason for refusing the options of a station: the first of these, in this order, that
-/// applies. The last four are found after the configuration is read, those of offers offer by
-/// offer.
+/// applies, up to `NoChannel`. Its last four are found after the configuration is read, those of
+/// offers offer by offer. The other reasons are for refusing the words of `store`.
 #[derive(Clone, Copy, Debug, PartialEq, Eq)]
 pub enum OptionError {
     /// Not exactly one of `--control` and `--terminal` is given.
@@ -42,6 +42,9 @@ pub enum OptionError {
 
     /// `--text` and `--bytes` are both given.
     TextAndBytes,
+
+    /// `--store` and `--offer` are both given.
+    StoreAndOffer,
 
     /// Standard input is used more than once, by CONFIG, `--offer` and `--until-input-ends`.
     RepeatedInput,
@@ -96,6 +99,24 @@ pub enum OptionError {
 
     /// An `--offer` names a channel that is not in the configuration.
     NoChannel,
+
+    /// WORK is not one of a store, or it does not take this many words.
+    StoreWork,
+
+    /// `--control` or `--terminal` is given with another work than `init`.
+    NeedsInit,
+
+    /// `--from` or `--text` is given with another work than `arrived`.
+    NeedsArrived,
+
+    /// CHANNEL is not `T` or `T.S`.
+    ChannelForm,
+
+    /// COUNT is not a number below 2^32.
+    Count,
+
+    /// The value of `--from` is not a number below 2^32.
+    From,
 }
 
 impl OptionError {
@@ -123,6 +144,7 @@ impl OptionError {
             }
             OptionError::GapNeedsRaw => "--gap needs --raw",
             OptionError::TextAndBytes => "--text and --bytes cannot both be given",
+            OptionError::StoreAndOffer => "--store and --offer cannot both be given",
             OptionError::RepeatedInput => {
                 "CONFIG, --offer and --until-input-ends cannot use standard input more than once"
             }
@@ -143,6 +165,15 @@ impl OptionError {
             OptionError::NoPeer => "--peer names a terminal that is not in CONFIG",
             OptionError::OfferForm => "--offer takes T.S=PATH at the control station",
             OptionError::NoChannel => "--offer names a channel that is not in CONFIG",
+            OptionError::StoreWork => {
+                "a work is init CONFIG, offer CHANNEL PATH, arrived CHANNEL, status, \
+                    release CHANNEL COUNT or reconcile OTHER"
+            }
+            OptionError::NeedsInit => "--control and --terminal need init",
+            OptionError::NeedsArrived => "--from and --text need arrived",
+            OptionError::ChannelForm => "CHANNEL takes T or T.S",
+            OptionError::Count => "COUNT takes a number, 0 to 4294967295",
+            OptionError::From => "--from takes a number, 0 to 4294967295",
         }
     }
 
@@ -162,10 +193,13 @@ impl OptionError {
             | OptionError::PeerNeedsListen
             | OptionError::GapNeedsRaw
             | OptionError::TextAndBytes
+            | OptionError::StoreAndOffer
             | OptionError::RepeatedInput
             | OptionError::GapNotBelowTimeOut
             | OptionError::PauseNotBelowTimeOut
-            | OptionError::RepeatedPeer => true,
+            | OptionError::RepeatedPeer
+            | OptionError::NeedsInit
+            | OptionError::NeedsArrived => true,
             OptionError::TerminalNumber
             | OptionError::AllowForm
             | OptionError::TooManyNetworks
@@ -174,6 +208,10 @@ impl OptionError {
             | OptionError::NoPeer
             | OptionError::OfferForm
             | OptionError::NoChannel
+            | OptionError::StoreWork
+            | OptionError::ChannelForm
+            | OptionError::Count
+            | OptionError::From
             | OptionError::Gap
             | OptionError::TimeOut
             | OptionError::Patience

@@ -1,5 +1,5 @@
 //! The options of `bscline station`: what their texts mean, which of them contradict one another,
-//! and the channels to which records are offered.
+//! and the channels to which records are offered. And the words of `bscline store`.
 //!
 //! The standard, GA27-3004, defines no options; all of this is this project's own.
 #![tactic(auto)]
@@ -12,9 +12,11 @@ mod numbers;
 mod offers;
 mod settings;
 mod splitting;
+mod store_works;
 
 pub use admission::{Admission, GivenPeers, read_admission};
 pub use error::OptionError;
 pub use numbers::number_within;
 pub use offers::{Offer, offer_of};
 pub use settings::{Place, Role, StationSettings, Times, read_settings};
+pub use store_works::{StoreChannel, StoreWork, read_store_work};

@@ -20,7 +20,7 @@ pub struct Offer<'a> {
 }
 
 /// Returns the terminal and its selection address in `T.S`, or in `T` for address 0.
-fn channel_of(text: &str) -> Option<(usize, usize)>
+pub(crate) fn channel_of(text: &str) -> Option<(usize, usize)>
     ensures { result ≡ channel_in text.now }
 {
     let (terminal, select) = split_at(text, '.');

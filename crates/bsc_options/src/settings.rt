@@ -8,7 +8,7 @@ ghost use Rattle.bsc_options.specs.Settings.{printing_in, reported_in, role_in, 
 ghost use Rattle.bsc_options.specs.Settings.{settings_in, settings_value, times_in, tracing_in};
 
 use crate::OptionError;
-use crate::checks::{check_together, unless};
+use crate::checks::{check_together, is_given, unless};
 use crate::numbers::{number_within, octet_in};
 use bsc_asked::StationWords;
 use bsc_monitor::{Limits, Printing, Tracing};
@@ -92,6 +92,9 @@ pub struct StationSettings<'a> {
     /// Whether it ends when standard input does.
     pub until_input_ends: bool,
 
+    /// Whether its records are kept in a store.
+    pub is_kept: bool,
+
     /// Whether standard output is synced before records are acknowledged.
     pub sync: bool,
 
@@ -106,7 +109,7 @@ pub struct StationSettings<'a> {
 }
 
 /// Returns the text of an option, if it is given.
-fn text_of(option: &Option<String>) -> Option<&str>
+pub(crate) fn text_of(option: &Option<String>) -> Option<&str>
     ensures { option_map (λ text. text.now) result ≡ option_map string_bytes option.now }
 {
     match option {
@@ -116,7 +119,7 @@ fn text_of(option: &Option<String>) -> Option<&str>
 }
 
 /// Returns the station that is run.
-fn role_of(control: bool, terminal: Option<&str>) -> Result<Role, OptionError>
+pub(crate) fn role_of(control: bool, terminal: Option<&str>) -> Result<Role, OptionError>
     ensures { result ≡ role_in control (option_map (λ text. text.now) terminal.entry) }
 {
     match terminal {
@@ -284,6 +287,7 @@ pub fn read_settings(words: &StationWords) -> Result<StationSettings<'_>, Option
         times,
         limits,
         until_input_ends: words.until_input_ends,
+        is_kept: is_given(&words.store),
         sync: words.sync,
         quiet: words.quiet,
         printing: printing_of(words),

@@ -5,10 +5,11 @@ use Rattle.std.specs.Str.{bytes_eq}
 use Rattle.clap.specs.Words.{App, Kinds, Row, Text, fault_of, first_of, new_app, subcommand_of}
 use Rattle.clap.specs.declared.error.kind.ErrorKind.{ErrorKind}
 use Rattle.clap.specs.declared.error.kind.ErrorKind.TheVariants.{DisplayHelp, DisplayVersion}
-use Rattle.bsc_asked.specs.Asked.{AskedValue, names, name, show, chart, run, station}
-use Rattle.bsc_words.specs.Options.{flag, is_true_text, option, required, value_at, with_rules}
-use Rattle.bsc_words.specs.Options.{with_shapes}
+use Rattle.bsc_asked.specs.Asked.{AskedValue, names, name, show, chart, run, station, store}
+use Rattle.bsc_words.specs.Options.{flag, is_true_text, option, optional, required, value_at}
+use Rattle.bsc_words.specs.Options.{with_rules, with_shapes}
 use Rattle.bsc_words.specs.StationWords.{station_app, words_in}
+use Rattle.bsc_words.specs.StoreWords.{store_app, store_words_in}
 
 -- `name HEX`.
 abbrev pub name_app : App
@@ -18,13 +19,14 @@ name_app = with_rules (new_app (codes "name")) (required (codes "HEX") ∷ [])
 abbrev pub show_app : App
 show_app = new_app (codes "show")
 
--- `chart`, with the flags `--text`, `--svg` and `--ascii` and the options `--width`, `--from` and
--- `--to`.
+-- `chart FILE`, of which FILE may be left out, with the flags `--text`, `--svg`, `--html` and
+-- `--ascii` and the options `--width`, `--from` and `--to`.
 abbrev pub chart_app : App
 chart_app =
     with_rules (new_app (codes "chart"))
-    (flag (codes "text") ∷ flag (codes "svg") ∷ flag (codes "ascii") ∷ option (codes "width")
-    ∷ option (codes "from") ∷ option (codes "to") ∷ [])
+    (optional (codes "FILE") ∷ flag (codes "text") ∷ flag (codes "svg") ∷ flag (codes "html")
+    ∷ flag (codes "ascii") ∷ option (codes "width") ∷ option (codes "from")
+    ∷ option (codes "to") ∷ [])
 
 -- `run CONFIG SCRIPT`, with the flags `--check`, `--trace` and `--quiet`.
 abbrev pub run_app : App
@@ -42,7 +44,8 @@ program_app =
 abbrev pub bscline_app : App
 bscline_app =
     with_shapes program_app
-    (name_app.top ∷ show_app.top ∷ chart_app.top ∷ run_app.top ∷ station_app.top ∷ [])
+    (name_app.top ∷ show_app.top ∷ chart_app.top ∷ run_app.top ∷ station_app.top ∷ store_app.top
+    ∷ [])
 
 -- The kinds of error that `clap` may return for the arguments; none if they are a command.
 unfoldable pub faults_at : List Text → Kinds
@@ -51,8 +54,10 @@ faults_at words = fault_of bscline_app words
 -- A ladder, with its arguments.
 abbrev pub asked_chart : List Row → AskedValue
 asked_chart rows = chart (record {
+  file = first_of (codes "FILE") rows;
   text = is_true_text (value_at (codes "text") rows);
   svg = is_true_text (value_at (codes "svg") rows);
+  html = is_true_text (value_at (codes "html") rows);
   ascii = is_true_text (value_at (codes "ascii") rows);
   width = first_of (codes "width") rows;
   from = first_of (codes "from") rows;
@@ -71,13 +76,18 @@ asked_run rows =
 abbrev pub asked_station : List Row → AskedValue
 asked_station rows = station (words_in rows)
 
+-- A work on a store, with its arguments.
+abbrev pub asked_store : List Row → AskedValue
+asked_store rows = store (store_words_in rows)
+
 -- The work for the name of a command and its values.
 abbrev pub asked_by : Text → List Row → AskedValue
 asked_by sub rows =
     if bytes_eq sub (codes "name") then name (value_at (codes "HEX") rows)
     else (if bytes_eq sub (codes "chart") then asked_chart rows
     else (if bytes_eq sub (codes "run") then asked_run rows
-    else (if bytes_eq sub (codes "station") then asked_station rows else show)))
+    else (if bytes_eq sub (codes "station") then asked_station rows
+    else (if bytes_eq sub (codes "store") then asked_store rows else show))))
 
 -- The work for a command. Without a command it is naming the lines of standard input.
 abbrev pub asked_sub : Option (Text × List Row) → AskedValue

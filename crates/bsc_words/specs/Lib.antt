@@ -1,3 +1,4 @@
 pub mod Options
 pub mod StationWords
+pub mod StoreWords
 pub mod CommandLine

@@ -13,6 +13,10 @@ use Rattle.clap.specs.declared.builder.ArgAction.TheVariants.{Append, Count, Set
 abbrev pub required : Text → Rule
 required id = record (new_rule id) { required = true; action = Some Set }
 
+-- An argument with a value, which may be left out.
+abbrev pub optional : Text → Rule
+optional id = record (new_rule id) { action = Some Set }
+
 -- A flag with a long name.
 abbrev pub flag : Text → Rule
 flag id = record (new_rule id) { long = Some id; action = Some SetTrue }
@@ -32,6 +36,7 @@ value_list id = record (new_rule id) { long = Some id; value_names = 1; action =
 -- The rule for an entry with this name that is given in this form.
 abbrev pub given_rule : Given → Text → Rule
 given_rule given.Required id = required id
+given_rule given.Optional id = optional id
 given_rule given.Flag id = flag id
 given_rule given.Count id = counted id
 given_rule given.Value id = option id

@@ -32,6 +32,7 @@ station_app =
     ∷ option (codes "idle-rounds")
     ∷ flag (codes "until-input-ends")
     ∷ value_list (codes "offer")
+    ∷ option (codes "store")
     ∷ flag (codes "text")
     ∷ flag (codes "bytes")
     ∷ flag (codes "report-records")
@@ -69,6 +70,7 @@ words_in rows = record {
   idle_rounds = first_of (codes "idle-rounds") rows;
   until_input_ends = given (codes "until-input-ends") rows;
   offers = values_of (codes "offer") rows;
+  store = first_of (codes "store") rows;
   text = given (codes "text") rows;
   bytes = given (codes "bytes") rows;
   report_records = given (codes "report-records") rows;

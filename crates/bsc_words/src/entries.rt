@@ -13,6 +13,9 @@ pub(crate) enum Given {
     /// A required value without a name.
     Required,
 
+    /// A value without a name, which may be left out.
+    Optional,
+
     /// A name only.
     Flag,
 
@@ -66,6 +69,7 @@ fn argument<'a>(alloc: Global, entry: &'a Entry) -> Arg<'a>
     let argument = Arg::new(alloc, entry.id).help(entry.help);
     match entry.given {
         Given::Required => argument.required(true).action(ArgAction::Set),
+        Given::Optional => argument.action(ArgAction::Set),
         Given::Flag => argument.long(entry.id).action(ArgAction::SetTrue),
         Given::Count => argument.long(entry.id).action(ArgAction::Count),
         Given::Value => with_value(argument, entry).action(ArgAction::Set),

@@ -6,6 +6,7 @@
 
 mod entries;
 mod station_words;
+mod store_words;
 mod tables;
 mod values;
 mod words;

@@ -101,6 +101,7 @@ pub(crate) fn station_words(
     let terminal = option_text(alloc, matches, "terminal")?;
     let listen = option_text(alloc, matches, "listen")?;
     let connect = option_text(alloc, matches, "connect")?;
+    let store = option_text(alloc, matches, "store")?;
     let lists = lists_of(alloc, matches)?;
     let Lists {
         allowed,
@@ -136,6 +137,7 @@ pub(crate) fn station_words(
         idle_rounds,
         until_input_ends: flags.until_input_ends,
         offers,
+        store,
         text: flags.text,
         bytes: flags.bytes,
         report_records: flags.report_records,

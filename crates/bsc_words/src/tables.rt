@@ -1,6 +1,6 @@
 //! The commands of the program with their arguments and options, as tables.
 
-use crate::entries::Given::{Count, Flag, Required, Value, Values};
+use crate::entries::Given::{Count, Flag, Optional, Required, Value, Values};
 use crate::entries::{Entry, Subcommand};
 
 /// Prints the name of one transmission.
@@ -27,9 +27,15 @@ const SHOW: Subcommand = Subcommand {
 /// Draws the ladder of a trace.
 pub(crate) const CHART: Subcommand = Subcommand {
     name: "chart",
-    about: "Draw the trace on standard input as a ladder of stations",
-    example: "Example: bscline chart < examples/ladder/trace.txt",
+    about: "Draw a trace as a ladder of stations",
+    example: "Example: bscline chart examples/ladder/trace.txt",
     entries: &[
+        Entry {
+            id: "FILE",
+            given: Optional,
+            value: "",
+            help: "The trace; - or none is standard input",
+        },
         Entry {
             id: "text",
             given: Flag,
@@ -43,6 +49,12 @@ pub(crate) const CHART: Subcommand = Subcommand {
             help: "Draw a picture, as an SVG document of at most 5000 arrows",
         },
         Entry {
+            id: "html",
+            given: Flag,
+            value: "",
+            help: "Draw a page, as an HTML document: that picture under a summary",
+        },
+        Entry {
             id: "ascii",
             given: Flag,
             value: "",
@@ -52,8 +64,7 @@ pub(crate) const CHART: Subcommand = Subcommand {
             id: "width",
             given: Value,
             value: "N",
-            help: "Cut the records and messages of a text to N characters a line, 40 to 1000, \
-                or 80",
+            help: "Cut the notes of a text to lines of N characters, 40 to 1000",
         },
         Entry {
             id: "from",
@@ -225,6 +236,12 @@ pub(crate) const STATION: Subcommand = Subcommand {
             help: "Offer the lines of PATH: at a terminal PATH, at the control station T.S=PATH",
         },
         Entry {
+            id: "store",
+            given: Value,
+            value: "FILE",
+            help: "Keep the records in FILE, and begin with those that it has",
+        },
+        Entry {
             id: "text",
             given: Flag,
             value: "",
@@ -263,5 +280,64 @@ pub(crate) const STATION: Subcommand = Subcommand {
     ],
 };
 
+/// Does a work on the store of a station.
+pub(crate) const STORE: Subcommand = Subcommand {
+    name: "store",
+    about: "Do a work on the store of a station, while no station runs on it",
+    example: "Example: bscline store deck.db init examples/lossy_line/line.toml --terminal 0",
+    entries: &[
+        Entry {
+            id: "FILE",
+            given: Required,
+            value: "",
+            help: "The store",
+        },
+        Entry {
+            id: "WORK",
+            given: Required,
+            value: "",
+            help: "init CONFIG, offer CHANNEL PATH, arrived CHANNEL, status, \
+                release CHANNEL COUNT, or reconcile OTHER",
+        },
+        Entry {
+            id: "FIRST",
+            given: Optional,
+            value: "",
+            help: "CONFIG in TOML, CHANNEL as T or T.S, or OTHER, the store of the other station",
+        },
+        Entry {
+            id: "SECOND",
+            given: Optional,
+            value: "",
+            help: "PATH of records, one a line, - is standard input; or COUNT, how many the other \
+                station has",
+        },
+        Entry {
+            id: "control",
+            given: Flag,
+            value: "",
+            help: "Make the store of the control station; needs init",
+        },
+        Entry {
+            id: "terminal",
+            given: Value,
+            value: "T",
+            help: "Make the store of terminal T, counted from 0; needs init",
+        },
+        Entry {
+            id: "from",
+            given: Value,
+            value: "N",
+            help: "Print from record N on, counted from 0; needs arrived",
+        },
+        Entry {
+            id: "text",
+            given: Flag,
+            value: "",
+            help: "Print records as text, with escapes; needs arrived",
+        },
+    ],
+};
+
 /// The commands, in the order of the help.
-pub(crate) const COMMANDS: &[Subcommand] = &[NAME, SHOW, CHART, RUN, STATION];
+pub(crate) const COMMANDS: &[Subcommand] = &[NAME, SHOW, CHART, RUN, STATION, STORE];

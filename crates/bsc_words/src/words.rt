@@ -3,11 +3,13 @@ ghost use Rattle.std.specs.Prelude.{◌≡◌, ◌⊎◌, [], map, IfOk, IfErr, 
 ghost use Rattle.clap.specs.Words.{HasKind, app_of, found_of, kind_of, rows_of, subcommand_rows_of};
 ghost use Rattle.bsc_asked.specs.Asked.{asked};
 ghost use Rattle.bsc_words.specs.CommandLine.{asked_chart, asked_of, asked_run, asked_station};
-ghost use Rattle.bsc_words.specs.CommandLine.{asked_sub, bscline_app, faults_at, program_app};
+ghost use Rattle.bsc_words.specs.CommandLine.{asked_store, asked_sub, bscline_app, faults_at};
+ghost use Rattle.bsc_words.specs.CommandLine.{program_app};
 
 use crate::entries::{Subcommand, command_of, with_subcommands};
 use crate::station_words::station_words;
-use crate::tables::{CHART, COMMANDS, RUN, STATION};
+use crate::store_words::store_words;
+use crate::tables::{CHART, COMMANDS, RUN, STATION, STORE};
 use crate::values::{is_given, option_text, required_text};
 use bsc_asked::{Asked, ChartWords};
 use clap::error::ErrorKind;
@@ -36,8 +38,10 @@ fn chart_of(alloc: Global, matches: &ArgMatches<'_>) -> Result<Asked, AllocError
     ensures { IfOk result (λ w. asked w ≡ asked_chart (rows_of (found_of matches.now))) }
 {
     Ok(Asked::Chart(ChartWords {
+        file: option_text(alloc, matches, "FILE")?,
         text: is_given(matches, "text"),
         svg: is_given(matches, "svg"),
+        html: is_given(matches, "html"),
         ascii: is_given(matches, "ascii"),
         width: option_text(alloc, matches, "width")?,
         from: option_text(alloc, matches, "from")?,
@@ -65,6 +69,13 @@ fn station_of(alloc: Global, matches: &ArgMatches<'_>) -> Result<Asked, AllocErr
     Ok(Asked::Station(station_words(alloc, matches)?))
 }
 
+/// Returns the work on a store that the matches of `store` ask for.
+fn store_of(alloc: Global, matches: &ArgMatches<'_>) -> Result<Asked, AllocError>
+    ensures { IfOk result (λ w. asked w ≡ asked_store (rows_of (found_of matches.now))) }
+{
+    Ok(Asked::Store(store_words(alloc, matches)?))
+}
+
 /// Returns the work that the matches ask for.
 fn work_of(alloc: Global, matches: &ArgMatches<'_>) -> Result<Asked, AllocError>
     ensures { IfOk result (λ w. asked w ≡ asked_sub (subcommand_rows_of matches.now)) }
@@ -76,6 +87,7 @@ fn work_of(alloc: Global, matches: &ArgMatches<'_>) -> Result<Asked, AllocError>
             "chart" => chart_of(alloc, inner),
             "run" => run_of(alloc, inner),
             "station" => station_of(alloc, inner),
+            "store" => store_of(alloc, inner),
             _ => Ok(Asked::Show),
         },
     }
@@ -108,6 +120,9 @@ pub enum Shown {
 
     /// `station`.
     Station,
+
+    /// `store`.
+    Store,
 }
 
 /// Returns the command whose usage is shown.
@@ -117,6 +132,7 @@ fn shown_command<'a>(alloc: Global, shown: Shown) -> Result<Command<'a>, AllocEr
         Shown::Chart => named_command(alloc, &CHART, "bscline chart"),
         Shown::Run => named_command(alloc, &RUN, "bscline run"),
         Shown::Station => named_command(alloc, &STATION, "bscline station"),
+        Shown::Store => named_command(alloc, &STORE, "bscline store"),
     }
 }
 
