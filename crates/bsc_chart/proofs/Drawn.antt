@@ -334,7 +334,7 @@ module _ (drawing : Drawing) (n : ℕ) (k : PageValue) (a b c : Option (List ℕ
   stopped_write (Some all) left next end part line chart.Width h read fits same wrong full kind = tt
   stopped_write (Some all) left next end part line chart.Forms h read fits same wrong full kind = tt
   stopped_write (Some all) left next end part line chart.Lines h read fits same wrong full kind = tt
-  stopped_write (Some all) left next end part line chart.Input h read fits same wrong full kind = absurd kind
+  stopped_write (Some all) left next end part line (chart.Input why) h read fits same wrong full kind = absurd kind
   stopped_write (Some all) left next end part line chart.Output h read fits same wrong full kind = tt
   stopped_write (Some all) left next end part line chart.Memory h read fits same wrong full kind = tt
 

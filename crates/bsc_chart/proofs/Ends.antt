@@ -4,6 +4,7 @@ use Rattle.std.specs.Io.KnownBytes.{Appends}
 use Rattle.std.specs.Prelude.{IfErr, IfSome, OnOk}
 use Rattle.bsc_input.specs.declared.input.InputError.{InputError}
 use Rattle.bsc_input.specs.declared.input.InputError.TheVariants as input
+use Rattle.bsc_chart.specs.Asked.{IsEarly}
 use Rattle.bsc_chart.specs.Errors.{IsEndError, IsLineError, IsWrongOrPrintError, input_error}
 use Rattle.bsc_chart.specs.Inputs.{DrawsInput, HasStopped, ReadsInput}
 use Rattle.bsc_chart.specs.Pages.{PageValue, late_text}
@@ -11,6 +12,18 @@ use Rattle.bsc_chart.specs.declared.drawing.Drawing.{Drawing}
 use Rattle.bsc_chart.specs.declared.error.ChartError.{ChartError}
 use Rattle.bsc_chart.specs.declared.error.ChartError.TheVariants as chart
 use Rattle.bsc_chart.proofs.Drawn.{drawn_end}
+
+-- an error of the lines is none of the words
+pub late : (e : ChartError) → IsLineError e → IsEarly e → ⊥
+late (chart.NotATraceAt n) is early = early
+late (chart.TooLongAt n) is early = early
+late chart.Forms is early = is
+late chart.Width is early = is
+late chart.Lines is early = is
+late chart.TooMany is early = early
+late (chart.Input why) is early = early
+late chart.Output is early = early
+late chart.Memory is early = early
 
 pub read_fault : (n : ℕ) (e : InputError) → IsLineError (input_error n e)
 read_fault n input.TooLong = tt
@@ -24,7 +37,7 @@ wrong_fault chart.Forms is = is
 wrong_fault chart.Width is = is
 wrong_fault chart.Lines is = is
 wrong_fault chart.TooMany is = tt
-wrong_fault chart.Input is = tt
+wrong_fault (chart.Input why) is = tt
 wrong_fault chart.Output is = tt
 wrong_fault chart.Memory is = tt
 
@@ -35,7 +48,7 @@ end_fault chart.Forms is = is
 end_fault chart.Width is = is
 end_fault chart.Lines is = is
 end_fault chart.TooMany is = tt
-end_fault chart.Input is = tt
+end_fault (chart.Input why) is = tt
 end_fault chart.Output is = tt
 end_fault chart.Memory is = tt
 
@@ -51,7 +64,7 @@ end_stop d chart.Forms octets a b is = tt
 end_stop d chart.Width octets a b is = tt
 end_stop d chart.Lines octets a b is = tt
 end_stop d chart.TooMany octets a b is = absurd is
-end_stop d chart.Input octets a b is = absurd is
+end_stop d (chart.Input why) octets a b is = absurd is
 end_stop d chart.Output octets a b is = tt
 end_stop d chart.Memory octets a b is = tt
 

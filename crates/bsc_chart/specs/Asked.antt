@@ -1,6 +1,7 @@
 -- The ladder that the words of the command ask for.
 use Rattle.std.specs.Prelude.{◌≡◌, ℕ, Bool, true, false, List, Option, Some, None, Result, Ok, Err}
-use Rattle.std.specs.Prelude.{if◌then◌else◌}
+use Rattle.std.specs.Prelude.{if◌then◌else◌, unwrap_or}
+use Rattle.std.specs.Option.{option_and_then}
 use Rattle.bsc_asked.specs.ChartWords.{AskedChart}
 use Rattle.bsc_ladder.specs.declared.glyphs.Style.{Style}
 use Rattle.bsc_ladder.specs.declared.glyphs.Style.TheVariants.{Boxes, Ascii}
@@ -8,7 +9,7 @@ use Rattle.bsc_options.specs.Numbers.{number_within}
 use Rattle.bsc_chart.specs.Inputs.{HasStopped}
 use Rattle.bsc_chart.specs.declared.drawing.Drawing.{Drawing}
 use Rattle.bsc_chart.specs.declared.drawing.Form.{Form}
-use Rattle.bsc_chart.specs.declared.drawing.Form.TheVariants.{Text, Svg}
+use Rattle.bsc_chart.specs.declared.drawing.Form.TheVariants.{Text, Svg, Html}
 use Rattle.bsc_chart.specs.declared.drawing.Range.{Range}
 use Rattle.bsc_chart.specs.declared.error.ChartError.{ChartError}
 use Rattle.bsc_chart.specs.declared.error.ChartError.TheVariants.{Forms, Width, Lines}
@@ -17,19 +18,24 @@ abbrev pub style_of : Bool → Style
 style_of ascii = if ascii then Ascii else Boxes
 
 -- The form that is asked for: a text if it is none.
-abbrev pub form_of : Bool → Bool → Result Form ChartError
-form_of text false = Ok Text
-form_of false true = Ok Svg
-form_of true true = Err Forms
+abbrev pub form_of : Bool → Bool → Bool → Result Form ChartError
+form_of text false false = Ok Text
+form_of false true false = Ok Svg
+form_of false false true = Ok Html
+form_of _ _ _ = Err Forms
 
 abbrev pub width_from : Option ℕ → Result ℕ ChartError
 width_from (Some width) = Ok width
 width_from None = Err Width
 
--- The width that was given, from 40 to 1000: 80 if none was.
-abbrev pub width_of : Option (List ℕ) → Result ℕ ChartError
-width_of None = Ok 80
-width_of (Some text) = width_from (number_within 40 1000 text)
+-- The width if none is given: that of the terminal, if it is told and from 40 to 1000, or 80.
+abbrev pub width_on : Option (List ℕ) → ℕ
+width_on columns = unwrap_or (option_and_then (number_within 40 1000) columns) 80
+
+-- The width that was given, from 40 to 1000; if none was, this one.
+abbrev pub width_of : ℕ → Option (List ℕ) → Result ℕ ChartError
+width_of width None = Ok width
+width_of width (Some text) = width_from (number_within 40 1000 text)
 
 abbrev pub line_from : Option ℕ → Result ℕ ChartError
 line_from (Some line) = Ok line
@@ -58,11 +64,11 @@ drawing_with style (Ok form) (Ok width) (Err error) = Err error
 drawing_with style (Ok form) (Ok width) (Ok range) =
     Ok (record { form = form; style = style; width = width; range = range })
 
--- How the words ask to draw.
-abbrev pub drawing_of : AskedChart → Result Drawing ChartError
-drawing_of words =
-    drawing_with (style_of words.ascii) (form_of words.text words.svg) (width_of words.width)
-    (range_of words.from words.to)
+-- How the words ask to draw on a terminal of which this width is told.
+abbrev pub drawing_of : Option (List ℕ) → AskedChart → Result Drawing ChartError
+drawing_of columns words =
+    drawing_with (style_of words.ascii) (form_of words.text words.svg words.html)
+    (width_of (width_on columns) words.width) (range_of words.from words.to)
 
 -- The errors of the words, before anything is read or written.
 abbrev pub IsEarly : ChartError → Type 0

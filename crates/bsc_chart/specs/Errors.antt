@@ -44,7 +44,7 @@ IsWrongOrPrintError _ = ⊥
 -- The error for the line with this number if it could not be read.
 abbrev pub input_error : ℕ → InputError → ChartError
 input_error number input.TooLong = TooLongAt number
-input_error number (input.Device why) = Input
+input_error number (input.Device why) = Input why
 input_error number input.Memory = Memory
 
 -- The errors of drawing many lines.

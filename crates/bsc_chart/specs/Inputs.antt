@@ -1,11 +1,13 @@
 -- The ladder of the trace in a whole input.
-use Rattle.std.specs.Prelude.{◌≡◌, ℕ, ◌+◌, ◌&&◌, ◌||◌, not, Bool, true, List, [], map, take}
+use Rattle.std.specs.Prelude.{◌≡◌, ℕ, ◌+◌, ◌&&◌, ◌||◌, not, Bool, true, List, [], map, take, codes}
 use Rattle.std.specs.Prelude.{position, slice_index_or, is_none, Option, Some, None}
 use Rattle.std.specs.Prelude.{if◌then◌else◌}
 use Rattle.std.specs.Io.KnownBytes.{Appends}
 use Rattle.std.specs.Option.{option_to_list}
+use Rattle.std.specs.Str.{bytes_eq}
 use Rattle.std.specs.Str.Lines.{strip_carriage_return}
 use Rattle.bsc_input.specs.Lines.{is_blank, lines_of, parts_of}
+use Rattle.bsc_input.specs.Parts.{before_octet}
 use Rattle.bsc_naming.specs.Inputs.{is_too_long}
 use Rattle.bsc_trace.specs.Lines.{TraceValue, value_of}
 use Rattle.bsc_chart.specs.Pages.{PageValue, early_text, is_full, ladder_text, page_of}
@@ -14,17 +16,25 @@ use Rattle.bsc_chart.specs.declared.error.ChartError.TheVariants.{NotATraceAt, T
 use Rattle.bsc_chart.specs.declared.error.ChartError.TheVariants.{TooMany, Input}
 use Rattle.bsc_chart.specs.declared.drawing.Drawing.{Drawing}
 
--- The value of a line: none if it is blank.
+-- Whether a line is the fault with which the program ended, which is no part of its trace.
+abbrev pub tells_fault : List ℕ → Bool
+tells_fault line = bytes_eq (before_octet 32 line) (codes "bscline:")
+
+-- Whether a line is skipped.
+abbrev pub is_skipped : List ℕ → Bool
+is_skipped line = is_blank line || tells_fault line
+
+-- The value of a line: none if it is skipped.
 abbrev pub values_at : List ℕ → List TraceValue
-values_at line = if is_blank line then [] else option_to_list (value_of line)
+values_at line = if is_skipped line then [] else option_to_list (value_of line)
 
 -- The values of lines, in order.
 abbrev pub values_of : List (List ℕ) → List (List TraceValue)
 values_of lines = map values_at lines
 
--- Whether a line is wrong: it is neither blank nor a line of a trace.
+-- Whether a line is wrong: it is neither skipped nor a line of a trace.
 abbrev pub is_wrong : List ℕ → Bool
-is_wrong line = not (is_blank line) && is_none (value_of line)
+is_wrong line = not (is_skipped line) && is_none (value_of line)
 
 -- Whether the text between two line feeds is not too long, and a wrong line without one carriage
 -- return at its end.
@@ -81,5 +91,5 @@ HasStopped drawing (NotATraceAt number) input old new =
 HasStopped drawing (TooLongAt number) input old new =
     StopsAt is_too_long drawing number input old new
 HasStopped drawing TooMany input old new = StopsFull drawing input old new
-HasStopped drawing Input input old new = DrawsFirst drawing input old new
+HasStopped drawing (Input why) input old new = DrawsFirst drawing input old new
 HasStopped drawing _ input old new = Unit {0}

@@ -4,3 +4,4 @@ pub mod Ladders
 pub mod Pages
 pub mod Inputs
 pub mod Asked
+pub mod Named

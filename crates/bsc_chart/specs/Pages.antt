@@ -6,12 +6,13 @@ use Rattle.bsc_ladder.specs.declared.row.Sign.{Sign}
 use Rattle.bsc_ladder.specs.declared.row.Sign.TheVariants.{Named}
 use Rattle.bsc_picture.specs.Pictures.{svg_text}
 use Rattle.bsc_picture.specs.Rows.{rows_in}
+use Rattle.bsc_summary.specs.Pages.{html_text}
 use Rattle.bsc_chart.specs.Ladders.{columns_after, line_text}
 use Rattle.bsc_chart.specs.Rows.{row_of}
 use Rattle.bsc_chart.specs.declared.pages.Page.{Page}
 use Rattle.bsc_chart.specs.declared.drawing.Drawing.{Drawing}
 use Rattle.bsc_chart.specs.declared.drawing.Form.{Form}
-use Rattle.bsc_chart.specs.declared.drawing.Form.TheVariants.{Text, Svg}
+use Rattle.bsc_chart.specs.declared.drawing.Form.TheVariants.{Text, Svg, Html}
 use Rattle.bsc_chart.specs.declared.drawing.Range.{Range}
 use Rattle.bsc_trace.specs.Lines.{TraceValue, transmission, silence, told}
 
@@ -88,11 +89,13 @@ with_kept page value = if is_named value then with_name page value else with_row
 abbrev pub page_with : Form → PageValue → TraceValue → PageValue
 page_with Text page value = widened page value
 page_with Svg page value = with_kept page value
+page_with Html page value = with_kept page value
 
 -- The text that is written for a line that is drawn.
 abbrev pub text_with : Form → Drawing → ℕ → TraceValue → List ℕ
 text_with Text drawing columns value = line_text drawing columns value
 text_with Svg drawing columns value = []
+text_with Html drawing columns value = []
 
 abbrev pub page_after : Drawing → ℕ → PageValue → TraceValue → PageValue
 page_after drawing number page value =
@@ -135,10 +138,11 @@ page_of drawing lines = page_from drawing 1 blank_page lines
 abbrev pub early_text : Drawing → List (List TraceValue) → List ℕ
 early_text drawing lines = text_from drawing 1 blank_page lines
 
--- What is written after the last line: a picture, of all that was kept.
+-- What is written after the last line: a picture or a page, of all that was kept.
 abbrev pub late_text : Form → PageValue → List ℕ
 late_text Text page = []
 late_text Svg page = svg_text page.columns page.names page.rows
+late_text Html page = html_text page.columns page.names page.rows
 
 -- The ladder of a trace.
 abbrev pub ladder_text : Drawing → List (List TraceValue) → List ℕ

@@ -10,6 +10,9 @@ pub enum Form {
 
     /// A picture, as an SVG document.
     Svg,
+
+    /// A page, as an HTML document: a picture under a summary.
+    Html,
 }
 
 /// The lines of a trace that are drawn, by their numbers. The first line of a trace has number 1.

@@ -1,6 +1,7 @@
 //! The reasons why a trace was not drawn.
 ghost use Rattle.std.specs.Prelude.{◌≡◌};
 
+use bsc_input::Unreadable;
 use bsc_print::PrintError;
 use std::alloc::AllocError;
 use thiserror::Error;
@@ -8,8 +9,8 @@ use thiserror::Error;
 /// The reason why not all of a trace was drawn.
 #[derive(Clone, Copy, Debug, PartialEq, Eq, Error)]
 pub enum ChartError {
-    /// The line with this number, counted from 1, is the first that is neither blank nor a line of
-    /// a trace.
+    /// The line with this number, counted from 1, is the first that is neither skipped nor a line
+    /// of a trace.
     #[error("line {line}: not a line of a trace")]
     NotATraceAt { line: u64 },
 
@@ -24,22 +25,22 @@ pub enum ChartError {
     Width,
 
     /// More than one form was asked for.
-    #[error("--text and --svg exclude one another")]
+    #[error("--text, --svg and --html exclude one another")]
     Forms,
 
     /// `--from` or `--to` is not the number of a line, from 1 on.
     #[error("--from or --to is not the number of a line")]
     Lines,
 
-    /// A picture has room for no more than [`MAX_ARROWS`](crate::MAX_ARROWS) arrows and
-    /// [`MAX_ROWS`](bsc_picture::MAX_ROWS) rows.
+    /// A picture, also that of a page, has room for no more than [`MAX_ARROWS`](crate::MAX_ARROWS)
+    /// arrows and [`MAX_ROWS`](bsc_picture::MAX_ROWS) rows.
     #[error("more than 5000 arrows or 20000 rows: draw a part with --from and --to")]
     TooMany,
 
-    /// The input could not be read: a read failed or was interrupted, or the lines are too many for
-    /// their numbers, 2^64 - 1 or more.
+    /// The input could not be read for this reason. That the lines are too many for their numbers,
+    /// 2^64 - 1 or more, is a read fault.
     #[error("input fault")]
-    Input,
+    Input { why: Unreadable },
 
     /// The writer did not accept the text.
     #[error("output fault")]

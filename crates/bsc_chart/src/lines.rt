@@ -1,11 +1,13 @@
 //! Draws the ladder of a trace, line by line as it is read.
 ghost use Rattle.std.specs.Prelude.{◌≡◌, ◌≤◌, ℕ, length, Err, false, true, OnOk, IfErr, IfOk};
 ghost use Rattle.std.specs.Prelude.{IfSome, ◌&&◌, nat_le};
+ghost use Rattle.std.specs.Str.{bytes_eq};
 ghost use Rattle.std.specs.Io.KnownBytes.{Appends};
 ghost use Rattle.bsc_trace.specs.Lines.{value_in};
 ghost use Rattle.bsc_chart.specs.Errors.{IsDrawError, IsEndError, IsLineError};
 ghost use Rattle.bsc_chart.specs.Errors.{IsWrongOrPrintError, input_error};
 ghost use Rattle.bsc_chart.specs.Inputs.{DrawsInput, HasStopped, ReadsInput, is_wrong, values_at};
+ghost use Rattle.bsc_chart.specs.Inputs.{is_skipped as is_skipped_line, tells_fault as is_fault};
 ghost use Rattle.bsc_chart.specs.Pages.{is_drawn, is_full, late_text, page_after, page_by};
 ghost use Rattle.bsc_chart.specs.Pages.{page_in, page_with, text_after, text_by, text_with};
 ghost use Rattle.bsc_chart.specs.Pages.{widened};
@@ -14,18 +16,21 @@ ghost use Rattle.bsc_chart.specs.Ladders.{line_text};
 use crate::pages::{Page, keep, tells_names, widen};
 use crate::text::write_line;
 use crate::{ChartError, Drawing, Form, Range};
-use bsc_input::{InputError, LineEnd, is_blank, read_line, without_return};
+use bsc_input::{
+    InputError, LineEnd, Unreadable, is_blank, read_line, split_at_first, without_return,
+};
 use bsc_picture::{Picture, write_svg};
+use bsc_summary::write_html;
 use bsc_trace::{TraceLine, read_trace_line};
 use std::alloc::Allocator;
 use std::io::{BufRead, BufReader, Read, Write};
 
 /// Draws the ladder of the trace in the input: a row for each line of the range, in order. Blank
-/// lines are skipped and counted. Stops at the first other line that is no line of a trace, and at
-/// a line of more than `MAX_INPUT` octets, whether they are in the range or not; the rows of a text
-/// for the lines before it stay written. The input may have any length: for a text one line of it
-/// is kept at a time, for a picture the rows of the range. The error is `TooMany` if these are too
-/// many.
+/// lines, and lines whose first word is `bscline:`, the fault with which the program ended, are
+/// skipped and counted. Stops at the first other line that is no line of a trace, and at a line of
+/// more than `MAX_INPUT` octets, whether they are in the range or not; the rows of a text for the
+/// lines before it stay written. The input may have any length: for a text one line of it is kept
+/// at a time, for a picture the rows of the range. The error is `TooMany` if these are too many.
 pub fn chart<A: Allocator + Copy, R: Read, W: Write>(
     alloc: A,
     drawing: Drawing,
@@ -63,7 +68,20 @@ fn draw_lines<A: Allocator + Copy, B: BufRead, W: Write>(
     }
 }
 
-/// Writes what comes after the last line: the picture, if it is one.
+/// Returns the picture of what was kept.
+fn picture_of<A: Allocator>(page: &Page<A>) -> Picture<'_, A>
+    ensures columns { result.columns ≡ page.now.columns }
+    ensures names { result.names.now ≡ page.now.names.items }
+    ensures rows { result.rows.now ≡ page.now.rows.items }
+{
+    Picture {
+        columns: page.columns,
+        names: &page.names,
+        rows: &page.rows,
+    }
+}
+
+/// Writes what comes after the last line: the picture or the page, if it is one.
 fn finish<A: Allocator + Copy, W: Write>(
     alloc: A,
     form: Form,
@@ -78,12 +96,12 @@ fn finish<A: Allocator + Copy, W: Write>(
     match form {
         Form::Text => Ok(()),
         Form::Svg => {
-            let picture = Picture {
-                columns: page.columns,
-                names: &page.names,
-                rows: &page.rows,
-            };
+            let picture = picture_of(page);
             Ok(write_svg(alloc, &picture, out)?)
+        }
+        Form::Html => {
+            let picture = picture_of(page);
+            Ok(write_html(alloc, &picture, out)?)
         }
     }
 }
@@ -117,7 +135,8 @@ fn read_lines<A: Allocator + Copy, B: BufRead, W: Write>(
             LineEnd::LineFeed => {}
         }
     }
-    Err(ChartError::Input)
+    let why = Unreadable::ReadFault;
+    Err(ChartError::Input { why })
 }
 
 /// Returns the error for a line with this number that could not be read.
@@ -126,7 +145,7 @@ fn read_error(number: u64, error: InputError) -> ChartError
 {
     match error {
         InputError::TooLong => ChartError::TooLongAt { line: number },
-        InputError::Device { .. } => ChartError::Input,
+        InputError::Device { why } => ChartError::Input { why },
         InputError::Memory => ChartError::Memory,
     }
 }
@@ -139,6 +158,30 @@ struct Pen {
 
     /// Its number.
     number: u64,
+}
+
+/// The first word of a fault that the program told.
+const FAULT: &str = "bscline:";
+
+/// Whether two texts are the same.
+fn are_same(a: &[u8], b: &[u8]) -> bool
+    ensures { result ≡ bytes_eq a.now b.now }
+{
+    a == b
+}
+
+/// Whether a line is the fault with which the program ended, which is no part of its trace.
+fn tells_fault(line: &[u8]) -> bool
+    ensures { result ≡ is_fault line.now }
+{
+    are_same(split_at_first(line, b' ').0, FAULT.as_bytes())
+}
+
+/// Whether a line is skipped.
+fn is_skipped(line: &[u8]) -> bool
+    ensures { result ≡ is_skipped_line line.now }
+{
+    is_blank(line) || tells_fault(line)
 }
 
 /// Draws a line, or keeps its row for a picture.
@@ -162,7 +205,7 @@ fn draw_line<A: Allocator + Copy, W: Write>(
         (is_full (page_in page.old) ≡ true) × (out.new ≡ out.old) }
     ensures faults { IfErr result IsWrongOrPrintError }
 {
-    if is_blank(line) {
+    if is_skipped(line) {
         return Ok(());
     }
     match read_trace_line(alloc, line)? {
@@ -229,7 +272,7 @@ fn draw_row<A: Allocator + Copy, W: Write>(
 {
     match drawing.form {
         Form::Text => write_wide(alloc, drawing, page, value, out),
-        Form::Svg => keep(alloc, page, value),
+        Form::Svg | Form::Html => keep(alloc, page, value),
     }
 }
 

@@ -2,7 +2,7 @@
 ghost use Rattle.std.specs.Prelude.{◌≡◌, OnOk, IfErr, IfSome, IsOkAnd, option_map, string_bytes};
 ghost use Rattle.bsc_asked.specs.ChartWords.{chart_words};
 ghost use Rattle.bsc_chart.specs.Asked.{HasFailed, IsEarly, drawing_of, drawing_with, form_of};
-ghost use Rattle.bsc_chart.specs.Asked.{line_of, range_of, style_of, width_of};
+ghost use Rattle.bsc_chart.specs.Asked.{line_of, range_of, style_of, width_of, width_on};
 ghost use Rattle.bsc_chart.specs.Inputs.{DrawsInput};
 
 use crate::{ChartError, Drawing, Form, Range, chart};
@@ -12,37 +12,40 @@ use bsc_options::number_within;
 use std::alloc::Allocator;
 use std::io::{Read, Write};
 
-/// Draws the ladder of the trace in the input as these words ask for. Before anything is read or
-/// written, the error is `Forms` if both forms are asked for, `Width` if the width is not a number
-/// from 40 to 1000, and `Lines` if the first or the last line is no number from 1 on. A text is
-/// drawn if no form is asked for; its width is 80 if none is given. Otherwise the same as
-/// [`chart`].
+/// Draws the ladder of the trace in the input as these words ask for, without regard to the file
+/// that they name. Before anything is read or written, the error is `Forms` if more than one form
+/// is asked for, `Width` if the width is not a number from 40 to 1000, and `Lines` if the first or
+/// the last line is no number from 1 on. A text is drawn if no form is asked for; if no width is
+/// given, its width is that of the terminal, `columns`, if this is a number from 40 to 1000, and
+/// otherwise 80. Otherwise the same as [`chart`].
 pub fn draw<A: Allocator + Copy, R: Read, W: Write>(
     alloc: A,
     words: &ChartWords,
+    columns: Option<&str>,
     input: &mut R,
     out: &mut W,
 ) -> Result<(), ChartError>
     ensures ok { OnOk result (IfSome (R.remaining input.old) (λ octets.
-        IsOkAnd (drawing_of (chart_words words.now))
+        IsOkAnd (drawing_of (option_map (λ w. w.now) columns.entry) (chart_words words.now))
         (λ drawing. DrawsInput drawing octets (W.contents out.old) (W.contents out.new)))) }
     ensures failed { IfErr result (λ error. IfSome (R.remaining input.old) (λ octets.
-        HasFailed (drawing_of (chart_words words.now)) error octets (W.contents out.old)
-        (W.contents out.new))) }
+        HasFailed (drawing_of (option_map (λ w. w.now) columns.entry) (chart_words words.now)) error
+        octets (W.contents out.old) (W.contents out.new))) }
     ensures early { IfErr result (λ error. IsEarly error → out.new ≡ out.old) }
 {
-    match read_drawing(words) {
+    match read_drawing(words, columns) {
         Ok(drawing) => chart(alloc, drawing, input, out),
         Err(error) => Err(error),
     }
 }
 
-/// Returns how the words ask to draw.
-fn read_drawing(words: &ChartWords) -> Result<Drawing, ChartError>
-    ensures { result ≡ drawing_of (chart_words words.now) }
+/// Returns how the words ask to draw on a terminal of which this width is told.
+pub(crate) fn read_drawing(words: &ChartWords, columns: Option<&str>) -> Result<Drawing, ChartError>
+    ensures { result
+        ≡ drawing_of (option_map (λ w. w.now) columns.entry) (chart_words words.now) }
 {
-    let form = read_form(words.text, words.svg);
-    let width = read_width(text_of(&words.width));
+    let form = read_form(words.text, words.svg, words.html);
+    let width = read_width(width_on_terminal(columns), text_of(&words.width));
     let range = read_range(text_of(&words.from), text_of(&words.to));
     drawing(style(words.ascii), form, width, range)
 }
@@ -70,7 +73,7 @@ fn drawing(
 }
 
 /// Returns a word as it was given.
-fn text_of(word: &Option<String>) -> Option<&str>
+pub(crate) fn text_of(word: &Option<String>) -> Option<&str>
     ensures { option_map (λ w. w.now) result ≡ option_map string_bytes word.now }
 {
     match word {
@@ -87,22 +90,36 @@ fn style(ascii: bool) -> Style
 }
 
 /// Returns the form of a ladder.
-fn read_form(text: bool, svg: bool) -> Result<Form, ChartError>
-    ensures { result ≡ form_of text svg }
+fn read_form(text: bool, svg: bool, html: bool) -> Result<Form, ChartError>
+    ensures { result ≡ form_of text svg html }
 {
-    match (svg, text) {
-        (false, _) => Ok(Form::Text),
-        (true, false) => Ok(Form::Svg),
-        (true, true) => Err(ChartError::Forms),
+    match (text, svg, html) {
+        (_, false, false) => Ok(Form::Text),
+        (false, true, false) => Ok(Form::Svg),
+        (false, false, true) => Ok(Form::Html),
+        _ => Err(ChartError::Forms),
     }
 }
 
-/// Returns the width that was given, from 40 to 1000, or 80.
-fn read_width(word: Option<&str>) -> Result<usize, ChartError>
-    ensures { result ≡ width_of (option_map (λ w. w.now) word.entry) }
+/// Returns the width if none is given: that of the terminal, if it is from 40 to 1000, or 80.
+fn width_on_terminal(columns: Option<&str>) -> usize
+    ensures { result ≡ width_on (option_map (λ w. w.now) columns.entry) }
+{
+    match columns {
+        None => 80,
+        Some(text) => match number_within(text, 40, 1000) {
+            Some(width) => width as usize,
+            None => 80,
+        },
+    }
+}
+
+/// Returns the width that was given, from 40 to 1000, or this one.
+fn read_width(width: usize, word: Option<&str>) -> Result<usize, ChartError>
+    ensures { result ≡ width_of width (option_map (λ w. w.now) word.entry) }
 {
     match word {
-        None => Ok(80),
+        None => Ok(width),
         Some(text) => match number_within(text, 40, 1000) {
             Some(width) => Ok(width as usize),
             None => Err(ChartError::Width),

@@ -21,8 +21,10 @@ fn main(rt: HostRuntime) -> Result<()> {
 
 /// The words for a picture.
 const WORDS: ChartWords = ChartWords {
+    file: None,
     text: false,
     svg: true,
+    html: false,
     ascii: false,
     width: None,
     from: None,
@@ -56,7 +58,7 @@ fn draw_section<W: Write>(alloc: Global, section: &[u8], out: &mut W) -> Result<
     out.write_all(b"%")?;
     out.write_all(name)?;
     out.write_all(b"\n")?;
-    match draw(alloc, &WORDS, &mut trace, out) {
+    match draw(alloc, &WORDS, None, &mut trace, out) {
         Ok(()) => Ok(()),
         Err(_) => bail!("a trace is not drawn"),
     }

@@ -2,6 +2,7 @@
 
 use crate::ladders::{Asked, BOXES, drawn, words_of};
 use bsc_chart::{ChartError, draw};
+use bsc_input::Unreadable;
 use std::alloc::Global;
 use std::io;
 use std::io::{Error, ErrorKind, Read};
@@ -82,12 +83,18 @@ fn first_wrong_width(alloc: Global) -> Option<usize> {
             width: Some(*width),
             ..BOXES
         };
+        let told = Asked {
+            columns: Some(*width),
+            ..BOXES
+        };
         let due = match is_right {
             true => Ok(()),
             false => Err(ChartError::Width),
         };
-        let (result, _) = drawn(alloc, "+7 silence", words);
-        if result != due {
+        if drawn(alloc, "+7 silence", words).0 != due {
+            return Some(place);
+        }
+        if drawn(alloc, "+7 silence", told).0 != Ok(()) {
             return Some(place);
         }
     }
@@ -107,7 +114,8 @@ fn first_untold(alloc: Global, asked: Asked) -> Option<usize> {
     };
     for left in 0..20 {
         let mut trace = "+7 silence\n+8 terminal 0 heard TEXT ETX 1 161602c84919839bff".as_bytes();
-        if draw(alloc, &words, &mut trace, &mut Full { left }) != Err(ChartError::Output) {
+        let result = draw(alloc, &words, None, &mut trace, &mut Full { left });
+        if result != Err(ChartError::Output) {
             return Some(left);
         }
     }
@@ -143,9 +151,14 @@ fn failing_read(rt: HostRuntime) -> Result<(), Fail> {
         text: b"+7 silence\n+8 silence",
     };
     let words = words_of(rt.alloc(), BOXES)?;
-    let answer = draw(rt.alloc(), &words, &mut input, &mut out);
+    let answer = draw(rt.alloc(), &words, None, &mut input, &mut out);
     let (_, before) = drawn(rt.alloc(), "+7 silence", BOXES);
-    assert!(rt; answer == Err(ChartError::Input));
+    assert!(rt;
+        answer
+            == Err(ChartError::Input {
+                why: Unreadable::ReadFault
+            })
+    );
     assert!(rt; out.as_slice() == before.as_slice());
     Ok(())
 }

@@ -1,6 +1,7 @@
 //! Growths are refused: each one in turn, and all from each one on.
 
 use crate::ladders::{Asked, BOXES, words_of};
+use crate::pages::HTML;
 use bsc_chart::{ChartError, draw};
 use std::alloc::Global;
 use std::test::Fail;
@@ -15,7 +16,7 @@ fn is_due(alloc: Global, asked: Asked, refusing: &Refusing<Global>) -> bool {
         return false;
     };
     let mut out = Vec::new(alloc);
-    let answer = draw(refusing, &words, &mut TRACE.as_bytes(), &mut out);
+    let answer = draw(refusing, &words, None, &mut TRACE.as_bytes(), &mut out);
     let is_refused = refusing.refused() > 0;
     match answer {
         Ok(()) => !is_refused,
@@ -45,5 +46,6 @@ fn first_wrong(
 fn each_growth_is_refused(rt: HostRuntime) -> Result<(), Fail> {
     let refusing = Refusing::new(rt.alloc());
     assert_eq!(rt; first_wrong(rt.alloc(), BOXES, &refusing)?, None);
+    assert_eq!(rt; first_wrong(rt.alloc(), HTML, &refusing)?, None);
     Ok(())
 }

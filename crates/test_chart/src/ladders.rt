@@ -13,50 +13,62 @@ pub(crate) type Row = (&'static str, Asked, &'static str);
 pub(crate) struct Asked {
     pub(crate) text: bool,
     pub(crate) svg: bool,
+    pub(crate) html: bool,
     pub(crate) ascii: bool,
     pub(crate) width: Option<&'static str>,
     pub(crate) from: Option<&'static str>,
     pub(crate) to: Option<&'static str>,
+
+    /// The width that is told of the terminal.
+    pub(crate) columns: Option<&'static str>,
 }
 
 /// In box-drawing characters, of the width that is taken if none is given.
 pub(crate) const BOXES: Asked = Asked {
     text: false,
     svg: false,
+    html: false,
     ascii: false,
     width: None,
     from: None,
     to: None,
+    columns: None,
 };
 
 /// In ASCII characters.
 pub(crate) const ASCII: Asked = Asked {
     text: true,
     svg: false,
+    html: false,
     ascii: true,
     width: None,
     from: None,
     to: None,
+    columns: None,
 };
 
 /// In ASCII characters, and as narrow as can be.
 const NARROW: Asked = Asked {
     text: false,
     svg: false,
+    html: false,
     ascii: true,
     width: Some("40"),
     from: None,
     to: None,
+    columns: None,
 };
 
 /// In ASCII characters, the fifth line and the sixth.
 const PART: Asked = Asked {
     text: false,
     svg: false,
+    html: false,
     ascii: true,
     width: None,
     from: Some("5"),
     to: Some("6"),
+    columns: None,
 };
 
 /// Returns an owned word.
@@ -70,8 +82,10 @@ fn word(alloc: Global, text: Option<&str>) -> Result<Option<String>, AllocError>
 /// Returns the words.
 pub(crate) fn words_of(alloc: Global, asked: Asked) -> Result<ChartWords, AllocError> {
     Ok(ChartWords {
+        file: None,
         text: asked.text,
         svg: asked.svg,
+        html: asked.html,
         ascii: asked.ascii,
         width: word(alloc, asked.width)?,
         from: word(alloc, asked.from)?,
@@ -105,7 +119,7 @@ const IN_ASCII: &str = "    time control            0
       15 <- TEXT ETX 2 -----+---*  |HI|
       17 *- ACK1 ----------->--->
       18 *- ACK1 ----------->   |
-      19 *- ACK1 ---------x |   |  lost
+      19 *- ACK1 -----------+-x |  lost at 1
       20 *- EOT ------------+---#  turned
       21 #- ENQ ------------+---*  turned
       22 ?- FAILED ---------+---*  failed
@@ -124,7 +138,7 @@ const IN_BOXES: &str = "    time control            0
       15 ◀─ TEXT ETX 2 ─────┼───┤  |HI|
       17 ├─ ACK1 ───────────▶───▶
       18 ├─ ACK1 ───────────▶   │
-      19 ├─ ACK1 ─────────✕ │   │  lost
+      19 ├─ ACK1 ───────────┼─✕ │  lost at 1
       20 ├─ EOT ────────────┼───◈  turned
       21 ◈─ ENQ ────────────┼───┤  turned
       22 ◁─ FAILED ─────────┼───┤  failed
@@ -176,6 +190,8 @@ const MARKS: &str = "+0 terminal 0 is A, selected as a
 +10 the line is no longer trusted
 +11 terminal 1 is ready
 +12 arrived to 1: |NO|
++13 not trusted: an answer took longer than the time-out
+bscline: the line is not trusted
 ";
 
 const MARKS_DRAWN: &str = "    time control
@@ -191,6 +207,7 @@ const MARKS_DRAWN: &str = "    time control
       10 & the line is no longer trusted
       11 = terminal 1 is ready
       12 = arrived to 1: |NO|
+      13 & not trusted: an answer took longer than the time-out
 ";
 
 /// The fifth line and the sixth, and the addresses.
@@ -226,7 +243,13 @@ const DRAWN: &[Row] = &[
 pub(crate) fn drawn(alloc: Global, trace: &str, asked: Asked) -> (Result<(), ChartError>, Vec<u8>) {
     let mut out = Vec::new(alloc);
     let result = match words_of(alloc, asked) {
-        Ok(words) => draw(alloc, &words, &mut trace.as_bytes(), &mut out),
+        Ok(words) => draw(
+            alloc,
+            &words,
+            asked.columns,
+            &mut trace.as_bytes(),
+            &mut out,
+        ),
         Err(_) => Err(ChartError::Memory),
     };
     (result, out)

@@ -1,4 +1,4 @@
-//! Tests of ladders: traces that are drawn, pictures, faults, widths, streams that fail, and
+//! Tests of ladders: traces that are drawn, pictures, pages, faults, widths, streams that fail, and
 //! refused growths.
 //!
 //! The transmissions are those of GA27-3004. Traces and ladders are this project's own.
@@ -10,5 +10,7 @@ mod faults;
 mod growths;
 #[cfg(test)]
 mod ladders;
+#[cfg(test)]
+mod pages;
 #[cfg(test)]
 mod pictures;

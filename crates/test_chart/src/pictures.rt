@@ -10,7 +10,7 @@ use test_fixtures::Full;
 pub(crate) const SVG: Asked = Asked { svg: true, ..BOXES };
 
 /// Whether the text is in the octets.
-fn has(octets: &[u8], text: &str) -> bool {
+pub(crate) fn has(octets: &[u8], text: &str) -> bool {
     match str::from_utf8(octets) {
         Ok(all) => all.contains(text),
         Err(_) => false,
@@ -34,13 +34,24 @@ fn names_and_texts_are_escaped(rt: HostRuntime) -> Result<(), Fail> {
     Ok(())
 }
 
-/// Both forms exclude one another, and nothing is written.
+/// Two forms exclude one another, and nothing is written.
 #[test]
 fn two_forms_are_refused(rt: HostRuntime) -> Result<(), Fail> {
-    let both = Asked { text: true, ..SVG };
-    let (result, out) = drawn(rt.alloc(), MEANT, both);
-    assert!(rt; result == Err(ChartError::Forms));
-    assert!(rt; out.is_empty());
+    for (text, svg, html) in [
+        (true, true, false),
+        (true, false, true),
+        (false, true, true),
+    ] {
+        let two = Asked {
+            text,
+            svg,
+            html,
+            ..BOXES
+        };
+        let (result, out) = drawn(rt.alloc(), MEANT, two);
+        assert!(rt; result == Err(ChartError::Forms));
+        assert!(rt; out.is_empty());
+    }
     Ok(())
 }
 
@@ -54,11 +65,11 @@ fn arrows(alloc: Global, count: usize) -> Result<Vec<u8>, AllocError> {
 }
 
 /// Draws a picture of this many arrows.
-fn drawn_arrows(alloc: Global, count: usize, asked: Asked) -> Result<(), ChartError> {
+pub(crate) fn drawn_arrows(alloc: Global, count: usize, asked: Asked) -> Result<(), ChartError> {
     let trace = arrows(alloc, count)?;
     let words = words_of(alloc, asked)?;
     let mut out = Vec::new(alloc);
-    draw(alloc, &words, &mut trace.as_slice(), &mut out)
+    draw(alloc, &words, None, &mut trace.as_slice(), &mut out)
 }
 
 /// 5,000 arrows are drawn and one more is refused, unless it is out of the range.
@@ -103,7 +114,7 @@ fn wrong_lines_are_refused(rt: HostRuntime) -> Result<(), Fail> {
 fn failing_write_of_a_picture(rt: HostRuntime) -> Result<(), Fail> {
     let words = words_of(rt.alloc(), SVG)?;
     let mut trace = "+7 silence\n".as_bytes();
-    let result = draw(rt.alloc(), &words, &mut trace, &mut Full { left: 9 });
+    let result = draw(rt.alloc(), &words, None, &mut trace, &mut Full { left: 9 });
     assert!(rt; result == Err(ChartError::Output));
     Ok(())
 }

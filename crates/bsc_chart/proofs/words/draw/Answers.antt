@@ -1,22 +1,11 @@
 -- Shows that the errors of drawing are told, and that none of them is one of the words.
 use Rattle.std.proofs.Common.{◌≡◌, Err, Ok, Result, Option, List, ℕ, sym, subst, ◌∙◌, ap}
 use Rattle.std.specs.Prelude.{IfErr, IfSome}
-use Rattle.bsc_chart.specs.Asked.{HasFailed, IsEarly}
+use Rattle.bsc_chart.specs.Asked.{IsEarly}
 use Rattle.bsc_chart.specs.Errors.{IsLineError}
 use Rattle.bsc_chart.specs.declared.error.ChartError.{ChartError}
-use Rattle.bsc_chart.specs.declared.error.ChartError.TheVariants as chart
+use Rattle.bsc_chart.proofs.Ends.{late}
 use Rattle.bsc_chart.proofs.words.draw.Goals as goal
-
-late : (e : ChartError) → IsLineError e → IsEarly e → ⊥
-late (chart.NotATraceAt n) is early = early
-late (chart.TooLongAt n) is early = early
-late chart.Forms is early = is
-late chart.Width is early = is
-late chart.Lines is early = is
-late chart.TooMany is early = early
-late chart.Input is early = early
-late chart.Output is early = early
-late chart.Memory is early = early
 
 late_result : (P : Type 0) (r : Result (Unit {0}) ChartError) → IfErr r IsLineError
     → IfErr r (λ error. IsEarly error → P)

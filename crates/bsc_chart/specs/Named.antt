@@ -1,0 +1,112 @@
+-- The ladder of the trace that the words name: a file, or standard input.
+use Rattle.std.specs.Prelude.{◌≡◌, ℕ, List, Option, Some, None, IfSome, IsOkAnd, Result, codes}
+use Rattle.std.specs.Prelude.{if◌then◌else◌, string_bytes}
+use Rattle.std.specs.Str.{bytes_eq}
+use Rattle.bsc_asked.specs.ChartWords.{AskedChart}
+use Rattle.bsc_input.specs.declared.unreadable.Unreadable.{Unreadable}
+use Rattle.bsc_chart.specs.Asked.{HasFailed, IsEarly, drawing_of}
+use Rattle.bsc_chart.specs.Errors.{IsLineError}
+use Rattle.bsc_chart.specs.Inputs.{DrawsInput, HasStopped}
+use Rattle.bsc_chart.specs.declared.drawing.Drawing.{Drawing}
+use Rattle.bsc_chart.specs.declared.error.ChartError.{ChartError}
+use Rattle.bsc_chart.specs.declared.error.ChartError.TheVariants.{Input, Memory}
+use Rattle.bsc_chart.specs.declared.named.TraceError.{TraceError}
+use Rattle.bsc_chart.specs.declared.named.TraceError.TheVariants.{CannotRead, Chart}
+
+-- The path of the file that is named; none if the trace is that on standard input.
+abbrev pub file_of : Option (List ℕ) → Option (List ℕ)
+file_of None = None
+file_of (Some path) = if bytes_eq path (codes "-") then None else Some path
+
+-- What an error says of the trace on standard input and of the output.
+abbrev pub HasFailedInput : Drawing → TraceError → Option (List ℕ) → Option (List ℕ)
+    → Option (List ℕ) → Type 0
+HasFailedInput drawing (CannotRead path why) trace old new = ⊥
+HasFailedInput drawing (Chart error) trace old new =
+    IfSome trace (λ octets. HasStopped drawing error octets old new)
+
+-- The same of the trace in a file: a failed read of it has the name of the file.
+abbrev pub HasFailedFile : List ℕ → Drawing → TraceError → Option (List ℕ) → Option (List ℕ)
+    → Option (List ℕ) → Type 0
+HasFailedFile file drawing (CannotRead path why) trace old new =
+    (string_bytes path ≡ file)
+    × IfSome trace (λ octets. HasStopped drawing (Input why) octets old new)
+HasFailedFile file drawing (Chart (Input why)) trace old new = ⊥
+HasFailedFile file drawing (Chart error) trace old new =
+    IfSome trace (λ octets. HasStopped drawing error octets old new)
+
+-- The error that a file could not be read for this reason, or out of memory.
+abbrev pub IsUnread : List ℕ → Unreadable → TraceError → Type 0
+IsUnread file why (CannotRead path reason) = (string_bytes path ≡ file) × (reason ≡ why)
+IsUnread file why (Chart error) = error ≡ Memory
+
+-- The error for the trace in a file.
+abbrev pub IsFileError : List ℕ → ChartError → TraceError → Type 0
+IsFileError file (Input why) told = IsUnread file why told
+IsFileError file error told = told ≡ Chart error
+
+-- There is a trace of which this holds: what is left of standard input, if no file is named, and
+-- otherwise what the file gives.
+pub record HoldsOf (words : AskedChart) (input : Option (List ℕ))
+    (Holds : Option (List ℕ) → Type 0) : Type 0 where
+  pub trace : Option (List ℕ)
+  pub named : file_of words.file ≡ None → trace ≡ input
+  pub holds : Holds trace
+
+-- The ladder of the trace was written as it was asked for.
+abbrev pub IsDrawn : Result Drawing ChartError → Option (List ℕ) → Option (List ℕ)
+    → Option (List ℕ) → Type 0
+IsDrawn drawing old new trace =
+    IfSome trace (λ octets. IsOkAnd drawing (λ d. DrawsInput d octets old new))
+
+-- What an error of the words, of the trace or of the output says of these.
+abbrev pub SaysOf : Result Drawing ChartError → ChartError → Option (List ℕ) → Option (List ℕ)
+    → Option (List ℕ) → Type 0
+SaysOf drawing error old new trace =
+    IfSome trace (λ octets. HasFailed drawing error octets old new)
+
+-- What an error says, if this is how the words ask to draw. That a file cannot be read is told of
+-- the file that is named only.
+abbrev pub HasFailedAs : AskedChart → Result Drawing ChartError → TraceError → Option (List ℕ)
+    → Option (List ℕ) → Option (List ℕ) → Type 0
+HasFailedAs words drawing (CannotRead path why) input old new =
+    (file_of words.file ≡ Some (string_bytes path))
+    × HoldsOf words input (SaysOf drawing (Input why) old new)
+HasFailedAs words drawing (Chart error) input old new =
+    HoldsOf words input (SaysOf drawing error old new)
+
+-- If a file is named, what was written is the ladder of what one gives. `remaining` is what is left
+-- to read from a file.
+abbrev pub DrawsFile : {F : Type 0} → (F → Option (List ℕ)) → AskedChart
+    → Result Drawing ChartError → Option (List ℕ) → Option (List ℕ) → Type 0
+DrawsFile {F} remaining words drawing old new =
+    (path : List ℕ) → file_of words.file ≡ Some path
+    → (file : F) × IsDrawn drawing old new (remaining file)
+
+-- The same, as the words ask to draw on a terminal of which this width is told.
+abbrev pub ChartsFile : {F : Type 0} → (F → Option (List ℕ)) → AskedChart → Option (List ℕ)
+    → Option (List ℕ) → Type 0
+ChartsFile remaining words old new =
+    (columns : Option (List ℕ)) × DrawsFile remaining words (drawing_of columns words) old new
+
+-- The ladder of the trace that the words name was written as they ask for, on a terminal of which
+-- this width is told.
+pub record IsCharted (words : AskedChart) (input old new : Option (List ℕ)) : Type 0 where
+  pub columns : Option (List ℕ)
+  pub drawn : HoldsOf words input (IsDrawn (drawing_of columns words) old new)
+
+-- What an error says of the words, of the trace that they name and of the output.
+pub record HasFailedTrace (words : AskedChart) (error : TraceError)
+    (input old new : Option (List ℕ)) : Type 0 where
+  pub columns : Option (List ℕ)
+  pub says : HasFailedAs words (drawing_of columns words) error input old new
+
+-- The errors of the words, before anything is opened, read or written.
+abbrev pub IsEarlyTrace : TraceError → Type 0
+IsEarlyTrace (CannotRead path why) = ⊥
+IsEarlyTrace (Chart error) = IsEarly error
+
+-- The other errors.
+abbrev pub IsLateTrace : TraceError → Type 0
+IsLateTrace (CannotRead path why) = Unit {0}
+IsLateTrace (Chart error) = IsLineError error

@@ -1,0 +1,199 @@
+//! The ladder of the trace that the words of the command name: a file, or standard input.
+ghost use Rattle.std.specs.Prelude.{◌≡◌, OnOk, IfErr, Ok, Some, ℕ, List, Option};
+ghost use Rattle.std.specs.Prelude.{option_map, string_bytes};
+ghost use Rattle.bsc_asked.specs.ChartWords.{chart_words};
+ghost use Rattle.bsc_chart.specs.Named.{HasFailedAs, HasFailedFile, HasFailedInput};
+ghost use Rattle.bsc_chart.specs.Named.{HasFailedTrace, HoldsOf, IsCharted, IsDrawn, IsEarlyTrace};
+ghost use Rattle.bsc_chart.specs.Named.{ChartsFile, DrawsFile};
+ghost use Rattle.bsc_chart.specs.Named.{IsFileError, IsLateTrace, IsUnread, file_of as file_in};
+
+use crate::words::{read_drawing, text_of};
+use crate::{ChartError, Drawing, chart};
+use bsc_asked::ChartWords;
+use bsc_input::{STANDARD_INPUT, Unreadable};
+use std::alloc::Global;
+use std::io::{Read, Write};
+use thiserror::Error;
+
+/// The traces of a machine, and the terminal on which they are drawn.
+pub trait Traces {
+    /// The file of a trace.
+    type File: Read + Drop;
+
+    /// Opens the file at this path. The error is the reason why it cannot be opened.
+    fn open_trace(&mut self, path: &str) -> Result<Self::File, Unreadable>;
+
+    /// Returns the width of the terminal in characters, in decimal digits, if the machine is told
+    /// it.
+    fn columns(&mut self) -> Option<String>;
+}
+
+/// The reason why not all of the trace that was named was drawn.
+#[derive(Debug, Drop, Error)]
+pub enum TraceError {
+    /// The file at this path could not be opened or read, for this reason.
+    #[error("cannot read {path}: {why}")]
+    CannotRead { path: String, why: Unreadable },
+
+    /// Any other reason. Of a file it is not [`ChartError::Input`].
+    #[error(transparent)]
+    Chart { error: ChartError },
+}
+
+/// Draws the ladder of the trace that the words name as they ask for: that in the file, or on
+/// standard input if none is named or its name is `-`. Before anything is read or opened, the
+/// errors of the words are told. Otherwise the same as [`draw`](crate::draw), with the width that
+/// the machine tells; if the file cannot be opened, or a read of it fails, the error is
+/// `CannotRead`.
+pub fn draw_named<R: Read, T: Traces, W: Write>(
+    alloc: Global,
+    words: &ChartWords,
+    input: &mut R,
+    machine: &mut T,
+    out: &mut W,
+) -> Result<(), TraceError>
+    ensures ok { OnOk result (IsCharted (chart_words words.now) (R.remaining input.old)
+        (W.contents out.old) (W.contents out.new)) }
+    ensures failed { IfErr result (λ error. HasFailedTrace (chart_words words.now) error
+        (R.remaining input.old) (W.contents out.old) (W.contents out.new)) }
+    ensures file { OnOk result (ChartsFile T.File.remaining (chart_words words.now)
+        (W.contents out.old) (W.contents out.new)) }
+    ensures early { IfErr result (λ error. IsEarlyTrace error → out.new ≡ out.old) }
+    ensures unasked { (path : List ℕ) → file_in (chart_words words.now).file ≡ Some path
+        → input.new ≡ input.old }
+{
+    let columns = machine.columns();
+    match read_drawing(words, text_of(&columns)) {
+        Ok(drawing) => draw_from(alloc, words, drawing, input, machine, out),
+        Err(error) => Err(TraceError::Chart { error }),
+    }
+}
+
+/// Returns the path of the file that the words name, or `None` for standard input.
+fn file_of(words: &ChartWords) -> Option<&str>
+    ensures { option_map (λ p. p.now) result ≡ file_in (chart_words words.now).file }
+{
+    match text_of(&words.file) {
+        Some(path) => unless_standard(path),
+        None => None,
+    }
+}
+
+/// Returns the path, or `None` if it is that of standard input.
+fn unless_standard(path: &str) -> Option<&str>
+    ensures { option_map (λ p. p.now) result ≡ file_in (Some path.now) }
+{
+    if path == STANDARD_INPUT {
+        None
+    } else {
+        Some(path)
+    }
+}
+
+/// Draws the trace that the words name in this way.
+fn draw_from<R: Read, T: Traces, W: Write>(
+    alloc: Global,
+    words: &ChartWords,
+    drawing: Drawing,
+    input: &mut R,
+    machine: &mut T,
+    out: &mut W,
+) -> Result<(), TraceError>
+    ensures ok { OnOk result (HoldsOf (chart_words words.now) (R.remaining input.old)
+        (IsDrawn (Ok drawing) (W.contents out.old) (W.contents out.new))) }
+    ensures failed { IfErr result (λ error. HasFailedAs (chart_words words.now) (Ok drawing) error
+        (R.remaining input.old) (W.contents out.old) (W.contents out.new)) }
+    ensures file { OnOk result (DrawsFile T.File.remaining (chart_words words.now) (Ok drawing)
+        (W.contents out.old) (W.contents out.new)) }
+    ensures late { IfErr result IsLateTrace }
+    ensures unasked { (path : List ℕ) → file_in (chart_words words.now).file ≡ Some path
+        → input.new ≡ input.old }
+{
+    match file_of(words) {
+        None => draw_input(alloc, drawing, input, out),
+        Some(path) => draw_file(alloc, path, drawing, machine, out),
+    }
+}
+
+/// Draws the trace on standard input.
+fn draw_input<R: Read, W: Write>(
+    alloc: Global,
+    drawing: Drawing,
+    input: &mut R,
+    out: &mut W,
+) -> Result<(), TraceError>
+    ensures ok { OnOk result (IsDrawn (Ok drawing) (W.contents out.old) (W.contents out.new)
+        (R.remaining input.old)) }
+    ensures failed { IfErr result (λ error. HasFailedInput drawing error (R.remaining input.old)
+        (W.contents out.old) (W.contents out.new)) }
+    ensures late { IfErr result IsLateTrace }
+{
+    match chart(alloc, drawing, input, out) {
+        Ok(()) => Ok(()),
+        Err(error) => Err(TraceError::Chart { error }),
+    }
+}
+
+/// Draws the trace in the file at this path.
+fn draw_file<T: Traces, W: Write>(
+    alloc: Global,
+    path: &str,
+    drawing: Drawing,
+    machine: &mut T,
+    out: &mut W,
+) -> Result<(), TraceError>
+    ensures ok { OnOk result ((trace : Option (List ℕ))
+        × IsDrawn (Ok drawing) (W.contents out.old) (W.contents out.new) trace) }
+    ensures read { OnOk result ((file : T.File) × IsDrawn (Ok drawing) (W.contents out.old)
+        (W.contents out.new) (T.File.remaining file)) }
+    ensures failed { IfErr result (λ error. (trace : Option (List ℕ))
+        × HasFailedFile path.now drawing error trace (W.contents out.old) (W.contents out.new)) }
+    ensures late { IfErr result IsLateTrace }
+{
+    match machine.open_trace(path) {
+        Ok(mut file) => draw_opened(alloc, path, drawing, &mut file, out),
+        Err(why) => Err(cannot_read(alloc, path, why)),
+    }
+}
+
+/// Draws the trace in a file that was opened at this path.
+fn draw_opened<F: Read, W: Write>(
+    alloc: Global,
+    path: &str,
+    drawing: Drawing,
+    file: &mut F,
+    out: &mut W,
+) -> Result<(), TraceError>
+    ensures ok { OnOk result (IsDrawn (Ok drawing) (W.contents out.old) (W.contents out.new)
+        (F.remaining file.old)) }
+    ensures failed { IfErr result (λ error. HasFailedFile path.now drawing error
+        (F.remaining file.old) (W.contents out.old) (W.contents out.new)) }
+    ensures late { IfErr result IsLateTrace }
+{
+    match chart(alloc, drawing, file, out) {
+        Ok(()) => Ok(()),
+        Err(error) => Err(file_error(alloc, path, error)),
+    }
+}
+
+/// Returns the error for the trace in the file at this path.
+fn file_error(alloc: Global, path: &str, error: ChartError) -> TraceError
+    ensures { IsFileError path.now error result }
+{
+    match error {
+        ChartError::Input { why } => cannot_read(alloc, path, why),
+        error => TraceError::Chart { error },
+    }
+}
+
+/// Returns the error that the file at this path could not be read, or out of memory.
+fn cannot_read(alloc: Global, path: &str, why: Unreadable) -> TraceError
+    ensures { IsUnread path.now why result }
+{
+    match String::from_str(alloc, path) {
+        Ok(path) => TraceError::CannotRead { path, why },
+        Err(_) => TraceError::Chart {
+            error: ChartError::Memory,
+        },
+    }
+}
