@@ -27,20 +27,34 @@ impl TableStore<FileStore<File>> {
         path: &str,
         line: &str,
     ) -> Result<TableStore<FileStore<File>>, StoreFault> {
-        match exists(rt, path) {
-            Ok(true) => {}
-            Ok(false) => return Err(StoreFault::Missing),
-            Err(_) => return Err(StoreFault::Unreachable),
-        }
-        match Connection::open(rt, path) {
-            Ok(conn) => TableStore::resume(conn, line),
-            Err(error) => Err(fault_of(error)),
-        }
+        TableStore::resume(connect(rt, path)?, line)
+    }
+
+    /// Opens the store at the path, of whatever line, and returns the text of its line too. Fails
+    /// as `open` does.
+    pub fn open_any(
+        rt: &HostRuntime,
+        path: &str,
+    ) -> Result<(TableStore<FileStore<File>>, String), StoreFault> {
+        TableStore::resume_any(connect(rt, path)?)
     }
 
     /// Copies what is kept into the file itself and closes it.
     pub fn close(self) -> Result<(), StoreFault> {
         let TableStore { conn } = self;
         conn.close().map_err(fault_of)
+    }
+}
+
+/// Opens the database at the path, if there is a file.
+fn connect(rt: &HostRuntime, path: &str) -> Result<Connection<FileStore<File>>, StoreFault> {
+    match exists(rt, path) {
+        Ok(true) => {}
+        Ok(false) => return Err(StoreFault::Missing),
+        Err(_) => return Err(StoreFault::Unreachable),
+    }
+    match Connection::open(rt, path) {
+        Ok(conn) => Ok(conn),
+        Err(error) => Err(fault_of(error)),
     }
 }

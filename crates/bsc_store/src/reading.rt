@@ -7,6 +7,7 @@ ghost use Rattle.sqlite.specs.declared.error.Error.{Error as SqlErrorValue};
 ghost use Rattle.sqlite.specs.Held.{state};
 ghost use Rattle.sqlite.specs.Values.{bound};
 ghost use Rattle.bsc_store.specs.Faults.{fault_for, unread as unread_as};
+ghost use Rattle.bsc_store.specs.declared.queries.Query.TheVariants as query;
 ghost use Rattle.bsc_store.specs.Reading.{AreNumbers, Gives, GivesValue, IsFound, IsProgress};
 ghost use Rattle.bsc_store.specs.Reading.{OnlyRead, place_values, query_text};
 
@@ -76,6 +77,18 @@ pub(crate) fn is_text<S: Alter>(
 {
     match first_row(conn, query, &[])? {
         Some(row) => Ok(text_at(&row)?.as_str() == text),
+        None => Err(StoreFault::Damaged),
+    }
+}
+
+/// Returns the text of the line. Fails with `Damaged` if there is none.
+pub(crate) fn line_text<S: Alter>(conn: &mut Connection<S>) -> Result<String, StoreFault>
+    ensures text { HasCleanDisk (state S.Store conn.new) → IfOk result (λ text.
+        GivesValue S.Store (query_text query.Line) (Text (string_bytes text)) conn.old conn.new) }
+    ensures read { OnlyRead S.Store conn.old conn.new }
+{
+    match first_row(conn, Query::Line, &[])? {
+        Some(row) => text_at(&row),
         None => Err(StoreFault::Damaged),
     }
 }

@@ -45,6 +45,26 @@ impl<S: Alter + Drop> TableStore<S> {
         check(&mut conn, line)?;
         Ok(TableStore { conn })
     }
+
+    /// Goes on with a store of whatever line, and returns the text of its line too. The faults are
+    /// those of `resume` but for `OtherLine`, in the same order.
+    pub fn resume_any(mut conn: Connection<S>) -> Result<(TableStore<S>, String), StoreFault>
+        ensures read { IfOk result (λ found. OnlyRead S.Store conn found.0.conn) }
+    {
+        let line = line_in(&mut conn)?;
+        Ok((TableStore { conn }, line))
+    }
+}
+
+/// Fails with `Newer` if the version is greater than this one.
+fn check_version<S: Alter>(conn: &mut Connection<S>) -> Result<(), StoreFault>
+    ensures read { OnlyRead S.Store conn.old conn.new }
+{
+    let version = reading::number(conn, Query::Version)?;
+    if version > tables::VERSION {
+        return Err(StoreFault::Newer { version });
+    }
+    Ok(())
 }
 
 /// Checks that the database is a store of this line.
@@ -70,6 +90,16 @@ fn check<S: Alter>(conn: &mut Connection<S>, line: &str) -> Result<(), StoreFaul
         return Err(StoreFault::Damaged);
     }
     Ok(())
+}
+
+/// Checks that the database is a store, and returns the text of its line.
+fn line_in<S: Alter>(conn: &mut Connection<S>) -> Result<String, StoreFault>
+    ensures read { OnlyRead S.Store conn.old conn.new }
+{
+    check_version(conn)?;
+    let line = reading::line_text(conn)?;
+    check(conn, line.as_str())?;
+    Ok(line)
 }
 
 /// Makes the tables and keeps the line, in one commit.

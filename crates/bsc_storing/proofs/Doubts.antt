@@ -1,0 +1,24 @@
+-- The release in a store is that of the bid.
+use Rattle.std.proofs.Common.{◌≡◌, ◌+◌, ◌==◌, ◌||◌, false, inl, inr, ℕ, zero, suc, refl, arith}
+use Rattle.std.proofs.lemmas.Bool.{cases_Bool, ne_eqb}
+use Rattle.bsc_spool.specs.Queue.{QueueValue}
+use Rattle.bsc_bid.specs.Sender.{SenderValue, release_step}
+use Rattle.bsc_kept.specs.declared.channel.Channel.{Channel}
+use Rattle.bsc_kept.specs.declared.store.Progress.{Progress}
+use Rattle.bsc_storing.specs.Releases.{release_of, phase_at, Releases, IsReleaseOfBid}
+
+some_is_not_none : (n k : ℕ) → n ≡ suc k → (n == 0) ≡ false
+some_is_not_none n k is = ne_eqb n 0 (λ none. omega (arith, is, none))
+
+agrees : (s : SenderValue) (q : QueueValue) (channel : Channel) (it : Progress) (count d : ℕ)
+    → it.in_doubt ≡ d → s.phase ≡ phase_at d → q.known ≡ it.known
+    → Releases (release_step s q count) (release_of channel it count) channel
+agrees s q channel it count zero is phase known = rw (phase, is) refl
+agrees s q channel it count (suc k) is phase known =
+    elim (cases_Bool ((count == it.known) || (count == (it.known + suc k)))) [
+      | inl one ↦ rw (phase, known, some_is_not_none it.in_doubt k is, is, one) (refl, refl, refl)
+      | inr none ↦ rw (phase, known, some_is_not_none it.in_doubt k is, is, none) refl
+    ]
+
+pub release_agrees : IsReleaseOfBid
+release_agrees s q channel it count phase known = agrees s q channel it count it.in_doubt refl phase known

@@ -1,0 +1,3 @@
+pub mod Doubts
+pub mod OfferedLines
+pub mod Printing

@@ -1,0 +1,5 @@
+pub mod Errors
+pub mod Releases
+pub mod Lines
+pub mod Names
+pub mod Works

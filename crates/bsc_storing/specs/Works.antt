@@ -1,0 +1,68 @@
+-- What a work does with an open store, and what it prints.
+use Rattle.std.specs.Prelude.{◌≡◌, ℕ, List, [], ◌∷◌, ◌++◌, map, length, codes, Option, Some}
+use Rattle.std.specs.Prelude.{None, Ok, IsSomeAnd, ℤ}
+use Rattle.std.specs.List.{flat_map}
+use Rattle.std.specs.Fmt.{decimal}
+use Rattle.std.specs.Io.KnownBytes.{Appends}
+use Rattle.bsc_kept.specs.declared.channel.Channel.{Channel}
+use Rattle.bsc_kept.specs.declared.change.Change.{Change}
+use Rattle.bsc_kept.specs.declared.change.Change.TheVariants.{Offered}
+use Rattle.bsc_kept.specs.declared.store.Progress.{Progress}
+use Rattle.bsc_kept.specs.declared.store.Store as store_of
+use Rattle.bsc_options.specs.declared.store_works.StoreChannel.{StoreChannel}
+use Rattle.bsc_print.specs.declared.form.Form.{Form}
+use Rattle.bsc_storing.specs.declared.kept_line.KeptLine.{KeptLine}
+use Rattle.bsc_storing.specs.declared.name.ChannelName.{ChannelName}
+use Rattle.bsc_storing.specs.Lines.{arrived_line}
+use Rattle.bsc_storing.specs.Names.{name_shown, named_at, receiving_name, sending_name}
+use Rattle.bsc_storing.specs.Releases.{release_of}
+
+-- What is printed of a channel: its name, what was done, and a number.
+abbrev pub told : KeptLine → ChannelName → List ℕ → ℕ → List ℕ
+told line name what count =
+    name_shown line name ++ codes ": " ++ what ++ codes " " ++ decimal count ++ codes "\n"
+
+-- The line of one more record is printed; or, where there is none, nothing.
+abbrev pub PrintsNext : Form → Option (List ℕ) → Option (List ℕ) → Option ℤ → Type 0
+PrintsNext form before after (Some mark) =
+    (it : List ℕ) × Appends before after (arrived_line form it)
+PrintsNext form before after None = after ≡ before
+
+-- The lines of some records are printed.
+abbrev pub PrintsLines : Form → Option (List ℕ) → Option (List ℕ) → Type 0
+PrintsLines form before after =
+    (records : List (List ℕ)) × Appends before after (flat_map (arrived_line form) records)
+
+-- The lines of records are printed of a channel on which the station receives.
+abbrev pub PrintsArrived : KeptLine → StoreChannel → Form → Option (List ℕ) → Option (List ℕ)
+    → Type 0
+PrintsArrived line channel form before after =
+    IsSomeAnd (named_at line (receiving_name line.station channel))
+    (λ its. PrintsLines form before after)
+
+-- What is known of a store.
+module _ {S : Type 0} (store : store_of.Ghosts S) where
+  -- Exactly these records are offered on the channel that the words name, in order and in one step,
+  -- and that is said.
+  abbrev pub OffersAll : KeptLine → StoreChannel → List (List ℕ) → S → S → Option (List ℕ)
+      → Option (List ℕ) → Type 0
+  OffersAll line channel records old new before after =
+      IsSomeAnd (named_at line (sending_name line.station channel))
+      (λ its. store.keeps (map (Offered its.1) records) old new
+      × Appends before after (told line its.0 (codes "offered") (length records)))
+
+  -- The doubt of a channel ends, by numbers of it and by the count of the other end.
+  pub record EndsDoubt (channel : Channel) (count : ℕ) (old new : S) : Type 0 where
+    pub numbers : Progress
+    pub mid : S
+    pub change : Change
+    pub release : release_of channel numbers count ≡ Ok change
+    pub kept : store.keeps (change ∷ []) mid new
+
+  -- That is so of the channel that the words name, and that is said.
+  abbrev pub EndsOne : KeptLine → StoreChannel → ℕ → S → S → Option (List ℕ) → Option (List ℕ)
+      → Type 0
+  EndsOne line channel count old new before after =
+      IsSomeAnd (named_at line (sending_name line.station channel))
+      (λ its. EndsDoubt its.1 count old new
+      × Appends before after (told line its.0 (codes "released at") count))

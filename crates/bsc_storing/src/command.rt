@@ -1,0 +1,105 @@
+//! The command `bscline store`.
+
+use crate::error::{StoringError, of_store};
+use crate::stores::StoreFiles;
+use crate::work::{Work, do_work};
+use bsc_config::{Config, read_config};
+use bsc_input::{Files, read_text};
+use bsc_keeping::{Own, Owner};
+use bsc_options::{Role, StoreWork};
+use bsc_print::Form;
+use std::alloc::Global;
+use std::io::{Read, Write};
+
+/// Does a work on the store at the path `file`, and says what it did. The text that the work names
+/// is read first, and then the store is opened.
+pub fn store<R: Read, M: Files + StoreFiles, W: Write>(
+    alloc: Global,
+    file: &str,
+    work: StoreWork<'_>,
+    input: &mut R,
+    machine: &mut M,
+    out: &mut W,
+) -> Result<(), StoringError> {
+    match work {
+        StoreWork::Init { config, role } => init(alloc, file, config, role, input, machine, out),
+        StoreWork::Offer { channel, path } => {
+            let text = read_text(alloc, path, input, machine)?;
+            let text = text.as_slice();
+            let work = Work::Offer {
+                channel,
+                path,
+                text,
+            };
+            do_work(alloc, file, work, machine, out)
+        }
+        work => do_work(alloc, file, without_text(work), machine, out),
+    }
+}
+
+/// Returns what is to be done where no text is read.
+fn without_text(work: StoreWork<'_>) -> Work<'_> {
+    match work {
+        StoreWork::Arrived {
+            channel,
+            first,
+            text,
+        } => {
+            let form = form_of(text);
+            Work::Arrived {
+                channel,
+                first,
+                form,
+            }
+        }
+        StoreWork::Release { channel, count } => Work::Release { channel, count },
+        StoreWork::Reconcile { other } => Work::Reconcile { other },
+        _ => Work::Status,
+    }
+}
+
+/// Returns the form in which records are printed.
+fn form_of(text: bool) -> Form {
+    if text { Form::Text } else { Form::Hexadecimal }
+}
+
+/// Returns the owner of the store of this station. Fails if the line has no such station.
+fn owner_of(config: &Config, role: Role) -> Result<Owner, StoringError> {
+    match role {
+        Role::Control => Ok(Owner::Control),
+        Role::Terminal { number } if number < config.terminals() => {
+            Ok(Owner::Terminal { number })
+        }
+        Role::Terminal { .. } => Err(StoringError::NoTerminal),
+    }
+}
+
+/// Makes a store for this station of the line whose configuration is at this path, and says so.
+fn init<R: Read, M: Files + StoreFiles, W: Write>(
+    alloc: Global,
+    file: &str,
+    path: &str,
+    role: Role,
+    input: &mut R,
+    machine: &mut M,
+    out: &mut W,
+) -> Result<(), StoringError> {
+    let text = read_text(alloc, path, input, machine)?;
+    let config = read_config(alloc, &text)?;
+    let owner = owner_of(&config, role)?;
+    let own = Own::of(alloc, &config, owner)?;
+    machine.make_kept(file, own.text()).map_err(of_store)?;
+    write_made(role, out)
+}
+
+/// Says that a store was made.
+fn write_made<W: Write>(role: Role, out: &mut W) -> Result<(), StoringError> {
+    let written = match role {
+        Role::Control => writeln!(out, "control station: store made"),
+        Role::Terminal { number } => writeln!(out, "terminal {number}: store made"),
+    };
+    match written {
+        Ok(()) => Ok(()),
+        Err(_) => Err(StoringError::Output),
+    }
+}

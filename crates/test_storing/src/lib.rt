@@ -1,0 +1,7 @@
+//! Tests of the work on stores, over stores in memory.
+#![tactic(auto)]
+
+#[cfg(test)]
+mod machine;
+#[cfg(test)]
+mod works;
