@@ -9,8 +9,8 @@ use Rattle.bsc_options.specs.declared.settings.Role.{Role}
 use Rattle.bsc_options.specs.declared.settings.Role.TheVariants as role
 use Rattle.bsc_print.specs.declared.form.Form.{Form}
 use Rattle.bsc_trust.specs.declared.distrust.Distrust.{Distrust}
-use Rattle.bsc_attending.specs.Ending.{HasRun, IsLeftBy, result_of}
-use Rattle.bsc_attending.specs.Errors.{IsCutShort, IsPreparingError, IsUnended}
+use Rattle.bsc_attending.specs.Ending.{HasBegunAndRun, HasRun, IsLeftBy, IsSameKind, result_of}
+use Rattle.bsc_attending.specs.Errors.{IsCutShort, IsPreparingError, IsStoreError, IsUnended}
 use Rattle.bsc_attending.specs.Outcomes.{IsAnswerFor, IsReported, IsReportedFor, IsResultOf}
 use Rattle.bsc_attending.specs.Preparing.{IsPrepared, IsStationOf}
 use Rattle.bsc_attending.specs.declared.error.AttendingError.{AttendingError}
@@ -36,13 +36,26 @@ unended_if_unprepared attending.InDoubt p = absurd p
 unended_if_unprepared attending.Undelivered p = absurd p
 unended_if_unprepared error p = tt
 
+-- nor is one of its store
+unended_if_refused : (e : AttendingError) → IsStoreError e → IsUnended e
+unended_if_refused (attending.Store error) p = tt
+unended_if_refused attending.Memory p = tt
+unended_if_refused error p = absurd p
+
 -- any station may be cut short
 cut_fits : (r : Role) (e : AttendingError) → IsCutShort e → IsResultOf r (Err e)
 cut_fits r (attending.Connections error) p = tt
 cut_fits r attending.Output p = tt
 cut_fits r attending.Unprinted p = tt
+cut_fits r (attending.Unkept error) p = tt
 cut_fits r attending.Memory p = tt
 cut_fits r error p = absurd p
+
+-- any station may have a store that is refused
+store_fits : (r : Role) (e : AttendingError) → IsStoreError e → IsResultOf r (Err e)
+store_fits r (attending.Store error) p = tt
+store_fits r attending.Memory p = tt
+store_fits r error p = absurd p
 
 -- any station may end in any state of its channels
 outcome_fits : (r : Role) (doubt waiting : Bool)
@@ -96,6 +109,17 @@ module _ (w : AskedWords) (r : Role) (input after : Option (List ℕ)) (begun : 
             prepared.station ends.leaves),
       )
 
+  -- the same, if its store may have been refused before it ran
+  pub answer_begun : (peers : ℕ) (result : Result (Unit {0}) AttendingError)
+      → HasBegunAndRun contents form begun ended result new → IsAnswerFor w r peers input result
+  answer_begun peers (Ok done) (inl refused) = absurd refused
+  answer_begun peers (Err error) (inl refused) =
+      inr (
+        record { after = after; begun = begun; prepared = prepared },
+        store_fits r error refused,
+      )
+  answer_begun peers result (inr ran) = answer_after peers result ran
+
   -- what it has printed
   pub report_after : (result : Result (Unit {0}) AttendingError)
       → HasRun contents form begun ended result new
@@ -110,6 +134,38 @@ module _ (w : AskedWords) (r : Role) (input after : Option (List ℕ)) (begun : 
         ended = ended;
         ends = ends;
       })
+
+  pub report_begun : (result : Result (Unit {0}) AttendingError)
+      → HasBegunAndRun contents form begun ended result new
+      → IsReportedFor contents w r form input result new
+  report_begun (Ok done) (inl refused) = absurd refused
+  report_begun (Err error) (inl refused) = inl (unended_if_refused error refused)
+  report_begun result (inr ran) = report_after result ran
+
+-- what a station leaves does not depend on its records
+left_by_kind : (before after : Prepared) (left : Left) → IsSameKind before after
+    → IsLeftBy after left → IsLeftBy before left
+left_by_kind (prepared.Control c) (prepared.Control d) (Control trust) same p = tt
+left_by_kind (prepared.Control c) (prepared.Control d) (Terminal closed) same p = p
+left_by_kind (prepared.Terminal c) (prepared.Terminal d) (Terminal closed) same p = tt
+left_by_kind (prepared.Terminal c) (prepared.Terminal d) (Control trust) same p = p
+left_by_kind (prepared.Control c) (prepared.Terminal d) left same p = absurd same
+left_by_kind (prepared.Terminal c) (prepared.Control d) left same p = absurd same
+
+-- a station that was filled before it ran
+pub ran_filled : {W : Type 0} (contents : W → Option (List ℕ)) (form : Option Form)
+    (before after ended : Prepared) (result : Result (Unit {0}) AttendingError) (new : W)
+    → IsSameKind before after → HasRun contents form after ended result new
+    → HasBegunAndRun contents form before ended result new
+ran_filled contents form before after ended result new same (inl cut) = inr (inl cut)
+ran_filled contents form before after ended result new same (inr ends) =
+    inr (inr (record {
+      left = ends.left;
+      leaves = left_by_kind before after ends.left same ends.leaves;
+      keeps = ends.keeps;
+      before = ends.before;
+      concludes = ends.concludes;
+    }))
 
 -- the options say which station it is and how its report is printed
 pub reported_by : (w : AskedWords) (input : Option (List ℕ)) (settings : SettingsValue)

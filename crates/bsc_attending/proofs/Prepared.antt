@@ -1,12 +1,24 @@
 -- The configuration, and then the station.
 use Rattle.std.proofs.Common.{ℕ, List, Option, Result, Ok, Err, IfOk, IfErr, inr}
 use Rattle.bsc_asked.specs.StationWords.{AskedWords}
+use Rattle.bsc_config.specs.Answers.{IsRefusedFor}
 use Rattle.bsc_config.specs.Settings.{ConfigValue}
+use Rattle.bsc_config.specs.declared.error.ConfigError.{ConfigError}
+use Rattle.bsc_config.specs.declared.error.ConfigError.TheVariants as config
+use Rattle.bsc_input.specs.Texts.{IsTextAt}
 use Rattle.bsc_options.specs.declared.settings.Role.{Role}
-use Rattle.bsc_attending.specs.Preparing.{HasNoStation, IsPrepared, IsStationOf, IsUnprepared}
-use Rattle.bsc_attending.specs.Preparing.{ReadsConfig}
+use Rattle.bsc_attending.specs.Errors.{config_error}
+use Rattle.bsc_attending.specs.Preparing.{HasNoConfig, HasNoStation, IsPrepared, IsStationOf}
+use Rattle.bsc_attending.specs.Preparing.{IsUnprepared, ReadsConfig}
 use Rattle.bsc_attending.specs.declared.error.AttendingError.{AttendingError}
 use Rattle.bsc_attending.specs.declared.preparing.Prepared.{Prepared}
+
+-- a text that was read, and is refused
+pub no_config : (path : List ℕ) (input : Option (List ℕ)) (text : List ℕ)
+    → IsTextAt path input text → (error : ConfigError) → IsRefusedFor text error
+    → HasNoConfig path input (config_error error)
+no_config path input text is config.Memory refused = tt
+no_config path input text is error refused = (text, is, refused)
 
 module _ (w : AskedWords) (role : Role) (peers : ℕ) (input middle : Option (List ℕ))
     (config : ConfigValue) (reads : ReadsConfig w.config input middle config) where

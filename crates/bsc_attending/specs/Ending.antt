@@ -18,7 +18,8 @@ use Rattle.bsc_attending.specs.declared.preparing.Prepared.{Prepared}
 use Rattle.bsc_attending.specs.declared.preparing.Prepared.TheVariants as prepared
 use Rattle.bsc_attending.specs.declared.stations.Left.{Left}
 use Rattle.bsc_attending.specs.declared.stations.Left.TheVariants.{Control, Terminal}
-use Rattle.bsc_attending.specs.Errors.{IsCutShort, IsPrintFault, control_outcome_of, outcome_of}
+use Rattle.bsc_attending.specs.Errors.{IsCutShort, IsPrintFault, IsStoreError}
+use Rattle.bsc_attending.specs.Errors.{control_outcome_of, outcome_of}
 
 -- The connections at the first places, this many, were told in their order, each with the address
 -- by which its peer is named, if that is known.
@@ -33,6 +34,12 @@ abbrev pub IsLeftBy : Prepared → Left → Type 0
 IsLeftBy (prepared.Control control) (Control trust) = Unit {0}
 IsLeftBy (prepared.Terminal terminal) (Terminal closed) = Unit {0}
 IsLeftBy station left = ⊥
+
+-- Both are control stations, or both are terminals.
+abbrev pub IsSameKind : Prepared → Prepared → Type 0
+IsSameKind (prepared.Control before) (prepared.Control after) = Unit {0}
+IsSameKind (prepared.Terminal before) (prepared.Terminal after) = Unit {0}
+IsSameKind before after = ⊥
 
 -- The report of a station, with the records that arrived in a form, or without them.
 abbrev pub report_of : Option Form → Prepared → List ℕ
@@ -100,3 +107,9 @@ module _ {W : Type 0} (contents : W → Option (List ℕ)) where
       → Type 0
   HasRun form begun ended result new =
       IsErrAnd result IsCutShort ⊎ HasEnded form begun ended result new
+
+  -- Its store is refused, or it has run.
+  abbrev pub HasBegunAndRun : Option Form → Prepared → Prepared
+      → Result (Unit {0}) AttendingError → W → Type 0
+  HasBegunAndRun form begun ended result new =
+      IsErrAnd result IsStoreError ⊎ HasRun form begun ended result new

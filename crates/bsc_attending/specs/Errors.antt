@@ -6,6 +6,8 @@ use Rattle.bsc_input.specs.declared.texts.TextError.{TextError}
 use Rattle.bsc_input.specs.declared.texts.TextError.TheVariants as text
 use Rattle.bsc_connections.specs.declared.awaited.LiveError.{LiveError}
 use Rattle.bsc_connections.specs.declared.awaited.LiveError.TheVariants as live
+use Rattle.bsc_kept.specs.declared.fault.StoreFault.{StoreFault}
+use Rattle.bsc_kept.specs.declared.fault.StoreFault.TheVariants as fault
 use Rattle.bsc_options.specs.declared.error.OptionError.{OptionError}
 use Rattle.bsc_options.specs.declared.error.OptionError.TheVariants as option
 use Rattle.bsc_print.specs.declared.error.PrintError.{PrintError}
@@ -43,13 +45,18 @@ abbrev pub sockets_error : SocketsError → AttendingError
 sockets_error sockets.Memory = attending.Memory
 sockets_error error = attending.Connections error
 
+-- The error for a store that is refused.
+abbrev pub store_error : StoreFault → AttendingError
+store_error fault.OutOfMemory = attending.Memory
+store_error error = attending.Store error
+
 -- The error for the end of attending.
 abbrev pub live_error : LiveError → AttendingError
 live_error live.Wait = attending.Connections sockets.Sockets
 live_error live.Count = attending.Connections sockets.Sockets
 live_error live.Output = attending.Output
 live_error live.Unprinted = attending.Unprinted
-live_error live.Unkept = attending.Output
+live_error live.Unkept = attending.Unkept fault.Unreachable
 live_error live.Memory = attending.Memory
 
 -- The reasons for refusing options that are found after the configuration is read.
@@ -80,7 +87,14 @@ IsEarly (attending.Options error) = Unit {0}
 IsEarly (attending.Text error) = Unit {0}
 IsEarly (attending.Config error) = Unit {0}
 IsEarly (attending.Offer path error) = Unit {0}
+IsEarly (attending.Store error) = Unit {0}
 IsEarly _ = ⊥
+
+-- The errors of a store that is refused.
+abbrev pub IsStoreError : AttendingError → Type 0
+IsStoreError (attending.Store error) = Unit {0}
+IsStoreError attending.Memory = Unit {0}
+IsStoreError _ = ⊥
 
 -- The errors that come from making connections on: those of connecting, attending and printing,
 -- that of a line that is not trusted, and those of records not delivered.
@@ -92,6 +106,7 @@ IsLate attending.InDoubt = Unit {0}
 IsLate attending.Undelivered = Unit {0}
 IsLate attending.Output = Unit {0}
 IsLate attending.Unprinted = Unit {0}
+IsLate (attending.Unkept error) = Unit {0}
 IsLate attending.Memory = Unit {0}
 IsLate _ = ⊥
 
@@ -101,6 +116,7 @@ abbrev pub IsCutShort : AttendingError → Type 0
 IsCutShort (attending.Connections error) = Unit {0}
 IsCutShort attending.Output = Unit {0}
 IsCutShort attending.Unprinted = Unit {0}
+IsCutShort (attending.Unkept error) = Unit {0}
 IsCutShort attending.Memory = Unit {0}
 IsCutShort _ = ⊥
 

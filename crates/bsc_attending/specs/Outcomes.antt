@@ -25,6 +25,8 @@ IsResultOf role (Err attending.InDoubt) = Unit {0}
 IsResultOf role (Err attending.Undelivered) = Unit {0}
 IsResultOf role (Err attending.Output) = Unit {0}
 IsResultOf role (Err attending.Unprinted) = Unit {0}
+IsResultOf role (Err (attending.Store error)) = Unit {0}
+IsResultOf role (Err (attending.Unkept error)) = Unit {0}
 IsResultOf role (Err attending.Memory) = Unit {0}
 IsResultOf role result = ⊥
 

@@ -1,7 +1,7 @@
 -- What is read before a station makes its connections: the options, and its station of the
 -- configuration, with its records; and what an error says of that.
 use Rattle.std.specs.Prelude.{◌≡◌, ◌≢◌, ◌⊎◌, ◌≤◌, ◌<◌, ℕ, List, length, slice_index_or, Option}
-use Rattle.std.specs.Prelude.{Ok, Err, codes}
+use Rattle.std.specs.Prelude.{Ok, Err, None, Some, codes}
 use Rattle.bsc_asked.specs.StationWords.{AskedWords}
 use Rattle.bsc_config.specs.Answers.{IsRefusedFor, Says}
 use Rattle.bsc_config.specs.Settings.{ConfigValue}
@@ -9,6 +9,7 @@ use Rattle.bsc_control.specs.Control.{ControlValue}
 use Rattle.bsc_control.specs.Kept.{IsNewControl}
 use Rattle.bsc_control.specs.Peer.{no_peer}
 use Rattle.bsc_input.specs.Texts.{IsReadError, IsTextAt}
+use Rattle.bsc_keeping.specs.declared.own.Own.{Own}
 use Rattle.bsc_monitor.specs.LineTerminal.{LineTerminalValue}
 use Rattle.bsc_options.specs.Admission.{IsAdmission}
 use Rattle.bsc_options.specs.Settings.{SettingsValue, settings_in}
@@ -61,6 +62,16 @@ IsStationOf config role.Control offers input after (prepared.Control control) =
 IsStationOf config (role.Terminal number) offers input after (prepared.Terminal terminal) =
     IsTerminalOf config number offers input after terminal
 IsStationOf config role offers input after prepared = ⊥
+
+-- The full length of a record is that of the terminal, if the station is one.
+abbrev pub Suits : ℕ → Prepared → Type 0
+Suits full (prepared.Control control) = Unit {0}
+Suits full (prepared.Terminal terminal) = terminal.tributary.queue.format.full ≡ full
+
+-- The same, if the records of the station are to be kept.
+abbrev pub SuitsOwn : Option Own → Prepared → Type 0
+SuitsOwn None prepared = Unit {0}
+SuitsOwn (Some own) prepared = Suits own.full prepared
 
 -- The records of the new control station are refused, with this error.
 pub record IsControlRefused (config : ConfigValue) (offers : List (List ℕ))

@@ -1,6 +1,6 @@
 -- The connections that a station asks for.
-use Rattle.std.specs.Prelude.{ℕ, ℤ, pos, ◌+◌, ◌*◌, ◌-◌, ◌^◌, min, Bool, true, false, if◌then◌else◌}
-use Rattle.std.specs.Prelude.{Option, None, Some, length}
+use Rattle.std.specs.Prelude.{ℕ, ℤ, pos, ◌+◌, ◌*◌, ◌-◌, ◌^◌, min, Bool, true, false, not}
+use Rattle.std.specs.Prelude.{if◌then◌else◌, Option, None, Some, length}
 use Rattle.bsc_monitor.specs.declared.tracing.Tracing.{Tracing}
 use Rattle.bsc_monitor.specs.declared.tracing.Tracing.TheVariants.{Off, Exchanges, All}
 use Rattle.bsc_peers.specs.declared.networks.Networks.{Networks}
@@ -69,8 +69,9 @@ is_listening (connects_to address) = false
 abbrev pub time_out_of_control : ℕ → ℕ → ℕ
 time_out_of_control time tries = min (time * (tries + 2)) (2 ^ 64 - 1)
 
--- The control station begins, and asks for a connection for each terminal, or one for all. Its
--- time-out is longer than a terminal holds the line without hearing anything.
+-- The control station begins, unless its records are kept, and asks for a connection for each
+-- terminal, or one for all. Its time-out is longer than a terminal holds the line without hearing
+-- anything.
 abbrev pub control_wants : SettingsValue → Networks → ℕ → ℕ → WantedValue
 control_wants s allowed terminals tries = record {
   place = s.place;
@@ -79,7 +80,7 @@ control_wants s allowed terminals tries = record {
   allowed = allowed;
   stops = s.until_input_ends;
   stays = is_listening s.place;
-  begins = true;
+  begins = not s.is_kept;
   time_out = time_out_of_control s.times.time_out tries;
   gap = s.times.gap;
   patience = s.times.patience;

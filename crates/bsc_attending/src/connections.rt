@@ -10,6 +10,9 @@ use bsc_bid::Station;
 use bsc_connections::{
     Connection, Framing, Gaps, LiveError, Monitor, SocketRecords, Waiter, attend,
 };
+use bsc_keeping::{Keeper, Keeping, Prints, Sends, attend_kept};
+use bsc_kept::Store;
+use bsc_monitor::Party;
 use std::alloc::Global;
 use std::io::{Read, Write};
 use std::net::IpAddr;
@@ -103,6 +106,27 @@ pub(crate) trait Attend {
     ) -> Result<(), LiveError>
         ensures { OnOk result (M.has_ended monitor.new ≡ true) };
 
+    /// Attends a station over the connections until its monitor ends it, and keeps what it changes
+    /// before it sends.
+    fn attend_kept<S: Station + Party + Sends, M: Monitor<S> + Prints, K: Store + Drop>(
+        &mut self,
+        station: &mut S,
+        watch: &mut M,
+        keeper: &mut Keeper<K>,
+    ) -> Result<(), LiveError>;
+
+    /// Attends a station whose monitor prints the records that arrive. If its records are kept,
+    /// they are before it sends, and so is at the end how many were printed.
+    fn attend_watched<S: Station + Party + Sends, M: Monitor<S> + Prints>(
+        &mut self,
+        station: &mut S,
+        watch: &mut M,
+    ) -> Result<(), LiveError>;
+
+    /// Returns how many records of the channel with this number were printed before the station
+    /// began, among those on which it receives.
+    fn printed(&self, number: usize) -> usize;
+
     /// Returns the number of connections.
     fn count(&self) -> usize
         ensures { result ≡ places self.now };
@@ -128,10 +152,37 @@ impl<R: Read + Drop, W: Write + Drop, Q: Waiter<R, W> + Drop> Attend for Connect
             Framed::Records { connections } => {
                 attend(station, connections, &mut self.waiter, monitor)
             }
+            Framed::Raw { connections: raw } => attend(station, raw, &mut self.waiter, monitor),
+        }
+    }
+
+    fn attend_kept<S: Station + Party + Sends, M: Monitor<S> + Prints, K: Store + Drop>(
+        &mut self,
+        station: &mut S,
+        watch: &mut M,
+        keeper: &mut Keeper<K>,
+    ) -> Result<(), LiveError> {
+        let keeping = Keeping::new(watch, keeper);
+        match &mut self.framed {
+            Framed::Records { connections } => {
+                attend_kept(station, connections, &mut self.waiter, keeping)
+            }
             Framed::Raw { connections } => {
-                attend(station, connections, &mut self.waiter, monitor)
+                attend_kept(station, connections, &mut self.waiter, keeping)
             }
         }
+    }
+
+    fn attend_watched<S: Station + Party + Sends, M: Monitor<S> + Prints>(
+        &mut self,
+        station: &mut S,
+        watch: &mut M,
+    ) -> Result<(), LiveError> {
+        self.attend(station, watch)
+    }
+
+    fn printed(&self, _number: usize) -> usize {
+        0
     }
 
     fn count(&self) -> usize {

@@ -5,6 +5,7 @@ use bsc_carrier::CarrierError;
 use bsc_config::ConfigError;
 use bsc_connections::LiveError;
 use bsc_input::TextError;
+use bsc_kept::StoreFault;
 use bsc_monitor::OfferError;
 use bsc_options::OptionError;
 use bsc_print::PrintError;
@@ -59,6 +60,15 @@ pub enum AttendingError {
     /// station has ended.
     #[error("records that arrived could not be printed")]
     Unprinted,
+
+    /// The store of the station is refused, before a connection is made.
+    #[error("store: {error}")]
+    Store { error: StoreFault },
+
+    /// What happened could not be kept in the store. Nothing that rests on it was sent, and the
+    /// station has ended.
+    #[error("what happened could not be kept: {error}")]
+    Unkept { error: StoreFault },
 
     /// An allocation failed.
     #[error("out of memory")]
@@ -147,6 +157,19 @@ impl From<SocketsError> for AttendingError {
     }
 }
 
+impl From<StoreFault> for AttendingError {
+    ghost use Rattle.bsc_attending.specs.Errors.{store_error};
+
+    ghost from_gives = { λ error attending. attending ≡ store_error error };
+
+    fn from(error: StoreFault) -> AttendingError {
+        match error {
+            StoreFault::OutOfMemory => AttendingError::Memory,
+            error => AttendingError::Store { error },
+        }
+    }
+}
+
 impl From<LiveError> for AttendingError {
     ghost use Rattle.bsc_attending.specs.Errors.{live_error};
 
@@ -159,8 +182,9 @@ impl From<LiveError> for AttendingError {
             },
             LiveError::Output => AttendingError::Output,
             LiveError::Unprinted => AttendingError::Unprinted,
-            // The command keeps nothing.
-            LiveError::Unkept => AttendingError::Output,
+            LiveError::Unkept => AttendingError::Unkept {
+                error: StoreFault::Unreachable,
+            },
             LiveError::Memory => AttendingError::Memory,
         }
     }

@@ -7,6 +7,7 @@
 
 mod connections;
 mod error;
+mod keeping;
 mod network;
 mod offering;
 mod preparing;
@@ -14,6 +15,6 @@ mod stations;
 mod wanted;
 
 pub use error::AttendingError;
-pub use network::{Network, Opened};
+pub use network::{Network, Opened, Stores};
 pub use stations::station;
 pub use wanted::Wanted;

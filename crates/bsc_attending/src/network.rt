@@ -1,7 +1,8 @@
-//! The connections, the clock and the trace that a station needs from the machine.
+//! The connections, the clock, the trace and the store that a station needs from the machine.
 
 use crate::Wanted;
 use bsc_connections::Waiter;
+use bsc_kept::{Store, StoreFault};
 use bsc_progress::{Meter, Timer, Work};
 use bsc_sockets::SocketsError;
 use std::io::{Read, Write};
@@ -47,4 +48,13 @@ pub trait Network {
     /// From now on each flush of standard output also syncs it, if it is a regular file. The flush
     /// fails if that does.
     fn sync_output(&mut self);
+}
+
+/// The stores of a machine.
+pub trait Stores {
+    /// A store.
+    type Store: Store + Drop;
+
+    /// Opens the store at this path, which has to belong to the station with this text.
+    fn open_store(&mut self, path: &str, own: &str) -> Result<Self::Store, StoreFault>;
 }

@@ -67,6 +67,7 @@ pub(crate) fn offer_all_at_terminal<R: Read, F: Files>(
 ) -> Result<(), AttendingError>
     requires { terminal.old.tributary.queue.format ≡ setup.format }
     ensures error { IfErr result IsOfferError }
+    ensures format { terminal.new.tributary.queue.format ≡ setup.format }
     ensures offers { OnOk result (AddsAllLines (map string_bytes offers.now)
         (R.remaining input.old, terminal.old) (R.remaining input.new, terminal.new)) }
     ensures refused { IfErr result

@@ -1,13 +1,13 @@
 //! Prepares the station of a configuration with the records that it has to send: everything that is
 //! read before a connection is made.
 
-ghost use Rattle.std.specs.Prelude.{◌≡◌, ◌≢◌, ◌<◌, ◌≤◌, Err, IfErr, IfOk, codes, length, map};
-ghost use Rattle.std.specs.Prelude.{string_bytes};
+ghost use Rattle.std.specs.Prelude.{◌≡◌, ◌≢◌, ◌<◌, ◌≤◌, Err, IfErr, IfOk, IfSome, IsSome, codes};
+ghost use Rattle.std.specs.Prelude.{length, map, string_bytes};
 ghost use Rattle.bsc_asked.specs.StationWords.{asked_words};
 ghost use Rattle.bsc_attending.specs.Errors.{IsPreparingError};
 ghost use Rattle.bsc_attending.specs.Preparing.{HasConfig, HasNoConfig, HasNoControl};
-ghost use Rattle.bsc_attending.specs.Preparing.{HasNoTerminal, IsPrepared, IsStationOf};
-ghost use Rattle.bsc_attending.specs.Preparing.{IsUnprepared};
+ghost use Rattle.bsc_attending.specs.Preparing.{HasNoStation, HasNoTerminal, IsPrepared};
+ghost use Rattle.bsc_attending.specs.Preparing.{IsStationOf, IsUnprepared, Suits, SuitsOwn};
 
 use crate::AttendingError;
 use crate::offering::{offer_all_at_terminal, offer_all_for_terminals};
@@ -15,6 +15,7 @@ use bsc_asked::StationWords;
 use bsc_config::{Config, read_config};
 use bsc_control::Control;
 use bsc_input::{Files, read_text};
+use bsc_keeping::{Own, Owner};
 use bsc_monitor::{LineTerminal, new_control, new_terminal};
 use bsc_options::{GivenPeers, OptionError, Role};
 use std::alloc::Global;
@@ -30,6 +31,13 @@ pub(crate) enum Prepared {
     Terminal { terminal: LineTerminal<Global> },
 }
 
+/// A station with its records, and what is to be known of it if they are to be kept.
+#[derive(Drop)]
+pub(crate) struct Ready {
+    pub(crate) prepared: Prepared,
+    pub(crate) own: Option<Own>,
+}
+
 /// Reads and checks the configuration and all records of the station that the options select.
 pub(crate) fn prepare<R: Read, F: Files>(
     alloc: Global,
@@ -38,17 +46,66 @@ pub(crate) fn prepare<R: Read, F: Files>(
     peers: GivenPeers,
     input: &mut R,
     files: &mut F,
-) -> Result<Prepared, AttendingError>
+) -> Result<Ready, AttendingError>
     ensures error { IfErr result IsPreparingError }
-    ensures prepared { IfOk result (IsPrepared (asked_words words.now) role
-        (R.remaining input.old) (R.remaining input.new)) }
+    ensures prepared { IfOk result (λ ready. IsPrepared (asked_words words.now) role
+        (R.remaining input.old) (R.remaining input.new) ready.prepared) }
     ensures unprepared { IfErr result (IsUnprepared (asked_words words.now) role peers.terminals
         (R.remaining input.old)) }
+    ensures suits { IfOk result (λ ready. SuitsOwn ready.own ready.prepared) }
+    ensures kept { IfOk result (λ ready. IsSome words.now.store → IsSome ready.own) }
 {
     let config = config_at(alloc, words.config.as_str(), input, files)?;
+    let own = own_of(alloc, words, role, &config)?;
+    let prepared = station_of(alloc, words, role, peers, &config, input, files)?;
+    Ok(Ready { prepared, own })
+}
+
+/// Returns what is to be known of the station if its records are to be kept.
+fn own_of(
+    alloc: Global,
+    words: &StationWords,
+    role: Role,
+    config: &Config,
+) -> Result<Option<Own>, AttendingError>
+    ensures full { IfOk result (λ own. IfSome own (λ o. o.full ≡ config.now.setup.format.full)) }
+    ensures kept { IfOk result (λ own. IsSome words.now.store → IsSome own) }
+    ensures error { IfErr result (λ error. error ≡ AttendingError.Memory) }
+{
+    if words.store.is_none() {
+        return Ok(None);
+    }
+    let owner = match role {
+        Role::Control => Owner::Control,
+        Role::Terminal { number } => Owner::Terminal { number },
+    };
+    match Own::of(alloc, config, owner) {
+        Ok(own) => Ok(Some(own)),
+        Err(_) => Err(AttendingError::Memory),
+    }
+}
+
+/// Returns the station that the options select, with its records.
+fn station_of<R: Read, F: Files>(
+    alloc: Global,
+    words: &StationWords,
+    role: Role,
+    peers: GivenPeers,
+    config: &Config,
+    input: &mut R,
+    files: &mut F,
+) -> Result<Prepared, AttendingError>
+    ensures error { IfErr result IsPreparingError }
+    ensures station { IfOk result (IsStationOf config.now role
+        (map string_bytes words.now.offers.items) (R.remaining input.old)
+        (R.remaining input.new)) }
+    ensures refused { IfErr result (HasNoStation config.now role peers.terminals
+        (map string_bytes words.now.offers.items) (R.remaining input.old)) }
+    ensures suits { IfOk result (Suits config.now.setup.format.full) }
+{
     match role {
-        Role::Control => control_station(alloc, words, &config, peers, input, files),
-        Role::Terminal { number } => terminal(alloc, words, &config, number, input, files),
+        Role::Control => control_station(alloc, words, config, peers, input, files),
+        Role::Terminal { number } => terminal(alloc, words, config, number, input, files),
     }
 }
 
@@ -82,6 +139,7 @@ fn control_station<R: Read, F: Files>(
     ensures station { IfOk result (IsStationOf config.now Role.Control
         (map string_bytes words.now.offers.items) (R.remaining input.old)
         (R.remaining input.new)) }
+    ensures suits { IfOk result (Suits config.now.setup.format.full) }
     ensures peers { length config.now.terminals < peers.terminals →
         result ≡ Err (AttendingError.Options OptionError.NoPeer) }
     ensures refused { IfErr result (HasNoControl config.now peers.terminals
@@ -109,6 +167,7 @@ fn terminal<R: Read, F: Files>(
     ensures station { IfOk result (IsStationOf config.now (Role.Terminal number)
         (map string_bytes words.now.offers.items) (R.remaining input.old)
         (R.remaining input.new)) }
+    ensures suits { IfOk result (Suits config.now.setup.format.full) }
     ensures number { length config.now.terminals ≤ number →
         result ≡ Err (AttendingError.Options OptionError.NoTerminal) }
     ensures refused { IfErr result (HasNoTerminal config.now number

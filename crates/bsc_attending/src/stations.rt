@@ -1,29 +1,34 @@
 //! One station of a line: prepares it, makes its connections, and attends it until it ends.
 
-ghost use Rattle.std.specs.Prelude.{◌≡◌, IfErr, IfOk};
+ghost use Rattle.std.specs.Prelude.{◌≡◌, IfErr, IfOk, IsSome};
 ghost use Rattle.bsc_asked.specs.StationWords.{asked_words};
 ghost use Rattle.bsc_options.specs.Settings.{place_value, settings_value};
-ghost use Rattle.bsc_attending.specs.Ending.{HasRun, IsConcluded, IsLeftBy, JoinsFirst};
-ghost use Rattle.bsc_attending.specs.Ending.{ReportsIn};
+ghost use Rattle.bsc_attending.specs.Ending.{HasBegunAndRun, HasRun, IsConcluded, IsLeftBy};
+ghost use Rattle.bsc_attending.specs.Ending.{IsSameKind, JoinsFirst, ReportsIn};
 ghost use Rattle.bsc_attending.specs.Errors.{IsCutShort, IsEarly, IsLate, IsPrintFault};
+ghost use Rattle.bsc_attending.specs.Errors.{IsStoreError};
 ghost use Rattle.bsc_attending.specs.Errors.{control_outcome_of, outcome_of};
 ghost use Rattle.bsc_attending.specs.Progress.{progress_in, work_in};
 ghost use Rattle.bsc_attending.specs.Outcomes.{IsAnswer, IsAnswerFor, IsReported, IsReportedFor};
+ghost use Rattle.bsc_attending.specs.Preparing.{SuitsOwn};
 ghost use Rattle.bsc_attending.specs.Wanted.{is_listening, wanted_value, wants};
 ghost use Rattle.bsc_trust.specs.Trust.{new_trust};
 
 use crate::connections::{Attend, connect};
-use crate::preparing::{Prepared, prepare};
+use crate::keeping::{Kept, begin, with_fault};
+use crate::preparing::{Prepared, Ready, prepare};
 use crate::wanted::{listens, wanted_by_control, wanted_by_terminal};
-use crate::{AttendingError, Network, Wanted};
+use crate::{AttendingError, Network, Stores, Wanted};
 use bsc_asked::StationWords;
 use bsc_carrier::CarrierError;
 use bsc_connections::LiveError;
 use bsc_control::Control;
 use bsc_input::Files;
+use bsc_keeping::{Keeper, Own};
+use bsc_kept::Store;
 use bsc_monitor::{
-    ControlWatch, Ended, Limits, LineTerminal, Printing, Standing, TerminalWatch, Tracing, Watch,
-    station_standing, write_report, write_trust,
+    ControlWatch, Ended, Limits, LineTerminal, Party, Printing, Standing, TerminalWatch, Tracing,
+    Watch, station_standing, write_report, write_trust,
 };
 use bsc_options::{Admission, Role, StationSettings, read_admission, read_settings};
 use bsc_print::Form;
@@ -80,7 +85,7 @@ struct Watching<'a, T: Drop, O, D> {
 /// printed, and so is `Closed`, when a fault closed the connection of a terminal. `Unprinted` is
 /// returned when records that arrived could not be printed; they were not acknowledged, and the
 /// report is tried.
-pub fn station<R: Read, H: Files + Network, W: Write>(
+pub fn station<R: Read, H: Files + Network + Stores, W: Write>(
     alloc: Global,
     words: &StationWords,
     input: &mut R,
@@ -102,7 +107,7 @@ pub fn station<R: Read, H: Files + Network, W: Write>(
 }
 
 /// Runs the station of these options.
-fn prepare_and_run<R: Read, H: Files + Network, W: Write>(
+fn prepare_and_run<R: Read, H: Files + Network + Stores, W: Write>(
     alloc: Global,
     words: &StationWords,
     options: Options<'_>,
@@ -118,15 +123,61 @@ fn prepare_and_run<R: Read, H: Files + Network, W: Write>(
         out.new }
 {
     let (role, peers) = (options.settings.role, options.admission.peers);
-    let mut prepared = prepare(alloc, words, role, peers, input, machine)?;
-    run(alloc, &options, &mut prepared, machine, out)
+    let ready = prepare(alloc, words, role, peers, input, machine)?;
+    let Ready { mut prepared, own } = ready;
+    begin_and_run(alloc, words, &options, own, &mut prepared, machine, out)
+}
+
+/// Fills a station with what its store has, if its records are to be kept, and then attends it and
+/// prints its report.
+fn begin_and_run<H: Network + Stores, W: Write>(
+    alloc: Global,
+    words: &StationWords,
+    options: &Options<'_>,
+    own: Option<Own>,
+    prepared: &mut Prepared,
+    machine: &mut H,
+    out: &mut W,
+) -> Result<(), AttendingError>
+    requires { SuitsOwn own prepared.old }
+    ensures early { IfErr result (λ error. IsEarly error → out.new ≡ out.old) }
+    ensures ran { HasBegunAndRun W.contents options.now.settings.reported prepared.old
+        prepared.new result out.new }
+{
+    let keeper = keeper_of(alloc, words, own, prepared, machine)?;
+    run(alloc, options, prepared, keeper, machine, out)
+}
+
+/// Fills a station with what its store has, if its records are to be kept, and returns what keeps
+/// them from then on.
+fn keeper_of<H: Stores>(
+    alloc: Global,
+    words: &StationWords,
+    own: Option<Own>,
+    prepared: &mut Prepared,
+    machine: &mut H,
+) -> Result<Option<Keeper<H::Store>>, AttendingError>
+    requires { SuitsOwn own prepared.old }
+    ensures kind { IsSameKind prepared.old prepared.new }
+    ensures kept { IfOk result (λ keeper.
+        IsSome words.now.store → IsSome own → IsSome keeper) }
+    ensures error { IfErr result IsStoreError }
+{
+    match (&words.store, own) {
+        (Some(path), Some(own)) => {
+            let keeper = begin(alloc, path.as_str(), own, prepared, machine)?;
+            Ok(Some(keeper))
+        }
+        _ => Ok(None),
+    }
 }
 
 /// Attends a station over the connections that it makes, and then prints its report.
-fn run<H: Network, W: Write>(
+fn run<H: Network, K: Store + Drop, W: Write>(
     alloc: Global,
     options: &Options<'_>,
     prepared: &mut Prepared,
+    keeper: Option<Keeper<K>>,
     machine: &mut H,
     out: &mut W,
 ) -> Result<(), AttendingError>
@@ -135,7 +186,7 @@ fn run<H: Network, W: Write>(
         out.new }
 {
     let reported = options.settings.reported;
-    match open(alloc, options, prepared, machine, out) {
+    match open(alloc, options, prepared, keeper, machine, out) {
         Ok(left) => conclude(alloc, reported, prepared, left, out),
         Err(AttendingError::Unprinted) => {
             // The output has failed before; if it does not accept the report either, nothing is
@@ -149,10 +200,11 @@ fn run<H: Network, W: Write>(
 
 /// Makes the connections of a station, attends the station until it ends, and returns what it
 /// leaves.
-fn open<H: Network, W: Write>(
+fn open<H: Network, K: Store + Drop, W: Write>(
     alloc: Global,
     options: &Options<'_>,
     prepared: &mut Prepared,
+    keeper: Option<Keeper<K>>,
     machine: &mut H,
     out: &mut W,
 ) -> Result<Left, AttendingError>
@@ -173,7 +225,35 @@ fn open<H: Network, W: Write>(
         trace: &mut trace,
     };
     let ending = ending_of(options);
-    attend(alloc, ending, prepared, &mut connections, watching)
+    match keeper {
+        None => attend(alloc, ending, prepared, &mut connections, watching),
+        Some(keeper) => {
+            let kept = Kept {
+                connections,
+                keeper,
+            };
+            attend_kept(alloc, ending, prepared, kept, watching)
+        }
+    }
+}
+
+/// Attends a station whose records are kept over its connections until it ends, and returns what it
+/// leaves.
+fn attend_kept<C: Attend + Drop, K: Store + Drop, T: Timer + Meter + Drop, O: Write, D: Write>(
+    alloc: Global,
+    ending: Ending,
+    prepared: &mut Prepared,
+    kept: Kept<C, K>,
+    watching: Watching<'_, T, O, D>,
+) -> Result<Left, AttendingError>
+    ensures cut { IfErr result IsCutShort }
+    ensures left { IfOk result (λ left. IsLeftBy prepared.old left × IsLeftBy prepared.new left) }
+{
+    let mut kept = kept;
+    match attend(alloc, ending, prepared, &mut kept, watching) {
+        Ok(left) => Ok(left),
+        Err(error) => Err(with_fault(&kept.keeper, error)),
+    }
 }
 
 /// Returns of what work the progress is shown: the rounds of the control station or the events of a
@@ -269,10 +349,22 @@ fn attend_control<C: Attend, T: Timer + Meter + Drop, O: Write, D: Write>(
         out,
         trace,
     } = watching;
-    let watch = Watch::new(alloc, control, printing, timer, out, trace)?;
+    let mut watch = Watch::new(alloc, control, printing, timer, out, trace)?;
+    count_printed(control.spools(), connections, &mut watch);
     let trust = with_connections(ending.trust, connections);
     let watch = ControlWatch::new(control, watch, ending.limits, ending.listens, trust);
     Ok(attend_until_answered(control, connections, watch)?)
+}
+
+/// Counts the records that were printed before the station began.
+fn count_printed<C: Attend, T: Timer + Meter + Drop, O: Write, D: Write>(
+    channels: usize,
+    connections: &C,
+    watch: &mut Watch<'_, Global, T, O, D>,
+) {
+    'channels: for number in 0..channels {
+        watch.count_printed(number, connections.printed(number));
+    }
 }
 
 /// Records the peers of the connections with which the control station begins.
@@ -293,7 +385,7 @@ fn attend_until_answered<C: Attend, T: Timer + Meter + Drop, O: Write, D: Write>
     connections: &mut C,
     mut watch: ControlWatch<'_, Global, T, O, D>,
 ) -> Result<Trust, LiveError> {
-    connections.attend(control, &mut watch)?;
+    connections.attend_watched(control, &mut watch)?;
     if watch.is_closed() {
         return Ok(watch.trust());
     }
@@ -317,9 +409,10 @@ fn attend_terminal<C: Attend, T: Timer + Meter + Drop, O: Write, D: Write>(
         out,
         trace,
     } = watching;
-    let watch = Watch::new(alloc, terminal, printing, timer, out, trace)?;
+    let mut watch = Watch::new(alloc, terminal, printing, timer, out, trace)?;
+    count_printed(terminal.spools(), connections, &mut watch);
     let mut watch = TerminalWatch::new(watch);
-    connections.attend(terminal, &mut watch)?;
+    connections.attend_watched(terminal, &mut watch)?;
     Ok(watch.closed())
 }
 

@@ -118,9 +118,11 @@ impl Wanted<'_> {
 }
 
 /// Returns the connections that the control station asks for: one for each terminal, or one for
-/// all. `tries` is the limit of failures in a row. A terminal that holds the line acts on one
-/// silence more than that, and then gives up; the control station waits for one time-out longer, so
-/// that no terminal holds the line any more when it acts (GA27-3004, time-outs).
+/// all. It makes the first call at once, but where its records are kept: then it may have begun
+/// again, and first listens for one whole time-out. `tries` is the limit of failures in a row. A
+/// terminal that holds the line acts on one silence more than that, and then gives up; the control
+/// station waits for one time-out longer, so that no terminal holds the line any more when it acts
+/// (GA27-3004, time-outs).
 pub(crate) fn wanted_by_control<'a>(
     settings: &StationSettings<'a>,
     allowed: Networks,
@@ -137,7 +139,7 @@ pub(crate) fn wanted_by_control<'a>(
         allowed,
         stops: settings.until_input_ends,
         stays: listens(settings.place),
-        begins: true,
+        begins: !settings.is_kept,
         time_out: settings.times.time_out.saturating_mul(u64::from(tries) + 2),
         gap: settings.times.gap,
         patience: settings.times.patience,

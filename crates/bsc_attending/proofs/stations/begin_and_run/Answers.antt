@@ -1,0 +1,9 @@
+-- Shows that a station that was filled ran as one of its kind.
+use Rattle.bsc_attending.proofs.Outcomes.{ran_filled}
+use Rattle.bsc_attending.proofs.stations.begin_and_run.Goals as goal
+
+pub returns-clause-ran : goal.returns-clause-ran
+returns-clause-ran g c =
+    ran_filled g.W.Write.contents c.args.options.now.settings.reported c.args.prepared.now
+    c.keeper_of.new.prepared c.run.new.prepared c.run.result c.run.new.out
+    c.keeper_of.ensures.kind c.run.ensures.ran
