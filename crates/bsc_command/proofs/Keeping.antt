@@ -5,7 +5,7 @@ use Rattle.std.specs.Io.KnownBytes.{Keeps}
 use Rattle.std.proofs.KnownBytes.{Appends-kept, Keeps-trans}
 use Rattle.clap.specs.Words.{Text}
 use Rattle.bsc_asked.specs.ChartWords.{AskedChart}
-use Rattle.bsc_asked.specs.Asked.{AskedValue, names, name, show, chart, run, station}
+use Rattle.bsc_asked.specs.Asked.{AskedValue, names, name, show, chart, run, station, store}
 use Rattle.bsc_chart.specs.Asked.{HasFailed as HasFailedDrawing, drawing_of}
 use Rattle.bsc_chart.specs.Inputs.{DrawsInput, HasStopped as HasStoppedDrawing}
 use Rattle.bsc_chart.specs.Inputs.{StopsAt as StopsDrawingAt, is_misspelt as is_misread, values_of}
@@ -13,6 +13,10 @@ use Rattle.bsc_chart.specs.Pages.{early_text, ladder_text}
 use Rattle.bsc_chart.specs.declared.error.ChartError.{ChartError}
 use Rattle.bsc_chart.specs.declared.error.ChartError.TheVariants as drawing
 use Rattle.bsc_chart.specs.declared.drawing.Drawing.{Drawing}
+use Rattle.bsc_chart.specs.declared.named.TraceError.{TraceError}
+use Rattle.bsc_chart.specs.declared.named.TraceError.TheVariants as trace
+use Rattle.bsc_chart.specs.Named.{HasFailedAs as HasFailedDrawingAs, HoldsOf, IsCharted, IsDrawn}
+use Rattle.bsc_chart.specs.Named.{SaysOf}
 use Rattle.bsc_frame.specs.declared.message.Heard.{Heard}
 use Rattle.bsc_input.specs.Hexadecimal.{octets_of}
 use Rattle.bsc_input.specs.Lines.{lines_of}
@@ -35,7 +39,7 @@ use Rattle.bsc_words.specs.CommandLine.{asked_of}
 use Rattle.bsc_command.specs.declared.fault.Fault.{Fault}
 use Rattle.bsc_command.specs.declared.fault.Fault.TheVariants as fault
 use Rattle.bsc_command.specs.Program.{HasFailedAs, HasFailedChart, HasFailedLines, HasFailedRun}
-use Rattle.bsc_command.specs.Program.{HasFailedWith, IsCharted, IsDone, IsFaultAt, IsObeyed}
+use Rattle.bsc_command.specs.Program.{HasFailedWith, IsDone, IsFaultAt, IsObeyed}
 
 prints_kept : (named : Heard → List ℕ) (octets : List ℕ) (a b c : Option (List ℕ))
     → Prints named octets a b → Keeps b c → Prints named octets a c
@@ -99,6 +103,7 @@ lines_kept (fault.Naming error) detail (Some octets) a b c p k =
 lines_kept (fault.Charting error) detail given a b c p k = tt
 lines_kept (fault.Running error) detail given a b c p k = tt
 lines_kept (fault.Attending error) detail given a b c p k = tt
+lines_kept (fault.Storing error) detail given a b c p k = tt
 lines_kept fault.Output detail given a b c p k = tt
 lines_kept fault.OutOfMemory detail given a b c p k = tt
 lines_kept (fault.Usage error) detail given a b c p k = tt
@@ -116,11 +121,21 @@ drawing_kept : (d : Result Drawing ChartError) (octets : List ℕ) (a b c : Opti
 drawing_kept (Err error) octets a b c p k = absurd p
 drawing_kept (Ok d) octets a b c p k = draws_kept d octets a b c p k
 
+drawn_kept : (d : Result Drawing ChartError) (a b c trace : Option (List ℕ))
+    → IsDrawn d a b trace → Keeps b c → IsDrawn d a c trace
+drawn_kept d a b c None p k = tt
+drawn_kept d a b c (Some octets) p k = drawing_kept d octets a b c p k
+
 charted_kept : (words : AskedChart) (input a b c : Option (List ℕ))
     → IsCharted words input a b → Keeps b c → IsCharted words input a c
-charted_kept words None a b c p k = tt
-charted_kept words (Some octets) a b c p k =
-    drawing_kept (drawing_of words) octets a b c p k
+charted_kept words input a b c p k = record {
+  columns = p.columns;
+  drawn = record {
+    trace = p.drawn.trace;
+    named = p.drawn.named;
+    holds = drawn_kept (drawing_of p.columns words) a b c p.drawn.trace p.drawn.holds k;
+  };
+}
 
 drawing_stop_kept : (is_fault : List ℕ → Bool) (d : Drawing) (n : ℕ) (octets : List ℕ)
     (a b c : Option (List ℕ)) → StopsDrawingAt is_fault d n octets a b → Keeps b c
@@ -149,7 +164,7 @@ drawing_stopped_kept drawing.TooMany d octets a b c p k = record {
   before =
       Appends-kept a b c (early_text d (values_of (take p.place (lines_of octets)))) p.before k;
 }
-drawing_stopped_kept drawing.Input d octets a b c p k = record {
+drawing_stopped_kept (drawing.Input why) d octets a b c p k = record {
   place = p.place;
   before =
       Appends-kept a b c (early_text d (values_of (take p.place (lines_of octets)))) p.before k;
@@ -163,14 +178,37 @@ drawing_failed_kept : (d : Result Drawing ChartError) (e : ChartError) (octets :
 drawing_failed_kept (Err why) e octets a b c p k = p
 drawing_failed_kept (Ok d) e octets a b c p k = drawing_stopped_kept e d octets a b c p k
 
+says_kept : (d : Result Drawing ChartError) (e : ChartError) (a b c trace : Option (List ℕ))
+    → SaysOf d e a b trace → Keeps b c → SaysOf d e a c trace
+says_kept d e a b c None p k = tt
+says_kept d e a b c (Some octets) p k = drawing_failed_kept d e octets a b c p k
+
+says_of_kept : (words : AskedChart) (d : Result Drawing ChartError) (e : ChartError)
+    (input a b c : Option (List ℕ)) → HoldsOf words input (SaysOf d e a b) → Keeps b c
+    → HoldsOf words input (SaysOf d e a c)
+says_of_kept words d e input a b c p k = record {
+  trace = p.trace;
+  named = p.named;
+  holds = says_kept d e a b c p.trace p.holds k;
+}
+
+failed_trace_kept : (words : AskedChart) (d : Result Drawing ChartError) (e : TraceError)
+    (input a b c : Option (List ℕ)) → HasFailedDrawingAs words d e input a b → Keeps b c
+    → HasFailedDrawingAs words d e input a c
+failed_trace_kept words d (trace.CannotRead path why) input a b c p k =
+    (p.0, says_of_kept words d (drawing.Input why) input a b c p.1 k)
+failed_trace_kept words d (trace.Chart e) input a b c p k = says_of_kept words d e input a b c p k
+
 chart_kept : (f : Fault) (words : AskedChart) (given a b c : Option (List ℕ))
     → HasFailedChart f words given a b → Keeps b c → HasFailedChart f words given a c
-chart_kept (fault.Charting error) words None a b c p k = tt
-chart_kept (fault.Charting error) words (Some octets) a b c p k =
-    drawing_failed_kept (drawing_of words) error octets a b c p k
+chart_kept (fault.Charting error) words given a b c p k = record {
+  columns = p.columns;
+  says = failed_trace_kept words (drawing_of p.columns words) error given a b c p.says k;
+}
 chart_kept (fault.Naming error) words given a b c p k = tt
 chart_kept (fault.Running error) words given a b c p k = tt
 chart_kept (fault.Attending error) words given a b c p k = tt
+chart_kept (fault.Storing error) words given a b c p k = tt
 chart_kept fault.Output words given a b c p k = tt
 chart_kept fault.OutOfMemory words given a b c p k = tt
 chart_kept (fault.Usage error) words given a b c p k = tt
@@ -242,6 +280,7 @@ module _ {S : Type 0} (contents remaining : S → Option (List ℕ)) where
         p.told p.tells p.done k;
   }
   done_kept (station words) input a b c p k = p
+  done_kept (store words) input a b c p k = p
 
   pub obeyed_kept : (words : List Text) (input a b c : Option (List ℕ))
       → IsObeyed contents remaining words input a b → Keeps b c
@@ -284,6 +323,7 @@ module _ {S : Type 0} (contents remaining : S → Option (List ℕ)) where
   failed_run_kept (fault.Running error) check trace paths a b c p k =
       failed_with_kept error check trace paths a b c p k
   failed_run_kept (fault.Attending error) check trace paths a b c p k = tt
+  failed_run_kept (fault.Storing error) check trace paths a b c p k = tt
   failed_run_kept fault.Output check trace paths a b c p k = tt
   failed_run_kept fault.OutOfMemory check trace paths a b c p k = tt
   failed_run_kept (fault.Usage error) check trace paths a b c p k =
@@ -300,6 +340,7 @@ module _ {S : Type 0} (contents remaining : S → Option (List ℕ)) where
       failed_run_kept f check trace
       (record { config = config; script = script; input = given }) a b c p k
   work_failed_kept (station words) f given a b c p k = p
+  work_failed_kept (store words) f given a b c p k = p
 
   pub fault_kept : (words : List Text) (f : Fault) (given a b c : Option (List ℕ))
       → IsFaultAt contents remaining words f given a b → Keeps b c

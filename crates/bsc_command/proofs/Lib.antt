@@ -2,4 +2,6 @@ pub mod Charts
 pub mod Keeping
 pub mod Outcomes
 pub mod Stations
+pub mod Stores
 pub mod Traced
+pub mod Words

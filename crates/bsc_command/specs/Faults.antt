@@ -9,6 +9,8 @@ use Rattle.bsc_attending.specs.declared.error.AttendingError.TheVariants as atte
 use Rattle.bsc_attending.specs.Errors.{IsEarly as IsEarlyAttending}
 use Rattle.bsc_chart.specs.declared.error.ChartError.{ChartError}
 use Rattle.bsc_chart.specs.declared.error.ChartError.TheVariants as chart
+use Rattle.bsc_chart.specs.declared.named.TraceError.{TraceError}
+use Rattle.bsc_chart.specs.declared.named.TraceError.TheVariants as trace
 use Rattle.bsc_naming.specs.Errors.{IsLineError, IsNameError}
 use Rattle.bsc_naming.specs.declared.error.NamingError.TheVariants as naming
 use Rattle.bsc_options.specs.Errors.{is_conflict}
@@ -18,9 +20,11 @@ use Rattle.bsc_run.specs.declared.error.RunError.TheVariants as run
 use Rattle.bsc_running.specs.declared.error.RunningError.{RunningError}
 use Rattle.bsc_running.specs.declared.error.RunningError.TheVariants as running
 use Rattle.bsc_running.specs.Errors.{IsEarly as IsEarlyRunning}
+use Rattle.bsc_storing.specs.declared.error.StoringError.{StoringError}
+use Rattle.bsc_storing.specs.declared.error.StoringError.TheVariants as storing
 use Rattle.bsc_command.specs.declared.fault.Fault.{Fault}
 use Rattle.bsc_command.specs.declared.fault.Fault.TheVariants.{Naming, Charting, Running}
-use Rattle.bsc_command.specs.declared.fault.Fault.TheVariants.{Attending}
+use Rattle.bsc_command.specs.declared.fault.Fault.TheVariants.{Attending, Storing}
 use Rattle.bsc_command.specs.declared.fault.Fault.TheVariants.{Output, OutOfMemory, Usage}
 
 -- The exit status for an error of a run: 3 if the line refused an event, otherwise 1.
@@ -42,13 +46,23 @@ attending_status_of attending.InDoubt = 3
 attending_status_of attending.Undelivered = 4
 attending_status_of attending.NotTrusted = 5
 attending_status_of attending.Unprinted = 6
+attending_status_of (attending.Unkept error) = 7
 attending_status_of _ = 1
 
--- The exit status of a fault: 2 for wrong usage, that of a run or a station, otherwise 1.
+-- The exit status of a work on a store that was not done: 2 for wrong usage, 3 for a doubt that was
+-- not released.
+abbrev pub storing_status_of : StoringError → ℕ
+storing_status_of storing.NoTerminal = 2
+storing_status_of (storing.Release error) = 3
+storing_status_of _ = 1
+
+-- The exit status of a fault: 2 for wrong usage, that of a run, a station or a work on a store,
+-- otherwise 1.
 abbrev pub status_of : Fault → ℕ
 status_of (Usage text) = 2
 status_of (Running error) = running_status_of error
 status_of (Attending error) = attending_status_of error
+status_of (Storing error) = storing_status_of error
 status_of _ = 1
 
 -- The faults of printing the help or the version, of reading the arguments, and of flushing the
@@ -87,13 +101,18 @@ abbrev pub IsRunningFault : RunningError → Fault → Type 0
 IsRunningFault running.BothStandardInput fault = IsUsageOf kind.ArgumentConflict fault
 IsRunningFault error fault = fault ≡ Running error
 
--- The fault for a trace that was not drawn. Two forms, a wrong width and a wrong line are wrong
+-- The fault for a trace that was not drawn. Several forms, a wrong width and a wrong line are wrong
 -- usage.
 abbrev pub IsChartFault : ChartError → Fault → Type 0
 IsChartFault chart.Forms fault = IsUsageOf kind.ArgumentConflict fault
 IsChartFault chart.Width fault = IsUsageOf kind.InvalidValue fault
 IsChartFault chart.Lines fault = IsUsageOf kind.InvalidValue fault
-IsChartFault error fault = fault ≡ Charting error
+IsChartFault error fault = fault ≡ Charting (trace.Chart error)
+
+-- The fault for the trace that was named and not drawn.
+abbrev pub IsTraceFault : TraceError → Fault → Type 0
+IsTraceFault (trace.Chart error) fault = IsChartFault error fault
+IsTraceFault error fault = fault ≡ Charting error
 
 -- The kind of wrong usage for refused options: they conflict or one is missing, or a value is
 -- wrong.
@@ -129,6 +148,11 @@ IsRunFault fault = IsUsageOf kind.ArgumentConflict fault
 abbrev pub IsStationFault : Fault → Type 0
 IsStationFault (Attending error) = Unit {0}
 IsStationFault fault = IsUsageOf kind.InvalidValue fault ⊎ IsUsageOf kind.ArgumentConflict fault
+
+-- The faults of a work on a store.
+abbrev pub IsStoreFault : Fault → Type 0
+IsStoreFault (Storing error) = Unit {0}
+IsStoreFault fault = IsUsageOf kind.InvalidValue fault ⊎ IsUsageOf kind.ArgumentConflict fault
 
 -- The faults that come before anything is printed.
 abbrev pub IsEarly : Fault → Type 0

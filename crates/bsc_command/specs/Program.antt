@@ -5,11 +5,11 @@ use Rattle.clap.specs.Words.{HasKind, Text as WordText, kind_of}
 use Rattle.clap.specs.declared.error.Error.{Error}
 use Rattle.bsc_asked.specs.ChartWords.{AskedChart}
 use Rattle.bsc_asked.specs.StationWords.{AskedWords}
-use Rattle.bsc_asked.specs.Asked.{AskedValue, names, name, show, chart, run, station}
+use Rattle.bsc_asked.specs.StoreWords.{AskedStore}
+use Rattle.bsc_asked.specs.Asked.{AskedValue, names, name, show, chart, run, station, store}
 use Rattle.bsc_attending.specs.Outcomes.{IsAnswer}
 use Rattle.bsc_attending.specs.declared.error.AttendingError.TheVariants as attending
-use Rattle.bsc_chart.specs.Asked.{HasFailed as HasFailedDrawing, drawing_of}
-use Rattle.bsc_chart.specs.Inputs.{DrawsInput}
+use Rattle.bsc_chart.specs.Named.{HasFailedTrace, IsCharted}
 use Rattle.bsc_input.specs.Hexadecimal.{octets_of}
 use Rattle.bsc_print.specs.Names.{Prints, name_line}
 use Rattle.bsc_print.specs.declared.printed.Detail.{Detail}
@@ -17,6 +17,7 @@ use Rattle.bsc_print.specs.declared.printed.Detail.TheVariants.{Name, Units}
 use Rattle.bsc_naming.specs.Inputs.{HasStopped, PrintsInput}
 use Rattle.bsc_naming.specs.declared.error.NamingError.TheVariants.{NotHexadecimal}
 use Rattle.bsc_options.specs.declared.error.OptionError.{OptionError}
+use Rattle.bsc_options.specs.StoreWorks.{WorkValue, work_in}
 use Rattle.bsc_run.specs.Crossing.{streams_of}
 use Rattle.bsc_run.specs.Plays.{holding}
 use Rattle.bsc_running.specs.Running.{HasFailed, IsRunDone, TextPaths}
@@ -25,9 +26,10 @@ use Rattle.bsc_running.specs.declared.error.RunningError.TheVariants.{BothStanda
 use Rattle.bsc_words.specs.CommandLine.{IsHelp, asked_of, faults_at}
 use Rattle.bsc_command.specs.declared.fault.Fault.{Fault}
 use Rattle.bsc_command.specs.declared.fault.Fault.TheVariants.{Naming, Charting, Running}
-use Rattle.bsc_command.specs.declared.fault.Fault.TheVariants.{Attending, OutOfMemory, Usage}
+use Rattle.bsc_command.specs.declared.fault.Fault.TheVariants.{Attending, OutOfMemory, Storing}
+use Rattle.bsc_command.specs.declared.fault.Fault.TheVariants.{Usage}
 use Rattle.bsc_command.specs.Faults.{IsChartingFault, IsNameFault, IsNamesFault}
-use Rattle.bsc_command.specs.Faults.{IsPrintFault, IsRunFault, IsStationFault}
+use Rattle.bsc_command.specs.Faults.{IsPrintFault, IsRunFault, IsStationFault, IsStoreFault}
 use Rattle.bsc_command.specs.Faults.{options_kind}
 
 -- What a fault of naming one transmission says: its text is not hexadecimal.
@@ -53,20 +55,25 @@ HasFailedStation (Usage error) words input =
     × IsAnswer words input (Err (attending.Options why))
 HasFailedStation fault words input = Unit {0}
 
+-- The words of `store` are those of a work.
+abbrev pub HasWork : AskedStore → Type 0
+HasWork words = (work : WorkValue) × (work_in words ≡ Ok work)
+
+-- What a fault of a work on a store says: its words are those of a work; or they are refused, with
+-- wrong usage of the kind of the reason.
+abbrev pub HasFailedStore : Fault → AskedStore → Type 0
+HasFailedStore (Storing error) words = HasWork words
+HasFailedStore (Usage error) words =
+    (why : OptionError) × (kind_of error ≡ options_kind why) × (work_in words ≡ Err why)
+HasFailedStore fault words = Unit {0}
+
 -- What a fault of drawing a trace says: the line with this number is the first that is wrong or
 -- too long, and of the lines before it the rows of a text were written, and nothing of a picture;
--- or the page is full.
+-- or the page is full; or the file that is named could not be read.
 abbrev pub HasFailedChart : Fault → AskedChart → Option (List ℕ) → Option (List ℕ)
     → Option (List ℕ) → Type 0
-HasFailedChart (Charting error) words input old new =
-    IfSome input (λ octets. HasFailedDrawing (drawing_of words) error octets old new)
+HasFailedChart (Charting error) words input old new = HasFailedTrace words error input old new
 HasFailedChart fault words input old new = Unit {0}
-
--- The ladder of the trace in the input was written as it was asked for.
-abbrev pub IsCharted : AskedChart → Option (List ℕ) → Option (List ℕ) → Option (List ℕ) → Type 0
-IsCharted words input old new =
-    IfSome input (λ octets. IsOkAnd (drawing_of words)
-    (λ drawing. DrawsInput drawing octets old new))
 
 -- For the streams of a run's cable, `contents` is what was written to a stream, and `remaining` is
 -- what is left to read from it.
@@ -89,6 +96,7 @@ module _ {S : Type 0} (contents remaining : S → Option (List ℕ)) where
   IsDone (run config script check trace quiet) input old new =
       HasDoneRun check trace (record { config = config; script = script; input = input }) old new
   IsDone (station words) input old new = IsAnswer words input (Ok tt)
+  IsDone (store words) input old new = HasWork words
 
   -- The run failed with this error. `told` and `tells` are as above.
   pub record HasFailedWith (error : RunningError) (check trace : Bool) (paths : TextPaths)
@@ -119,6 +127,7 @@ module _ {S : Type 0} (contents remaining : S → Option (List ℕ)) where
       HasFailedRun fault check trace
       (record { config = config; script = script; input = input }) old new
   HasFailedAs (station words) fault input old new = HasFailedStation fault words input
+  HasFailedAs (store words) fault input old new = HasFailedStore fault words
 
 -- The faults of this work.
 abbrev pub IsFaultOf : AskedValue → Fault → Type 0
@@ -128,6 +137,7 @@ IsFaultOf show fault = IsNamesFault fault
 IsFaultOf (chart words) fault = IsChartingFault fault
 IsFaultOf (run config script check trace quiet) fault = IsRunFault fault
 IsFaultOf (station words) fault = IsStationFault fault
+IsFaultOf (store words) fault = IsStoreFault fault
 
 -- The arguments ask for the help or the version.
 abbrev pub AskForHelp : List WordText → Type 0

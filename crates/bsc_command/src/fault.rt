@@ -1,16 +1,17 @@
 //! The faults that end the command, with the text and the exit status of each.
 ghost use Rattle.std.specs.Prelude.{◌≡◌, ◌≢◌};
 ghost use Rattle.bsc_command.specs.Faults.{IsAttendingFault, IsChartFault, IsRunningFault};
-ghost use Rattle.bsc_command.specs.Faults.{IsUsageOf};
+ghost use Rattle.bsc_command.specs.Faults.{IsTraceFault, IsUsageOf, storing_status_of};
 ghost use Rattle.bsc_command.specs.Faults.{attending_status_of, options_kind, running_status_of};
 ghost use Rattle.bsc_command.specs.Faults.{status_of};
 
 use bsc_attending::AttendingError;
-use bsc_chart::ChartError;
+use bsc_chart::{ChartError, TraceError};
 use bsc_naming::NamingError;
 use bsc_options::OptionError;
 use bsc_run::RunError;
 use bsc_running::RunningError;
+use bsc_storing::StoringError;
 use bsc_words::{Shown, wrong_words};
 use clap::error::ErrorKind;
 use std::alloc::{AllocError, Global};
@@ -26,7 +27,7 @@ pub enum Fault {
 
     /// Not all of a trace was drawn.
     #[error(transparent)]
-    Charting { error: ChartError },
+    Charting { error: TraceError },
 
     /// A run failed.
     #[error(transparent)]
@@ -36,6 +37,10 @@ pub enum Fault {
     /// in doubt.
     #[error(transparent)]
     Attending { error: AttendingError },
+
+    /// A work on a store was not done.
+    #[error(transparent)]
+    Storing { error: StoringError },
 
     /// Standard output did not accept the text.
     #[error("output fault")]
@@ -93,14 +98,24 @@ fn words_fault(alloc: Global, shown: Shown, kind: ErrorKind, why: &str) -> Fault
     Fault::from(wrong_words(alloc, shown, kind, why))
 }
 
-/// Returns the fault for a trace that was not drawn. Two forms, a wrong width and a wrong line are
-/// wrong usage.
-pub(crate) fn chart_fault(alloc: Global, error: ChartError) -> Fault
+/// Returns the fault for the trace that was named and not drawn.
+pub(crate) fn trace_fault(alloc: Global, error: TraceError) -> Fault
+    ensures { IsTraceFault error result }
+{
+    match error {
+        TraceError::Chart { error } => chart_fault(alloc, error),
+        error => Fault::Charting { error },
+    }
+}
+
+/// Returns the fault for a trace that was not drawn. Several forms, a wrong width and a wrong line
+/// are wrong usage.
+fn chart_fault(alloc: Global, error: ChartError) -> Fault
     ensures { IsChartFault error result }
 {
     match error {
         ChartError::Forms => {
-            let why = "--text and --svg exclude one another";
+            let why = "--text, --svg and --html exclude one another";
             words_fault(alloc, Shown::Chart, ErrorKind::ArgumentConflict, why)
         }
         ChartError::Lines => {
@@ -111,7 +126,9 @@ pub(crate) fn chart_fault(alloc: Global, error: ChartError) -> Fault
             let why = "--width is not from 40 to 1000";
             words_fault(alloc, Shown::Chart, ErrorKind::InvalidValue, why)
         }
-        error => Fault::Charting { error },
+        error => Fault::Charting {
+            error: TraceError::Chart { error },
+        },
     }
 }
 
@@ -128,15 +145,16 @@ pub(crate) fn running_fault(alloc: Global, error: RunningError) -> Fault
     }
 }
 
-/// Returns the fault for refused options: they conflict, or one is missing, or a value is wrong.
-fn options_fault(alloc: Global, error: OptionError) -> Fault
+/// Returns the fault for refused options of a command: they conflict, or one is missing, or a value
+/// is wrong.
+fn options_fault(alloc: Global, shown: Shown, error: OptionError) -> Fault
     ensures { IsUsageOf (options_kind error) result }
 {
     let why = error.reason();
     if error.is_conflict() {
-        words_fault(alloc, Shown::Station, ErrorKind::ArgumentConflict, why)
+        words_fault(alloc, shown, ErrorKind::ArgumentConflict, why)
     } else {
-        words_fault(alloc, Shown::Station, ErrorKind::InvalidValue, why)
+        words_fault(alloc, shown, ErrorKind::InvalidValue, why)
     }
 }
 
@@ -145,9 +163,16 @@ pub(crate) fn attending_fault(alloc: Global, error: AttendingError) -> Fault
     ensures { IsAttendingFault error result }
 {
     match error {
-        AttendingError::Options { error } => options_fault(alloc, error),
+        AttendingError::Options { error } => options_fault(alloc, Shown::Station, error),
         error => Fault::Attending { error },
     }
+}
+
+/// Returns the fault for words of `store` that are refused.
+pub(crate) fn store_words_fault(alloc: Global, error: OptionError) -> Fault
+    ensures { IsUsageOf (options_kind error) result }
+{
+    options_fault(alloc, Shown::Store, error)
 }
 
 /// Returns the fault for an argument that is not UTF-8, with the error kind of any other wrong
@@ -160,9 +185,10 @@ pub fn not_text(alloc: Global) -> Fault
 }
 
 /// Returns the exit status of the program: 2 for wrong usage; 3 if the line refused an event of a
-/// script, or a station ended in doubt; 4 if a station ended with undelivered records; 5 if a
-/// control station ended and could not trust its line; 6 if a station could not print records that
-/// arrived; 1 for every other fault.
+/// script, a station ended in doubt, or a doubt was not released; 4 if a station ended with
+/// undelivered records; 5 if a control station ended and could not trust its line; 6 if a station
+/// could not print records that arrived; 7 if it could not keep what happened; 1 for every other
+/// fault.
 pub fn status(fault: &Fault) -> u8
     ensures { result ≡ status_of fault.now }
 {
@@ -170,6 +196,7 @@ pub fn status(fault: &Fault) -> u8
         Fault::Usage(_) => 2,
         Fault::Running { error } => running_status(error),
         Fault::Attending { error } => attending_status(error),
+        Fault::Storing { error } => storing_status(error),
         _ => 1,
     }
 }
@@ -197,6 +224,18 @@ fn attending_status(error: &AttendingError) -> u8
         AttendingError::Undelivered => 4,
         AttendingError::NotTrusted => 5,
         AttendingError::Unprinted => 6,
+        AttendingError::Unkept { .. } => 7,
+        _ => 1,
+    }
+}
+
+/// Returns the exit status of a work on a store that was not done.
+fn storing_status(error: &StoringError) -> u8
+    ensures { result ≡ storing_status_of error.now }
+{
+    match error {
+        StoringError::NoTerminal => 2,
+        StoringError::Release { .. } => 3,
         _ => 1,
     }
 }

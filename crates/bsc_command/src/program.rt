@@ -3,20 +3,24 @@ ghost use Rattle.std.specs.Prelude.{◌≡◌, ℕ, Bool, OnOk, IfErr, List};
 ghost use Rattle.std.specs.Prelude.{IsTrue, true};
 ghost use Rattle.bsc_asked.specs.Asked.{asked as asked_now, name as name_asked, run as run_asked};
 ghost use Rattle.bsc_asked.specs.ChartWords.{chart_words};
-ghost use Rattle.bsc_command.specs.Faults.{IsChartingFault, IsEarly};
+ghost use Rattle.bsc_asked.specs.StoreWords.{store_words};
+ghost use Rattle.bsc_command.specs.Faults.{IsChartingFault, IsEarly, IsStoreFault};
 ghost use Rattle.bsc_command.specs.Program.{HasDoneRun, HasFailedAs, HasFailedWith, IsDone};
-ghost use Rattle.bsc_command.specs.Program.{HasFailedChart, IsCharted, IsFaultOf};
+ghost use Rattle.bsc_chart.specs.Named.{IsCharted};
+ghost use Rattle.bsc_command.specs.Program.{HasFailedChart, HasFailedStore, HasWork, IsFaultOf};
 ghost use Rattle.bsc_running.specs.Errors.{IsEarly as IsEarlyRunning};
 ghost use Rattle.bsc_running.specs.Running.{paths_of};
 
 use crate::Fault;
-use crate::fault::{attending_fault, chart_fault, running_fault};
-use bsc_asked::{Asked, ChartWords};
-use bsc_attending::{Network, station};
-use bsc_chart::draw;
+use crate::fault::{attending_fault, running_fault, store_words_fault, trace_fault};
+use bsc_asked::{Asked, ChartWords, StoreWords};
+use bsc_attending::{Network, Stores, station};
+use bsc_chart::{Traces, draw_named};
 use bsc_input::Files;
 use bsc_naming::{name, names, show};
+use bsc_options::read_store_work;
 use bsc_running::{Cables, RunWords, RunningError, run};
+use bsc_storing::{StoreFiles, store};
 use std::alloc::Global;
 use std::io::{Read, Write};
 
@@ -26,7 +30,7 @@ use std::io::{Read, Write};
 /// an event is refused, it has printed the output up to that event, and the report. The trace of a
 /// run is written to that of the machine. A station is attended until it ends; `bsc_monitor`
 /// defines its output.
-pub fn perform<R: Read, H: Files + Cables + Network, W: Write>(
+pub fn perform<R: Read, H: Files + Traces + Cables + Network + Stores + StoreFiles, W: Write>(
     alloc: Global,
     asked: &Asked,
     input: &mut R,
@@ -50,7 +54,7 @@ pub fn perform<R: Read, H: Files + Cables + Network, W: Write>(
         Asked::Names => Ok(names(alloc, input, out)?),
         Asked::Name(text) => Ok(name(alloc, text.as_str(), out)?),
         Asked::Show => Ok(show(alloc, input, out)?),
-        Asked::Chart(words) => draw_chart(alloc, words, input, out),
+        Asked::Chart(words) => draw_chart(alloc, words, input, machine, out),
         Asked::Run {
             config,
             script,
@@ -74,6 +78,7 @@ pub fn perform<R: Read, H: Files + Cables + Network, W: Write>(
             Ok(()) => Ok(()),
             Err(error) => Err(attending_fault(alloc, error)),
         },
+        Asked::Store(words) => do_store(alloc, words, input, machine, out),
     }
 }
 
@@ -99,11 +104,34 @@ fn run_traced<R: Read, H: Files + Cables + Network, W: Write>(
     run(alloc, words, input, machine, out, &mut trace)
 }
 
+/// Does a work on a store.
+fn do_store<R: Read, H: Files + StoreFiles, W: Write>(
+    alloc: Global,
+    words: &StoreWords,
+    input: &mut R,
+    machine: &mut H,
+    out: &mut W,
+) -> Result<(), Fault>
+    ensures ok { OnOk result (HasWork (store_words words.now)) }
+    ensures fault { IfErr result IsStoreFault }
+    ensures failed { IfErr result (λ fault. HasFailedStore fault (store_words words.now)) }
+    ensures early { IfErr result (λ fault. IsEarly fault → out.new ≡ out.old) }
+{
+    match read_store_work(words) {
+        Err(error) => Err(store_words_fault(alloc, error)),
+        Ok(work) => match store(alloc, words.file.as_str(), work, input, machine, out) {
+            Ok(()) => Ok(()),
+            Err(error) => Err(Fault::Storing { error }),
+        },
+    }
+}
+
 /// Draws a ladder.
-fn draw_chart<R: Read, W: Write>(
+fn draw_chart<R: Read, T: Traces, W: Write>(
     alloc: Global,
     words: &ChartWords,
     input: &mut R,
+    machine: &mut T,
     out: &mut W,
 ) -> Result<(), Fault>
     ensures ok { OnOk result (IsCharted (chart_words words.now) (R.remaining input.old)
@@ -113,8 +141,8 @@ fn draw_chart<R: Read, W: Write>(
         (R.remaining input.old) (W.contents out.old) (W.contents out.new)) }
     ensures early { IfErr result (λ fault. IsEarly fault → out.new ≡ out.old) }
 {
-    match draw(alloc, words, input, out) {
+    match draw_named(alloc, words, input, machine, out) {
         Ok(()) => Ok(()),
-        Err(error) => Err(chart_fault(alloc, error)),
+        Err(error) => Err(trace_fault(alloc, error)),
     }
 }

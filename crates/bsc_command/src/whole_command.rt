@@ -10,9 +10,11 @@ ghost use Rattle.bsc_command.specs.Program.{IsFaultAt, IsObeyed};
 
 use crate::help::help_or_fault;
 use crate::{Fault, perform, status};
-use bsc_attending::{AttendingError, Network};
+use bsc_attending::{AttendingError, Network, Stores};
+use bsc_chart::Traces;
 use bsc_input::Files;
 use bsc_running::Cables;
+use bsc_storing::StoreFiles;
 use bsc_words::read_words;
 use std::alloc::{AllocError, Global};
 use std::io::{BufWriter, Read, Write};
@@ -29,7 +31,7 @@ fn lent(alloc: Global, words: &[String]) -> Result<Vec<&str>, AllocError>
 }
 
 /// Does the work that the arguments ask for, or prints the help or the version.
-fn obey<R: Read, H: Files + Cables + Network, W: Write>(
+fn obey<R: Read, H: Files + Traces + Cables + Network + Stores + StoreFiles, W: Write>(
     alloc: Global,
     words: &[String],
     input: &mut R,
@@ -51,7 +53,7 @@ fn obey<R: Read, H: Files + Cables + Network, W: Write>(
 }
 
 /// Does the work that the arguments ask for, if they are available.
-fn obey_given<R: Read, H: Files + Cables + Network, W: Write>(
+fn obey_given<R: Read, H: Files + Traces + Cables + Network + Stores + StoreFiles, W: Write>(
     alloc: Global,
     words: Result<Vec<String>, Fault>,
     input: &mut R,
@@ -125,7 +127,12 @@ pub fn fail<E: Write>(fault: &Fault, errors: &mut E) -> u8
 /// first argument is the name of the program. The output is flushed even after a fault; if the
 /// flush fails, the fault is `Output`, or stays that of records that could not be printed. If the
 /// arguments are not available, `words` is the fault.
-pub fn command<R: Read, H: Files + Cables + Network, W: Write + Drop, E: Write>(
+pub fn command<
+    R: Read,
+    H: Files + Traces + Cables + Network + Stores + StoreFiles,
+    W: Write + Drop,
+    E: Write,
+>(
     alloc: Global,
     words: Result<Vec<String>, Fault>,
     input: &mut R,

@@ -3,6 +3,7 @@
 
 use bsc_attending::{Network, Opened, Wanted};
 use bsc_carrier::Cable;
+use bsc_chart::Traces;
 use bsc_input::{Files, InputError, Unreadable, read_input};
 use bsc_loopback::{LoopbackError, connect};
 use bsc_monitor::Beginning;
@@ -16,12 +17,12 @@ use bsc_sockets::{
 use std::alloc::Global;
 use std::cell::Cell;
 use std::fs::{File, OpenFile, metadata};
-use std::io;
 use std::io::{Error, ErrorKind, Printer, Write};
 use std::net::{Net, SocketAddr};
-use std::rt::Files as Filing;
+use std::rt::{Env, Files as Filing};
 use std::thread::sleep;
 use std::time::{Clock, Duration, Instant};
+use std::{env, io};
 
 /// The time between two attempts to connect, in milliseconds.
 const BETWEEN_ATTEMPTS: u64 = 100;
@@ -142,6 +143,9 @@ impl<R: Eprint> Write for Raw<'_, R> {
     }
 }
 
+/// The variable of the environment that tells the width of the terminal.
+const COLUMNS: &str = "COLUMNS";
+
 /// The path of standard output.
 const STANDARD_OUTPUT: &str = "/dev/stdout";
 
@@ -223,6 +227,24 @@ impl<R: AllocGlobal + Filing> Files for Machine<'_, R> {
                 let why = Unreadable::of(error.kind());
                 Err(InputError::Device { why })
             }
+        }
+    }
+}
+
+impl<R: AllocGlobal + Env + Filing> Traces for Machine<'_, R> {
+    type File = R::File;
+
+    fn open_trace(&mut self, path: &str) -> Result<R::File, Unreadable> {
+        match File::open(self.runtime, path) {
+            Ok(file) => Ok(file),
+            Err(error) => Err(Unreadable::of(error.kind())),
+        }
+    }
+
+    fn columns(&mut self) -> Option<String> {
+        match env::var(self.runtime, COLUMNS) {
+            Ok(text) => Some(text),
+            Err(_) => None,
         }
     }
 }
@@ -309,7 +331,7 @@ fn begin<'a, R: AllocGlobal + Clock + Eprint + Net>(
                 lines: Beginning {
                     trace: wanted.trace,
                 },
-                of_terminals: wanted.begins,
+                of_terminals: wanted.stays,
             };
             listen(
                 runtime,

@@ -5,6 +5,7 @@
 #![tactic(auto)]
 
 mod machine;
+mod stores;
 
 use bsc_command::{Fault, command, fail, not_text};
 use machine::{Errors, Machine, Output, Screen};

@@ -73,7 +73,7 @@ const CASES: &[Case] = &[
         due: Due {
             out: "",
             errors: "error: --width is not from 40 to 1000\n\n\
-            Usage: bscline chart [OPTIONS]\n\n\
+            Usage: bscline chart [OPTIONS] [FILE]\n\n\
             For more information, try '--help'.\n",
             status: 2,
             asking: None,
@@ -86,8 +86,8 @@ const CASES: &[Case] = &[
         scene: SILENT,
         due: Due {
             out: "",
-            errors: "error: --text and --svg exclude one another\n\n\
-            Usage: bscline chart [OPTIONS]\n\n\
+            errors: "error: --text, --svg and --html exclude one another\n\n\
+            Usage: bscline chart [OPTIONS] [FILE]\n\n\
             For more information, try '--help'.\n",
             status: 2,
             asking: None,

@@ -3,10 +3,12 @@
 use bsc_attending::AttendingError;
 use bsc_block::RecordError;
 use bsc_carrier::CarrierError;
-use bsc_command::{Fault, not_text, status};
+use bsc_chart::{ChartError, TraceError};
+use bsc_command::{Fault, fail, not_text, status};
 use bsc_config::ConfigError;
 use bsc_connections::LiveError;
 use bsc_input::{TextError, Unreadable};
+use bsc_kept::StoreFault;
 use bsc_line::LineError;
 use bsc_loopback::LoopbackError;
 use bsc_monitor::OfferError;
@@ -25,6 +27,7 @@ enum Cause {
     /// A word that is not UTF-8.
     Words,
     Naming(NamingError),
+    Charting(ChartError),
     Output,
     OutOfMemory,
     Running(Ends),
@@ -56,6 +59,7 @@ enum Stops {
     Offer(&'static str, OfferError),
     Sockets(SocketsError),
     Live(LiveError),
+    Store(StoreFault),
     Closed(CarrierError),
     NotTrusted,
     InDoubt,
@@ -88,6 +92,7 @@ fn attending(alloc: Global, error: Stops) -> Result<AttendingError, AllocError> 
         },
         Stops::Sockets(error) => AttendingError::from(error),
         Stops::Live(error) => AttendingError::from(error),
+        Stops::Store(error) => AttendingError::from(error),
         Stops::Closed(error) => AttendingError::Closed { error },
         Stops::NotTrusted => AttendingError::NotTrusted,
         Stops::InDoubt => AttendingError::InDoubt,
@@ -100,6 +105,9 @@ fn fault(alloc: Global, cause: Cause) -> Result<Fault, AllocError> {
     Ok(match cause {
         Cause::Words => not_text(alloc),
         Cause::Naming(error) => Fault::from(error),
+        Cause::Charting(error) => Fault::Charting {
+            error: TraceError::Chart { error },
+        },
         Cause::Output => Fault::Output,
         Cause::OutOfMemory => Fault::OutOfMemory,
         Cause::Running(error) => Fault::Running {
@@ -122,12 +130,26 @@ pub(crate) fn has_text<E: Display>(alloc: Global, error: &E, text: &str) -> bool
     }
 }
 
-/// Whether the fault with this cause has this message and this exit status.
-fn is_told(alloc: Global, cause: Cause, text: &str, exit: u8) -> bool {
-    match fault(alloc, cause) {
-        Ok(fault) => has_text(alloc, &fault, text) && status(&fault) == exit,
-        Err(_) => false,
+/// Whether what is told of a fault on standard error is its message: unchanged if it is that of
+/// `clap`, otherwise on one line after the name of the program.
+fn is_written(fault: &Fault, told: &[u8], text: &str) -> bool {
+    if let Fault::Usage(_) = fault {
+        return told == text.as_bytes();
     }
+    match told.strip_prefix(b"bscline: ") {
+        Some(line) => line.strip_suffix(b"\n") == Some(text.as_bytes()),
+        None => false,
+    }
+}
+
+/// Whether the fault with this cause has this message and this exit status, and is told so.
+fn is_told(alloc: Global, cause: Cause, text: &str, exit: u8) -> bool {
+    let Ok(fault) = fault(alloc, cause) else {
+        return false;
+    };
+    let mut told = Vec::new(alloc);
+    let is_failed = fail(&fault, &mut told) == exit && is_written(&fault, &told, text);
+    is_failed && has_text(alloc, &fault, text) && status(&fault) == exit
 }
 
 /// The place of the first cause whose fault has another message or another exit status.
@@ -165,6 +187,30 @@ const STREAMS: &[Row] = &[
         "line 7: too long",
         1,
     ),
+    (
+        Cause::Charting(ChartError::NotATraceAt { line: 7 }),
+        "line 7: not a line of a trace",
+        1,
+    ),
+    (
+        Cause::Charting(ChartError::TooLongAt { line: 7 }),
+        "line 7: too long",
+        1,
+    ),
+    (
+        Cause::Charting(ChartError::TooMany),
+        "more than 5000 arrows or 20000 rows: draw a part with --from and --to",
+        1,
+    ),
+    (
+        Cause::Charting(ChartError::Input {
+            why: Unreadable::ReadFault,
+        }),
+        "input fault",
+        1,
+    ),
+    (Cause::Charting(ChartError::Output), "output fault", 1),
+    (Cause::Charting(ChartError::Memory), "out of memory", 1),
     (Cause::Naming(NamingError::Input), "input fault", 1),
     (Cause::Naming(NamingError::Output), "output fault", 1),
     (Cause::Naming(NamingError::Memory), "out of memory", 1),
@@ -351,6 +397,16 @@ const STATIONS: &[Row] = &[
         Cause::Attending(Stops::Live(LiveError::Unprinted)),
         "records that arrived could not be printed",
         6,
+    ),
+    (
+        Cause::Attending(Stops::Live(LiveError::Unkept)),
+        "what happened could not be kept: the store cannot be read or written",
+        7,
+    ),
+    (
+        Cause::Attending(Stops::Store(StoreFault::InUse)),
+        "store: the store is in use",
+        1,
     ),
     (
         Cause::Attending(Stops::Live(LiveError::Memory)),

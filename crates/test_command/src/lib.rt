@@ -6,21 +6,35 @@
 #![tactic(auto)]
 
 #[cfg(test)]
+mod command_runs;
+#[cfg(test)]
 mod commands;
 #[cfg(test)]
 mod faults;
 #[cfg(test)]
 mod growths;
 #[cfg(test)]
+mod kept_stations;
+#[cfg(test)]
+mod largest;
+#[cfg(test)]
+mod long_runs;
+#[cfg(test)]
 mod machine;
+#[cfg(test)]
+mod most_options;
 #[cfg(test)]
 mod naming;
 #[cfg(test)]
 mod options;
 #[cfg(test)]
+mod pieces;
+#[cfg(test)]
 mod progress;
 #[cfg(test)]
 mod record;
+#[cfg(test)]
+mod run_files;
 #[cfg(test)]
 mod run_traces;
 #[cfg(test)]
@@ -32,6 +46,16 @@ mod station_options;
 #[cfg(test)]
 mod station_output;
 #[cfg(test)]
+mod station_refusals;
+#[cfg(test)]
 mod stations;
+#[cfg(test)]
+mod store_words;
+#[cfg(test)]
+mod stores;
+#[cfg(test)]
+mod traces;
+#[cfg(test)]
+mod wires;
 #[cfg(test)]
 mod words;

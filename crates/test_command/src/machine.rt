@@ -1,71 +1,28 @@
-//! A machine for tests, with two files, one scripted connection and no sockets, and commands
-//! that run on it.
+//! A machine for tests, with a few files, one scripted connection, the connections of two terminals
+//! in memory and no sockets, and commands that run on it.
 
+use crate::pieces::Pieces;
 use crate::record::{Metered, Output, Record, Sending, Tracer};
-use bsc_attending::{Network, Opened, Wanted};
+use crate::run_files::run_file_at;
+use crate::stores::Forgetful;
+use crate::wires::End;
+use bsc_attending::{Network, Opened, Stores, Wanted};
 use bsc_carrier::Cable;
 use bsc_command::{Fault, command};
 use bsc_connections::{Awaited, Handled, LiveError, Pace, Waiter};
 use bsc_input::{Files, InputError, Unreadable};
+use bsc_kept::StoreFault;
 use bsc_loopback::LoopbackError;
 use bsc_options::Place;
-use bsc_progress::{Unmetered, Work};
+use bsc_progress::Work;
 use bsc_running::Cables;
 use bsc_sockets::SocketsError;
+use bsc_storing::{Opened as OpenedStore, StoreFiles};
 use std::alloc::{AllocError, Global};
 use std::io;
-use std::io::{BufWriter, Error, ErrorKind, Read, Write};
+use std::io::{BufWriter, Read};
 use std::net::{IpAddr, Ipv4Addr, SocketAddr};
 use test_fixtures::configurations::{THREE_ADDRESSES, TWO_TERMINALS};
-
-/// An unused end of a connection.
-#[derive(Drop)]
-pub(crate) struct Nothing;
-
-impl Read for Nothing {
-    fn read(&mut self, _buffer: &mut [u8]) -> io::Result<usize> {
-        Ok(0)
-    }
-}
-
-impl Write for Nothing {
-    fn write(&mut self, _octets: &[u8]) -> io::Result<usize> {
-        Ok(0)
-    }
-
-    fn flush(&mut self) -> io::Result<()> {
-        Ok(())
-    }
-}
-
-/// Returns these pieces, at most one in each read, and then the end of the stream or a fault.
-#[derive(Drop)]
-pub(crate) struct Pieces {
-    left: &'static [&'static [u8]],
-    piece: &'static [u8],
-
-    /// Whether a fault comes instead of the end.
-    fails: bool,
-}
-
-impl Read for Pieces {
-    fn read(&mut self, buffer: &mut [u8]) -> io::Result<usize> {
-        if self.piece.is_empty() {
-            let Some(&piece) = self.left.first() else {
-                if self.fails {
-                    return Err(Error::from(ErrorKind::Interrupted));
-                }
-                return Ok(0);
-            };
-            self.left = &self.left[1..];
-            self.piece = piece;
-        }
-        let count = self.piece.len().min(buffer.len());
-        buffer[..count].copy_from_slice(&self.piece[..count]);
-        self.piece = &self.piece[count..];
-        Ok(count)
-    }
-}
 
 /// Returns the address of the peer with this number; `None` for 0.
 fn peer_by(number: u8) -> Option<IpAddr> {
@@ -224,10 +181,10 @@ pub(crate) const SILENT: Scene = Scene {
     refusal: None,
 };
 
-/// A machine with two configurations and one connection.
+/// A machine with the files of tests and one connection to another process.
 #[derive(Drop)]
-struct Machine<'a> {
-    alloc: Global,
+pub(crate) struct Machine<'a> {
+    pub(crate) alloc: Global,
     scene: Scene,
     asking: Option<Asking>,
     record: &'a Record,
@@ -249,7 +206,7 @@ fn file_at(path: &str) -> Option<&'static str> {
         "line.toml" => Some(TWO_TERMINALS),
         "three.toml" => Some(THREE_ADDRESSES),
         "tries.toml" => Some(MOST_TRIES),
-        _ => None,
+        _ => run_file_at(path),
     }
 }
 
@@ -274,17 +231,65 @@ fn allows(wanted: &Wanted<'_>, number: u8) -> bool {
     }
 }
 
-impl Cables for Machine<'_> {
-    type Stream = Nothing;
+impl<'a> Cables for Machine<'a> {
+    type Stream = End<'a>;
 
-    type Meter = Unmetered;
+    type Meter = Metered<'a>;
 
-    fn meter(&mut self, _work: Option<Work>) -> Unmetered {
-        Unmetered
+    fn meter(&mut self, work: Option<Work>) -> Metered<'a> {
+        let record = self.record;
+        Metered { work, record }
     }
 
-    fn connect(&mut self, _count: usize) -> Result<Cable<Nothing>, LoopbackError> {
-        Err(LoopbackError::Sockets)
+    /// Makes connections of two terminals only.
+    fn connect(&mut self, count: usize) -> Result<Cable<End<'a>>, LoopbackError> {
+        if count != 2 {
+            return Err(LoopbackError::Sockets);
+        }
+        let record = self.record;
+        match record.wires.cable(self.alloc) {
+            Ok(cable) => Ok(cable),
+            Err(_) => Err(LoopbackError::Memory),
+        }
+    }
+}
+
+impl Stores for Machine<'_> {
+    type Store = Forgetful;
+
+    fn open_store(&mut self, path: &str, _own: &str) -> Result<Forgetful, StoreFault> {
+        match path {
+            "kept" => Ok(Forgetful),
+            "busy" => Err(StoreFault::InUse),
+            _ => Err(StoreFault::Missing),
+        }
+    }
+}
+
+/// The text of the line of the store at `kept`.
+const KEPT_LINE: &str = "terminal 0\nfull length 144\npolled 41 selected 61\n\
+    polled 42 selected 62\n";
+
+impl StoreFiles for Machine<'_> {
+    type Kept = Forgetful;
+
+    fn open_kept(&mut self, path: &str) -> Result<OpenedStore<Forgetful>, StoreFault> {
+        let store = self.open_store(path, KEPT_LINE)?;
+        match String::from_str(self.alloc, KEPT_LINE) {
+            Ok(line) => Ok(OpenedStore { store, line }),
+            Err(_) => Err(StoreFault::OutOfMemory),
+        }
+    }
+
+    fn close_kept(&mut self, _opened: OpenedStore<Forgetful>) -> Result<(), StoreFault> {
+        Ok(())
+    }
+
+    fn make_kept(&mut self, path: &str, _line: &str) -> Result<(), StoreFault> {
+        match path {
+            "kept" | "busy" => Err(StoreFault::Taken),
+            _ => Ok(()),
+        }
     }
 }
 
@@ -424,10 +429,10 @@ pub(crate) struct Watched {
     pub(crate) trace: &'static str,
 }
 
-/// The words of the command, with the program's name first.
-fn owned(alloc: Global, words: &[&str]) -> Result<Vec<String>, AllocError> {
+/// Copies of these words, after this one.
+fn owned_after(alloc: Global, first: &str, words: &[&str]) -> Result<Vec<String>, AllocError> {
     let mut owned = Vec::new(alloc);
-    owned.push(String::from_str(alloc, "bscline")?)?;
+    owned.push(String::from_str(alloc, first)?)?;
     for word in words {
         owned.push(String::from_str(alloc, word)?)?;
     }
@@ -437,7 +442,7 @@ fn owned(alloc: Global, words: &[&str]) -> Result<Vec<String>, AllocError> {
 /// The words of the case, or the fault if they could not be read.
 fn given(alloc: Global, case: &Case) -> Result<Vec<String>, Fault> {
     match case.words {
-        Some(words) => Ok(owned(alloc, words)?),
+        Some(words) => Ok(owned_after(alloc, "bscline", words)?),
         None => Err(Fault::OutOfMemory),
     }
 }
@@ -451,35 +456,57 @@ fn input(case: &Case) -> Pieces {
     }
 }
 
-/// The first result of the command that differs from what is expected.
-pub(crate) fn difference(alloc: Global, case: &Case, record: &Record) -> Option<&'static str> {
+/// What a command printed, told and requested, and its exit status.
+#[derive(Drop)]
+pub(crate) struct Answer {
+    pub(crate) status: u8,
+    pub(crate) out: Vec<u8>,
+    pub(crate) errors: Vec<u8>,
+    pub(crate) asking: Option<Asking>,
+}
+
+/// Runs a command with these words and this standard input. `takes` is whether standard output
+/// accepts what is printed.
+pub(crate) fn answer_to<R: Read>(
+    alloc: Global,
+    words: Result<Vec<String>, Fault>,
+    input: &mut R,
+    (takes, scene): (bool, Scene),
+    record: &Record,
+) -> io::Result<Answer> {
     let mut machine = Machine {
         alloc,
-        scene: case.scene,
+        scene,
         asking: None,
         record,
     };
     let output = Output {
         octets: Vec::new(alloc),
-        takes: case.takes,
-        disk_fails: case.scene.disk_fails,
+        takes,
+        disk_fails: scene.disk_fails,
         record,
     };
-    let Ok(mut out) = BufWriter::new(alloc, output) else {
-        return Some("the buffer of standard output");
-    };
-    let (words, mut input) = (given(alloc, case), input(case));
+    let mut out = BufWriter::new(alloc, output)?;
     let mut errors = Vec::new(alloc);
-    let status = command(
-        alloc,
-        words,
-        &mut input,
-        &mut machine,
-        &mut out,
-        &mut errors,
-    );
-    case.due
-        .difference(status, &out.get_ref().octets, &errors, machine.asking)
+    let status = command(alloc, words, input, &mut machine, &mut out, &mut errors);
+    Ok(Answer {
+        status,
+        out: Vec::from_slice(alloc, &out.get_ref().octets)?,
+        errors,
+        asking: machine.asking,
+    })
+}
+
+/// The first result of the command that differs from what is expected.
+pub(crate) fn difference(alloc: Global, case: &Case, record: &Record) -> Option<&'static str> {
+    let (words, mut input) = (given(alloc, case), input(case));
+    let on = (case.takes, case.scene);
+    match answer_to(alloc, words, &mut input, on, record) {
+        Ok(answer) => case
+            .due
+            .difference(answer.status, &answer.out, &answer.errors, answer.asking),
+        Err(_) => Some("the memory of the test"),
+    }
 }
 
 /// The first command with another result than expected, and which result that is.

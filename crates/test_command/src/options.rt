@@ -1,7 +1,10 @@
 //! The options of a station, and the reasons for refusing them.
 
 use crate::faults::has_text;
+use crate::machine::{SILENT, answer_to};
+use crate::record::Record;
 use bsc_asked::{Asked, StationWords};
+use bsc_command::Fault;
 use bsc_options::{OptionError, read_admission, read_settings};
 use bsc_words::read_words;
 use std::alloc::{AllocError, Global};
@@ -77,10 +80,37 @@ fn refusal(
     Ok(refusal)
 }
 
+/// Whether a command with these options tells this reason as wrong usage of `station`, before it
+/// asks the machine for anything.
+fn is_wrong_usage(
+    alloc: Global,
+    front: Front,
+    options: &[&'static str],
+    reason: OptionError,
+) -> Result<bool, Fail> {
+    let (mut given, record) = (Vec::new(alloc), Record::new(alloc));
+    for word in joined(alloc, front, options)?.iter() {
+        given.push(String::from_str(alloc, word)?)?;
+    }
+    let given = Ok::<Vec<String>, Fault>(given);
+    let answer = answer_to(alloc, given, &mut b"".as_slice(), (true, SILENT), &record)?;
+    let told = format!(in alloc;
+        "error: {reason}\n\nUsage: bscline station [OPTIONS] <CONFIG>\n\n\
+        For more information, try '--help'.\n"
+    )?;
+    Ok(
+        answer.errors.as_slice() == told.as_bytes()
+            && answer.status == 2
+            && answer.out.is_empty()
+            && answer.asking.is_none(),
+    )
+}
+
 /// The place of the first row with options that are not refused for its reason.
-fn first_wrong(alloc: Global, front: Front, rows: &[Row]) -> Result<Option<usize>, AllocError> {
+fn first_wrong(alloc: Global, front: Front, rows: &[Row]) -> Result<Option<usize>, Fail> {
     for (place, (options, reason)) in rows.iter().enumerate() {
-        if refusal(alloc, front, options)? != Some(*reason) {
+        let is_refused = refusal(alloc, front, options)? == Some(*reason);
+        if !is_refused || !is_wrong_usage(alloc, front, options, *reason)? {
             return Ok(Some(place));
         }
     }
@@ -112,6 +142,10 @@ const TERMINALS: &[Row] = &[
     (&["--idle-rounds", "1"], OptionError::NeedsControl),
     (&["--gap", "9"], OptionError::GapNeedsRaw),
     (&["--text", "--bytes"], OptionError::TextAndBytes),
+    (
+        &["--store", "k", "--offer", "o"],
+        OptionError::StoreAndOffer,
+    ),
     (
         &["--offer", "-", "--offer", "-"],
         OptionError::RepeatedInput,
@@ -243,6 +277,10 @@ const REASONS: &[(OptionError, &str)] = &[
     (
         OptionError::TextAndBytes,
         "--text and --bytes cannot both be given",
+    ),
+    (
+        OptionError::StoreAndOffer,
+        "--store and --offer cannot both be given",
     ),
     (
         OptionError::RepeatedInput,

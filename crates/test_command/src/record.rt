@@ -1,5 +1,6 @@
 //! What a command sends and prints as a trace on a machine made for tests.
 
+use crate::wires::Wires;
 use bsc_progress::{Counts, Meter, Timer, Work};
 use std::alloc::Global;
 use std::cell::{Cell, RefCell};
@@ -19,6 +20,9 @@ pub(crate) struct Record {
     pub(crate) shown: Cell<Option<(Work, Counts)>>,
 
     pub(crate) trace: RefCell<Vec<u8>>,
+
+    /// The connections of a run.
+    pub(crate) wires: Wires,
 }
 
 impl Record {
@@ -28,6 +32,7 @@ impl Record {
             syncs: Cell::new(false),
             shown: Cell::new(None),
             trace: RefCell::new(Vec::new(alloc)),
+            wires: Wires::new(alloc),
         }
     }
 

@@ -26,12 +26,12 @@ const LOSSY_LINE_LADDER: &str = "    time control
       18 :. silence ........:...:
       18 |                  ~ the doubt from 0 begins
       19 <- EOT ------------*   |
-      23 *- CALL b -------x |   |  lost
+      23 *- CALL b -------x |   |  lost at 0
       23 *- NOISE ----------+---?  failed
       24 :. silence ........:...:
       25 *- CALL b --------->--->
       26 <- ACK0 -----------+---*
-      29 *- TEXT ETX 1 ---x |   |  lost  |BYE
+      29 *- TEXT ETX 1 ---x |   |  lost at 0  |BYE
       29 *- TEXT ETX 1 -----+--->  |BYE
       29 |                  |   @ arrived to 1.0: |BYE|
       30 <- ACK1 -----------+---*
@@ -85,14 +85,16 @@ fn is_drawn<R: Net>(runtime: &R, alloc: Global, case: &Case, ladder: &str) -> Re
     let (mut trace, mut drawn) = (Vec::<u8>::new(alloc), Vec::<u8>::new(alloc));
     run(alloc, words, &mut input, &mut machine, &mut out, &mut trace)?;
     let words = ChartWords {
+        file: None,
         text: false,
         svg: false,
+        html: false,
         ascii: true,
         width: None,
         from: None,
         to: None,
     };
-    draw(alloc, &words, &mut trace.as_slice(), &mut drawn)?;
+    draw(alloc, &words, None, &mut trace.as_slice(), &mut drawn)?;
     Ok(out.as_slice() == case.printed.as_bytes() && drawn.as_slice() == ladder.as_bytes())
 }
 

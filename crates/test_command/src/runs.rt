@@ -250,6 +250,9 @@ pub(crate) struct Case {
     error: &'static str,
 }
 
+/// The standard input of a run to which no path names it. It is not read.
+const UNASKED: &str = "silence\n";
+
 /// Whether a run has the expected results.
 fn is_due<R: Net>(runtime: &R, alloc: Global, case: &Case) -> bool {
     let (line, script) = (case.line, case.script);
@@ -259,8 +262,10 @@ fn is_due<R: Net>(runtime: &R, alloc: Global, case: &Case) -> bool {
         line,
         script,
     };
-    let (mut input, mut out) = (case.input.as_bytes(), Vec::new(alloc));
     let (config, script) = case.paths;
+    let is_unasked = config != "-" && script != "-";
+    let given = if is_unasked { UNASKED } else { case.input };
+    let (mut input, mut out) = (given.as_bytes(), Vec::new(alloc));
     let words = RunWords {
         config,
         script,
@@ -272,6 +277,7 @@ fn is_due<R: Net>(runtime: &R, alloc: Global, case: &Case) -> bool {
     let answer = run(alloc, words, &mut input, &mut machine, &mut out, &mut trace);
     out.as_slice() == case.printed.as_bytes()
         && trace.is_empty()
+        && (!is_unasked || input == UNASKED.as_bytes())
         && match &answer {
             Ok(()) => case.error.is_empty(),
             Err(error) => has_text(alloc, error, case.error),

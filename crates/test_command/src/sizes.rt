@@ -75,6 +75,41 @@ fn an_input_of_five_mebibytes_has_each_name(rt: HostRuntime) -> Result<(), Fail>
     Ok(())
 }
 
+/// Whether the line after millions of blank lines is named. The lines of an input are counted.
+fn has_name_after_blanks(alloc: Global) -> Result<bool, AllocError> {
+    let mut input = "\n".repeat(alloc, 3_000_000)?;
+    input.push_str("16 04\nx")?;
+    let error = NamingError::NotHexadecimalAt { line: 3_000_002 };
+    Ok(is_due(alloc, Call::Names, &input, "EOT\n", Some(error)))
+}
+
+#[test]
+fn a_line_after_millions_has_its_name_and_number(rt: HostRuntime) -> Result<(), Fail> {
+    assert!(rt; has_name_after_blanks(rt.alloc())?);
+    Ok(())
+}
+
+/// Whether a line of a trace without octets is shown as it stands, if it has as many octets as a
+/// line may have.
+fn keeps_longest_line(alloc: Global) -> Result<bool, AllocError> {
+    let line = around(alloc, "+0 ", "z", MAX_INPUT - 3, "")?;
+    let shown = around(alloc, &line, "", 0, "\n")?;
+    Ok(is_due(alloc, Call::Show, &line, &shown, None))
+}
+
+/// Whether as many octets as an input may have hexadecimal digits are named as noise.
+fn names_longest_word(alloc: Global) -> Result<bool, AllocError> {
+    let word = around(alloc, "", "16", MAX_INPUT / 2, "")?;
+    Ok(is_due(alloc, Call::Name, &word, "NOISE\n", None))
+}
+
+#[test]
+fn the_longest_lines_and_words_are_printed(rt: HostRuntime) -> Result<(), Fail> {
+    assert!(rt; keeps_longest_line(rt.alloc())?);
+    assert!(rt; names_longest_word(rt.alloc())?);
+    Ok(())
+}
+
 /// What follows half of the greatest length in pairs of digits, the output, and the error.
 const LENGTHS: &[(&str, &str, Option<NamingError>)] = &[
     ("", "EOT\nNOISE\n", None),

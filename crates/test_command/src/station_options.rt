@@ -364,7 +364,8 @@ const PEERS: &[Watched] = &[
             due: Due {
                 asking: Some(CONTROLLING),
                 out: "from 0: spooled 0\nto 0: offered 0, known 0\n\
-                from 1: spooled 0\nto 1: offered 0, known 0\nslowest answer: none\nnot trusted: connection 0 answered for terminal 0 from another address\n",
+                from 1: spooled 0\nto 1: offered 0, known 0\nslowest answer: none\n\
+                not trusted: connection 0 answered for terminal 0 from another address\n",
                 errors: "bscline: the line is not trusted\n",
                 status: 5,
             },
@@ -400,7 +401,8 @@ const PEERS: &[Watched] = &[
             due: Due {
                 asking: Some(CONTROLLING),
                 out: "from 0: spooled 0\nto 0: offered 0, known 0\n\
-                from 1: spooled 0\nto 1: offered 0, known 0\nslowest answer: 0% of the time-out\ntrusted\n",
+                from 1: spooled 0\nto 1: offered 0, known 0\n\
+                slowest answer: 0% of the time-out\ntrusted\n",
                 errors: "",
                 status: 0,
             },

@@ -42,9 +42,9 @@ const ASKED: &[Row] = &[
             "--trace",
         ],
         "Station(StationWords { config: \"c\", control: true, terminal: None, \
-listen: Some(\"h:1\"), allowed: [], peers: [], connect: None, shared: false, raw: false, gap: None, \
-time_out: None, patience: None, replace_after: None, pause: None, rounds: None, \
-idle_rounds: None, until_input_ends: false, offers: [], text: false, bytes: false, \
+listen: Some(\"h:1\"), allowed: [], peers: [], connect: None, shared: false, raw: false, \
+gap: None, time_out: None, patience: None, replace_after: None, pause: None, rounds: None, \
+idle_rounds: None, until_input_ends: false, offers: [], store: None, text: false, bytes: false, \
 report_records: false, sync: false, trace: 1, quiet: false })",
     ),
     (
@@ -77,6 +77,8 @@ report_records: false, sync: false, trace: 1, quiet: false })",
             "e",
             "--peer=f",
             "--until-input-ends",
+            "--store",
+            "k",
             "--sync",
             "--trace",
             "--trace",
@@ -84,26 +86,28 @@ report_records: false, sync: false, trace: 1, quiet: false })",
             "--quiet",
         ],
         "Station(StationWords { config: \"c\", control: false, terminal: Some(\"1\"), \
-listen: None, allowed: [\"d\", \"e\"], peers: [\"f\"], connect: Some(\"h:1\"), shared: true, raw: true, gap: Some(\"9\"), \
+listen: None, allowed: [\"d\", \"e\"], peers: [\"f\"], connect: Some(\"h:1\"), \
+shared: true, raw: true, gap: Some(\"9\"), \
 time_out: Some(\"8\"), patience: Some(\"5\"), \
 replace_after: Some(\"4\"), pause: Some(\"3\"), rounds: Some(\"7\"), idle_rounds: Some(\"6\"), \
-until_input_ends: true, offers: [\"a\", \"b\"], text: true, bytes: true, report_records: true, \
+until_input_ends: true, offers: [\"a\", \"b\"], store: Some(\"k\"), text: true, \
+bytes: true, report_records: true, \
 sync: true, trace: 3, quiet: true })",
     ),
     (&["bscline"], "Names"),
     (&["bscline", "show"], "Show"),
     (
         &["bscline", "chart"],
-        "Chart(ChartWords { text: false, svg: false, ascii: false, width: None, from: None, \
-to: None })",
+        "Chart(ChartWords { file: None, text: false, svg: false, html: false, ascii: false, \
+width: None, from: None, to: None })",
     ),
     (
         &[
-            "bscline", "chart", "--width", "100", "--ascii", "--text", "--svg", "--from", "2",
-            "--to", "9",
+            "bscline", "chart", "--width", "100", "--ascii", "--text", "--svg", "--html", "t",
+            "--from", "2", "--to", "9",
         ],
-        "Chart(ChartWords { text: true, svg: true, ascii: true, width: Some(\"100\"), \
-from: Some(\"2\"), to: Some(\"9\") })",
+        "Chart(ChartWords { file: Some(\"t\"), text: true, svg: true, html: true, ascii: true, \
+width: Some(\"100\"), from: Some(\"2\"), to: Some(\"9\") })",
     ),
     (&["bscline", "name", "161610B0FF"], "Name(\"161610B0FF\")"),
     (&["bscline", "name", "16 04"], "Name(\"16 04\")"),
@@ -132,9 +136,10 @@ Usage: bscline [COMMAND]
 Commands:
   name     Print the name of one transmission
   show     Print the names of standard input, with the units of texts
-  chart    Draw the trace on standard input as a ladder of stations
+  chart    Draw a trace as a ladder of stations
   run      Run a line over loopback sockets, and print what is on it
   station  Run one station of a line over TCP
+  store    Do a work on the store of a station, while no station runs on it
   help     Print this message or the help of the given subcommand(s)
 
 Options:
@@ -170,20 +175,24 @@ Example: echo 16 16 02 C8 49 19 83 9B FF | bscline show
 ";
 
 /// The help of `chart`.
-const CHART_HELP: &str = "Draw the trace on standard input as a ladder of stations
+const CHART_HELP: &str = "Draw a trace as a ladder of stations
 
-Usage: bscline chart [OPTIONS]
+Usage: bscline chart [OPTIONS] [FILE]
+
+Arguments:
+  [FILE]  The trace; - or none is standard input
 
 Options:
       --text       Draw a text, as without a form
       --svg        Draw a picture, as an SVG document of at most 5000 arrows
+      --html       Draw a page, as an HTML document: that picture under a summary
       --ascii      Draw a text in ASCII characters only
-      --width <N>  Cut the records and messages of a text to N characters a line, 40 to 1000, or 80
+      --width <N>  Cut the notes of a text to lines of N characters, 40 to 1000
       --from <N>   Draw from line N of the trace on; its first line is 1
       --to <M>     Draw up to line M of the trace
   -h, --help       Print help
 
-Example: bscline chart < examples/ladder/trace.txt
+Example: bscline chart examples/ladder/trace.txt
 ";
 
 /// The help of `run`.
@@ -234,6 +243,7 @@ given
       --until-input-ends    End when standard input ends
       --offer <OFFER>       Offer the lines of PATH: at a terminal PATH, at the control station \
 T.S=PATH
+      --store <FILE>        Keep the records in FILE, and begin with those that it has
       --text                Print records as text on one line, with escapes
       --bytes               Print records as they stand
       --report-records      Repeat the records that arrived in the report
@@ -246,6 +256,29 @@ polls too
 Example: bscline station examples/lossy_line/line.toml --control --listen 127.0.0.1:2780 --text
 ";
 
+/// The help of `store`.
+const STORE_HELP: &str = "Do a work on the store of a station, while no station runs on it
+
+Usage: bscline store [OPTIONS] <FILE> <WORK> [FIRST] [SECOND]
+
+Arguments:
+  <FILE>    The store
+  <WORK>    init CONFIG, offer CHANNEL PATH, arrived CHANNEL, status, release CHANNEL COUNT, or \
+reconcile OTHER
+  [FIRST]   CONFIG in TOML, CHANNEL as T or T.S, or OTHER, the store of the other station
+  [SECOND]  PATH of records, one a line, - is standard input; or COUNT, how many the other \
+station has
+
+Options:
+      --control       Make the store of the control station; needs init
+      --terminal <T>  Make the store of terminal T, counted from 0; needs init
+      --from <N>      Print from record N on, counted from 0; needs arrived
+      --text          Print records as text, with escapes; needs arrived
+  -h, --help          Print help
+
+Example: bscline store deck.db init examples/lossy_line/line.toml --terminal 0
+";
+
 const HELPED: &[Row] = &[
     (&["bscline", "--help"], HELP),
     (&["bscline", "help"], HELP),
@@ -254,6 +287,7 @@ const HELPED: &[Row] = &[
     (&["bscline", "chart", "--help"], CHART_HELP),
     (&["bscline", "run", "--help"], RUN_HELP),
     (&["bscline", "station", "--help"], STATION_HELP),
+    (&["bscline", "store", "--help"], STORE_HELP),
 ];
 
 /// A word that is not a command, one word too many, and one too few.
