@@ -343,6 +343,22 @@ fn failing_read_of_a_line(rt: HostRuntime) {
     assert!(rt; read_broken(rt.alloc()) == Some(ends));
 }
 
+// The error of the first line of a stream whose reads fail with this kind of error.
+fn read_failing(kind: ErrorKind, alloc: Global) -> Option<InputError> {
+    let mut reader = BufReader::new(alloc, Failing { kind }).ok()?;
+    let mut line = Vec::new(alloc);
+    read_line(&mut reader, &mut line).err()
+}
+
+/// The reason why a read of a line failed is kept.
+#[test]
+fn why_a_read_of_a_line_failed(rt: HostRuntime) {
+    for (kind, why) in REASONS {
+        let error = read_failing(*kind, rt.alloc());
+        assert!(rt; error == Some(InputError::Device { why: *why }));
+    }
+}
+
 // Whether the result is out of memory if this allocator refused something, and a line otherwise.
 fn is_line_or_refused(global: Global, alloc: &Refusing) -> bool {
     let Ok(mut reader) = BufReader::new(

@@ -119,3 +119,64 @@ fn the_longest_configuration_is_read(rt: HostRuntime) -> Result<(), Fail> {
     assert!(rt; is_answer(rt.alloc(), document.as_str(), "read")?);
     Ok(())
 }
+
+/// Parts of the longest configuration that are replaced, and what is told of it then.
+const LAST_PARTS: &[(&str, &str, &str)] = &[
+    (
+        "FOUR-73",
+        "POLL-10",
+        "config: addresses 0 and 319 are the same",
+    ),
+    (
+        "FOUR-73",
+        "THREE73",
+        "config: addresses 318 and 319 are the same",
+    ),
+    (
+        "FOUR-73",
+        "FOUR--73",
+        "config: wrong value of terminals[63].select",
+    ),
+    (
+        "\"POLL-73\"",
+        "5",
+        "config: wrong value of terminals[63].poll",
+    ),
+    (
+        "poll = \"POLL-73\"",
+        "",
+        "config: missing key terminals[63].poll",
+    ),
+    (
+        "poll = \"POLL-73\"",
+        "pole = \"POLL-73\"",
+        "config: unknown key terminals[63].pole",
+    ),
+    (", 62]", ", 64]", "config: poll list entry 254 is wrong"),
+    (", 62]", ", 62, 0]", "config: poll list entry 255 is wrong"),
+    ("waits = 255", "waits = 256", "config: wrong value of waits"),
+    ("tries = 15", "tries = 16", "config: wrong value of tries"),
+    ("full = 144", "full = 145", "config: wrong value of full"),
+];
+
+/// The first of these parts with another answer.
+fn first_wrong_part(alloc: Global) -> Result<Option<(&'static str, &'static str)>, Fail> {
+    let document = longest(alloc)?;
+    for (part, other, answer) in LAST_PARTS {
+        let Some((before, after)) = document.split_once(*part) else {
+            return Ok(Some((part, other)));
+        };
+        let document = format!(in alloc; "{before}{other}{after}")?;
+        if !is_answer(alloc, document.as_str(), answer)? {
+            return Ok(Some((part, other)));
+        }
+    }
+    Ok(None)
+}
+
+/// A fault at the end of the longest configuration has its own message.
+#[test]
+fn the_last_parts_of_the_longest_configuration_are_checked(rt: HostRuntime) -> Result<(), Fail> {
+    assert_eq!(rt; first_wrong_part(rt.alloc())?, None);
+    Ok(())
+}
