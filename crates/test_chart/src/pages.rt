@@ -12,8 +12,8 @@ pub(crate) const HTML: Asked = Asked {
     ..BOXES
 };
 
-/// What a control station tells in 10,000 milliseconds, of which 3,000 are before a silence, and the
-/// fault with which it ended.
+/// What a control station tells in 10,000 milliseconds, of which 3,000 are before a silence, and
+/// the fault with which it ended.
 const STATION: &str = "+1 listening at 127.0.0.1:2780
 +1 control sent CALL A 161604ff1616c185ff
 +4 connection 0 heard TEXT ETX 1 161602c84919839bff

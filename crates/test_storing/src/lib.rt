@@ -2,6 +2,8 @@
 #![tactic(auto)]
 
 #[cfg(test)]
+mod doubts;
+#[cfg(test)]
 mod machine;
 #[cfg(test)]
 mod works;

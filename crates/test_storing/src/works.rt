@@ -1,5 +1,6 @@
 //! What each work prints and keeps.
 
+use crate::doubts::RELEASE;
 use crate::machine::{Given, Machine, keep, no_stores, told};
 use bsc_block::Record;
 use bsc_frame::Address;
@@ -9,7 +10,7 @@ use std::rt::HostRuntime;
 use std::test::Fail;
 
 /// A work without further words.
-const BARE: Given = Given {
+pub(crate) const BARE: Given = Given {
     file: "terminal",
     work: "status",
     first: "",
@@ -38,7 +39,7 @@ const INIT_TERMINAL: Given = Given {
 };
 
 /// The words that offer the three lines of a file at the terminal.
-const OFFER: Given = Given {
+pub(crate) const OFFER: Given = Given {
     work: "offer",
     first: "0",
     second: "cards.txt",
@@ -46,7 +47,7 @@ const OFFER: Given = Given {
 };
 
 /// The words that end the doubts between both stores.
-const RECONCILE: Given = Given {
+pub(crate) const RECONCILE: Given = Given {
     file: "control",
     work: "reconcile",
     first: "terminal",
@@ -63,7 +64,7 @@ const ARRIVED: Given = Given {
 };
 
 /// Words, with standard input, and what is told.
-type Row = (Given, &'static str, &'static str);
+pub(crate) type Row = (Given, &'static str, &'static str);
 
 /// Whether a work is told in this way.
 fn is_told(alloc: Global, machine: &mut Machine, row: &Row) -> bool {
@@ -75,7 +76,7 @@ fn is_told(alloc: Global, machine: &mut Machine, row: &Row) -> bool {
 }
 
 /// Returns the place of the first row that is told otherwise.
-fn first_wrong(alloc: Global, machine: &mut Machine, rows: &[Row]) -> Option<usize> {
+pub(crate) fn first_wrong(alloc: Global, machine: &mut Machine, rows: &[Row]) -> Option<usize> {
     for (place, row) in rows.iter().enumerate() {
         if !is_told(alloc, machine, row) {
             return Some(place);
@@ -96,7 +97,7 @@ const MADE: &[Row] = &[
 ];
 
 /// Returns a machine with both stores.
-fn two_stores(alloc: Global) -> Result<Machine, StoreFault> {
+pub(crate) fn two_stores(alloc: Global) -> Result<Machine, StoreFault> {
     let mut machine = no_stores(alloc);
     match first_wrong(alloc, &mut machine, MADE) {
         None => Ok(machine),
@@ -105,25 +106,15 @@ fn two_stores(alloc: Global) -> Result<Machine, StoreFault> {
 }
 
 /// Returns the channel from terminal 0 by its address.
-fn channel() -> Result<Channel, StoreFault> {
+pub(crate) fn channel() -> Result<Channel, StoreFault> {
     match Address::read(b"A") {
         Ok(terminal) => Ok(Channel::From { terminal }),
         Err(_) => Err(StoreFault::Refused),
     }
 }
 
-/// Keeps at the terminal that its first two records are in doubt.
-fn hold_doubt(machine: &mut Machine) -> Result<(), StoreFault> {
-    let change = Change::Known {
-        channel: channel()?,
-        known: 0,
-        in_doubt: 2,
-    };
-    keep(machine, "terminal", &[change])
-}
-
 /// Keeps at the control station that a record arrived.
-fn hear(machine: &mut Machine, chars: &str) -> Result<(), StoreFault> {
+pub(crate) fn hear(machine: &mut Machine, chars: &str) -> Result<(), StoreFault> {
     let Ok(record) = Record::read(chars.as_bytes(), 144) else {
         return Err(StoreFault::Refused);
     };
@@ -182,162 +173,6 @@ fn what_is_offered_is_told(rt: HostRuntime) -> Result<(), Fail> {
     let alloc = rt.alloc();
     let mut machine = two_stores(alloc)?;
     assert_eq!(rt; first_wrong(alloc, &mut machine, OFFERED), None);
-    Ok(())
-}
-
-/// The words that release the doubt of the terminal at a count.
-const RELEASE: Given = Given {
-    work: "release",
-    first: "0",
-    second: "2",
-    ..BARE
-};
-
-/// A doubt about two records is ended by 0 or 2 only.
-const RELEASED: &[Row] = &[
-    (
-        Given {
-            second: "1",
-            ..RELEASE
-        },
-        "",
-        "refused: count mismatch",
-    ),
-    (RELEASE, "", "from 0: released at 2\n"),
-    (
-        BARE,
-        "",
-        "from 0: offered 3, known 2, in doubt 0\nto 0.0: arrived 0, printed 0\n\
-        to 0.1: arrived 0, printed 0\n",
-    ),
-    (RELEASE, "", "refused: not in doubt"),
-];
-
-#[test]
-fn a_doubt_is_released_by_a_right_count(rt: HostRuntime) -> Result<(), Fail> {
-    let alloc = rt.alloc();
-    let mut machine = two_stores(alloc)?;
-    told(alloc, &mut machine, OFFER, "")?;
-    hold_doubt(&mut machine)?;
-    assert_eq!(rt; first_wrong(alloc, &mut machine, RELEASED), None);
-    Ok(())
-}
-
-/// Only one of two doubtful records has arrived.
-const UNRECONCILED: &[Row] = &[(RECONCILE, "", "refused: count mismatch")];
-
-/// Both have, and the doubt is ended once.
-const RECONCILED: &[Row] = &[
-    (RECONCILE, "", "from 0: released at 2\n"),
-    (RECONCILE, "", "nothing in doubt\n"),
-];
-
-#[test]
-fn doubts_are_released_by_what_both_have(rt: HostRuntime) -> Result<(), Fail> {
-    let alloc = rt.alloc();
-    let mut machine = two_stores(alloc)?;
-    told(alloc, &mut machine, OFFER, "")?;
-    hold_doubt(&mut machine)?;
-    hear(&mut machine, "ONE")?;
-    assert_eq!(rt; first_wrong(alloc, &mut machine, UNRECONCILED), None);
-    hear(&mut machine, "TWO")?;
-    assert_eq!(rt; first_wrong(alloc, &mut machine, RECONCILED), None);
-    Ok(())
-}
-
-/// Returns the channel to the second selection address of terminal 0.
-fn channel_back() -> Result<Channel, StoreFault> {
-    match Address::read(b"c") {
-        Ok(selection) => Ok(Channel::To { selection }),
-        Err(_) => Err(StoreFault::Refused),
-    }
-}
-
-/// Keeps at the control station that its first two records are in doubt, and that they arrived at
-/// the terminal.
-fn hold_doubt_back(machine: &mut Machine) -> Result<(), StoreFault> {
-    let known = Change::Known {
-        channel: channel_back()?,
-        known: 0,
-        in_doubt: 2,
-    };
-    keep(machine, "control", &[known])?;
-    hear_back(machine)?;
-    hear_back(machine)
-}
-
-/// Keeps at the terminal that a record arrived.
-fn hear_back(machine: &mut Machine) -> Result<(), StoreFault> {
-    let Ok(record) = Record::read(b"BACK", 144) else {
-        return Err(StoreFault::Refused);
-    };
-    let channel = channel_back()?;
-    keep(machine, "terminal", &[Change::Arrived { channel, record }])
-}
-
-/// The words that offer the three lines of a file at the control station.
-const OFFER_BACK: Given = Given {
-    file: "control",
-    first: "0.1",
-    ..OFFER
-};
-
-/// The doubt of the control station fits, that of the terminal does not, and both stay.
-const HELD_BOTH_WAYS: &[Row] = &[
-    (RECONCILE, "", "refused: count mismatch"),
-    (
-        Given {
-            file: "control",
-            ..BARE
-        },
-        "",
-        "from 0: arrived 1, printed 0\nto 0.0: offered 0, known 0, in doubt 0\n\
-        to 0.1: offered 3, known 0, in doubt 2\nfrom 1: arrived 0, printed 0\n\
-        to 1: offered 0, known 0, in doubt 0\n",
-    ),
-];
-
-/// Both fit. The store of the terminal comes first.
-const RELEASED_BOTH_WAYS: &[Row] = &[
-    (
-        Given {
-            file: "terminal",
-            first: "control",
-            ..RECONCILE
-        },
-        "",
-        "from 0: released at 2\nto 0.1: released at 2\n",
-    ),
-    (
-        BARE,
-        "",
-        "from 0: offered 3, known 2, in doubt 0\nto 0.0: arrived 0, printed 0\n\
-        to 0.1: arrived 2, printed 0\n",
-    ),
-    (
-        Given {
-            file: "control",
-            ..BARE
-        },
-        "",
-        "from 0: arrived 2, printed 0\nto 0.0: offered 0, known 0, in doubt 0\n\
-        to 0.1: offered 3, known 2, in doubt 0\nfrom 1: arrived 0, printed 0\n\
-        to 1: offered 0, known 0, in doubt 0\n",
-    ),
-];
-
-#[test]
-fn doubts_are_released_both_ways(rt: HostRuntime) -> Result<(), Fail> {
-    let alloc = rt.alloc();
-    let mut machine = two_stores(alloc)?;
-    told(alloc, &mut machine, OFFER, "")?;
-    told(alloc, &mut machine, OFFER_BACK, "")?;
-    hold_doubt(&mut machine)?;
-    hold_doubt_back(&mut machine)?;
-    hear(&mut machine, "ONE")?;
-    assert_eq!(rt; first_wrong(alloc, &mut machine, HELD_BOTH_WAYS), None);
-    hear(&mut machine, "TWO")?;
-    assert_eq!(rt; first_wrong(alloc, &mut machine, RELEASED_BOTH_WAYS), None);
     Ok(())
 }
 
