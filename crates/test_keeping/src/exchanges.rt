@@ -1,6 +1,5 @@
 //! Exchanges of two stations whose processes are killed at any moment and begun again.
 
-use crate::memory::Memory;
 use crate::stations::{
     Kept, control, from_terminal, line, offering, record, terminal, to_terminal,
 };
@@ -13,6 +12,7 @@ use bsc_monitor::{LineTerminal, Party};
 use std::alloc::Global;
 use std::test::Fail;
 use test_fixtures::Random;
+use test_memory::Memory;
 
 /// How many records each channel carries.
 const RECORDS: usize = 40;

@@ -4,6 +4,4 @@
 #[cfg(test)]
 mod exchanges;
 #[cfg(test)]
-mod memory;
-#[cfg(test)]
 mod stations;

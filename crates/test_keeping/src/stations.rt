@@ -2,7 +2,6 @@
 
 ghost use Rattle.std.specs.Prelude.{◌≡◌, ◌<◌, IfOk};
 
-use crate::memory::Memory;
 use bsc_bid::Station;
 use bsc_block::Record;
 use bsc_config::{Config, read_config};
@@ -15,6 +14,7 @@ use bsc_monitor::{LineTerminal, Party, new_control, new_terminal};
 use std::alloc::Global;
 use std::test::Fail;
 use test_fixtures::configurations::THREE_ADDRESSES;
+use test_memory::Memory;
 
 /// Returns the configuration of the tests.
 pub(crate) fn line(alloc: Global) -> Result<Config, Fail> {

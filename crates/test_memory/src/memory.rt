@@ -17,15 +17,15 @@ struct Kept {
 
 /// A store in memory. What is kept in it outlives what is made over it.
 #[derive(Drop)]
-pub(crate) struct Memory {
+pub struct Memory {
     alloc: Global,
     kept: Vec<Kept>,
 
     /// How many commits succeed yet; then each fails with `Full`.
-    pub(crate) left: u32,
+    pub left: u32,
 
     /// How many there were.
-    pub(crate) commits: u32,
+    pub commits: u32,
 }
 
 /// Returns the codes of a record, to be kept.
@@ -37,7 +37,7 @@ fn codes_of(alloc: Global, record: &Record) -> Result<Vec<u8>, AllocError> {
 
 impl Memory {
     /// Returns a store in which nothing is kept, and which never fails.
-    pub(crate) fn new(alloc: Global) -> Memory {
+    pub fn new(alloc: Global) -> Memory {
         Memory {
             alloc,
             kept: Vec::new(alloc),
