@@ -1,7 +1,8 @@
 //! The output while a station is attended.
 
-ghost use Rattle.std.specs.Prelude.{◌≡◌, IfErr, IfOk, OnOk, true};
+ghost use Rattle.std.specs.Prelude.{◌≡◌, ◌+◌, IfErr, IfOk, OnOk, true};
 ghost use Rattle.bsc_connections.specs.Notes.{told_by};
+ghost use Rattle.bsc_progress.specs.Counts.{saturated};
 ghost use Rattle.bsc_monitor.specs.Telling.{BeginsLine, ShowsDistrust, ShowsEvent, ShowsLine};
 ghost use Rattle.bsc_monitor.specs.Telling.{ShowsUnanswered, trace_of};
 ghost use Rattle.bsc_monitor.specs.Traces.{distrust_line, unanswered_line};
@@ -77,6 +78,7 @@ impl<'a, A: Allocator + Copy, T: Timer + Meter + Drop, W: Write, D: Write> Watch
         ensures printed { IfOk result (λ watch.
             watch.printed.items ≡ replicate (P.receives station.now) 0) }
         ensures held { IfOk result (λ watch. watch.held ≡ None) }
+        ensures events { IfOk result (λ watch. watch.events ≡ 0) }
     {
         let mut printed = Vec::new(alloc);
         for _ in 0..station.spools() {
@@ -109,6 +111,7 @@ impl<'a, A: Allocator + Copy, T: Timer + Meter + Drop, W: Write, D: Write> Watch
         ensures counted { self.new.printed.items ≡ slice_set self.old.printed.items number count }
         ensures printing { self.new.printing ≡ self.old.printing }
         ensures held { self.new.held ≡ self.old.held }
+        ensures events { self.new.events ≡ self.old.events }
         ensures out { self.new.out ≡ self.old.out }
         ensures errors { self.new.errors.now ≡ self.old.errors.now }
     {
@@ -128,6 +131,7 @@ impl<'a, A: Allocator + Copy, T: Timer + Meter + Drop, W: Write, D: Write> Watch
     /// Shows how far a station has come, if it is time: the rounds that it has made, or without
     /// these the events.
     pub(crate) fn show_progress<P: Party>(&mut self, station: &P, rounds: Option<u64>)
+        ensures events { self.new.events ≡ saturated (self.old.events + 1) }
         ensures records { output_of W.contents self.new ≡ output_of W.contents self.old }
         ensures trace { trace_of D.contents self.new ≡ trace_of D.contents self.old }
     {
