@@ -1,7 +1,7 @@
 -- What a station leaves when it ends, what it prints then, and its result; and what it knows of its
 -- connections when it begins.
 use Rattle.std.specs.Prelude.{◌≡◌, ◌⊎◌, ◌++◌, ℕ, zero, suc, List, length, Option, Some, None}
-use Rattle.std.specs.Prelude.{Result, Err, IsErrAnd}
+use Rattle.std.specs.Prelude.{Result, Err, IsErrAnd, slice_set}
 use Rattle.std.specs.Io.KnownBytes.{Appends}
 use Rattle.std.specs.declared.net.ip_addr.IpAddr.{IpAddr}
 use Rattle.bsc_control.specs.Control.{peer_at}
@@ -28,6 +28,13 @@ JoinsFirst names zero old new = new ≡ old
 JoinsFirst names (suc place) old new =
     (mid : Trust) × JoinsFirst names place old mid
     × ((peer : Option IpAddr) × names place peer × (new ≡ after_joined mid place peer))
+
+-- The number of printed records of each of the first channels, this many, once those that were
+-- printed before are counted.
+abbrev pub counted_before : (ℕ → ℕ) → ℕ → List ℕ → List ℕ
+counted_before printed zero counts = counts
+counted_before printed (suc number) counts =
+    slice_set (counted_before printed number counts) number (printed number)
 
 -- A station leaves what one of its kind leaves.
 abbrev pub IsLeftBy : Prepared → Left → Type 0

@@ -1,5 +1,5 @@
 -- The errors of a station for those of its parts, and the errors of each part of its work.
-use Rattle.std.specs.Prelude.{Result, Ok, Err, is_some, if◌then◌else◌}
+use Rattle.std.specs.Prelude.{Result, Ok, Err, Option, Some, is_some, if◌then◌else◌}
 use Rattle.bsc_config.specs.declared.error.ConfigError.{ConfigError}
 use Rattle.bsc_config.specs.declared.error.ConfigError.TheVariants as config
 use Rattle.bsc_input.specs.declared.texts.TextError.{TextError}
@@ -58,6 +58,12 @@ live_error live.Output = attending.Output
 live_error live.Unprinted = attending.Unprinted
 live_error live.Unkept = attending.Unkept fault.Unreachable
 live_error live.Memory = attending.Memory
+
+-- The error of a station that was attended: if its records could not be kept, it has the fault of
+-- its store.
+abbrev pub with_fault : AttendingError → Option StoreFault → AttendingError
+with_fault (attending.Unkept error) (Some fault) = attending.Unkept fault
+with_fault error fault = error
 
 -- The reasons for refusing options that are found after the configuration is read.
 abbrev pub IsFoundLate : OptionError → Type 0

@@ -98,6 +98,9 @@ pub(crate) trait Attend {
     /// The address of the peer of the connection at this place, if it is known.
     ghost names: { Self → ℕ → Option Address → Type 0 };
 
+    /// How many records of the channel with this number were printed before the station began.
+    ghost printed_before: { Self → ℕ → ℕ };
+
     /// Attends a station over the connections until the monitor ends it.
     fn attend<S: Station, M: Monitor<S>>(
         &mut self,
@@ -125,7 +128,8 @@ pub(crate) trait Attend {
 
     /// Returns how many records of the channel with this number were printed before the station
     /// began, among those on which it receives.
-    fn printed(&self, number: usize) -> usize;
+    fn printed(&self, number: usize) -> usize
+        ensures { result ≡ printed_before self.now number };
 
     /// Returns the number of connections.
     fn count(&self) -> usize
@@ -142,6 +146,8 @@ impl<R: Read + Drop, W: Write + Drop, Q: Waiter<R, W> + Drop> Attend for Connect
     ghost places = { λ c. connection_count c.framed };
 
     ghost names = { λ c place named. NamesAddress (Q.names c.waiter place) named };
+
+    ghost printed_before = { λ _ _. 0 };
 
     fn attend<S: Station, M: Monitor<S>>(
         &mut self,

@@ -1,8 +1,8 @@
 //! A station whose records are kept in a store.
 
-ghost use Rattle.std.specs.Prelude.{IfErr, IfOk};
+ghost use Rattle.std.specs.Prelude.{◌≡◌, IfErr, IfOk};
 ghost use Rattle.bsc_attending.specs.Ending.{IsSameKind};
-ghost use Rattle.bsc_attending.specs.Errors.{IsCutShort, IsStoreError};
+ghost use Rattle.bsc_attending.specs.Errors.{IsCutShort, IsStoreError, with_fault};
 ghost use Rattle.bsc_attending.specs.Preparing.{Suits};
 
 use crate::connections::Attend;
@@ -60,9 +60,14 @@ pub(crate) struct Kept<C: Drop, K: Drop> {
 }
 
 impl<C: Attend + Drop, K: Store + Drop> Attend for Kept<C, K> {
+    ghost use Rattle.std.specs.Prelude.{slice_get};
+    ghost use Rattle.bsc_keeping.specs.Changes.{printed_of};
+
     ghost places = { λ k. C.places k.connections };
 
     ghost names = { λ k. C.names k.connections };
+
+    ghost printed_before = { λ k number. printed_of (slice_get k.keeper.receiving.items number) };
 
     fn attend<S: Station, M: Monitor<S>>(
         &mut self,
@@ -114,7 +119,8 @@ pub(crate) fn with_fault<K: Store + Drop>(
     error: AttendingError,
 ) -> AttendingError
     requires { IsCutShort error }
-    ensures { IsCutShort result }
+    ensures cut { IsCutShort result }
+    ensures fault { result ≡ with_fault error keeper.now.fault }
 {
     match (error, keeper.fault()) {
         (AttendingError::Unkept { .. }, Some(error)) => AttendingError::Unkept { error },

@@ -4,7 +4,7 @@ ghost use Rattle.std.specs.Prelude.{◌≡◌, IfErr, IfOk, IsSome};
 ghost use Rattle.bsc_asked.specs.StationWords.{asked_words};
 ghost use Rattle.bsc_options.specs.Settings.{place_value, settings_value};
 ghost use Rattle.bsc_attending.specs.Ending.{HasBegunAndRun, HasRun, IsConcluded, IsLeftBy};
-ghost use Rattle.bsc_attending.specs.Ending.{IsSameKind, JoinsFirst, ReportsIn};
+ghost use Rattle.bsc_attending.specs.Ending.{IsSameKind, JoinsFirst, ReportsIn, counted_before};
 ghost use Rattle.bsc_attending.specs.Errors.{IsCutShort, IsEarly, IsLate, IsPrintFault};
 ghost use Rattle.bsc_attending.specs.Errors.{IsStoreError};
 ghost use Rattle.bsc_attending.specs.Errors.{control_outcome_of, outcome_of};
@@ -361,7 +361,10 @@ fn count_printed<C: Attend, T: Timer + Meter + Drop, O: Write, D: Write>(
     channels: usize,
     connections: &C,
     watch: &mut Watch<'_, Global, T, O, D>,
-) {
+)
+    ensures { watch.new.printed.items
+        ≡ counted_before (C.printed_before connections.now) channels watch.old.printed.items }
+{
     'channels: for number in 0..channels {
         watch.count_printed(number, connections.printed(number));
     }

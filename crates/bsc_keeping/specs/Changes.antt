@@ -42,6 +42,12 @@ abbrev pub printed_or : ℕ → Option ℕ → ℕ
 printed_or kept None = kept
 printed_or kept (Some count) = count
 
+-- How many records are kept as printed of a channel on which the station receives; none if there is
+-- no such channel.
+abbrev pub printed_of : Option Receiving → ℕ
+printed_of None = 0
+printed_of (Some end) = end.printed
+
 -- The end of the channel once both are kept.
 abbrev pub received_now : Receiving → Option ℕ → List (List ℕ) → Receiving
 received_now end printed records =

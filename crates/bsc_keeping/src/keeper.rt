@@ -1,8 +1,8 @@
 //! What keeps the records of a station.
 
-ghost use Rattle.std.specs.Prelude.{◌≡◌, None, OnOk, length};
+ghost use Rattle.std.specs.Prelude.{◌≡◌, None, OnOk, length, slice_get};
 ghost use Rattle.bsc_keeping.specs.Changes.{known_now, received_now, sending_now, receiving_now};
-ghost use Rattle.bsc_keeping.specs.Changes.{records_of};
+ghost use Rattle.bsc_keeping.specs.Changes.{printed_of, records_of};
 ghost use Rattle.bsc_keeping.specs.Keeping.{Commits, KeepsStep, step_of};
 
 use crate::changes::{changes_since, in_doubt};
@@ -67,7 +67,9 @@ impl<K: Store + Drop> Keeper<K> {
 
     /// Returns how many records are kept as printed of the channel with this number among those on
     /// which the station receives; 0 if there is no such channel.
-    pub fn printed(&self, number: usize) -> usize {
+    pub fn printed(&self, number: usize) -> usize
+        ensures { result ≡ printed_of (slice_get self.now.receiving.items number) }
+    {
         match self.receiving.get(number) {
             Some(end) => end.printed,
             None => 0,
