@@ -18,6 +18,8 @@ mod kept_stations;
 #[cfg(test)]
 mod largest;
 #[cfg(test)]
+mod last_calls;
+#[cfg(test)]
 mod long_runs;
 #[cfg(test)]
 mod machine;

@@ -4,20 +4,17 @@
 use crate::pieces::Pieces;
 use crate::record::{Metered, Output, Record, Sending, Tracer};
 use crate::run_files::run_file_at;
-use crate::stores::Forgetful;
 use crate::wires::End;
-use bsc_attending::{Network, Opened, Stores, Wanted};
+use bsc_attending::{Network, Opened, Wanted};
 use bsc_carrier::Cable;
 use bsc_command::{Fault, command};
 use bsc_connections::{Awaited, Handled, LiveError, Pace, Waiter};
 use bsc_input::{Files, InputError, Unreadable};
-use bsc_kept::StoreFault;
 use bsc_loopback::LoopbackError;
 use bsc_options::Place;
 use bsc_progress::Work;
 use bsc_running::Cables;
 use bsc_sockets::SocketsError;
-use bsc_storing::{Opened as OpenedStore, StoreFiles};
 use std::alloc::{AllocError, Global};
 use std::io;
 use std::io::{BufWriter, Read};
@@ -187,7 +184,7 @@ pub(crate) struct Machine<'a> {
     pub(crate) alloc: Global,
     scene: Scene,
     asking: Option<Asking>,
-    record: &'a Record,
+    pub(crate) record: &'a Record,
 }
 
 /// A line on which as much is tried as may be.
@@ -250,45 +247,6 @@ impl<'a> Cables for Machine<'a> {
         match record.wires.cable(self.alloc) {
             Ok(cable) => Ok(cable),
             Err(_) => Err(LoopbackError::Memory),
-        }
-    }
-}
-
-impl Stores for Machine<'_> {
-    type Store = Forgetful;
-
-    fn open_store(&mut self, path: &str, _own: &str) -> Result<Forgetful, StoreFault> {
-        match path {
-            "kept" => Ok(Forgetful),
-            "busy" => Err(StoreFault::InUse),
-            _ => Err(StoreFault::Missing),
-        }
-    }
-}
-
-/// The text of the line of the store at `kept`.
-const KEPT_LINE: &str = "terminal 0\nfull length 144\npolled 41 selected 61\n\
-    polled 42 selected 62\n";
-
-impl StoreFiles for Machine<'_> {
-    type Kept = Forgetful;
-
-    fn open_kept(&mut self, path: &str) -> Result<OpenedStore<Forgetful>, StoreFault> {
-        let store = self.open_store(path, KEPT_LINE)?;
-        match String::from_str(self.alloc, KEPT_LINE) {
-            Ok(line) => Ok(OpenedStore { store, line }),
-            Err(_) => Err(StoreFault::OutOfMemory),
-        }
-    }
-
-    fn close_kept(&mut self, _opened: OpenedStore<Forgetful>) -> Result<(), StoreFault> {
-        Ok(())
-    }
-
-    fn make_kept(&mut self, path: &str, _line: &str) -> Result<(), StoreFault> {
-        match path {
-            "kept" | "busy" => Err(StoreFault::Taken),
-            _ => Ok(()),
         }
     }
 }

@@ -6,6 +6,7 @@ use std::alloc::Global;
 use std::cell::{Cell, RefCell};
 use std::io;
 use std::io::{Error, ErrorKind, Write};
+use test_memory::Memory;
 
 /// What a command sent and what it printed as a trace.
 #[derive(Drop)]
@@ -23,6 +24,9 @@ pub(crate) struct Record {
 
     /// The connections of a run.
     pub(crate) wires: Wires,
+
+    /// What is kept in the stores of the machine, beyond the end of a command.
+    pub(crate) memory: RefCell<Memory>,
 }
 
 impl Record {
@@ -33,6 +37,7 @@ impl Record {
             shown: Cell::new(None),
             trace: RefCell::new(Vec::new(alloc)),
             wires: Wires::new(alloc),
+            memory: RefCell::new(Memory::new(alloc)),
         }
     }
 

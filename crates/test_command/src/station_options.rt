@@ -6,7 +6,7 @@ use crate::stations::{CONNECTING, CONTROLLING, RECORDS, SHARING};
 use std::test::Fail;
 
 /// EOT as a socket record, for each poll of two rounds and once more.
-const IDLE: &[&[u8]] = &[
+pub(crate) const IDLE: &[&[u8]] = &[
     b"\x00\x04\x16\x16\x04\xFF",
     b"\x00\x04\x16\x16\x04\xFF",
     b"\x00\x04\x16\x16\x04\xFF",
@@ -25,7 +25,7 @@ const RAW_IDLE: &[&[u8]] = &[
 const TIME_OUTS: &[u8] = b"trrtttttttttttttttttttttttttttttt";
 
 /// The report of a control station without records, if its answers come at once.
-const PROMPT: &str = "from 0: spooled 0\nto 0: offered 0, known 0\nfrom 1: spooled 0\n\
+pub(crate) const PROMPT: &str = "from 0: spooled 0\nto 0: offered 0, known 0\nfrom 1: spooled 0\n\
 to 1: offered 0, known 0\nslowest answer: 0% of the time-out\ntrusted\n";
 
 const ENDS: &[Watched] = &[
@@ -416,53 +416,5 @@ const PEERS: &[Watched] = &[
 #[test]
 fn answers_from_another_address_end_trust(rt: HostRuntime) -> Result<(), Fail> {
     assert_eq!(rt; first_unlike(rt.alloc(), PEERS), None);
-    Ok(())
-}
-
-const ANSWERED: &[Watched] = &[Watched {
-    case: Case {
-        words: Some(&[
-            "station",
-            "line.toml",
-            "--control",
-            "--listen",
-            "h:1",
-            "--shared",
-            "--rounds",
-            "1",
-            "--trace",
-            "--trace",
-        ]),
-        input: Some(""),
-        takes: true,
-        scene: Scene {
-            pieces: IDLE,
-            steps: b"trrr",
-            ..SILENT
-        },
-        due: Due {
-            asking: Some(Asking {
-                trace: true,
-                ..SHARING
-            }),
-            out: PROMPT,
-            errors: "",
-            status: 0,
-        },
-    },
-    sent: 33,
-    trace: "+0 silence\n\
-        +0 control sent CALL A 161604ff1616c185ff\n\
-        +0 connection 0 heard EOT 161604ff\n\
-        +0 control sent CALL B 161604ff1616c285ff\n\
-        +0 connection 0 heard EOT 161604ff\n\
-        +0 control sent CALL A 161604ff1616c185ff\n\
-        +0 connection 0 heard EOT 161604ff\n",
-}];
-
-/// After the last round the control station calls once more, and waits for the answer.
-#[test]
-fn the_last_call_of_a_control_station_is_answered(rt: HostRuntime) -> Result<(), Fail> {
-    assert_eq!(rt; first_unlike(rt.alloc(), ANSWERED), None);
     Ok(())
 }

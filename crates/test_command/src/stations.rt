@@ -41,7 +41,7 @@ pub(crate) const ANSWERS: &[&[u8]] = &[
 ];
 
 /// A poll of terminal 0 as a socket record, and nothing after it.
-const POLLED: &[&[u8]] = &[b"\x00\x09\x16\x16\x04\xFF\x16\x16\xC1\x85\xFF"];
+pub(crate) const POLLED: &[&[u8]] = &[b"\x00\x09\x16\x16\x04\xFF\x16\x16\xC1\x85\xFF"];
 
 /// The output of terminal 0 with a record to send, if it hears this.
 const TERMINAL: &str = "to 0: HI\nfrom 0: offered 1, known 1\nto 0: spooled 1\n";

@@ -1,6 +1,11 @@
-//! Stores of the machine for tests: one in which nothing is kept.
+//! Stores of the machines for tests: one in which nothing is kept, and one that outlives the command
+//! that uses it.
 
+use crate::machine::Machine;
+use crate::record::Record;
+use bsc_attending::Stores;
 use bsc_kept::{Change, Channel, Found, Progress, Store, StoreFault};
+use bsc_storing::{Opened, StoreFiles};
 
 /// A store in which nothing is kept, and which forgets what it keeps.
 #[derive(Drop)]
@@ -43,5 +48,112 @@ impl Store for Forgetful {
         _more: u32,
     ) -> Result<Option<Found>, StoreFault> {
         Ok(None)
+    }
+}
+
+/// A store that is kept in the record of a machine.
+#[derive(Drop)]
+pub(crate) struct Lent<'a> {
+    record: &'a Record,
+}
+
+impl Store for Lent<'_> {
+    ghost keeps = { λ _ _ _. Unit {0} };
+
+    ghost stays = { λ _ _. Unit {0} };
+
+    ghost survives = { λ _ _ _. Unit {0} };
+
+    fn commit(&mut self, step: &[Change]) -> Result<(), StoreFault> {
+        match self.record.memory.try_borrow_mut() {
+            Ok(mut memory) => memory.commit(step),
+            Err(_) => Err(StoreFault::InUse),
+        }
+    }
+
+    fn progress(&mut self, channel: &Channel) -> Result<Progress, StoreFault> {
+        match self.record.memory.try_borrow_mut() {
+            Ok(mut memory) => memory.progress(channel),
+            Err(_) => Err(StoreFault::InUse),
+        }
+    }
+
+    fn offered(
+        &mut self,
+        channel: &Channel,
+        mark: i64,
+        more: u32,
+    ) -> Result<Option<Found>, StoreFault> {
+        match self.record.memory.try_borrow_mut() {
+            Ok(mut memory) => memory.offered(channel, mark, more),
+            Err(_) => Err(StoreFault::InUse),
+        }
+    }
+
+    fn arrived(
+        &mut self,
+        channel: &Channel,
+        mark: i64,
+        more: u32,
+    ) -> Result<Option<Found>, StoreFault> {
+        match self.record.memory.try_borrow_mut() {
+            Ok(mut memory) => memory.arrived(channel, mark, more),
+            Err(_) => Err(StoreFault::InUse),
+        }
+    }
+}
+
+/// The text of the line of the store at `kept`, which is that of terminal 0.
+const KEPT_LINE: &str = "terminal 0\nfull length 80\npolled 41 selected 61\n\
+    polled 42 selected 62\n";
+
+/// The text of the line of the store at `control`, which is that of the control station.
+const CONTROL_LINE: &str = "control station\nfull length 80\npolled 41 selected 61\n\
+    polled 42 selected 62\n";
+
+/// Returns the text of the line of the store at this path, if it can be opened.
+fn line_at(path: &str) -> Result<&'static str, StoreFault> {
+    match path {
+        "kept" => Ok(KEPT_LINE),
+        "control" => Ok(CONTROL_LINE),
+        "busy" => Err(StoreFault::InUse),
+        _ => Err(StoreFault::Missing),
+    }
+}
+
+impl<'a> Stores for Machine<'a> {
+    type Store = Lent<'a>;
+
+    fn open_store(&mut self, path: &str, own: &str) -> Result<Lent<'a>, StoreFault> {
+        if line_at(path)? != own {
+            return Err(StoreFault::OtherLine);
+        }
+        let record = self.record;
+        Ok(Lent { record })
+    }
+}
+
+impl<'a> StoreFiles for Machine<'a> {
+    type Kept = Lent<'a>;
+
+    fn open_kept(&mut self, path: &str) -> Result<Opened<Lent<'a>>, StoreFault> {
+        let text = line_at(path)?;
+        let record = self.record;
+        let store = Lent { record };
+        match String::from_str(self.alloc, text) {
+            Ok(line) => Ok(Opened { store, line }),
+            Err(_) => Err(StoreFault::OutOfMemory),
+        }
+    }
+
+    fn close_kept(&mut self, _opened: Opened<Lent<'a>>) -> Result<(), StoreFault> {
+        Ok(())
+    }
+
+    fn make_kept(&mut self, path: &str, _line: &str) -> Result<(), StoreFault> {
+        match line_at(path) {
+            Ok(_) | Err(StoreFault::InUse) => Err(StoreFault::Taken),
+            Err(_) => Ok(()),
+        }
     }
 }
