@@ -55,6 +55,9 @@ fn the_last_call_of_a_control_station_is_answered(rt: HostRuntime) -> Result<(),
     Ok(())
 }
 
+/// EOT as a socket record, twice.
+const TWICE: &[&[u8]] = &[b"\x00\x04\x16\x16\x04\xFF", b"\x00\x04\x16\x16\x04\xFF"];
+
 /// Terminal 0 does not answer, and connection 0 answers for terminal 1, and then to the last call,
 /// which is for terminal 0. That is not heard, and at last the connection is closed.
 const EXCHANGED: &[Watched] = &[Watched {
@@ -71,7 +74,7 @@ const EXCHANGED: &[Watched] = &[Watched {
         input: Some(""),
         takes: true,
         scene: Scene {
-            pieces: IDLE,
+            pieces: TWICE,
             steps: b"tttttrr",
             ..SILENT
         },
