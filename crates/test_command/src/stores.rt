@@ -1,5 +1,5 @@
-//! Stores of the machines for tests: one in which nothing is kept, and one that outlives the command
-//! that uses it.
+//! Stores of the machines for tests: one in which nothing is kept, and one that outlives the
+//! command that uses it.
 
 use crate::machine::Machine;
 use crate::record::Record;
