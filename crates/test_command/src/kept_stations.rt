@@ -123,7 +123,7 @@ fn a_station_is_attended_whose_records_are_kept(rt: HostRuntime) -> Result<(), F
 }
 
 /// A selection and a text as socket records, and nothing after them.
-const SELECTED: &[&[u8]] = &[
+pub(crate) const SELECTED: &[&[u8]] = &[
     b"\x00\x09\x16\x16\x04\xFF\x16\x16\x61\x85\xFF",
     b"\x00\x09\x16\x16\x02\xC8\x49\x19\x83\x9B\xFF",
 ];
@@ -137,7 +137,7 @@ const DONE: Due = Due {
 };
 
 /// The results of a terminal that ends when its connection is closed.
-const ENDED: Due = Due {
+pub(crate) const ENDED: Due = Due {
     asking: Some(CONNECTING),
     ..DONE
 };
@@ -152,14 +152,14 @@ const STATUS: Case = Case {
 };
 
 /// Terminal 0 with this store, which hears nothing.
-const TERMINAL: Case = Case {
+pub(crate) const TERMINAL: Case = Case {
     words: terminal!("kept"),
     due: ENDED,
     ..STATUS
 };
 
 /// Two records are offered on the channel from terminal 0.
-const OFFERED: Case = Case {
+pub(crate) const OFFERED: Case = Case {
     words: Some(&["store", "kept", "offer", "0", "-"]),
     input: Some("ONE\nTWO\n"),
     due: Due {
@@ -416,74 +416,5 @@ fn a_doubt_outlives_its_station(rt: HostRuntime) -> Result<(), Fail> {
 #[test]
 fn a_control_station_goes_on_from_its_store(rt: HostRuntime) -> Result<(), Fail> {
     assert_eq!(rt; first_wrong_in_turn(rt.alloc(), CONTROLS), None);
-    Ok(())
-}
-
-/// A station whose store keeps `left` steps more and then fails. It ends with status 7, has printed
-/// this, and has sent this many octets.
-struct Failing {
-    left: u32,
-    pieces: &'static [&'static [u8]],
-    out: &'static str,
-    sent: usize,
-}
-
-/// A text that is not kept as in doubt, a record that is not kept, and one that is not kept as
-/// printed at the end.
-const FAILING: &[Failing] = &[
-    Failing {
-        left: 0,
-        pieces: POLLED,
-        out: "",
-        sent: 0,
-    },
-    Failing {
-        left: 0,
-        pieces: SELECTED,
-        out: "",
-        sent: 7,
-    },
-    Failing {
-        left: 1,
-        pieces: SELECTED,
-        out: "to 0: 4849\n",
-        sent: 14,
-    },
-];
-
-/// What differs from what is expected if the store fails.
-fn wrong_if_it_fails(alloc: Global, failing: &Failing) -> Result<Option<&'static str>, Fail> {
-    let record = Record::new(alloc);
-    if let Some(what) = difference(alloc, &OFFERED, &record) {
-        return Ok(Some(what));
-    }
-    record.memory.try_borrow_mut()?.left = failing.left;
-    let case = Case {
-        scene: Scene {
-            pieces: failing.pieces,
-            ..SILENT
-        },
-        due: Due {
-            out: failing.out,
-            errors: "bscline: what happened could not be kept: the disk is full\n",
-            status: 7,
-            ..ENDED
-        },
-        ..TERMINAL
-    };
-    if let Some(what) = difference(alloc, &case, &record) {
-        return Ok(Some(what));
-    }
-    match record.sent.get() == failing.sent {
-        true => Ok(None),
-        false => Ok(Some("the number of octets that were sent")),
-    }
-}
-
-#[test]
-fn a_station_whose_store_fails_has_status_seven(rt: HostRuntime) -> Result<(), Fail> {
-    for failing in FAILING {
-        assert_eq!(rt; wrong_if_it_fails(rt.alloc(), failing)?, None);
-    }
     Ok(())
 }

@@ -10,6 +10,8 @@ mod command_runs;
 #[cfg(test)]
 mod commands;
 #[cfg(test)]
+mod failing_stores;
+#[cfg(test)]
 mod faults;
 #[cfg(test)]
 mod growths;
