@@ -1,0 +1,2 @@
+pub mod AddressLists
+pub mod TerminalLists
