@@ -1,0 +1,4 @@
+pub mod Transmissions
+pub mod Records
+pub mod Sending
+pub mod Refusals
