@@ -1,0 +1,5 @@
+pub mod Events
+pub mod Channels
+pub mod Transmissions
+pub mod Making
+pub mod Hearings
