@@ -1,0 +1,2 @@
+pub mod PartValues
+pub mod PointerValues
