@@ -3,3 +3,4 @@ mod Addresses
 mod Texts
 mod KeptContents
 mod HeardKinds
+pub mod Makings

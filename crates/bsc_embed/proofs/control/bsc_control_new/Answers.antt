@@ -1,0 +1,13 @@
+-- What was made is in the handle, or the reason why not is told.
+use Rattle.std.proofs.Common.{sym, subst, ◌∙◌}
+use Rattle.bsc_handle.specs.Handles.{made_in}
+use Rattle.bsc_handle.specs.declared.made.Made.TheVariants.{Control}
+use Rattle.bsc_control_calls.specs.Making.{IsMade}
+use Rattle.bsc_embed.proofs.Makings.{has_nothing, made_and_kept}
+use Rattle.bsc_embed.proofs.control.bsc_control_new.Goals as goal
+
+pub returns-in-Ok : goal.returns-in-Ok
+returns-in-Ok c =
+    made_and_kept Control (IsMade c.args.settings.now c.args.terminals.now c.args.poll_list.now) (made_in c.args.handle.now) _ _
+    c.in-Ok.control (has_nothing _ (sym c.is_made.ensures.answer ∙ c.if-is_made.false))
+    (subst (IsMade c.args.settings.now c.args.terminals.now c.args.poll_list.now) c.in-Ok.is c.new_control.ensures) c.keep.ensures
