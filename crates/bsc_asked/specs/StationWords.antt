@@ -25,6 +25,7 @@ pub record AskedWords : Type 0 where
   pub store : Option (List ℕ)
   pub text : Bool
   pub bytes : Bool
+  pub numbers : Bool
   pub report_records : Bool
   pub sync : Bool
   pub trace : ℕ
@@ -54,6 +55,7 @@ asked_words w = record {
   store = option_map string_bytes w.store;
   text = w.text;
   bytes = w.bytes;
+  numbers = w.numbers;
   report_records = w.report_records;
   sync = w.sync;
   trace = w.trace;

@@ -67,6 +67,9 @@ pub struct StationWords {
     /// Whether records are printed as they stand.
     pub bytes: bool,
 
+    /// Whether the line of each record has its number.
+    pub numbers: bool,
+
     /// Whether the report repeats the records that arrived.
     pub report_records: bool,
 

@@ -3,3 +3,4 @@ pub mod Offered
 pub mod Counts
 pub mod Followed
 mod Sending
+mod Lines

@@ -2,7 +2,7 @@
 use Rattle.std.specs.Prelude.{◌≡◌, ℕ, ◌<◌, List, length, max, slice_index}
 use Rattle.bsc_report.specs.Channels.{channel_name}
 use Rattle.bsc_monitor.specs.Printed.{arrival_lines, records_at}
-use Rattle.bsc_print.specs.declared.form.Form.{Form}
+use Rattle.bsc_monitor.specs.declared.record_lines.RecordLines.{RecordLines}
 use Rattle.bsc_monitor.specs.declared.party.Party as party_of
 
 -- What is known of a station with memory of type M, and the station. Its channels are those on
@@ -13,15 +13,15 @@ module _ {P M : Type 0} (party : party_of.Ghosts P M) (station : P) where
   arrived_on n = records_at (party.ends station (party.terminal_of n) (party.way_of n))
 
   -- The lines for the records of a channel after those that were printed before.
-  abbrev pub channel_arrivals : Form → ℕ → ℕ → List ℕ
-  channel_arrivals form n printed =
-      arrival_lines form
+  abbrev pub channel_arrivals : RecordLines → ℕ → ℕ → List ℕ
+  channel_arrivals lines n printed =
+      arrival_lines lines
       (channel_name (party.selects station (party.terminal_of n))
       (party.numbers station (party.terminal_of n)) (party.way_of n)) printed (arrived_on n)
 
   -- The lines for the new records of a channel, by the number printed before on each.
-  abbrev pub arrivals_of : Form → List ℕ → ℕ → List ℕ
-  arrivals_of form printed n = channel_arrivals form n (slice_index printed n)
+  abbrev pub arrivals_of : RecordLines → List ℕ → ℕ → List ℕ
+  arrivals_of lines printed n = channel_arrivals lines n (slice_index printed n)
 
   -- The number of records of a channel that are printed, once the new ones are.
   abbrev pub counted : ℕ → ℕ → ℕ

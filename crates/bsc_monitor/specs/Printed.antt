@@ -1,5 +1,6 @@
 -- The output of a station: the records that arrive, and the report at the end.
-use Rattle.std.specs.Prelude.{ℕ, List, [], ◌++◌, length, drop, Option, Some, None, codes}
+use Rattle.std.specs.Prelude.{ℕ, suc, Bool, if◌then◌else◌, List, [], ◌∷◌, ◌++◌, length, drop, codes}
+use Rattle.std.specs.Prelude.{Option, Some, None}
 use Rattle.std.specs.List.{flat_map}
 use Rattle.std.specs.Fmt.{decimal}
 use Rattle.bsc_directory.specs.declared.way.Way.{Way}
@@ -8,6 +9,7 @@ use Rattle.bsc_print.specs.Forms.{in_form}
 use Rattle.bsc_print.specs.declared.form.Form.{Form}
 use Rattle.bsc_report.specs.Channels.{channel_name, doubt_shown, each_below, record_line}
 use Rattle.bsc_monitor.specs.Ends.{End, sending, receiving}
+use Rattle.bsc_monitor.specs.declared.record_lines.RecordLines.{RecordLines}
 
 -- The lines for records in a form; none without a form.
 abbrev pub repeated_lines : Option Form → List (List ℕ) → List ℕ
@@ -38,15 +40,26 @@ abbrev pub station_report :
 station_report form selects numbers ends count =
     each_below (λ t. terminal_lines form (selects t) (numbers t) (ends t)) count
 
--- The line for a record that arrived on the channel with this name.
-abbrev pub arrival_line : Form → List ℕ → List ℕ → List ℕ
-arrival_line form name chars = name ++ codes ": " ++ in_form form chars ++ codes "\n"
+-- The number of a record in its line, if lines have numbers.
+abbrev pub number_shown : Bool → ℕ → List ℕ
+number_shown numbers place = if numbers then codes " " ++ decimal place else []
+
+-- The line for the record with this number on the channel with this name.
+abbrev pub arrival_line : RecordLines → List ℕ → ℕ → List ℕ → List ℕ
+arrival_line lines name place chars =
+    name ++ number_shown lines.numbers place ++ codes ": " ++ in_form lines.form chars ++ codes "\n"
 
 -- The records that arrived at a channel end.
 abbrev pub records_at : End → List (List ℕ)
 records_at (sending offered known doubt) = []
 records_at (receiving records) = records
 
+-- The lines for records, of which the first has this number on the channel with this name.
+abbrev pub lines_from : RecordLines → List ℕ → ℕ → List (List ℕ) → List ℕ
+lines_from lines name place [] = []
+lines_from lines name place (r ∷ rs) =
+    arrival_line lines name place r ++ lines_from lines name (suc place) rs
+
 -- The lines for the records after the first `printed` ones, on the channel with this name.
-abbrev pub arrival_lines : Form → List ℕ → ℕ → List (List ℕ) → List ℕ
-arrival_lines form name printed records = flat_map (arrival_line form name) (drop printed records)
+abbrev pub arrival_lines : RecordLines → List ℕ → ℕ → List (List ℕ) → List ℕ
+arrival_lines lines name printed records = lines_from lines name printed (drop printed records)

@@ -21,14 +21,14 @@ use Rattle.bsc_monitor.specs.Progress.{progress_after}
 use Rattle.bsc_monitor.specs.declared.progress.Progress.{Progress}
 use Rattle.bsc_print.specs.declared.error.PrintError.{PrintError}
 use Rattle.bsc_print.specs.declared.error.PrintError.TheVariants as print
-use Rattle.bsc_print.specs.declared.form.Form.{Form}
+use Rattle.bsc_monitor.specs.declared.record_lines.RecordLines.{RecordLines}
 use Rattle.bsc_monitor.specs.declared.party.Party as party_of
 use Rattle.bsc_monitor.specs.declared.watch.Watch.{Watch}
 
--- The form in which a watch prints records, the number of records printed for each channel, what
+-- How a watch prints records, the number of records printed for each channel, what
 -- its writer holds, as far as that is known, and whether that is flushed.
 pub record Output : Type 0 where
-  pub form : Form
+  pub lines : RecordLines
   pub counts : List ℕ
   pub contents : Option (List ℕ)
   pub is_flushed : Bool
@@ -36,7 +36,7 @@ pub record Output : Type 0 where
 abbrev pub output_of : {A T W D : Type 0} → (W → Option (List ℕ)) → Watch A T W D → Output
 output_of contents w =
     record {
-      form = w.printing.form;
+      lines = w.printing.records;
       counts = w.printed.items;
       contents = contents w.out.out.now;
       is_flushed = w.out.is_flushed;
@@ -44,7 +44,7 @@ output_of contents w =
 
 -- What was written is flushed, and nothing else changes.
 pub record IsFlushed (old new : Output) : Type 0 where
-  pub form : new.form ≡ old.form
+  pub lines : new.lines ≡ old.lines
   pub counts : new.counts ≡ old.counts
   pub contents : Keeps old.contents new.contents
   pub is_flushed : new.is_flushed ≡ true
@@ -57,9 +57,9 @@ module _ {P M : Type 0} (party : party_of.Ghosts P M) (station : P) where
   pub record PrintsArrivals (old new : Output) : Type 0 where
     pub channels : length old.counts ≡ party.receives station
     pub text : Appends old.contents new.contents
-        (each_below (arrivals_of party station old.form old.counts) (party.receives station))
+        (each_below (arrivals_of party station old.lines old.counts) (party.receives station))
     pub counted : AreCounted party station old.counts new.counts (party.receives station)
-    pub form : new.form ≡ old.form
+    pub lines : new.lines ≡ old.lines
     pub flushed : MoreArePrinted old.counts new.counts (party.receives station)
         → new.is_flushed ≡ true
 

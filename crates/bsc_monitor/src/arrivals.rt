@@ -1,18 +1,17 @@
 //! Prints the records that arrive at a station.
 
 ghost use Rattle.std.specs.Prelude.{◌≡◌, ◌<◌, length, drop, Ok, OnOk, false, true};
-ghost use Rattle.std.specs.List.{flat_map};
 ghost use Rattle.std.specs.Io.KnownBytes.{Appends};
 ghost use Rattle.bsc_report.specs.Channels.{channel_name, each_below};
-ghost use Rattle.bsc_monitor.specs.Printed.{arrival_line};
+ghost use Rattle.bsc_monitor.specs.Printed.{arrival_line, lines_from, number_shown};
 ghost use Rattle.bsc_monitor.specs.Arrivals.{AreCounted, AsManyArePrinted, MoreArePrinted};
 ghost use Rattle.bsc_monitor.specs.Arrivals.{arrivals_of};
 ghost use Rattle.bsc_monitor.specs.Arrivals.{channel_arrivals, counted};
 
-use crate::{Party, Received};
+use crate::{Party, Received, RecordLines};
 use bsc_block::Records;
 use bsc_control::Way;
-use bsc_print::{Form, PrintError, put, write_in_form};
+use bsc_print::{PrintError, put, write_in_form};
 use bsc_report::write_channel_name;
 use std::alloc::Allocator;
 use std::io::Write;
@@ -31,14 +30,14 @@ struct Channel {
 /// part of the output may have been written.
 pub(crate) fn print_arrivals<A: Allocator + Copy, P: Party, W: Write>(
     alloc: A,
-    form: Form,
+    lines: RecordLines,
     station: &P,
     printed: &mut [usize],
     out: &mut W,
 ) -> Result<bool, PrintError>
     requires { length printed.old ≡ P.receives station.now }
     ensures text { OnOk result (Appends (W.contents out.old) (W.contents out.new)
-        (each_below (arrivals_of P.Party station.now form printed.old) (P.receives station.now))) }
+        (each_below (arrivals_of P.Party station.now lines printed.old) (P.receives station.now))) }
     ensures counts { OnOk result
         (AreCounted P.Party station.now printed.old printed.new (P.receives station.now)) }
     ensures some { result ≡ Ok true →
@@ -48,7 +47,7 @@ pub(crate) fn print_arrivals<A: Allocator + Copy, P: Party, W: Write>(
 {
     let mut found = false;
     'channels: for number in 0..station.spools() {
-        found |= print_channel(alloc, form, station, number, &mut printed[number], out)?;
+        found |= print_channel(alloc, lines, station, number, &mut printed[number], out)?;
     }
     Ok(found)
 }
@@ -56,7 +55,7 @@ pub(crate) fn print_arrivals<A: Allocator + Copy, P: Party, W: Write>(
 /// Prints the new records of one channel, updates their number, and returns whether there was one.
 fn print_channel<A: Allocator + Copy, P: Party, W: Write>(
     alloc: A,
-    form: Form,
+    lines: RecordLines,
     station: &P,
     number: usize,
     printed: &mut usize,
@@ -64,7 +63,7 @@ fn print_channel<A: Allocator + Copy, P: Party, W: Write>(
 ) -> Result<bool, PrintError>
     requires { number < P.receives station.now }
     ensures text { OnOk result (Appends (W.contents out.old) (W.contents out.new)
-        (channel_arrivals P.Party station.now form number printed.old)) }
+        (channel_arrivals P.Party station.now lines number printed.old)) }
     ensures count { OnOk result
         (printed.new ≡ counted P.Party station.now number printed.old) }
     ensures some { result ≡ Ok true → printed.old < printed.new }
@@ -80,7 +79,7 @@ fn print_channel<A: Allocator + Copy, P: Party, W: Write>(
         number: station.number(received.terminal),
         way: received.way,
     };
-    print_records(alloc, form, channel, records, *printed, out)?;
+    print_records(alloc, lines, channel, records, *printed, out)?;
     *printed = records.len();
     Ok(true)
 }
@@ -88,36 +87,52 @@ fn print_channel<A: Allocator + Copy, P: Party, W: Write>(
 /// Prints a line for each of these records from a place on.
 fn print_records<A: Allocator + Copy, B: Allocator, W: Write>(
     alloc: A,
-    form: Form,
+    lines: RecordLines,
     channel: Channel,
     records: &Records<B>,
     from: usize,
     out: &mut W,
 ) -> Result<(), PrintError>
     ensures { OnOk result (Appends (W.contents out.old) (W.contents out.new)
-        (flat_map (arrival_line form (channel_name channel.addresses channel.number channel.way))
+        (lines_from lines (channel_name channel.addresses channel.number channel.way) from
         (drop from records.now.items))) }
 {
     'records: for place in from..records.len() {
-        print_record(alloc, form, channel, records.chars(place), out)?;
+        print_record(alloc, lines, channel, place, records.chars(place), out)?;
     }
     Ok(())
 }
 
-/// Prints the line for a record with these characters.
+/// Prints the line for the record at this place, which has these characters.
 fn print_record<A: Allocator, W: Write>(
     alloc: A,
-    form: Form,
+    lines: RecordLines,
     channel: Channel,
+    place: usize,
     chars: &[u8],
     out: &mut W,
 ) -> Result<(), PrintError>
     ensures { OnOk result (Appends (W.contents out.old) (W.contents out.new)
-        (arrival_line form (channel_name channel.addresses channel.number channel.way)
+        (arrival_line lines (channel_name channel.addresses channel.number channel.way) place
         chars.now)) }
 {
     write_channel_name(channel.addresses, channel.number, channel.way, out)?;
+    write_number(lines.numbers, place, out)?;
     put(b": ", out)?;
-    write_in_form(alloc, form, chars, out)?;
+    write_in_form(alloc, lines.form, chars, out)?;
     put(b"\n", out)
+}
+
+/// Writes the number of a record, if lines have numbers.
+fn write_number<W: Write>(numbers: bool, place: usize, out: &mut W) -> Result<(), PrintError>
+    ensures { OnOk result
+        (Appends (W.contents out.old) (W.contents out.new) (number_shown numbers place)) }
+{
+    if !numbers {
+        return Ok(());
+    }
+    match write!(out, " {place}") {
+        Ok(()) => Ok(()),
+        Err(_) => Err(PrintError::Output),
+    }
 }

@@ -15,9 +15,9 @@ use crate::counting::station_counts;
 use crate::held::{HeldCall, Seen, write_held, write_next};
 use crate::record_writer::RecordWriter;
 use crate::trace::{write_change, write_distrust, write_note, write_time, write_unanswered};
-use crate::{Meter, Party, Timer, Tracing};
+use crate::{Meter, Party, RecordLines, Timer, Tracing};
 use bsc_connections::{LiveError, Note};
-use bsc_print::{Form, PrintError};
+use bsc_print::PrintError;
 use bsc_trust::Distrust;
 use std::alloc::{AllocError, Allocator};
 use std::io::Write;
@@ -25,8 +25,8 @@ use std::io::Write;
 /// The options for the output of a station.
 #[derive(Clone, Copy)]
 pub struct Printing {
-    /// The form in which the characters of arriving records are printed.
-    pub form: Form,
+    /// How the records that arrive are printed.
+    pub records: RecordLines,
 
     /// Which transmissions and time-outs have a line. With any a line is also printed for each
     /// connection that begins or ends.
@@ -187,7 +187,7 @@ impl<'a, A: Allocator + Copy, T: Timer + Meter + Drop, W: Write, D: Write> Watch
         }
         let printed = print_arrivals(
             self.alloc,
-            self.printing.form,
+            self.printing.records,
             station,
             &mut self.printed,
             &mut self.out,

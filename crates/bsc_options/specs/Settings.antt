@@ -142,7 +142,10 @@ tracing_in times =
 
 -- The output of a station.
 abbrev pub printing_in : AskedWords → Printing
-printing_in w = record { form = form_in w.text w.bytes; trace = tracing_in w.trace }
+printing_in w = record {
+  records = record { form = form_in w.text w.bytes; numbers = w.numbers };
+  trace = tracing_in w.trace;
+}
 
 -- The settings of a station.
 pub record SettingsValue : Type 0 where

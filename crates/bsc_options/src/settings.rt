@@ -11,7 +11,7 @@ use crate::OptionError;
 use crate::checks::{check_together, is_given, unless};
 use crate::numbers::{number_within, octet_in};
 use bsc_asked::StationWords;
-use bsc_monitor::{Limits, Printing, Tracing};
+use bsc_monitor::{Limits, Printing, RecordLines, Tracing};
 use bsc_print::Form;
 
 /// The gap in milliseconds, unless given.
@@ -252,7 +252,10 @@ fn printing_of(words: &StationWords) -> Printing
     ensures { result ≡ printing_in (asked_words words.now) }
 {
     Printing {
-        form: form_of(words),
+        records: RecordLines {
+            form: form_of(words),
+            numbers: words.numbers,
+        },
         trace: tracing_of(words.trace),
     }
 }

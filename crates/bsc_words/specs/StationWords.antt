@@ -35,6 +35,7 @@ station_app =
     ∷ option (codes "store")
     ∷ flag (codes "text")
     ∷ flag (codes "bytes")
+    ∷ flag (codes "numbers")
     ∷ flag (codes "report-records")
     ∷ flag (codes "sync")
     ∷ counted (codes "trace")
@@ -73,6 +74,7 @@ words_in rows = record {
   store = first_of (codes "store") rows;
   text = given (codes "text") rows;
   bytes = given (codes "bytes") rows;
+  numbers = given (codes "numbers") rows;
   report_records = given (codes "report-records") rows;
   sync = given (codes "sync") rows;
   trace = count_of (codes "trace") rows;
@@ -88,6 +90,7 @@ flags_in rows = record {
   until_input_ends = given (codes "until-input-ends") rows;
   text = given (codes "text") rows;
   bytes = given (codes "bytes") rows;
+  numbers = given (codes "numbers") rows;
   report_records = given (codes "report-records") rows;
   sync = given (codes "sync") rows;
   trace = count_of (codes "trace") rows;

@@ -254,6 +254,12 @@ pub(crate) const STATION: Subcommand = Subcommand {
             help: "Print records as they stand",
         },
         Entry {
+            id: "numbers",
+            given: Flag,
+            value: "",
+            help: "Print with each record its number on its channel, counted from 0",
+        },
+        Entry {
             id: "report-records",
             given: Flag,
             value: "",

@@ -8,9 +8,9 @@ use bsc_sockets::SocketsError;
 use std::alloc::Global;
 use std::test::Fail;
 
-/// The words of a terminal with the store at this path.
+/// The words of a terminal with the store at this path, and more words.
 macro_rules! terminal {
-    ($path:literal) => {
+    ($path:literal $(, $more:literal)*) => {
         Some(&[
             "station",
             "line.toml",
@@ -20,6 +20,7 @@ macro_rules! terminal {
             "h:1",
             "--store",
             $path,
+            $($more,)*
         ])
     };
 }
@@ -170,7 +171,7 @@ pub(crate) const OFFERED: Case = Case {
 };
 
 /// Terminal 0 sends two records and receives one. Begun again it sends nothing, and prints only the
-/// record that it receives then, after which its connection is closed.
+/// record that it receives then, the second on its channel, after which its connection is closed.
 const AGAIN: &[Case] = &[
     OFFERED,
     Case {
@@ -192,12 +193,13 @@ const AGAIN: &[Case] = &[
         ..STATUS
     },
     Case {
+        words: terminal!("kept", "--numbers"),
         scene: Scene {
             pieces: SELECTED,
             ..SILENT
         },
         due: Due {
-            out: "to 0: 4849\nfrom 0: offered 2, known 2\nto 0: spooled 2\n",
+            out: "to 0 1: 4849\nfrom 0: offered 2, known 2\nto 0: spooled 2\n",
             ..ENDED
         },
         ..TERMINAL

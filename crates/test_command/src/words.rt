@@ -45,7 +45,7 @@ const ASKED: &[Row] = &[
 listen: Some(\"h:1\"), allowed: [], peers: [], connect: None, shared: false, raw: false, \
 gap: None, time_out: None, patience: None, replace_after: None, pause: None, rounds: None, \
 idle_rounds: None, until_input_ends: false, offers: [], store: None, text: false, bytes: false, \
-report_records: false, sync: false, trace: 1, quiet: false })",
+numbers: false, report_records: false, sync: false, trace: 1, quiet: false })",
     ),
     (
         &[
@@ -71,6 +71,7 @@ report_records: false, sync: false, trace: 1, quiet: false })",
             "--replace-after=4",
             "--pause=3",
             "--bytes",
+            "--numbers",
             "--report-records",
             "--allow=d",
             "--allow",
@@ -91,7 +92,7 @@ shared: true, raw: true, gap: Some(\"9\"), \
 time_out: Some(\"8\"), patience: Some(\"5\"), \
 replace_after: Some(\"4\"), pause: Some(\"3\"), rounds: Some(\"7\"), idle_rounds: Some(\"6\"), \
 until_input_ends: true, offers: [\"a\", \"b\"], store: Some(\"k\"), text: true, \
-bytes: true, report_records: true, \
+bytes: true, numbers: true, report_records: true, \
 sync: true, trace: 3, quiet: true })",
     ),
     (&["bscline"], "Names"),
@@ -246,6 +247,7 @@ T.S=PATH
       --store <FILE>        Keep the records in FILE, and begin with those that it has
       --text                Print records as text on one line, with escapes
       --bytes               Print records as they stand
+      --numbers             Print with each record its number on its channel, counted from 0
       --report-records      Repeat the records that arrived in the report
       --sync                Sync standard output, if it is a file, before records are acknowledged
       --trace...            Print what is sent and heard on standard error; given twice, idle \

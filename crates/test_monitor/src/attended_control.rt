@@ -1,7 +1,8 @@
 //! A control station attended over a scripted connection. The octets are those of docs/PROTOCOL.md.
 
 use crate::fakes::{
-    Counting, Scripted, Taking, Told, attend_station, connections, control_watch, trust_of,
+    Counting, HEXADECIMAL, Scripted, Taking, Told, attend_station, connections, control_watch,
+    trust_of,
 };
 use crate::stations::{control_of, sending_control};
 use bsc_connections::{Connection, LiveError, SocketRecords};
@@ -10,7 +11,6 @@ use bsc_monitor::{
     ControlWatch, Ended, LastWatch, Limits, Printing, Standing, Tracing, station_standing,
     write_report,
 };
-use bsc_print::Form;
 use std::alloc::Global;
 use std::test::Fail;
 use test_fixtures::configurations::TWO_TERMINALS;
@@ -51,7 +51,7 @@ const CONTROL_TRACE: &[u8] = b"+1 silence
 
 /// How a control station prints records, with a trace.
 const ALL: Printing = Printing {
-    form: Form::Hexadecimal,
+    records: HEXADECIMAL,
     trace: Tracing::All,
 };
 
@@ -288,7 +288,7 @@ fn traces(
 
 /// A trace of exchanges.
 const EXCHANGES: Printing = Printing {
-    form: Form::Hexadecimal,
+    records: HEXADECIMAL,
     trace: Tracing::Exchanges,
 };
 

@@ -1,10 +1,10 @@
 //! A terminal attended over a scripted connection. The octets are those of docs/PROTOCOL.md.
 
-use crate::fakes::{Scripted, Unflushed, attend_station, connections, terminal_watch};
+use crate::fakes::{HEXADECIMAL, Scripted, Unflushed, attend_station, connections, terminal_watch};
 use crate::stations::{quiet_terminal, sending_terminal};
 use bsc_carrier::CarrierError;
 use bsc_connections::LiveError;
-use bsc_monitor::{LineTerminal, Printing, Tracing, write_report};
+use bsc_monitor::{LineTerminal, Printing, RecordLines, Tracing, write_report};
 use bsc_print::Form;
 use std::alloc::Global;
 use std::io::Write;
@@ -34,7 +34,7 @@ const TERMINAL_TRACE: &[u8] = b"+1 control heard CALL A 161604ff1616c185ff
 
 /// How a terminal prints records, with a trace.
 const ALL: Printing = Printing {
-    form: Form::Hexadecimal,
+    records: HEXADECIMAL,
     trace: Tracing::All,
 };
 
@@ -77,7 +77,7 @@ fn attend_and_report(
     let mut terminal = sending_terminal(alloc)?;
     let attended = Attended { octets, steps: b"" };
     let closed = attend_terminal(alloc, &mut terminal, printing, &attended, out, trace)?;
-    write_report(alloc, Some(printing.form), &terminal, out)?;
+    write_report(alloc, Some(printing.records.form), &terminal, out)?;
     Ok(closed)
 }
 
@@ -108,14 +108,18 @@ fn a_terminal_sends_and_receives(rt: HostRuntime) -> Result<(), Fail> {
     Ok(())
 }
 
-/// Without a trace, only faults of the connection are reported; characters may be printed as text.
+/// Without a trace, only faults of the connection are reported; characters may be printed as text,
+/// and each record with its number.
 #[test]
 fn a_fault_of_a_connection_is_told(rt: HostRuntime) -> Result<(), Fail> {
     const PRINTING: Printing = Printing {
-        form: Form::Text,
+        records: RecordLines {
+            form: Form::Text,
+            numbers: true,
+        },
         trace: Tracing::Off,
     };
-    const PRINTED: &[u8] = b"to 0: HI\nfrom 0: offered 1, known 1\nto 0: spooled 1\n  HI\n";
+    const PRINTED: &[u8] = b"to 0 0: HI\nfrom 0: offered 1, known 1\nto 0: spooled 1\n  HI\n";
     const TOLD: &[u8] = b"connection 0 closed: the input ended within a record\n";
     // The last record is cut short.
     let short = &TO_TERMINAL[..TO_TERMINAL.len() - 1];
@@ -167,8 +171,8 @@ fn traces(
     attended: &Attended,
     wanted: &[u8],
 ) -> Result<bool, Fail> {
-    let form = Form::Hexadecimal;
-    let printing = Printing { form, trace };
+    let records = HEXADECIMAL;
+    let printing = Printing { records, trace };
     let (mut out, mut errors) = (Vec::new(alloc), Vec::new(alloc));
     attend_terminal(alloc, terminal, printing, attended, &mut out, &mut errors)?;
     Ok(errors.as_slice() == wanted)

@@ -5,7 +5,10 @@ use bsc_connections::{
     Awaited, Connection, Handled, LiveError, Monitor, Note, Pace, SocketRecords, Waiter, attend,
 };
 use bsc_control::Control;
-use bsc_monitor::{ControlWatch, Limits, LineTerminal, Printing, TerminalWatch, Watch};
+use bsc_monitor::{
+    ControlWatch, Limits, LineTerminal, Printing, RecordLines, TerminalWatch, Watch,
+};
+use bsc_print::Form;
 use bsc_progress::{Counts, Meter, Timer};
 use bsc_trust::{TerminalPeers, Trust};
 use std::alloc::Global;
@@ -173,6 +176,12 @@ pub(crate) fn attend_station<S: Station, M: Monitor<S>>(
 ) -> Result<(), LiveError> {
     attend(station, connections, waiter, monitor)
 }
+
+/// Records in hexadecimal, without numbers.
+pub(crate) const HEXADECIMAL: RecordLines = RecordLines {
+    form: Form::Hexadecimal,
+    numbers: false,
+};
 
 /// Limits at which a control station never ends.
 pub(crate) const NO_LIMITS: Limits = Limits {

@@ -1,13 +1,12 @@
 //! The lines of a trace for the notes that a watch receives.
 
 use crate::beginning::address;
-use crate::fakes::{NO_LIMITS, control_watch, tell_each, trust_of};
+use crate::fakes::{HEXADECIMAL, NO_LIMITS, control_watch, tell_each, trust_of};
 use crate::stations::control_of;
 use bsc_carrier::CarrierError;
 use bsc_connections::{LiveError, Note, Refusal};
 use bsc_control::Control;
 use bsc_monitor::{Printing, Tracing};
-use bsc_print::Form;
 use std::alloc::Global;
 use std::io::Write;
 use std::test::Fail;
@@ -17,7 +16,7 @@ use test_fixtures::octets::{ACK1, EOT};
 
 /// Hexadecimal records, with a trace.
 const PRINTING: Printing = Printing {
-    form: Form::Hexadecimal,
+    records: HEXADECIMAL,
     trace: Tracing::All,
 };
 

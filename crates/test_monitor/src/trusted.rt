@@ -1,6 +1,6 @@
 //! What a control station hears, what it ignores, and what it says of the line.
 
-use crate::fakes::{NO_LIMITS, control_watch, tell_each};
+use crate::fakes::{HEXADECIMAL, NO_LIMITS, control_watch, tell_each};
 use crate::happenings::{falls_silent, hears};
 use crate::stations::control_of;
 use crate::trusted::Event::{Arrives, Silence};
@@ -8,7 +8,7 @@ use bsc_connections::{LiveError, Monitor, Note};
 use bsc_control::Control;
 use bsc_frame::{TextBuffer, decode};
 use bsc_monitor::{Ended, Limits, Printing, Tracing, write_trust};
-use bsc_print::{Form, PrintError};
+use bsc_print::PrintError;
 use bsc_trust::{Distrust, TerminalPeers, Trust};
 use std::alloc::Global;
 use std::test::Fail;
@@ -105,9 +105,9 @@ fn happen_each<M: Monitor<Control<Global>>>(
 /// What a watch prints, that it never ends, and what is known of a line with this time-out over
 /// several connections.
 fn settings(trace: Tracing, time_out: u64) -> (Printing, Limits, bool, Trust) {
-    let form = Form::Hexadecimal;
+    let records = HEXADECIMAL;
     let trust = Trust::new(false, time_out, TerminalPeers::new());
-    (Printing { form, trace }, NO_LIMITS, true, trust)
+    (Printing { records, trace }, NO_LIMITS, true, trust)
 }
 
 /// Lets these events happen to a control station of two terminals, with this trace and this

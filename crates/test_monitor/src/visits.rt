@@ -1,13 +1,12 @@
 //! The end of visits and rounds of the poll list, as a watch counts them.
 
-use crate::fakes::{NO_LIMITS, control_watch, trust_of};
+use crate::fakes::{HEXADECIMAL, NO_LIMITS, control_watch, trust_of};
 use crate::happenings::{falls_silent, hears};
 use crate::stations::{control_of, offer};
 use crate::visits::Event::{Asks, Heard, Offered, Silence, Stopped};
 use bsc_connections::{Monitor, Note};
 use bsc_control::Control;
 use bsc_monitor::{Limits, Printing, Tracing};
-use bsc_print::Form;
 use std::alloc::Global;
 use std::test::Fail;
 use test_fixtures::configurations::TWO_TERMINALS;
@@ -221,7 +220,7 @@ fn goes_on_after<M: Monitor<Control<Global>>>(
 
 /// Hexadecimal records, without a trace.
 const PRINTING: Printing = Printing {
-    form: Form::Hexadecimal,
+    records: HEXADECIMAL,
     trace: Tracing::Off,
 };
 

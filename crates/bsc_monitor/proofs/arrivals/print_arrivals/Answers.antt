@@ -19,10 +19,10 @@ channels-preserved g c =
     let after = g.W.Write.contents c.print_channel.new.out in
     let left : slice_index mid k ≡ slice_index old k = c.channels.invariant.others k (omega arith) in
     let Prints : ℕ → Type 0 = λ n. Appends before after
-    (channel_arrivals g.P.Party s c.args.form k n) in
+    (channel_arrivals g.P.Party s c.args.lines k n) in
     record {
       text = each_below_more (g.W.Write.contents c.args.out.now) before after
-          (arrivals_of g.P.Party s c.args.form old) k
+          (arrivals_of g.P.Party s c.args.lines old) k
           c.channels.invariant.text (subst Prints left c.in_ok-found.ensures.text);
       counts = search rules;
       some = λ e. more_with_channel old mid k x (search rules) left f b e

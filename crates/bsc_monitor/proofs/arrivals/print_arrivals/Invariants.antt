@@ -9,7 +9,7 @@ abbrev pub invariant-channels : goal.invariant-channels
 invariant-channels g l =
     record {
       text : Appends (g.W.Write.contents l.initial.out) (g.W.Write.contents l.out)
-          (each_below (arrivals_of g.P.Party l.station l.form l.initial.printed) l.number);
+          (each_below (arrivals_of g.P.Party l.station l.lines l.initial.printed) l.number);
       counts : AreCounted g.P.Party l.station l.initial.printed l.printed l.number;
       some : l.found ≡ true → MoreArePrinted l.initial.printed l.printed l.number;
       none : l.found ≡ false → AsManyArePrinted l.initial.printed l.printed l.number;

@@ -3,9 +3,8 @@ use Rattle.std.proofs.Common.{◌≡◌, ◌+◌, ◌-◌, ◌∙◌, ℕ, List,
 use Rattle.std.proofs.KnownBytes.{Appends-trans}
 use Rattle.std.proofs.lemmas.Option.{slice_get-get_or}
 use Rattle.bsc_block.proofs.Waiting.{waiting_at, waiting_within}
-use Rattle.bsc_print.proofs.Lists.{flat_map_take_more}
 use Rattle.bsc_report.specs.Channels.{channel_name}
-use Rattle.bsc_monitor.specs.Printed.{arrival_line}
+use Rattle.bsc_monitor.proofs.Lines.{lines_take_more}
 use Rattle.bsc_monitor.proofs.arrivals.print_records.Goals as goal
 
 pub records-preserved : goal.records-preserved
@@ -14,6 +13,8 @@ records-preserved g c =
     let from : ℕ = c.args.from in
     let i : ℕ = c.records.place - from in
     let r : List ℕ = c.chars.result.now in
+    let channel = c.args.channel in
+    let name = channel_name channel.addresses channel.number channel.way in
     let place : c.records.place ≡ from + i = omega (arith, c.records.invariant.after) in
     let next : c.records.place + 1 - from ≡ i + 1 = omega (arith, c.records.invariant.after) in
     let is : slice_get rs (from + i) ≡ Some r = rw (← place) c.chars.ensures.chars in
@@ -23,9 +24,6 @@ records-preserved g c =
     record {
       after = omega (arith, c.records.invariant.after);
       printed =
-          rw (
-            next,
-            flat_map_take_more (arrival_line c.args.form (channel_name c.args.channel.addresses
-                c.args.channel.number c.args.channel.way)) (drop from rs) i r waits,
-          ) (Appends-trans _ _ _ _ _ c.records.invariant.printed c.in_ok-print_record.ensures);
+          rw (next, lines_take_more c.args.lines name (drop from rs) from i r waits, ← place)
+          (Appends-trans _ _ _ _ _ c.records.invariant.printed c.in_ok-print_record.ensures);
     }

@@ -1,16 +1,14 @@
 -- The lines of the records so far are printed.
 use Rattle.std.proofs.Common.{◌-◌, ◌≤◌, take, drop}
-use Rattle.std.specs.List.{flat_map}
 use Rattle.std.specs.Io.KnownBytes.{Appends}
 use Rattle.bsc_report.specs.Channels.{channel_name}
-use Rattle.bsc_monitor.specs.Printed.{arrival_line}
+use Rattle.bsc_monitor.specs.Printed.{lines_from}
 use Rattle.bsc_monitor.proofs.arrivals.print_records.Given as goal
 
 abbrev pub invariant-records : goal.invariant-records
 invariant-records g l = record {
   after : l.from ≤ l.place;
   printed : Appends (g.W.Write.contents l.initial.out) (g.W.Write.contents l.out)
-      (flat_map
-      (arrival_line l.form (channel_name l.channel.addresses l.channel.number l.channel.way))
+      (lines_from l.lines (channel_name l.channel.addresses l.channel.number l.channel.way) l.from
       (take (l.place - l.from) (drop l.from l.records.items)));
 }
