@@ -23,4 +23,6 @@ mod refusals;
 #[cfg(test)]
 mod scripts;
 #[cfg(test)]
+mod sweeps;
+#[cfg(test)]
 mod values;
