@@ -5,7 +5,7 @@ use Rattle.std.proofs.Common.{subst, ◌∙◌, append_assoc, append-nil, length
 use Rattle.std.proofs.KnownBytes.{Appends-nil, Appends-trans}
 use Rattle.std.proofs.Math.Seq.{take-append_seam}
 use Rattle.std.proofs.lemmas.Bool.Decides.{nat_tests}
-use Rattle.std.proofs.lemmas.List.{map-append, take-map}
+use Rattle.std.proofs.lemmas.List.{take-map}
 use Rattle.std.specs.Io.KnownBytes.{Appends}
 use Rattle.std.specs.Prelude.{IfSome}
 use Rattle.std.specs.Str.Lines.{strip_carriage_return}
@@ -24,7 +24,7 @@ use Rattle.bsc_chart.specs.Errors.{IsWrongOrPrintError, input_error}
 use Rattle.bsc_chart.specs.Inputs.{DrawsFirst, DrawsInput, HasStopped, ReadsInput, StopsAt}
 use Rattle.bsc_chart.specs.Inputs.{StopsFull, is_misspelt}
 use Rattle.bsc_chart.specs.Inputs.{is_refused, is_wrong, values_at, values_of}
-use Rattle.bsc_chart.specs.Pages.{PageValue, blank_page, early_text, is_full, ladder_text, late_text}
+use Rattle.bsc_chart.specs.Pages.{PageValue, blank_page, early_text, is_full, late_text}
 use Rattle.bsc_chart.specs.Pages.{page_by, page_from, page_of, text_by, text_from}
 use Rattle.bsc_chart.specs.declared.error.ChartError.{ChartError}
 use Rattle.bsc_chart.specs.declared.error.ChartError.TheVariants as chart

@@ -1,14 +1,16 @@
 -- What an error of drawing says of the trace that is named.
 use Rattle.std.proofs.Common.{◌≡◌, ℕ, List, [], Option, None, Some, Result, Ok, Err, refl, sym, ap, ◌∙◌, subst}
+use Rattle.std.proofs.Common.{inr}
 use Rattle.std.proofs.KnownBytes.{Appends-nil}
-use Rattle.std.specs.Prelude.{IfErr, IfSome, OnOk, string_bytes}
+use Rattle.std.specs.Prelude.{IfErr, IfSome, OnOk}
 use Rattle.bsc_asked.specs.ChartWords.{AskedChart}
 use Rattle.bsc_input.specs.declared.unreadable.Unreadable.{Unreadable}
-use Rattle.bsc_chart.specs.Asked.{HasFailed, IsEarly, drawing_of}
+use Rattle.bsc_chart.specs.Asked.{drawing_of}
 use Rattle.bsc_chart.specs.Errors.{IsLineError}
-use Rattle.bsc_chart.specs.Inputs.{DrawsFirst, DrawsInput, HasStopped}
+use Rattle.bsc_chart.specs.Inputs.{HasStopped}
 use Rattle.bsc_chart.specs.Named.{HasFailedAs, HasFailedFile, HasFailedInput, HasFailedTrace}
-use Rattle.bsc_chart.specs.Named.{ChartsFile, DrawsFile, HoldsOf, IsCharted, IsDrawn, IsEarlyTrace, IsFileError}
+use Rattle.bsc_chart.specs.Named.{HoldsOf, IsCharted, IsDrawn, IsEarlyTrace, IsFileError}
+use Rattle.bsc_chart.specs.Named.{ChartsNamed, DrawsNamed, FailsAs, FailsAt, FailsChart, FailsNamed}
 use Rattle.bsc_chart.specs.Named.{IsLateTrace, IsUnread, SaysOf, file_of}
 use Rattle.bsc_chart.specs.declared.drawing.Drawing.{Drawing}
 use Rattle.bsc_chart.specs.declared.error.ChartError.{ChartError}
@@ -22,36 +24,95 @@ none_some None x a b = cc
 none_some (Some y) x a b = cc
 
 -- what was read from a file was drawn
-pub opened_read : {F : Type 0} (remaining : F → Option (List ℕ)) (d : Drawing)
-    (r : Result (Unit {0}) TraceError) (file : F) (a b : Option (List ℕ))
-    → OnOk r (IsDrawn (Ok d) a b (remaining file))
-    → OnOk r ((file : F) × IsDrawn (Ok d) a b (remaining file))
-opened_read remaining d (Ok done) file a b p = (file, p)
-opened_read remaining d (Err error) file a b p = tt
+pub opened_read : {F : Type 0} (opens : List ℕ → F → Type 0) (remaining : F → Option (List ℕ))
+    (path : List ℕ) (d : Drawing) (r : Result (Unit {0}) TraceError) (file : F)
+    (a b : Option (List ℕ)) → opens path file → OnOk r (IsDrawn (Ok d) a b (remaining file))
+    → OnOk r ((file : F) × opens path file × IsDrawn (Ok d) a b (remaining file))
+opened_read opens remaining path d (Ok done) file a b o p = (file, o, p)
+opened_read opens remaining path d (Err error) file a b o p = tt
 
--- no file is named
-pub no_file : {F : Type 0} (remaining : F → Option (List ℕ)) (words : AskedChart) (d : Drawing)
-    (r : Result (Unit {0}) TraceError) (a b : Option (List ℕ)) → None ≡ file_of words.file
-    → OnOk r (DrawsFile remaining words (Ok d) a b)
-no_file remaining words d (Ok done) a b none =
-    λ path is. absurd (none_some (file_of words.file) path none is)
-no_file remaining words d (Err error) a b none = tt
+-- it was not
+pub opened_unread : {F : Type 0} (opens : List ℕ → F → Type 0)
+    (refuses : List ℕ → Unreadable → Type 0) (remaining : F → Option (List ℕ)) (path : List ℕ)
+    (d : Drawing) (r : Result (Unit {0}) TraceError) (file : F) (a b : Option (List ℕ))
+    → opens path file → IfErr r (λ error. HasFailedFile path d error (remaining file) a b)
+    → IfErr r (λ error. FailsAt opens refuses remaining path d error a b)
+opened_unread opens refuses remaining path d (Ok done) file a b o p = tt
+opened_unread opens refuses remaining path d (Err error) file a b o p = inr (file, o, p)
 
--- a file is named
-pub some_file : {F : Type 0} (remaining : F → Option (List ℕ)) (words : AskedChart) (d : Drawing)
-    (r : Result (Unit {0}) TraceError) (a b : Option (List ℕ))
-    → OnOk r ((file : F) × IsDrawn (Ok d) a b (remaining file))
-    → OnOk r (DrawsFile remaining words (Ok d) a b)
-some_file remaining words d (Ok done) a b p = λ path is. p
-some_file remaining words d (Err error) a b p = tt
+-- a file is named, or none
+pub names_input : {F : Type 0} (opens : List ℕ → F → Type 0) (remaining : F → Option (List ℕ))
+    (named : Option (List ℕ)) (d : Drawing) (r : Result (Unit {0}) TraceError)
+    (input a b : Option (List ℕ)) → None ≡ named → OnOk r (IsDrawn (Ok d) a b input)
+    → OnOk r (DrawsNamed opens remaining named (Ok d) input a b)
+names_input opens remaining named d r input a b e p =
+    subst (λ n. OnOk r (DrawsNamed opens remaining n (Ok d) input a b)) e p
 
-pub file_charted : {F : Type 0} (remaining : F → Option (List ℕ)) (words : AskedChart)
+pub names_file : {F : Type 0} (opens : List ℕ → F → Type 0) (remaining : F → Option (List ℕ))
+    (named : Option (List ℕ)) (path : List ℕ) (d : Drawing) (r : Result (Unit {0}) TraceError)
+    (input a b : Option (List ℕ)) → Some path ≡ named
+    → OnOk r ((file : F) × opens path file × IsDrawn (Ok d) a b (remaining file))
+    → OnOk r (DrawsNamed opens remaining named (Ok d) input a b)
+names_file opens remaining named path d r input a b e p =
+    subst (λ n. OnOk r (DrawsNamed opens remaining n (Ok d) input a b)) e p
+
+pub fails_input : {F : Type 0} (opens : List ℕ → F → Type 0)
+    (refuses : List ℕ → Unreadable → Type 0) (remaining : F → Option (List ℕ))
+    (named : Option (List ℕ)) (d : Drawing) (r : Result (Unit {0}) TraceError)
+    (input a b : Option (List ℕ)) → None ≡ named
+    → IfErr r (λ error. HasFailedInput d error input a b)
+    → IfErr r (λ error. FailsNamed opens refuses remaining named d error input a b)
+fails_input opens refuses remaining named d r input a b e p =
+    subst (λ n. IfErr r (λ error. FailsNamed opens refuses remaining n d error input a b)) e p
+
+pub fails_file : {F : Type 0} (opens : List ℕ → F → Type 0)
+    (refuses : List ℕ → Unreadable → Type 0) (remaining : F → Option (List ℕ))
+    (named : Option (List ℕ)) (path : List ℕ) (d : Drawing) (r : Result (Unit {0}) TraceError)
+    (input a b : Option (List ℕ)) → Some path ≡ named
+    → IfErr r (λ error. FailsAt opens refuses remaining path d error a b)
+    → IfErr r (λ error. FailsNamed opens refuses remaining named d error input a b)
+fails_file opens refuses remaining named path d r input a b e p =
+    subst (λ n. IfErr r (λ error. FailsNamed opens refuses remaining n d error input a b)) e p
+
+-- the words ask to draw so on this terminal
+pub named_charted : {F : Type 0} (tells : Option (List ℕ) → Type 0)
+    (opens : List ℕ → F → Type 0) (remaining : F → Option (List ℕ)) (words : AskedChart)
     (columns : Option (List ℕ)) (d : Drawing) (r : Result (Unit {0}) TraceError)
-    (a b : Option (List ℕ)) → Ok d ≡ drawing_of columns words
-    → OnOk r (DrawsFile remaining words (Ok d) a b) → OnOk r (ChartsFile remaining words a b)
-file_charted remaining words columns d (Ok done) a b e p =
-    (columns, subst (λ s. DrawsFile remaining words s a b) e p)
-file_charted remaining words columns d (Err error) a b e p = tt
+    (input a b : Option (List ℕ)) → tells columns → Ok d ≡ drawing_of columns words
+    → OnOk r (DrawsNamed opens remaining (file_of words.file) (Ok d) input a b)
+    → OnOk r (ChartsNamed tells opens remaining words input a b)
+named_charted tells opens remaining words columns d (Ok done) input a b t e p =
+    (columns, t, subst (λ s. DrawsNamed opens remaining (file_of words.file) s input a b) e p)
+named_charted tells opens remaining words columns d (Err error) input a b t e p = tt
+
+pub named_failed : {F : Type 0} (tells : Option (List ℕ) → Type 0)
+    (opens : List ℕ → F → Type 0) (refuses : List ℕ → Unreadable → Type 0)
+    (remaining : F → Option (List ℕ)) (words : AskedChart) (columns : Option (List ℕ))
+    (d : Drawing) (r : Result (Unit {0}) TraceError) (input a b : Option (List ℕ))
+    → tells columns → Ok d ≡ drawing_of columns words
+    → IfErr r (λ error.
+    FailsNamed opens refuses remaining (file_of words.file) d error input a b)
+    → IfErr r (λ error. FailsChart tells opens refuses remaining words error input a b)
+named_failed tells opens refuses remaining words columns d (Ok done) input a b t e p = tt
+named_failed tells opens refuses remaining words columns d (Err error) input a b t e p = (
+  columns,
+  t,
+  subst (λ s. FailsAs opens refuses remaining (file_of words.file) s error input a b) e p,
+)
+
+-- the words are wrong on this terminal
+pub words_failed : {F : Type 0} (tells : Option (List ℕ) → Type 0)
+    (opens : List ℕ → F → Type 0) (refuses : List ℕ → Unreadable → Type 0)
+    (remaining : F → Option (List ℕ)) (words : AskedChart) (columns : Option (List ℕ))
+    (why : ChartError) (input a : Option (List ℕ)) → tells columns
+    → Err why ≡ drawing_of columns words
+    → FailsChart tells opens refuses remaining words (Chart why) input a a
+words_failed tells opens refuses remaining words columns why input a t e = (
+  columns,
+  t,
+  subst (λ s. FailsAs opens refuses remaining (file_of words.file) s (Chart why) input a a) e
+      (refl, refl),
+)
 
 late_trace : (e : TraceError) → IsLateTrace e → IsEarlyTrace e → ⊥
 late_trace (CannotRead path why) is early = early

@@ -1,5 +1,6 @@
 -- The ladder of the trace that the words name: a file, or standard input.
-use Rattle.std.specs.Prelude.{◌≡◌, ℕ, List, Option, Some, None, IfSome, IsOkAnd, Result, codes}
+use Rattle.std.specs.Prelude.{◌≡◌, ◌⊎◌, ℕ, List, Option, Some, None, IfSome, IsOkAnd, Result, Ok}
+use Rattle.std.specs.Prelude.{Err, codes}
 use Rattle.std.specs.Prelude.{if◌then◌else◌, string_bytes}
 use Rattle.std.specs.Str.{bytes_eq}
 use Rattle.bsc_asked.specs.ChartWords.{AskedChart}
@@ -75,19 +76,71 @@ HasFailedAs words drawing (CannotRead path why) input old new =
 HasFailedAs words drawing (Chart error) input old new =
     HoldsOf words input (SaysOf drawing error old new)
 
--- If a file is named, what was written is the ladder of what one gives. `remaining` is what is left
--- to read from a file.
-abbrev pub DrawsFile : {F : Type 0} → (F → Option (List ℕ)) → AskedChart
-    → Result Drawing ChartError → Option (List ℕ) → Option (List ℕ) → Type 0
-DrawsFile {F} remaining words drawing old new =
-    (path : List ℕ) → file_of words.file ≡ Some path
-    → (file : F) × IsDrawn drawing old new (remaining file)
+-- Of a machine, `tells` is what it may tell of the width of its terminal, `opens` which file it may
+-- open at a path, `refuses` why it may open none there, and `remaining` what is left to read from a
+-- file.
 
--- The same, as the words ask to draw on a terminal of which this width is told.
-abbrev pub ChartsFile : {F : Type 0} → (F → Option (List ℕ)) → AskedChart → Option (List ℕ)
+-- The ladder was written of the trace that is named: that of a file that the machine opened at the
+-- path, or, if none is named, that on standard input.
+abbrev pub DrawsNamed : {F : Type 0} → (List ℕ → F → Type 0) → (F → Option (List ℕ))
+    → Option (List ℕ) → Result Drawing ChartError → Option (List ℕ) → Option (List ℕ)
     → Option (List ℕ) → Type 0
-ChartsFile remaining words old new =
-    (columns : Option (List ℕ)) × DrawsFile remaining words (drawing_of columns words) old new
+DrawsNamed opens remaining None drawing input old new = IsDrawn drawing old new input
+DrawsNamed {F} opens remaining (Some path) drawing input old new =
+    (file : F) × opens path file × IsDrawn drawing old new (remaining file)
+
+-- The same, as the words ask to draw on a terminal of which the machine tells the width.
+abbrev pub ChartsNamed : {F : Type 0} → (Option (List ℕ) → Type 0) → (List ℕ → F → Type 0)
+    → (F → Option (List ℕ)) → AskedChart → Option (List ℕ) → Option (List ℕ) → Option (List ℕ)
+    → Type 0
+ChartsNamed tells opens remaining words input old new =
+    (columns : Option (List ℕ)) × tells columns
+    × DrawsNamed opens remaining (file_of words.file) (drawing_of columns words) input old new
+
+-- The machine did not open a file at this path, for the reason that the error tells unless memory
+-- ran out, and nothing was written.
+abbrev pub IsUnopened : (List ℕ → Unreadable → Type 0) → List ℕ → TraceError → Option (List ℕ)
+    → Option (List ℕ) → Type 0
+IsUnopened refuses path error old new =
+    (why : Unreadable) × refuses path why × IsUnread path why error × (new ≡ old)
+
+-- What an error says of the trace in the file at this path: the machine did not open it, or that is
+-- what it says of the file that it opened there.
+abbrev pub FailsAt : {F : Type 0} → (List ℕ → F → Type 0) → (List ℕ → Unreadable → Type 0)
+    → (F → Option (List ℕ)) → List ℕ → Drawing → TraceError → Option (List ℕ)
+    → Option (List ℕ) → Type 0
+FailsAt {F} opens refuses remaining path drawing error old new =
+    IsUnopened refuses path error old new
+    ⊎ ((file : F) × opens path file
+    × HasFailedFile path drawing error (remaining file) old new)
+
+-- What it says of the trace that is named.
+abbrev pub FailsNamed : {F : Type 0} → (List ℕ → F → Type 0) → (List ℕ → Unreadable → Type 0)
+    → (F → Option (List ℕ)) → Option (List ℕ) → Drawing → TraceError → Option (List ℕ)
+    → Option (List ℕ) → Option (List ℕ) → Type 0
+FailsNamed opens refuses remaining None drawing error input old new =
+    HasFailedInput drawing error input old new
+FailsNamed opens refuses remaining (Some path) drawing error input old new =
+    FailsAt opens refuses remaining path drawing error old new
+
+-- The same, if this is how the words ask to draw: of wrong words the error is told, and nothing is
+-- written.
+abbrev pub FailsAs : {F : Type 0} → (List ℕ → F → Type 0) → (List ℕ → Unreadable → Type 0)
+    → (F → Option (List ℕ)) → Option (List ℕ) → Result Drawing ChartError → TraceError
+    → Option (List ℕ) → Option (List ℕ) → Option (List ℕ) → Type 0
+FailsAs opens refuses remaining file (Err why) error input old new =
+    (error ≡ Chart why) × (new ≡ old)
+FailsAs opens refuses remaining file (Ok drawing) error input old new =
+    FailsNamed opens refuses remaining file drawing error input old new
+
+-- The same, as the words ask to draw on a terminal of which the machine tells the width.
+abbrev pub FailsChart : {F : Type 0} → (Option (List ℕ) → Type 0) → (List ℕ → F → Type 0)
+    → (List ℕ → Unreadable → Type 0) → (F → Option (List ℕ)) → AskedChart → TraceError
+    → Option (List ℕ) → Option (List ℕ) → Option (List ℕ) → Type 0
+FailsChart tells opens refuses remaining words error input old new =
+    (columns : Option (List ℕ)) × tells columns
+    × FailsAs opens refuses remaining (file_of words.file) (drawing_of columns words) error input
+    old new
 
 -- The ladder of the trace that the words name was written as they ask for, on a terminal of which
 -- this width is told.

@@ -1,5 +1,5 @@
 -- The rows of a trace: one for each of its lines.
-use Rattle.std.specs.Prelude.{ℕ, List, [], ◌++◌, codes}
+use Rattle.std.specs.Prelude.{ℕ, List, ◌++◌, codes}
 use Rattle.std.specs.List.{flat_map}
 use Rattle.bsc_frame.specs.Reading.{heard}
 use Rattle.bsc_frame.specs.Texts.{TextUnit}

@@ -1,10 +1,11 @@
 //! The ladder of the trace that the words of the command name: a file, or standard input.
-ghost use Rattle.std.specs.Prelude.{◌≡◌, OnOk, IfErr, Ok, Some, ℕ, List, Option};
+ghost use Rattle.std.specs.Prelude.{◌≡◌, OnOk, IfErr, IfOk, Ok, Some, ℕ, List, Option};
 ghost use Rattle.std.specs.Prelude.{option_map, string_bytes};
 ghost use Rattle.bsc_asked.specs.ChartWords.{chart_words};
+ghost use Rattle.bsc_input.specs.declared.unreadable.Unreadable.{Unreadable as UnreadableValue};
 ghost use Rattle.bsc_chart.specs.Named.{HasFailedAs, HasFailedFile, HasFailedInput};
 ghost use Rattle.bsc_chart.specs.Named.{HasFailedTrace, HoldsOf, IsCharted, IsDrawn, IsEarlyTrace};
-ghost use Rattle.bsc_chart.specs.Named.{ChartsFile, DrawsFile};
+ghost use Rattle.bsc_chart.specs.Named.{ChartsNamed, DrawsNamed, FailsAt, FailsChart, FailsNamed};
 ghost use Rattle.bsc_chart.specs.Named.{IsFileError, IsLateTrace, IsUnread, file_of as file_in};
 
 use crate::words::{read_drawing, text_of};
@@ -20,12 +21,24 @@ pub trait Traces {
     /// The file of a trace.
     type File: Read + Drop;
 
+    /// What the machine may tell of the width of the terminal.
+    ghost tells: { Option (List ℕ) → Type 0 };
+
+    /// Whether this file may be opened at this path.
+    ghost opens: { List ℕ → Self.File → Type 0 };
+
+    /// Whether this may be the reason why no file can be opened at this path.
+    ghost refuses: { List ℕ → UnreadableValue → Type 0 };
+
     /// Opens the file at this path. The error is the reason why it cannot be opened.
-    fn open_trace(&mut self, path: &str) -> Result<Self::File, Unreadable>;
+    fn open_trace(&mut self, path: &str) -> Result<Self::File, Unreadable>
+        ensures opened { IfOk result (opens path.now) }
+        ensures refused { IfErr result (refuses path.now) };
 
     /// Returns the width of the terminal in characters, in decimal digits, if the machine is told
     /// it.
-    fn columns(&mut self) -> Option<String>;
+    fn columns(&mut self) -> Option<String>
+        ensures { tells (option_map string_bytes result) };
 }
 
 /// The reason why not all of the trace that was named was drawn.
@@ -56,8 +69,12 @@ pub fn draw_named<R: Read, T: Traces, W: Write>(
         (W.contents out.old) (W.contents out.new)) }
     ensures failed { IfErr result (λ error. HasFailedTrace (chart_words words.now) error
         (R.remaining input.old) (W.contents out.old) (W.contents out.new)) }
-    ensures file { OnOk result (ChartsFile T.File.remaining (chart_words words.now)
-        (W.contents out.old) (W.contents out.new)) }
+    ensures drawn { OnOk result (ChartsNamed T.tells T.opens T.File.remaining
+        (chart_words words.now) (R.remaining input.old) (W.contents out.old)
+        (W.contents out.new)) }
+    ensures undrawn { IfErr result (λ error. FailsChart T.tells T.opens T.refuses T.File.remaining
+        (chart_words words.now) error (R.remaining input.old) (W.contents out.old)
+        (W.contents out.new)) }
     ensures early { IfErr result (λ error. IsEarlyTrace error → out.new ≡ out.old) }
     ensures unasked { (path : List ℕ) → file_in (chart_words words.now).file ≡ Some path
         → input.new ≡ input.old }
@@ -103,7 +120,11 @@ fn draw_from<R: Read, T: Traces, W: Write>(
         (IsDrawn (Ok drawing) (W.contents out.old) (W.contents out.new))) }
     ensures failed { IfErr result (λ error. HasFailedAs (chart_words words.now) (Ok drawing) error
         (R.remaining input.old) (W.contents out.old) (W.contents out.new)) }
-    ensures file { OnOk result (DrawsFile T.File.remaining (chart_words words.now) (Ok drawing)
+    ensures drawn { OnOk result (DrawsNamed T.opens T.File.remaining
+        (file_in (chart_words words.now).file) (Ok drawing) (R.remaining input.old)
+        (W.contents out.old) (W.contents out.new)) }
+    ensures undrawn { IfErr result (λ error. FailsNamed T.opens T.refuses T.File.remaining
+        (file_in (chart_words words.now).file) drawing error (R.remaining input.old)
         (W.contents out.old) (W.contents out.new)) }
     ensures late { IfErr result IsLateTrace }
     ensures unasked { (path : List ℕ) → file_in (chart_words words.now).file ≡ Some path
@@ -144,8 +165,11 @@ fn draw_file<T: Traces, W: Write>(
 ) -> Result<(), TraceError>
     ensures ok { OnOk result ((trace : Option (List ℕ))
         × IsDrawn (Ok drawing) (W.contents out.old) (W.contents out.new) trace) }
-    ensures read { OnOk result ((file : T.File) × IsDrawn (Ok drawing) (W.contents out.old)
-        (W.contents out.new) (T.File.remaining file)) }
+    ensures read { OnOk result ((file : T.File) × T.opens path.now file
+        × IsDrawn (Ok drawing) (W.contents out.old) (W.contents out.new)
+        (T.File.remaining file)) }
+    ensures unread { IfErr result (λ error. FailsAt T.opens T.refuses T.File.remaining path.now
+        drawing error (W.contents out.old) (W.contents out.new)) }
     ensures failed { IfErr result (λ error. (trace : Option (List ℕ))
         × HasFailedFile path.now drawing error trace (W.contents out.old) (W.contents out.new)) }
     ensures late { IfErr result IsLateTrace }

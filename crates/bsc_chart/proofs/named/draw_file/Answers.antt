@@ -1,6 +1,6 @@
 -- Shows that what a file gives is drawn, if it can be opened.
-use Rattle.std.proofs.Common.{[], Some}
-use Rattle.bsc_chart.proofs.TraceErrors.{opened_drawn, opened_failed, opened_read}
+use Rattle.std.proofs.Common.{[], Some, inl, refl}
+use Rattle.bsc_chart.proofs.TraceErrors.{opened_drawn, opened_failed, opened_read, opened_unread}
 use Rattle.bsc_chart.proofs.TraceErrors.{unopened_says, unread_late}
 use Rattle.bsc_chart.proofs.named.draw_file.Goals as goal
 
@@ -12,9 +12,16 @@ returns-in-Ok-clause-ok g c =
 
 pub returns-in-Ok-clause-read : goal.returns-in-Ok-clause-read
 returns-in-Ok-clause-read g c =
-    opened_read g.T.File.Read.remaining c.args.drawing c.draw_opened.result c.in-Ok.file
-    (g.W.Write.contents c.args.out.now) (g.W.Write.contents c.draw_opened.new.out)
-    c.draw_opened.ensures.ok
+    opened_read g.T.Traces.opens g.T.File.Read.remaining c.args.path.now c.args.drawing
+    c.draw_opened.result c.in-Ok.file (g.W.Write.contents c.args.out.now)
+    (g.W.Write.contents c.draw_opened.new.out) c.in-Ok.ensures.opened c.draw_opened.ensures.ok
+
+pub returns-in-Ok-clause-unread : goal.returns-in-Ok-clause-unread
+returns-in-Ok-clause-unread g c =
+    opened_unread g.T.Traces.opens g.T.Traces.refuses g.T.File.Read.remaining c.args.path.now
+    c.args.drawing c.draw_opened.result c.in-Ok.file (g.W.Write.contents c.args.out.now)
+    (g.W.Write.contents c.draw_opened.new.out) c.in-Ok.ensures.opened
+    c.draw_opened.ensures.failed
 
 pub returns-in-Ok-clause-failed : goal.returns-in-Ok-clause-failed
 returns-in-Ok-clause-failed g c =
@@ -28,6 +35,10 @@ returns-in-Err-clause-failed g c = (
   unopened_says c.args.drawing c.args.path.now c.in-Err.why c.cannot_read.result
       (g.W.Write.contents c.args.out.now) c.cannot_read.ensures,
 )
+
+pub returns-in-Err-clause-unread : goal.returns-in-Err-clause-unread
+returns-in-Err-clause-unread g c =
+    inl (c.in-Err.why, c.in-Err.ensures.refused, c.cannot_read.ensures, refl)
 
 pub returns-in-Err-clause-late : goal.returns-in-Err-clause-late
 returns-in-Err-clause-late g c =

@@ -2,7 +2,8 @@
 use Rattle.bsc_asked.specs.ChartWords.{chart_words}
 use Rattle.bsc_chart.specs.Named.{file_of}
 use Rattle.bsc_chart.proofs.TraceErrors.{file_drawn, file_failed, input_drawn, input_failed}
-use Rattle.bsc_chart.proofs.TraceErrors.{no_file, none_some, some_file}
+use Rattle.bsc_chart.proofs.TraceErrors.{fails_file, fails_input, names_file, names_input}
+use Rattle.bsc_chart.proofs.TraceErrors.{none_some}
 use Rattle.bsc_chart.proofs.named.draw_from.Goals as goal
 
 pub returns-in-None-clause-ok : goal.returns-in-None-clause-ok
@@ -17,17 +18,33 @@ returns-in-None-clause-failed g c =
     (g.W.Write.contents c.args.out.now) (g.W.Write.contents c.draw_input.new.out)
     c.args.drawing c.draw_input.result c.draw_input.ensures.failed
 
-pub returns-in-None-clause-file : goal.returns-in-None-clause-file
-returns-in-None-clause-file g c =
-    no_file g.T.File.Read.remaining (chart_words c.args.words.now) c.args.drawing
-    c.draw_input.result (g.W.Write.contents c.args.out.now)
-    (g.W.Write.contents c.draw_input.new.out) c.in-None.ensures
+pub returns-in-None-clause-drawn : goal.returns-in-None-clause-drawn
+returns-in-None-clause-drawn g c =
+    names_input g.T.Traces.opens g.T.File.Read.remaining
+    (file_of (chart_words c.args.words.now).file) c.args.drawing c.draw_input.result
+    (g.R.Read.remaining c.args.input.now) (g.W.Write.contents c.args.out.now)
+    (g.W.Write.contents c.draw_input.new.out) c.in-None.ensures c.draw_input.ensures.ok
 
-pub returns-in-Some-clause-file : goal.returns-in-Some-clause-file
-returns-in-Some-clause-file g c =
-    some_file g.T.File.Read.remaining (chart_words c.args.words.now) c.args.drawing
-    c.draw_file.result (g.W.Write.contents c.args.out.now)
-    (g.W.Write.contents c.draw_file.new.out) c.draw_file.ensures.read
+pub returns-in-None-clause-undrawn : goal.returns-in-None-clause-undrawn
+returns-in-None-clause-undrawn g c =
+    fails_input g.T.Traces.opens g.T.Traces.refuses g.T.File.Read.remaining
+    (file_of (chart_words c.args.words.now).file) c.args.drawing c.draw_input.result
+    (g.R.Read.remaining c.args.input.now) (g.W.Write.contents c.args.out.now)
+    (g.W.Write.contents c.draw_input.new.out) c.in-None.ensures c.draw_input.ensures.failed
+
+pub returns-in-Some-clause-drawn : goal.returns-in-Some-clause-drawn
+returns-in-Some-clause-drawn g c =
+    names_file g.T.Traces.opens g.T.File.Read.remaining
+    (file_of (chart_words c.args.words.now).file) c.in-Some.path.now c.args.drawing
+    c.draw_file.result (g.R.Read.remaining c.args.input.now) (g.W.Write.contents c.args.out.now)
+    (g.W.Write.contents c.draw_file.new.out) c.in-Some.ensures c.draw_file.ensures.read
+
+pub returns-in-Some-clause-undrawn : goal.returns-in-Some-clause-undrawn
+returns-in-Some-clause-undrawn g c =
+    fails_file g.T.Traces.opens g.T.Traces.refuses g.T.File.Read.remaining
+    (file_of (chart_words c.args.words.now).file) c.in-Some.path.now c.args.drawing
+    c.draw_file.result (g.R.Read.remaining c.args.input.now) (g.W.Write.contents c.args.out.now)
+    (g.W.Write.contents c.draw_file.new.out) c.in-Some.ensures c.draw_file.ensures.unread
 
 pub returns-in-None-clause-unasked : goal.returns-in-None-clause-unasked
 returns-in-None-clause-unasked g c = λ path is.

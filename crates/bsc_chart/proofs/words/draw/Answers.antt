@@ -1,6 +1,6 @@
 -- Shows that the errors of drawing are told, and that none of them is one of the words.
-use Rattle.std.proofs.Common.{◌≡◌, Err, Ok, Result, Option, List, ℕ, sym, subst, ◌∙◌, ap}
-use Rattle.std.specs.Prelude.{IfErr, IfSome}
+use Rattle.std.proofs.Common.{Err, Ok, Result}
+use Rattle.std.specs.Prelude.{IfErr}
 use Rattle.bsc_chart.specs.Asked.{IsEarly}
 use Rattle.bsc_chart.specs.Errors.{IsLineError}
 use Rattle.bsc_chart.specs.declared.error.ChartError.{ChartError}
