@@ -1,6 +1,6 @@
 -- The output of the program for its work.
 use Rattle.std.specs.Prelude.{◌≡◌, ◌⊎◌, ℕ, Bool, List, [], Option, None, IfSome, IsOkAnd, IsSomeAnd}
-use Rattle.std.specs.Prelude.{Ok, Err}
+use Rattle.std.specs.Prelude.{Ok, Err, Some}
 use Rattle.clap.specs.Words.{HasKind, Text as WordText, kind_of}
 use Rattle.clap.specs.declared.error.Error.{Error}
 use Rattle.bsc_asked.specs.ChartWords.{AskedChart}
@@ -9,7 +9,9 @@ use Rattle.bsc_asked.specs.StoreWords.{AskedStore}
 use Rattle.bsc_asked.specs.Asked.{AskedValue, names, name, show, chart, run, station, store}
 use Rattle.bsc_attending.specs.Outcomes.{IsAnswer}
 use Rattle.bsc_attending.specs.declared.error.AttendingError.TheVariants as attending
-use Rattle.bsc_chart.specs.Named.{HasFailedTrace, IsCharted}
+use Rattle.bsc_chart.specs.Named.{ChartsNamed, FailsChart, HasFailedTrace, IsCharted, file_of}
+use Rattle.bsc_chart.specs.declared.named.TraceError.{TraceError}
+use Rattle.bsc_input.specs.declared.unreadable.Unreadable.{Unreadable}
 use Rattle.bsc_input.specs.Hexadecimal.{octets_of}
 use Rattle.bsc_print.specs.Names.{Prints, name_line}
 use Rattle.bsc_print.specs.declared.printed.Detail.{Detail}
@@ -30,6 +32,7 @@ use Rattle.bsc_command.specs.declared.fault.Fault.TheVariants.{Attending, OutOfM
 use Rattle.bsc_command.specs.declared.fault.Fault.TheVariants.{Usage}
 use Rattle.bsc_command.specs.Faults.{IsChartingFault, IsNameFault, IsNamesFault}
 use Rattle.bsc_command.specs.Faults.{IsPrintFault, IsRunFault, IsStationFault, IsStoreFault}
+use Rattle.bsc_command.specs.Faults.{IsTraceFault}
 use Rattle.bsc_command.specs.Faults.{options_kind}
 
 -- What a fault of naming one transmission says: its text is not hexadecimal.
@@ -74,6 +77,33 @@ abbrev pub HasFailedChart : Fault → AskedChart → Option (List ℕ) → Optio
     → Option (List ℕ) → Type 0
 HasFailedChart (Charting error) words input old new = HasFailedTrace words error input old new
 HasFailedChart fault words input old new = Unit {0}
+
+-- Of the machine on which a trace is drawn, `tells` is what it may tell of the width of its
+-- terminal, `opens` which file it may open at a path, `refuses` why it may open none there, and
+-- `remaining` what is left to read from a file.
+
+-- If this work draws a trace, it was drawn as it is asked for on that machine: the trace of
+-- standard input, or that of the file that was opened at its path.
+abbrev pub IsChartedOn : {F : Type 0} → (Option (List ℕ) → Type 0) → (List ℕ → F → Type 0)
+    → (F → Option (List ℕ)) → AskedValue → Option (List ℕ) → Option (List ℕ)
+    → Option (List ℕ) → Type 0
+IsChartedOn tells opens remaining (chart words) input old new =
+    ChartsNamed tells opens remaining words input old new
+IsChartedOn tells opens remaining asked input old new = Unit {0}
+
+-- If this work draws a trace, the fault is that of an error that says what it does of that machine.
+abbrev pub HasFailedOn : {F : Type 0} → (Option (List ℕ) → Type 0) → (List ℕ → F → Type 0)
+    → (List ℕ → Unreadable → Type 0) → (F → Option (List ℕ)) → AskedValue → Fault
+    → Option (List ℕ) → Option (List ℕ) → Option (List ℕ) → Type 0
+HasFailedOn tells opens refuses remaining (chart words) fault input old new =
+    (error : TraceError) × IsTraceFault error fault
+    × FailsChart tells opens refuses remaining words error input old new
+HasFailedOn tells opens refuses remaining asked fault input old new = Unit {0}
+
+-- This holds, if the work draws the trace in a file.
+abbrev pub IfNamed : AskedValue → Type 0 → Type 0
+IfNamed (chart words) Holds = (path : List ℕ) → file_of words.file ≡ Some path → Holds
+IfNamed asked Holds = Unit {0}
 
 -- For the streams of a run's cable, `contents` is what was written to a stream, and `remaining` is
 -- what is left to read from it.

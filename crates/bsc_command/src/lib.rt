@@ -6,10 +6,12 @@
 #![tactic(auto)]
 
 mod fault;
+mod given;
 mod help;
 mod program;
 mod whole_command;
 
 pub use fault::{Fault, not_text, status};
+pub use given::given_words;
 pub use program::perform;
 pub use whole_command::{command, fail};

@@ -1,12 +1,14 @@
 //! The work of the program, over any reader, writer and machine.
 ghost use Rattle.std.specs.Prelude.{◌≡◌, ℕ, Bool, OnOk, IfErr, List};
-ghost use Rattle.std.specs.Prelude.{IsTrue, true};
+ghost use Rattle.std.specs.Prelude.{IsTrue, Some, true};
 ghost use Rattle.bsc_asked.specs.Asked.{asked as asked_now, name as name_asked, run as run_asked};
 ghost use Rattle.bsc_asked.specs.ChartWords.{chart_words};
 ghost use Rattle.bsc_asked.specs.StoreWords.{store_words};
-ghost use Rattle.bsc_command.specs.Faults.{IsChartingFault, IsEarly, IsStoreFault};
-ghost use Rattle.bsc_command.specs.Program.{HasDoneRun, HasFailedAs, HasFailedWith, IsDone};
-ghost use Rattle.bsc_chart.specs.Named.{IsCharted};
+ghost use Rattle.bsc_command.specs.Faults.{IsChartingFault, IsEarly, IsStoreFault, IsTraceFault};
+ghost use Rattle.bsc_command.specs.Program.{HasDoneRun, HasFailedAs, HasFailedOn, HasFailedWith};
+ghost use Rattle.bsc_command.specs.Program.{IfNamed, IsChartedOn, IsDone};
+ghost use Rattle.bsc_chart.specs.Named.{ChartsNamed, FailsChart, IsCharted, file_of};
+ghost use Rattle.bsc_chart.specs.declared.named.TraceError.{TraceError};
 ghost use Rattle.bsc_command.specs.Program.{HasFailedChart, HasFailedStore, HasWork, IsFaultOf};
 ghost use Rattle.bsc_running.specs.Errors.{IsEarly as IsEarlyRunning};
 ghost use Rattle.bsc_running.specs.Running.{paths_of};
@@ -44,6 +46,13 @@ pub fn perform<R: Read, H: Files + Traces + Cables + Network + Stores + StoreFil
     ensures failed { IfErr result (λ fault.
         HasFailedAs H.Stream.contents H.Stream.remaining (asked_now asked.now) fault
         (R.remaining input.old) (W.contents out.old) (W.contents out.new)) }
+    ensures charted { OnOk result (IsChartedOn H.tells H.opens H.File.remaining
+        (asked_now asked.now) (R.remaining input.old) (W.contents out.old)
+        (W.contents out.new)) }
+    ensures uncharted { IfErr result (λ fault. HasFailedOn H.tells H.opens H.refuses
+        H.File.remaining (asked_now asked.now) fault (R.remaining input.old)
+        (W.contents out.old) (W.contents out.new)) }
+    ensures named { IfNamed (asked_now asked.now) (input.new ≡ input.old) }
     ensures early { IfErr result (λ fault. IsEarly fault → out.new ≡ out.old) }
     ensures unasked { (text : List ℕ) → asked_now asked.now ≡ name_asked text →
         input.new ≡ input.old }
@@ -139,6 +148,14 @@ fn draw_chart<R: Read, T: Traces, W: Write>(
     ensures fault { IfErr result IsChartingFault }
     ensures failed { IfErr result (λ fault. HasFailedChart fault (chart_words words.now)
         (R.remaining input.old) (W.contents out.old) (W.contents out.new)) }
+    ensures drawn { OnOk result (ChartsNamed T.tells T.opens T.File.remaining
+        (chart_words words.now) (R.remaining input.old) (W.contents out.old)
+        (W.contents out.new)) }
+    ensures undrawn { IfErr result (λ fault. (error : TraceError) × IsTraceFault error fault
+        × FailsChart T.tells T.opens T.refuses T.File.remaining (chart_words words.now) error
+        (R.remaining input.old) (W.contents out.old) (W.contents out.new)) }
+    ensures unasked { (path : List ℕ) → file_of (chart_words words.now).file ≡ Some path
+        → input.new ≡ input.old }
     ensures early { IfErr result (λ fault. IsEarly fault → out.new ≡ out.old) }
 {
     match draw_named(alloc, words, input, machine, out) {

@@ -17,3 +17,7 @@ pub returns-in-Err-clause-early : goal.returns-in-Err-clause-early
 returns-in-Err-clause-early g c = λ early.
     c.in-Err.ensures.early
     (trace_early c.in-Err.error c.trace_fault.result c.trace_fault.ensures early)
+
+pub returns-in-Err-clause-undrawn : goal.returns-in-Err-clause-undrawn
+returns-in-Err-clause-undrawn g c =
+    (c.in-Err.error, c.trace_fault.ensures, c.in-Err.ensures.undrawn)
