@@ -1,5 +1,5 @@
 //! Tests of ladders: traces that are drawn, pictures, pages, faults, widths, streams that fail, and
-//! refused growths.
+//! refused growths and large sizes.
 //!
 //! The transmissions are those of GA27-3004. Traces and ladders are this project's own.
 #![tactic(auto)]
@@ -14,3 +14,5 @@ mod ladders;
 mod pages;
 #[cfg(test)]
 mod pictures;
+#[cfg(test)]
+mod sizes;
