@@ -7,15 +7,13 @@
 mod machine;
 mod stores;
 
-use bsc_command::{Fault, command, fail, not_text};
+use bsc_command::{Fault, command, fail, given_words};
 use machine::{Errors, Machine, Output, Screen};
-use std::alloc::Global;
 use std::cell::Cell;
 use std::fs::File;
-use std::io::{BufWriter, ErrorKind, IsTerminal};
+use std::io;
+use std::io::{BufWriter, IsTerminal};
 use std::process::ExitCode;
-use std::rt::Env;
-use std::{env, io};
 
 /// The path of the null device.
 const NULL_DEVICE: &str = "/dev/null";
@@ -53,7 +51,7 @@ fn main(rt: HostRuntime) -> ExitCode {
             };
             command(
                 rt.alloc(),
-                words(&rt),
+                given_words(&rt),
                 &mut input,
                 &mut machine,
                 &mut out,
@@ -64,20 +62,4 @@ fn main(rt: HostRuntime) -> ExitCode {
     };
     screen.clear(&rt);
     ExitCode::from(status)
-}
-
-/// Returns the arguments of the command line. The first is the name of the program.
-fn words<R: AllocGlobal + Env>(rt: &R) -> Result<Vec<String>, Fault> {
-    match env::args(rt) {
-        Ok(words) => Ok(words.collect(rt.alloc())?),
-        Err(error) => Err(fault(rt.alloc(), error.kind())),
-    }
-}
-
-/// Returns the fault for arguments that are not available, for this reason.
-fn fault(alloc: Global, kind: ErrorKind) -> Fault {
-    match kind {
-        ErrorKind::OutOfMemory => Fault::OutOfMemory,
-        _ => not_text(alloc),
-    }
 }

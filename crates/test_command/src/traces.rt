@@ -47,6 +47,12 @@ fn file_at(path: &str) -> Option<TraceFile> {
 impl Traces for Machine<'_> {
     type File = TraceFile;
 
+    ghost tells = { λ _. Unit {0} };
+
+    ghost opens = { λ _ _. Unit {0} };
+
+    ghost refuses = { λ _ _. Unit {0} };
+
     fn open_trace(&mut self, path: &str) -> Result<TraceFile, Unreadable> {
         match file_at(path) {
             Some(file) => Ok(file),
