@@ -1,3 +1,4 @@
+mod Owns
 mod Tellings
 mod Kept
 mod Lists

@@ -5,3 +5,4 @@ pub mod Sessions
 pub mod AllKept
 pub mod Filling
 pub mod OwnText
+pub mod Own

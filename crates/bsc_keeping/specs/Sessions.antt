@@ -1,5 +1,6 @@
 -- What is kept in a session of a station.
-use Rattle.std.specs.Prelude.{◌≡◌, ◌≢◌, ◌++◌, ℕ, Bool, List, [], Option, Result, Ok, Err}
+use Rattle.std.specs.Prelude.{◌≡◌, ◌≢◌, ◌++◌, ℕ, Bool, true, List, [], Option, Result, Ok, Err}
+use Rattle.std.specs.Prelude.{OnOk}
 use Rattle.bsc_bid.specs.declared.kept.KeptSender.{KeptSender}
 use Rattle.bsc_kept.specs.declared.store.Store as store_of
 use Rattle.bsc_connections.specs.declared.awaited.LiveError.{LiveError}
@@ -72,9 +73,11 @@ module _ {S M K Z : Type 0} (party : party_of.Ghosts S Z)
         → KeepsThroughout parts old [] new
 
   -- A station is attended from one state to another, with a monitor that begins with this inner
-  -- monitor and this keeper, and in each step it is so.
+  -- monitor and this keeper, and in each step it is so. Without an error the inner monitor has
+  -- ended it.
   pub record IsKeptThroughout {R W F T : Type 0} (parts : SessionParts S R W F (Keeping M K) T)
-      (watch : M) (keeper : Keeper K) (old new : S) (before after : List (ConnectionValue R W F))
+      (has_ended : M → Bool) (result : Result (Unit {0}) LiveError) (watch : M)
+      (keeper : Keeper K) (old new : S) (before after : List (ConnectionValue R W F))
       (waiter waited : T) : Type 0 where
     pub first : Keeping M K
     pub watches : first.watch.now ≡ watch
@@ -85,3 +88,4 @@ module _ {S M K Z : Type 0} (party : party_of.Ghosts S Z)
         (record { station = old; connections = before; monitor = first; waiter = waiter })
         history
         (record { station = new; connections = after; monitor = last; waiter = waited })
+    pub ended : OnOk result (has_ended last.watch.now ≡ true)

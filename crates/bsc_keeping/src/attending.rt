@@ -1,6 +1,6 @@
 //! Attending a station whose records are kept.
 
-ghost use Rattle.std.specs.Prelude.{List};
+ghost use Rattle.std.specs.Prelude.{◌≡◌, List, OnOk, true};
 ghost use Rattle.bsc_connections.specs.Attending.{Attends};
 ghost use Rattle.bsc_connections.specs.Histories.{Happening};
 ghost use Rattle.bsc_connections.specs.Parts.{session_parts};
@@ -41,7 +41,8 @@ fn attend_with<
           connections = connections.new;
           monitor = new;
           waiter = waiter.new;
-        }) }
+        })
+        × OnOk result (M.has_ended new ≡ true) }
 {
     attend(station, connections, waiter, &mut monitor)
 }
@@ -49,7 +50,8 @@ fn attend_with<
 /// Attends a station over these connections as `attend` of `bsc_connections` does, with a monitor
 /// that keeps what the station changes. In every step in which something is sent, exactly the
 /// changes that were not kept before are kept at once, and then it is sent; a crash at any moment
-/// leaves what was kept before the step, or all of the step.
+/// leaves what was kept before the step, or all of the step. Without an error it ends once the
+/// inner monitor has ended it.
 pub fn attend_kept<
     'a,
     S: Station + Party + Sends,
@@ -71,8 +73,8 @@ pub fn attend_kept<
         ⟦<Keeping<'a, M, K> as Monitor<S>>⟧.admits
         ⟦<Keeping<'a, M, K> as Monitor<S>>⟧.paces
         T.Waiter)
-        keeping.entry.watch.now keeping.entry.keeper.now station.old station.new connections.old
-        connections.new waiter.old waiter.new }
+        M.has_ended result keeping.entry.watch.now keeping.entry.keeper.now station.old station.new
+        connections.old connections.new waiter.old waiter.new }
 {
     attend_with(station, connections, waiter, keeping)
 }

@@ -5,7 +5,7 @@ ghost use Rattle.std.specs.List.{flat_map};
 ghost use Rattle.bsc_kept.specs.declared.change.Change.TheVariants.{Arrived};
 ghost use Rattle.bsc_keeping.specs.Changes.{in_doubt_of, known_changes, printed_changes};
 ghost use Rattle.bsc_keeping.specs.Changes.{arrived_changes, sending_changes, receiving_changes};
-ghost use Rattle.bsc_keeping.specs.Changes.{changes_of};
+ghost use Rattle.bsc_keeping.specs.Changes.{changes_of, number_kept, record_kept};
 
 use crate::{Prints, Sends};
 use bsc_bid::KeptSender;
@@ -17,7 +17,7 @@ use std::alloc::{Allocator, Global};
 
 /// Returns a number as a store keeps it. Fails with `Refused` if it is 2^32 or more.
 fn number_of(count: usize) -> Result<u32, StoreFault>
-    ensures { OnOk result (IfOk result (λ number. number ≡ count)) }
+    ensures { result ≡ number_kept count }
 {
     match u32::try_from(count) {
         Ok(number) => Ok(number),
@@ -93,7 +93,7 @@ fn add_printed(
 
 /// Returns the record of these characters.
 fn record_of(chars: &[u8]) -> Result<Record, StoreFault>
-    ensures { OnOk result (IfOk result (λ taken. taken ≡ chars.now)) }
+    ensures { result ≡ record_kept chars.now }
 {
     match Record::read(chars, MAX_FULL) {
         Ok(record) => Ok(record),

@@ -6,7 +6,7 @@ use Rattle.bsc_keeping.proofs.attending.attend_kept.Goals as goal
 
 pub returns : goal.returns
 returns g c =
-    let (history, monitor, attends) = c.attend_with.ensures in
+    let (history, monitor, attends, ends) = c.attend_with.ensures in
     record {
       first = _;
       watches = refl;
@@ -21,4 +21,5 @@ returns g c =
           g.S.Station g.R.Read g.W.Write g.F.Framing _ _ g.T.Waiter old new happened result steps in
           (shown.always, shown.sent))
           _ history _ attends;
+      ended = ends;
     }

@@ -1,0 +1,10 @@
+-- Shows that the channel to one more selection address is added.
+use Rattle.bsc_keeping.specs.Own.{selection_of}
+use Rattle.bsc_keeping.proofs.Owns.{each_of_more}
+use Rattle.bsc_keeping.proofs.own.add_selections.Goals as goal
+
+pub selects-preserved : goal.selects-preserved
+selects-preserved c =
+    each_of_more c.args.ends.now.items c.selects.ends.items c.add_selection.new.ends.items
+    (selection_of c.args.terminal.now c.args.number) c.selects.select c.selects.invariant
+    c.in_ok-add_selection.ensures

@@ -1,0 +1,8 @@
+-- The channels to the selection addresses so far are added.
+use Rattle.std.proofs.Common.{◌≡◌, ◌++◌}
+use Rattle.bsc_keeping.specs.Own.{each_of, selection_of}
+use Rattle.bsc_keeping.proofs.own.add_selections.Given as goal
+
+abbrev pub invariant-selects : goal.invariant-selects
+invariant-selects l =
+    l.ends.items ≡ l.initial.ends.items ++ each_of (selection_of l.terminal l.number) l.select
