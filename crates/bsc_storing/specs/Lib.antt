@@ -1,5 +1,6 @@
 pub mod Errors
 pub mod Releases
-pub mod Lines
 pub mod Names
+pub mod Lines
 pub mod Works
+pub mod Endings

@@ -1,9 +1,21 @@
 -- The lines that are printed of a channel.
-use Rattle.std.specs.Prelude.{ℕ, List, ◌++◌, codes}
+use Rattle.std.specs.Prelude.{◌≡◌, ◌+◌, ℕ, zero, suc, Bool, true, false, List, [], ◌∷◌, ◌++◌, codes}
+use Rattle.std.specs.Prelude.{Option, Some, None, length, slice_index_or}
+use Rattle.bsc_directory.specs.declared.way.Way.TheVariants.{FromTerminal}
+use Rattle.bsc_report.specs.Channels.{each_below}
 use Rattle.std.specs.Fmt.{decimal}
+use Rattle.std.specs.Io.KnownBytes.{Appends}
+use Rattle.bsc_bid.specs.declared.limits.TheConstants.{MAX_SELECTS}
+use Rattle.bsc_kept.specs.declared.channel.Channel.{Channel}
 use Rattle.bsc_kept.specs.declared.store.Progress.{Progress}
+use Rattle.bsc_options.specs.declared.settings.Role.{Role}
+use Rattle.bsc_options.specs.declared.settings.Role.TheVariants.{Control, Terminal}
 use Rattle.bsc_print.specs.Forms.{in_form}
 use Rattle.bsc_print.specs.declared.form.Form.{Form}
+use Rattle.bsc_storing.specs.declared.kept_line.KeptLine.{KeptLine}
+use Rattle.bsc_storing.specs.declared.name.ChannelName.{ChannelName}
+use Rattle.bsc_storing.specs.declared.reconciling.Ended.{Ended}
+use Rattle.bsc_storing.specs.Names.{channel_at, name_at, name_shown, receives_on, sends_on}
 
 -- What follows the name of a channel at its sending end: how many records were offered, how many
 -- are known, and how many are in doubt.
@@ -18,6 +30,62 @@ abbrev pub receiving_shown : Progress → List ℕ
 receiving_shown it =
     codes ": arrived " ++ decimal it.arrived ++ codes ", printed " ++ decimal it.printed
     ++ codes "\n"
+
+-- The line of a channel that has this name is printed, with some numbers: for its sending end, for
+-- its receiving end, or none if neither is at the station.
+abbrev pub ShowsEnd : Bool → Bool → List ℕ → Option (List ℕ) → Option (List ℕ) → Type 0
+ShowsEnd true receives name before after =
+    (it : Progress) × Appends before after (name ++ (offered_shown it ++ doubt_shown it))
+ShowsEnd false true name before after =
+    (it : Progress) × Appends before after (name ++ receiving_shown it)
+ShowsEnd false false name before after = after ≡ before
+
+-- The line of the channel with this name is printed, if the line has it.
+abbrev pub ShowsIfThere : Option Channel → KeptLine → ChannelName → Option (List ℕ)
+    → Option (List ℕ) → Type 0
+ShowsIfThere None line name before after = after ≡ before
+ShowsIfThere (Some channel) line name before after =
+    ShowsEnd (sends_on line.station name name.way) (receives_on line.station name name.way)
+    (name_shown line name) before after
+
+abbrev pub ShowsChannel : KeptLine → ChannelName → Option (List ℕ) → Option (List ℕ) → Type 0
+ShowsChannel line name before after = ShowsIfThere (channel_at line name) line name before after
+
+-- The lines of the channels at the first places of a terminal are printed, in order.
+abbrev pub ShowsPlaces : KeptLine → ℕ → ℕ → Option (List ℕ) → Option (List ℕ) → Type 0
+ShowsPlaces line terminal zero before after = after ≡ before
+ShowsPlaces line terminal (suc place) before after =
+    (mid : Option (List ℕ)) × ShowsPlaces line terminal place before mid
+    × ShowsChannel line (name_at terminal place) mid after
+
+-- The lines of the channels of the first terminals are printed, in order: of each the channel from
+-- it and those to its selection addresses.
+abbrev pub ShowsTerminals : KeptLine → ℕ → Option (List ℕ) → Option (List ℕ) → Type 0
+ShowsTerminals line zero before after = after ≡ before
+ShowsTerminals line (suc terminal) before after =
+    (mid : Option (List ℕ)) × ShowsTerminals line terminal before mid
+    × ShowsPlaces line terminal (MAX_SELECTS + 1) mid after
+
+-- The line for a doubt that was ended at a count, for the one at this place, and for all of them, or
+-- that there was none.
+abbrev pub ended_shown : KeptLine → Ended → List ℕ
+ended_shown line it =
+    name_shown line it.name ++ codes ": released at " ++ decimal it.count ++ codes "\n"
+
+abbrev pub ended_at : KeptLine → List Ended → ℕ → List ℕ
+ended_at line its place =
+    ended_shown line
+    (slice_index_or its place
+    (record { name = record { terminal = 0; way = FromTerminal }; count = 0 }))
+
+abbrev pub all_ended_shown : KeptLine → List Ended → List ℕ
+all_ended_shown line [] = codes "nothing in doubt\n"
+all_ended_shown line (it ∷ its) = each_below (ended_at line (it ∷ its)) (length (it ∷ its))
+
+-- The line for a store that was made.
+abbrev pub made_shown : Role → List ℕ
+made_shown Control = codes "control station: store made\n"
+made_shown (Terminal number) = codes "terminal " ++ decimal number ++ codes ": store made\n"
 
 -- The line of a record that arrived.
 abbrev pub arrived_line : Form → List ℕ → List ℕ

@@ -1,5 +1,5 @@
 -- The channels of the line of a store.
-use Rattle.std.specs.Prelude.{◌==◌, ◌||◌, not, ℕ, Bool, true, false, List, length}
+use Rattle.std.specs.Prelude.{◌==◌, ◌||◌, ◌-◌, not, ℕ, Bool, true, false, List, length}
 use Rattle.std.specs.Prelude.{Option, Some, None, option_map, slice_get, if◌then◌else◌}
 use Rattle.bsc_bid.specs.Terminal.{TerminalValue}
 use Rattle.bsc_directory.specs.declared.way.Way.{Way}
@@ -57,6 +57,18 @@ channel_of (Some t) (ToTerminal s) = option_map To (slice_get t.selects s)
 -- The channel with this name, if the line has one.
 abbrev pub channel_at : KeptLine → ChannelName → Option Channel
 channel_at line name = channel_of (slice_get line.terminals.items name.terminal) name.way
+
+-- The name of the channel at this place of a terminal: first the one from it, and then those to its
+-- selection addresses.
+abbrev pub name_at : ℕ → ℕ → ChannelName
+name_at t place =
+    record { terminal = t; way = if place == 0 then FromTerminal else ToTerminal (place - 1) }
+
+-- Whether one station is the control station and the other a terminal.
+abbrev pub are_two_ends : Role → Role → Bool
+are_two_ends Control (Terminal number) = true
+are_two_ends (Terminal number) Control = true
+are_two_ends one other = false
 
 -- A channel by its name, and its name.
 abbrev pub named_at : KeptLine → Option ChannelName → Option (ChannelName × Channel)

@@ -1,8 +1,9 @@
 -- What a work does with an open store, and what it prints.
 use Rattle.std.specs.Prelude.{◌≡◌, ℕ, List, [], ◌∷◌, ◌++◌, map, length, codes, Option, Some}
-use Rattle.std.specs.Prelude.{None, Ok, IsSomeAnd, ℤ}
+use Rattle.std.specs.Prelude.{None, Ok, Err, Result, IsSomeAnd, ℤ, Bool, nat_lt, if◌then◌else◌}
 use Rattle.std.specs.List.{flat_map}
 use Rattle.std.specs.Fmt.{decimal}
+use Rattle.std.specs.Str.Lines.{lines}
 use Rattle.std.specs.Io.KnownBytes.{Appends}
 use Rattle.bsc_kept.specs.declared.channel.Channel.{Channel}
 use Rattle.bsc_kept.specs.declared.change.Change.{Change}
@@ -10,10 +11,19 @@ use Rattle.bsc_kept.specs.declared.change.Change.TheVariants.{Offered}
 use Rattle.bsc_kept.specs.declared.store.Progress.{Progress}
 use Rattle.bsc_kept.specs.declared.store.Store as store_of
 use Rattle.bsc_options.specs.declared.store_works.StoreChannel.{StoreChannel}
+use Rattle.bsc_options.specs.declared.settings.Role.{Role}
+use Rattle.bsc_options.specs.declared.settings.Role.TheVariants as role
+use Rattle.bsc_keeping.specs.declared.own_text.Owner.{Owner}
+use Rattle.bsc_keeping.specs.declared.own_text.Owner.TheVariants as owner
 use Rattle.bsc_print.specs.declared.form.Form.{Form}
+use Rattle.bsc_print.specs.declared.form.Form.TheVariants.{Text, Hexadecimal}
+use Rattle.bsc_storing.specs.declared.error.StoringError.{StoringError}
+use Rattle.bsc_storing.specs.declared.error.StoringError.TheVariants as storing
 use Rattle.bsc_storing.specs.declared.kept_line.KeptLine.{KeptLine}
 use Rattle.bsc_storing.specs.declared.name.ChannelName.{ChannelName}
-use Rattle.bsc_storing.specs.Lines.{arrived_line}
+use Rattle.bsc_storing.specs.declared.work.Work.{Work}
+use Rattle.bsc_storing.specs.declared.work.Work.TheVariants as work
+use Rattle.bsc_storing.specs.Lines.{ShowsTerminals, arrived_line}
 use Rattle.bsc_storing.specs.Names.{name_shown, named_at, receiving_name, sending_name}
 use Rattle.bsc_storing.specs.Releases.{release_of}
 
@@ -66,3 +76,25 @@ module _ {S : Type 0} (store : store_of.Ghosts S) where
       IsSomeAnd (named_at line (sending_name line.station channel))
       (λ its. EndsDoubt its.1 count old new
       × Appends before after (told line its.0 (codes "released at") count))
+
+  -- What a work does with one store.
+  abbrev pub Does : KeptLine → Work → S → S → Option (List ℕ) → Option (List ℕ) → Type 0
+  Does line (work.Offer channel path text) old new before after =
+      OffersAll line channel (lines text.now) old new before after
+  Does line (work.Arrived channel first form) old new before after =
+      PrintsArrived line channel form before after
+  Does line work.Status old new before after =
+      ShowsTerminals line (length line.terminals.items) before after
+  Does line (work.Release channel count) old new before after =
+      EndsOne line channel count old new before after
+  Does line (work.Reconcile other) old new before after = (new ≡ old) × (after ≡ before)
+
+-- The form in which records are printed.
+abbrev pub form_if : Bool → Form
+form_if text = if text then Text else Hexadecimal
+
+-- The owner of the store of a station of a line with this many terminals, if it has the station.
+abbrev pub owner_in : ℕ → Role → Result Owner StoringError
+owner_in count role.Control = Ok owner.Control
+owner_in count (role.Terminal number) =
+    if nat_lt number count then Ok (owner.Terminal number) else Err storing.NoTerminal

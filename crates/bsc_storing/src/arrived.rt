@@ -1,6 +1,7 @@
 //! The records that arrived on a channel of a store.
-ghost use Rattle.std.specs.Prelude.{IfOk, OnOk};
+ghost use Rattle.std.specs.Prelude.{◌≡◌, IfOk, OnOk};
 ghost use Rattle.std.specs.Io.KnownBytes.{Appends};
+ghost use Rattle.bsc_storing.specs.Errors.{print_error};
 ghost use Rattle.bsc_storing.specs.Lines.{arrived_line};
 ghost use Rattle.bsc_storing.specs.Works.{PrintsLines, PrintsNext};
 
@@ -26,7 +27,9 @@ fn write_record<W: Write>(
 }
 
 /// Returns the error for output that failed.
-fn of_print(error: PrintError) -> StoringError {
+fn of_print(error: PrintError) -> StoringError
+    ensures { result ≡ print_error error }
+{
     match error {
         PrintError::Output => StoringError::Output,
         PrintError::Memory => StoringError::Memory,

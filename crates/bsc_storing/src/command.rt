@@ -1,5 +1,10 @@
 //! The command `bscline store`.
 
+ghost use Rattle.std.specs.Prelude.{◌≡◌, OnOk, length};
+ghost use Rattle.std.specs.Io.KnownBytes.{Appends};
+ghost use Rattle.bsc_storing.specs.Lines.{made_shown};
+ghost use Rattle.bsc_storing.specs.Works.{form_if, owner_in};
+
 use crate::error::{StoringError, of_store};
 use crate::stores::StoreFiles;
 use crate::work::{Work, do_work};
@@ -59,12 +64,16 @@ fn without_text(work: StoreWork<'_>) -> Work<'_> {
 }
 
 /// Returns the form in which records are printed.
-fn form_of(text: bool) -> Form {
+fn form_of(text: bool) -> Form
+    ensures { result ≡ form_if text }
+{
     if text { Form::Text } else { Form::Hexadecimal }
 }
 
 /// Returns the owner of the store of this station. Fails if the line has no such station.
-fn owner_of(config: &Config, role: Role) -> Result<Owner, StoringError> {
+fn owner_of(config: &Config, role: Role) -> Result<Owner, StoringError>
+    ensures { result ≡ owner_in (length config.now.terminals) role }
+{
     match role {
         Role::Control => Ok(Owner::Control),
         Role::Terminal { number } if number < config.terminals() => {
@@ -93,7 +102,10 @@ fn init<R: Read, M: Files + StoreFiles, W: Write>(
 }
 
 /// Says that a store was made.
-fn write_made<W: Write>(role: Role, out: &mut W) -> Result<(), StoringError> {
+fn write_made<W: Write>(role: Role, out: &mut W) -> Result<(), StoringError>
+    ensures { OnOk result
+        (Appends (W.contents out.old) (W.contents out.new) (made_shown role)) }
+{
     let written = match role {
         Role::Control => writeln!(out, "control station: store made"),
         Role::Terminal { number } => writeln!(out, "terminal {number}: store made"),

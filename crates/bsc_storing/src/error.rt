@@ -1,6 +1,7 @@
 //! Why the work on a store failed.
 ghost use Rattle.std.specs.Prelude.{◌≡◌};
 ghost use Rattle.bsc_storing.specs.Errors.{exchanged as exchanged_error};
+ghost use Rattle.bsc_storing.specs.Errors.{other_error, store_error};
 
 use bsc_bid::ReleaseError;
 use bsc_config::ConfigError;
@@ -112,7 +113,9 @@ impl From<ConfigError> for StoringError {
 }
 
 /// Returns the error for a store that failed.
-pub(crate) fn of_store(fault: StoreFault) -> StoringError {
+pub(crate) fn of_store(fault: StoreFault) -> StoringError
+    ensures { result ≡ store_error fault }
+{
     match fault {
         StoreFault::OutOfMemory => StoringError::Memory,
         fault => StoringError::Store { fault },
@@ -131,7 +134,9 @@ pub(crate) fn exchanged(error: StoringError) -> StoringError
 }
 
 /// Returns the error for the other store that failed.
-pub(crate) fn of_other(fault: StoreFault) -> StoringError {
+pub(crate) fn of_other(fault: StoreFault) -> StoringError
+    ensures { result ≡ other_error fault }
+{
     match fault {
         StoreFault::OutOfMemory => StoringError::Memory,
         fault => StoringError::Other { fault },

@@ -1,5 +1,13 @@
 //! Ending the doubts between two stores.
 
+ghost use Rattle.std.specs.Prelude.{◌≡◌, ◌<◌, ◌+◌, IfOk, OnOk, codes, length};
+ghost use Rattle.std.specs.Io.KnownBytes.{Appends};
+ghost use Rattle.bsc_report.specs.Channels.{each_below};
+ghost use Rattle.bsc_storing.specs.Endings.{AddsIfAny, AddsPlaces, AddsTerminals, EndsDoubts};
+ghost use Rattle.bsc_storing.specs.Endings.{IsEndingIfAny, KeepsIfAny};
+ghost use Rattle.bsc_storing.specs.Lines.{all_ended_shown, ended_at};
+ghost use Rattle.bsc_storing.specs.Names.{are_two_ends};
+
 use crate::error::{StoringError, exchanged, of_other, of_store};
 use crate::kept_line::KeptLine;
 use crate::name::ChannelName;
@@ -25,7 +33,9 @@ fn ending<S: Store, T: Store>(
     receiver: &mut T,
     line: &KeptLine,
     name: ChannelName,
-) -> Result<Option<(Change, u32)>, StoringError> {
+) -> Result<Option<(Change, u32)>, StoringError>
+    ensures { IfOk result (IsEndingIfAny line.now name) }
+{
     let Some(channel) = line.channel(name) else {
         return Ok(None);
     };
@@ -40,25 +50,109 @@ fn ending<S: Store, T: Store>(
     }
 }
 
+/// Adds the change that ends the doubt of the channel with this name, if one station sends to the
+/// other on it and it has a doubt.
+fn add_ending<S: Store, T: Store>(
+    sender: &mut S,
+    receiver: &mut T,
+    line: &KeptLine,
+    other: &KeptLine,
+    name: ChannelName,
+    step: &mut Vec<Change>,
+    ended: &mut Vec<Ended>,
+) -> Result<(), StoringError>
+    ensures { OnOk result (AddsIfAny line.now other.now name (step.old.items, ended.old.items)
+        (step.new.items, ended.new.items)) }
+{
+    if !line.sends(name) || !other.receives(name) {
+        return Ok(());
+    }
+    let Some((change, count)) = ending(sender, receiver, line, name)? else {
+        return Ok(());
+    };
+    step.push(change)?;
+    ended.push(Ended { name, count })?;
+    Ok(())
+}
+
+/// Adds the changes that end the doubts of the channels of a terminal on which one station sends to
+/// the other.
+fn add_endings_at<S: Store, T: Store>(
+    sender: &mut S,
+    receiver: &mut T,
+    line: &KeptLine,
+    other: &KeptLine,
+    terminal: usize,
+    step: &mut Vec<Change>,
+    ended: &mut Vec<Ended>,
+) -> Result<(), StoringError>
+    ensures { OnOk result (AddsPlaces line.now other.now terminal (MAX_SELECTS + 1)
+        (step.old.items, ended.old.items) (step.new.items, ended.new.items)) }
+{
+    'places: for place in 0..MAX_SELECTS + 1 {
+        let name = name_at(terminal, place);
+        add_ending(sender, receiver, line, other, name, step, ended)?;
+    }
+    Ok(())
+}
+
 /// Adds the changes that end the doubts of the channels on which one station sends to the other.
 pub(crate) fn add_endings<S: Store, T: Store>(
     sender: &mut S,
     receiver: &mut T,
-    lines: (&KeptLine, &KeptLine),
+    line: &KeptLine,
+    other: &KeptLine,
     step: &mut Vec<Change>,
     ended: &mut Vec<Ended>,
-) -> Result<(), StoringError> {
-    let (line, other) = lines;
-    for terminal in 0..line.terminals.len() {
-        for place in 0..=MAX_SELECTS {
-            let name = name_at(terminal, place);
-            if line.sends(name) && other.receives(name) {
-                if let Some((change, count)) = ending(sender, receiver, line, name)? {
-                    step.push(change)?;
-                    ended.push(Ended { name, count })?;
-                }
-            }
-        }
+) -> Result<(), StoringError>
+    ensures { OnOk result (AddsTerminals line.now other.now (length line.now.terminals.items)
+        (step.old.items, ended.old.items) (step.new.items, ended.new.items)) }
+{
+    'terminals: for terminal in 0..line.terminals.len() {
+        add_endings_at(sender, receiver, line, other, terminal, step, ended)?;
+    }
+    Ok(())
+}
+
+/// Writes that there was no doubt.
+fn write_none<W: Write>(out: &mut W) -> Result<(), StoringError>
+    ensures { OnOk result
+        (Appends (W.contents out.old) (W.contents out.new) (codes "nothing in doubt\n")) }
+{
+    match writeln!(out, "nothing in doubt") {
+        Ok(()) => Ok(()),
+        Err(_) => Err(StoringError::Output),
+    }
+}
+
+/// Writes the doubt at this place that was ended.
+fn write_one<W: Write>(
+    line: &KeptLine,
+    ended: &[Ended],
+    place: usize,
+    out: &mut W,
+) -> Result<(), StoringError>
+    requires { place < length ended.now }
+    ensures { OnOk result
+        (Appends (W.contents out.old) (W.contents out.new) (ended_at line.now ended.now place)) }
+{
+    let it = ended[place];
+    write_name(line, it.name, out)?;
+    let count = it.count;
+    match writeln!(out, ": released at {count}") {
+        Ok(()) => Ok(()),
+        Err(_) => Err(StoringError::Output),
+    }
+}
+
+/// Writes each doubt that was ended.
+fn write_each<W: Write>(line: &KeptLine, ended: &[Ended], out: &mut W) -> Result<(), StoringError>
+    ensures { OnOk result
+        (Appends (W.contents out.old) (W.contents out.new)
+        (each_below (ended_at line.now ended.now) (length ended.now))) }
+{
+    'ended: for place in 0..ended.len() {
+        write_one(line, ended, place, out)?;
     }
     Ok(())
 }
@@ -68,25 +162,21 @@ pub(crate) fn write_ended<W: Write>(
     line: &KeptLine,
     ended: &[Ended],
     out: &mut W,
-) -> Result<(), StoringError> {
+) -> Result<(), StoringError>
+    ensures { OnOk result
+        (Appends (W.contents out.old) (W.contents out.new) (all_ended_shown line.now ended.now)) }
+{
     if ended.is_empty() {
-        return match writeln!(out, "nothing in doubt") {
-            Ok(()) => Ok(()),
-            Err(_) => Err(StoringError::Output),
-        };
+        write_none(out)
+    } else {
+        write_each(line, ended, out)
     }
-    for it in ended {
-        write_name(line, it.name, out)?;
-        let count = it.count;
-        if writeln!(out, ": released at {count}").is_err() {
-            return Err(StoringError::Output);
-        }
-    }
-    Ok(())
 }
 
 /// Tells whether one station is the control station and the other a terminal.
-pub(crate) fn are_two_ends(one: Role, other: Role) -> bool {
+pub(crate) fn are_two_ends(one: Role, other: Role) -> bool
+    ensures { result ≡ are_two_ends one other }
+{
     match (one, other) {
         (Role::Control, Role::Terminal { .. }) | (Role::Terminal { .. }, Role::Control) => true,
         _ => false,
@@ -97,22 +187,28 @@ pub(crate) fn are_two_ends(one: Role, other: Role) -> bool {
 /// is kept.
 pub(crate) fn reconcile<S: Store, T: Store, W: Write>(
     alloc: Global,
-    stores: (&mut S, &mut T),
-    lines: (&KeptLine, &KeptLine),
+    one: &mut S,
+    two: &mut T,
+    line: &KeptLine,
+    other: &KeptLine,
     out: &mut W,
-) -> Result<(), StoringError> {
-    let (one, other) = stores;
+) -> Result<(), StoringError>
+    ensures { OnOk result (EndsDoubts S.Store T.Store line.now other.now one.new two.new
+        (W.contents out.old) (W.contents out.new)) }
+{
     let mut ended = Vec::new(alloc);
     let (mut first, mut second) = (Vec::new(alloc), Vec::new(alloc));
-    add_endings(one, other, lines, &mut first, &mut ended)?;
-    add_endings(other, one, (lines.1, lines.0), &mut second, &mut ended).map_err(exchanged)?;
+    add_endings(one, two, line, other, &mut first, &mut ended)?;
+    add_endings(two, one, other, line, &mut second, &mut ended).map_err(exchanged)?;
     commit_if_any(one, &first).map_err(of_store)?;
-    commit_if_any(other, &second).map_err(of_other)?;
-    write_ended(lines.0, &ended, out)
+    commit_if_any(two, &second).map_err(of_other)?;
+    write_ended(line, &ended, out)
 }
 
 /// Keeps a step, unless it is empty.
-fn commit_if_any<S: Store>(store: &mut S, step: &[Change]) -> Result<(), StoreFault> {
+fn commit_if_any<S: Store>(store: &mut S, step: &[Change]) -> Result<(), StoreFault>
+    ensures { OnOk result (KeepsIfAny S.Store step.now store.old store.new) }
+{
     if step.is_empty() {
         return Ok(());
     }

@@ -1,12 +1,14 @@
 //! How far the channels of a store are.
-ghost use Rattle.std.specs.Prelude.{◌++◌, OnOk};
+ghost use Rattle.std.specs.Prelude.{◌≡◌, ◌+◌, ◌++◌, OnOk, length};
 ghost use Rattle.std.specs.Io.KnownBytes.{Appends};
 ghost use Rattle.bsc_storing.specs.Lines.{doubt_shown, offered_shown, receiving_shown};
-ghost use Rattle.bsc_storing.specs.Names.{name_shown};
+ghost use Rattle.bsc_storing.specs.Lines.{ShowsChannel, ShowsPlaces, ShowsTerminals};
+ghost use Rattle.bsc_storing.specs.Names.{name_at, name_shown};
 
 use crate::error::{StoringError, of_store};
 use crate::kept_line::KeptLine;
 use crate::name::ChannelName;
+use bsc_bid::limits::MAX_SELECTS;
 use bsc_directory::Way;
 use bsc_kept::{Progress, Store};
 use bsc_report::write_channel_name;
@@ -82,7 +84,10 @@ fn write_channel<S: Store, W: Write>(
     line: &KeptLine,
     name: ChannelName,
     out: &mut W,
-) -> Result<(), StoringError> {
+) -> Result<(), StoringError>
+    ensures { OnOk result
+        (ShowsChannel line.now name (W.contents out.old) (W.contents out.new)) }
+{
     let Some(channel) = line.channel(name) else {
         return Ok(());
     };
@@ -101,7 +106,9 @@ fn write_channel<S: Store, W: Write>(
 
 /// Returns the name of the channel at this place of a terminal: first the one from it, and then
 /// those to its selection addresses.
-pub(crate) fn name_at(terminal: usize, place: usize) -> ChannelName {
+pub(crate) fn name_at(terminal: usize, place: usize) -> ChannelName
+    ensures { result ≡ name_at terminal place }
+{
     let way = if place == 0 {
         Way::FromTerminal
     } else {
@@ -110,16 +117,33 @@ pub(crate) fn name_at(terminal: usize, place: usize) -> ChannelName {
     ChannelName { terminal, way }
 }
 
+/// Writes a line for each channel of a terminal that has an end at the station.
+fn write_terminal<S: Store, W: Write>(
+    store: &mut S,
+    line: &KeptLine,
+    terminal: usize,
+    out: &mut W,
+) -> Result<(), StoringError>
+    ensures { OnOk result (ShowsPlaces line.now terminal (MAX_SELECTS + 1)
+        (W.contents out.old) (W.contents out.new)) }
+{
+    'places: for place in 0..MAX_SELECTS + 1 {
+        write_channel(store, line, name_at(terminal, place), out)?;
+    }
+    Ok(())
+}
+
 /// Writes a line for each channel that has an end at the station, in the order of a report.
 pub(crate) fn write_status<S: Store, W: Write>(
     store: &mut S,
     line: &KeptLine,
     out: &mut W,
-) -> Result<(), StoringError> {
-    for terminal in 0..line.terminals.len() {
-        for place in 0..=bsc_bid::limits::MAX_SELECTS {
-            write_channel(store, line, name_at(terminal, place), out)?;
-        }
+) -> Result<(), StoringError>
+    ensures { OnOk result (ShowsTerminals line.now (length line.now.terminals.items)
+        (W.contents out.old) (W.contents out.new)) }
+{
+    'terminals: for terminal in 0..line.terminals.len() {
+        write_terminal(store, line, terminal, out)?;
     }
     Ok(())
 }

@@ -6,7 +6,7 @@ ghost use Rattle.std.specs.Io.KnownBytes.{Appends};
 ghost use Rattle.std.specs.Str.Lines.{lines};
 ghost use Rattle.bsc_storing.specs.declared.error.StoringError.TheVariants.{NoChannel};
 ghost use Rattle.bsc_storing.specs.Names.{named_at};
-ghost use Rattle.bsc_storing.specs.Works.{EndsOne, OffersAll, PrintsArrived, told};
+ghost use Rattle.bsc_storing.specs.Works.{Does, EndsOne, OffersAll, PrintsArrived, told};
 
 use crate::arrived::write_arrived;
 use crate::error::{StoringError, of_other, of_store};
@@ -205,7 +205,10 @@ fn do_at<S: Store, W: Write>(
     line: &KeptLine,
     work: Work<'_>,
     out: &mut W,
-) -> Result<(), StoringError> {
+) -> Result<(), StoringError>
+    ensures { OnOk result (Does S.Store line.now work.entry store.old store.new
+        (W.contents out.old) (W.contents out.new)) }
+{
     match work {
         Work::Offer {
             channel,
@@ -244,19 +247,18 @@ fn reconcile_open<S: Store, W: Write>(
     if !alike || !are_two_ends(line.station, other.station) {
         return Err(StoringError::NotTwoEnds);
     }
-    let stores = (&mut one.store, &mut two.store);
-    reconcile(alloc, stores, (&line, &other), out)
+    reconcile(alloc, &mut one.store, &mut two.store, &line, &other, out)
 }
 
 /// Does what is to be done with an open store, other than to reconcile it.
 fn do_open<S: Store, W: Write>(
     alloc: Global,
-    open: &mut Opened<S>,
+    opened: &mut Opened<S>,
     work: Work<'_>,
     out: &mut W,
 ) -> Result<(), StoringError> {
-    let line = read_line_text(alloc, open.line.as_str()).map_err(of_store)?;
-    do_at(alloc, &mut open.store, &line, work, out)
+    let line = read_line_text(alloc, opened.line.as_str()).map_err(of_store)?;
+    do_at(alloc, &mut opened.store, &line, work, out)
 }
 
 /// Opens the store at another path, and ends each doubt between both.

@@ -1,0 +1,8 @@
+-- The doubts of the channels of the terminals so far are found.
+use Rattle.bsc_storing.specs.Endings.{AddsTerminals}
+use Rattle.bsc_storing.proofs.reconciling.add_endings.Given as goal
+
+abbrev pub invariant-terminals : goal.invariant-terminals
+invariant-terminals g l =
+    AddsTerminals l.line l.other l.terminal (l.initial.step.items, l.initial.ended.items)
+    (l.step.items, l.ended.items)

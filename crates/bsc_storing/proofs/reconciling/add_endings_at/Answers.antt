@@ -1,0 +1,14 @@
+-- Shows that the doubt of the channel at one more place is found.
+use Rattle.std.proofs.Common.{add-one, subst}
+use Rattle.bsc_storing.specs.declared.name.ChannelName.{ChannelName}
+use Rattle.bsc_storing.specs.Endings.{AddsIfAny}
+use Rattle.bsc_storing.proofs.reconciling.add_endings_at.Goals as goal
+
+pub places-preserved : goal.places-preserved
+places-preserved g c =
+    let adds = subst
+    (λ (name : ChannelName). AddsIfAny c.args.line.now c.args.other.now name
+    (c.places.step.items, c.places.ended.items)
+    (c.add_ending.new.step.items, c.add_ending.new.ended.items))
+    c.name_at-name.ensures c.in_ok-add_ending.ensures in
+    rw add-one ((c.places.step.items, c.places.ended.items), c.places.invariant, adds)

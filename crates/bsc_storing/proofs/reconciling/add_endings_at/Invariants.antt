@@ -1,0 +1,8 @@
+-- The doubts of the channels at the places so far are found.
+use Rattle.bsc_storing.specs.Endings.{AddsPlaces}
+use Rattle.bsc_storing.proofs.reconciling.add_endings_at.Given as goal
+
+abbrev pub invariant-places : goal.invariant-places
+invariant-places g l =
+    AddsPlaces l.line l.other l.terminal l.place (l.initial.step.items, l.initial.ended.items)
+    (l.step.items, l.ended.items)
