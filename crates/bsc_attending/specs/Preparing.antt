@@ -10,6 +10,8 @@ use Rattle.bsc_control.specs.Kept.{IsNewControl}
 use Rattle.bsc_control.specs.Peer.{no_peer}
 use Rattle.bsc_input.specs.Texts.{IsReadError, IsTextAt}
 use Rattle.bsc_keeping.specs.declared.own.Own.{Own}
+use Rattle.bsc_keeping.specs.declared.own_text.Owner.{Owner}
+use Rattle.bsc_keeping.specs.declared.own_text.Owner.TheVariants as owner
 use Rattle.bsc_monitor.specs.LineTerminal.{LineTerminalValue}
 use Rattle.bsc_options.specs.Admission.{IsAdmission}
 use Rattle.bsc_options.specs.Settings.{SettingsValue, settings_in}
@@ -62,6 +64,11 @@ IsStationOf config role.Control offers input after (prepared.Control control) =
 IsStationOf config (role.Terminal number) offers input after (prepared.Terminal terminal) =
     IsTerminalOf config number offers input after terminal
 IsStationOf config role offers input after prepared = ⊥
+
+-- The station as its store knows it.
+abbrev pub owner_of : Role → Owner
+owner_of role.Control = owner.Control
+owner_of (role.Terminal number) = owner.Terminal number
 
 -- The full length of a record is that of the terminal, if the station is one.
 abbrev pub Suits : ℕ → Prepared → Type 0

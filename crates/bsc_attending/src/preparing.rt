@@ -8,6 +8,9 @@ ghost use Rattle.bsc_attending.specs.Errors.{IsPreparingError};
 ghost use Rattle.bsc_attending.specs.Preparing.{HasConfig, HasNoConfig, HasNoControl};
 ghost use Rattle.bsc_attending.specs.Preparing.{HasNoStation, HasNoTerminal, IsPrepared};
 ghost use Rattle.bsc_attending.specs.Preparing.{IsStationOf, IsUnprepared, Suits, SuitsOwn};
+ghost use Rattle.bsc_attending.specs.Preparing.{owner_of};
+ghost use Rattle.bsc_keeping.specs.Own.{receiving_of, sending_of};
+ghost use Rattle.bsc_keeping.specs.OwnText.{own_text_of};
 
 use crate::AttendingError;
 use crate::offering::{offer_all_at_terminal, offer_all_for_terminals};
@@ -68,7 +71,13 @@ fn own_of(
     role: Role,
     config: &Config,
 ) -> Result<Option<Own>, AttendingError>
+    ensures text { IfOk result (λ own. IfSome own (λ o.
+        string_bytes o.text ≡ own_text_of config.now (owner_of role))) }
     ensures full { IfOk result (λ own. IfSome own (λ o. o.full ≡ config.now.setup.format.full)) }
+    ensures sending { IfOk result (λ own. IfSome own (λ o.
+        o.sending.items ≡ sending_of config.now.terminals (owner_of role))) }
+    ensures receiving { IfOk result (λ own. IfSome own (λ o.
+        o.receiving.items ≡ receiving_of config.now.terminals (owner_of role))) }
     ensures kept { IfOk result (λ own. IsSome words.now.store → IsSome own) }
     ensures error { IfErr result (λ error. error ≡ AttendingError.Memory) }
 {
