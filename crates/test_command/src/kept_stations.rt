@@ -130,7 +130,7 @@ pub(crate) const SELECTED: &[&[u8]] = &[
 ];
 
 /// The results of a command that does what it is asked to, without a connection.
-const DONE: Due = Due {
+pub(crate) const DONE: Due = Due {
     asking: None,
     out: "",
     errors: "",
@@ -144,7 +144,7 @@ pub(crate) const ENDED: Due = Due {
 };
 
 /// A question for how far the channels of the store at `kept` are.
-const STATUS: Case = Case {
+pub(crate) const STATUS: Case = Case {
     words: Some(&["store", "kept", "status"]),
     input: Some(""),
     takes: true,
@@ -303,7 +303,7 @@ const SENT: &[&[u8]] = &[
 ];
 
 /// The results of a control station that does what it is asked to.
-const CALLED: Due = Due {
+pub(crate) const CALLED: Due = Due {
     asking: Some(Asking {
         begins: false,
         ..SHARING
@@ -387,10 +387,18 @@ const CONTROLS: &[Case] = &[
 
 /// The first of these commands, in turn on one machine, with another result than expected, and
 /// which result that is.
-fn first_wrong_in_turn(alloc: Global, cases: &[Case]) -> Option<(usize, &'static str)> {
-    let record = Record::new(alloc);
+pub(crate) fn first_wrong_in_turn(alloc: Global, cases: &[Case]) -> Option<(usize, &'static str)> {
+    first_wrong_on(alloc, cases, &Record::new(alloc))
+}
+
+/// The same on the machine with this record.
+pub(crate) fn first_wrong_on(
+    alloc: Global,
+    cases: &[Case],
+    record: &Record,
+) -> Option<(usize, &'static str)> {
     for (place, case) in cases.iter().enumerate() {
-        if let Some(what) = difference(alloc, case, &record) {
+        if let Some(what) = difference(alloc, case, record) {
             return Some((place, what));
         }
     }

@@ -10,11 +10,19 @@ mod command_runs;
 #[cfg(test)]
 mod commands;
 #[cfg(test)]
+mod control_options;
+#[cfg(test)]
 mod failing_stores;
+#[cfg(test)]
+mod failing_traces;
 #[cfg(test)]
 mod faults;
 #[cfg(test)]
 mod growths;
+#[cfg(test)]
+mod kept_lines;
+#[cfg(test)]
+mod kept_sizes;
 #[cfg(test)]
 mod kept_stations;
 #[cfg(test)]
@@ -45,6 +53,8 @@ mod run_traces;
 mod runs;
 #[cfg(test)]
 mod sizes;
+#[cfg(test)]
+mod station_bounds;
 #[cfg(test)]
 mod station_options;
 #[cfg(test)]

@@ -164,6 +164,9 @@ pub(crate) struct Scene {
     /// Whether the disk of standard output fails.
     pub(crate) disk_fails: bool,
 
+    /// Whether the trace cannot be written.
+    pub(crate) trace_fails: bool,
+
     /// Why no connections can be made, if they cannot.
     pub(crate) refusal: Option<SocketsError>,
 }
@@ -175,6 +178,7 @@ pub(crate) const SILENT: Scene = Scene {
     steps: b"",
     peer: 0,
     disk_fails: false,
+    trace_fails: false,
     refusal: None,
 };
 
@@ -318,8 +322,10 @@ impl<'a> Network for Machine<'a> {
     }
 
     fn trace(&mut self) -> Tracer<'a> {
-        let record = self.record;
-        Tracer { record }
+        Tracer {
+            fails: self.scene.trace_fails,
+            record: self.record,
+        }
     }
 
     fn sync_output(&mut self) {

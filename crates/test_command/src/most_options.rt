@@ -11,7 +11,7 @@ use std::test::Fail;
 
 /// A configuration of 64 terminals with four selection addresses each, of which the last is polled,
 /// in as many octets as an input may have.
-fn config(alloc: Global) -> Result<String, Fail> {
+pub(crate) fn config(alloc: Global) -> Result<String, Fail> {
     let mut text = String::from_str(alloc, "version = 2\npoll_list = [63]\n")?;
     for number in 0..64usize {
         write!(

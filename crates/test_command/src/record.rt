@@ -100,11 +100,16 @@ impl Write for Sending<'_> {
 /// The writer for the trace.
 #[derive(Drop)]
 pub(crate) struct Tracer<'a> {
+    /// Whether it fails.
+    pub(crate) fails: bool,
     pub(crate) record: &'a Record,
 }
 
 impl Write for Tracer<'_> {
     fn write(&mut self, octets: &[u8]) -> io::Result<usize> {
+        if self.fails {
+            return Err(Error::from(ErrorKind::BrokenPipe));
+        }
         self.record.trace.try_borrow_mut()?.write(octets)
     }
 

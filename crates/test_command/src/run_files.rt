@@ -38,6 +38,13 @@ pub(crate) const POLLED_TRACED: &str = "+0 terminal 0 is A, selected as a.
 const REFUSED: &str =
     "offer-at 0 HI\nsilence\ncarry\ncarry\ncarry\ncarry\ncarry\ncarry\nready 2\ncarry\n";
 
+/// Two records of the most characters.
+const LONGEST: &str = "AAAAAAAAAAAAAAAAAAAAAAAAAAAAAAAAAAAAAAAAAAAAAAAAAAAAAAAAAAAAAAAAAAAAAAAA\
+    AAAAAAAAAAAAAAAAAAAAAAAAAAAAAAAAAAAAAAAAAAAAAAAAAAAAAAAAAAAAAAAAAAAAAAAA
+AAAAAAAAAAAAAAAAAAAAAAAAAAAAAAAAAAAAAAAAAAAAAAAAAAAAAAAAAAAAAAAAAAAAAAAA\
+    AAAAAAAAAAAAAAAAAAAAAAAAAAAAAAAAAAAAAAAAAAAAAAAAAAAAAAAAAAAAAAAAAAAAAAAA
+";
+
 /// Returns the text of the script or of the records at this path.
 pub(crate) fn run_file_at(path: &str) -> Option<&'static str> {
     match path {
@@ -45,6 +52,7 @@ pub(crate) fn run_file_at(path: &str) -> Option<&'static str> {
         "refused.txt" => Some(REFUSED),
         "wrong.txt" => Some("carry\n\ncarry 1\n"),
         "hi.cards" => Some("HI\n"),
+        "longest.cards" => Some(LONGEST),
         _ => None,
     }
 }

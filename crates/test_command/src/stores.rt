@@ -111,9 +111,21 @@ const KEPT_LINE: &str = "terminal 0\nfull length 80\npolled 41 selected 61\n\
 const CONTROL_LINE: &str = "control station\nfull length 80\npolled 41 selected 61\n\
     polled 42 selected 62\n";
 
+/// The text of the line of the store at `three`, which is that of terminal 0 of a line in which
+/// this has two selection addresses.
+const THREE_LINE: &str = "terminal 0\nfull length 80\npolled 41 selected 61 63\n\
+    polled 42 selected 62\n";
+
+/// The text of the line of the store at `threes`, which is that of the control station of this
+/// line.
+const THREES_LINE: &str = "control station\nfull length 80\npolled 41 selected 61 63\n\
+    polled 42 selected 62\n";
+
 /// Returns the text of the line of the store at this path, if it can be opened.
 fn line_at(path: &str) -> Result<&'static str, StoreFault> {
     match path {
+        "three" => Ok(THREE_LINE),
+        "threes" => Ok(THREES_LINE),
         "kept" => Ok(KEPT_LINE),
         "control" => Ok(CONTROL_LINE),
         "busy" => Err(StoreFault::InUse),
@@ -124,8 +136,9 @@ fn line_at(path: &str) -> Result<&'static str, StoreFault> {
 impl<'a> Stores for Machine<'a> {
     type Store = Lent<'a>;
 
+    /// The store at `any` is that of every station.
     fn open_store(&mut self, path: &str, own: &str) -> Result<Lent<'a>, StoreFault> {
-        if line_at(path)? != own {
+        if path != "any" && line_at(path)? != own {
             return Err(StoreFault::OtherLine);
         }
         let record = self.record;

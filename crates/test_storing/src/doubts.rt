@@ -9,7 +9,7 @@ use std::rt::HostRuntime;
 use std::test::Fail;
 
 /// Keeps at the terminal that its first two records are in doubt.
-fn hold_doubt(machine: &mut Machine) -> Result<(), StoreFault> {
+pub(crate) fn hold_doubt(machine: &mut Machine) -> Result<(), StoreFault> {
     let change = Change::Known {
         channel: channel()?,
         known: 0,

@@ -4,6 +4,10 @@
 #[cfg(test)]
 mod doubts;
 #[cfg(test)]
+mod lines;
+#[cfg(test)]
 mod machine;
+#[cfg(test)]
+mod unprinted;
 #[cfg(test)]
 mod works;

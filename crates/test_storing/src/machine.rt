@@ -9,6 +9,7 @@ use bsc_storing::{Opened, StoreFiles, StoringError, store};
 use sqlite::{Connection, MemStore};
 use std::alloc::{AllocError, Global};
 use std::io::Write;
+use test_fixtures::Full;
 use test_fixtures::configurations::THREE_ADDRESSES;
 
 /// A machine with a store at the paths `control` and `terminal`, once they are made, and with the
@@ -154,6 +155,20 @@ pub(crate) fn told(
     match written {
         Ok(()) => Ok(out),
         Err(_) => Err(StoringError::Output),
+    }
+}
+
+/// Does the work that the words ask for, with an output that takes nothing.
+pub(crate) fn done(alloc: Global, machine: &mut Machine, given: Given) -> Result<(), StoringError> {
+    let words = words_of(alloc, given)?;
+    let mut input = b"".as_slice();
+    match read_store_work(&words) {
+        Err(_) => Err(StoringError::NoChannel),
+        Ok(work) => {
+            let file = words.file.as_str();
+            let mut out = Full { left: 0 };
+            store(alloc, file, work, &mut input, machine, &mut out)
+        }
     }
 }
 
