@@ -51,6 +51,10 @@ pub enum Broken {
     #[error("other records arrived than were offered")]
     OtherRecords,
 
+    /// A station put the sender of records off although no memory was refused.
+    #[error("a station puts off without a cause")]
+    PutOff,
+
     /// What is pending after the event is not what the event may leave.
     #[error("something else is pending")]
     Pending,

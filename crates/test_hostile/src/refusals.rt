@@ -1,12 +1,14 @@
-//! Which events a line has to refuse.
+//! Which events a line has to refuse, and which replies need a cause.
 
-ghost use Rattle.std.specs.Prelude.{◌↔◌, IsTrue};
-ghost use Rattle.test_hostile.specs.Answers.{HasCause, MayAnswer};
+ghost use Rattle.std.specs.Prelude.{◌≡◌, ◌↔◌, IsTrue};
+ghost use Rattle.test_hostile.specs.Answers.{HasCause, MayAnswer, puts_off};
 
 use crate::channel::{View, is_channel, look};
+use crate::heard::Kind;
 use bsc_bid::Setup;
 use bsc_block::Record;
 use bsc_control::Way;
+use bsc_frame::Reply;
 use bsc_line::{Event, Line, LineError, Speaker};
 use std::alloc::Allocator;
 
@@ -174,6 +176,18 @@ fn has_cause(event: &Event<'_>, circumstances: Circumstances, why: LineError) ->
             circumstances.starved
         }
         (Event::Release { .. }, LineError::CountMismatch) => !circumstances.trusted,
+        _ => false,
+    }
+}
+
+/// Whether a station that heard this puts the sender of records off by this reply: by WACK, or by
+/// NAK to a whole text. It may only if it has no room for a text.
+pub(crate) fn puts_off(heard: Kind, reply: Kind) -> bool
+    ensures { result ≡ puts_off heard reply }
+{
+    match reply {
+        Kind::Reply(Reply::Wack) => true,
+        Kind::Reply(Reply::Nak) => matches!(heard, Kind::Text),
         _ => false,
     }
 }

@@ -15,10 +15,10 @@ use crate::aside::{Aside, sender_of};
 use crate::broken::Broken;
 use crate::channel::{Channel, View};
 use crate::fairness::is_fair;
-use crate::heard::{Hearing, hear};
+use crate::heard::{Hearing, hear, kind_at};
 use crate::pending::Sent;
 use crate::records::EMPTY;
-use crate::refusals::{Circumstances, may_answer, refusal};
+use crate::refusals::{Circumstances, may_answer, puts_off, refusal};
 use crate::step::{Effect, effect_of, is_sound};
 use crate::taking::take;
 use crate::tally::Tally;
@@ -174,7 +174,9 @@ impl LineWatch {
 
     /// Plays an event on the line, and compares what the line shows with what the event may do.
     /// `memory` is the allocator of the line: only if it refuses a request during an offer may the
-    /// offer fail with `Memory`. Returns the answer of the line, or the first rule that it broke.
+    /// offer fail with `Memory`, and only if it does while a transmission is heard may the station
+    /// that answers put the sender off. Returns the answer of the line, or the first rule that it
+    /// broke.
     pub fn play<A: Allocator>(
         &mut self,
         memory: &Refusing,
@@ -204,7 +206,22 @@ impl LineWatch {
             Err(_) => Effect::Nothing,
         };
         self.see(line, event, effect)?;
+        if self.is_put_off(effect) && !circumstances.starved {
+            return Err(Broken::PutOff);
+        }
         Ok(answer)
+    }
+
+    /// Whether the station that answers what it heard puts the sender of records off.
+    fn is_put_off(&self, effect: Effect) -> bool {
+        let (Some(sent), Effect::Down | Effect::Up) = (&self.sent, effect) else {
+            return false;
+        };
+        let station = match sent.speaker {
+            Speaker::Control => 0,
+            Speaker::Terminal(terminal) => terminal,
+        };
+        puts_off(kind_at(self.hearings.as_slice(), station), sent.kind)
     }
 
     /// Stores what each station hears of what is pending.

@@ -1,8 +1,9 @@
-//! An offer may fail with `Memory` only if memory was refused during it.
+//! An offer may fail with `Memory`, and a station may put the sender of records off, only if memory
+//! was refused during the event.
 
 use crate::{Broken, LineWatch};
 use bsc_line::{Event, Line, LineError};
-use std::alloc::Global;
+use std::alloc::{Allocator, Global};
 use std::test::Fail;
 use test_alloc::Refusing;
 use test_fixtures::lines::{setup, two_terminals};
@@ -13,33 +14,100 @@ const HI_AT: Event<'static> = Event::OfferAt {
     codes: b"HI",
 };
 
+/// Offers HI for terminal 0.
+const HI_FOR: Event<'static> = Event::OfferFor {
+    terminal: 0,
+    select: 0,
+    codes: b"HI",
+};
+
 /// What the watch reports.
 type Seen = Result<Result<(), LineError>, Broken>;
 
-/// What the watch reports of an offer on a new line to which `starved` refuses all memory, if the
-/// watch takes `memory` as the allocator of the line.
-fn seen(alloc: Global, starved: &Refusing, memory: &Refusing) -> Result<Seen, Fail> {
+/// Events that are played before memory is refused and after, on a new line.
+type Played = (&'static [Event<'static>], &'static [Event<'static>]);
+
+/// An offer.
+const OFFERED: Played = (&[], &[HI_AT]);
+
+/// A selection for which the terminal has no room, and the answer again.
+const SELECTED: Played = (
+    &[HI_FOR],
+    &[
+        Event::Silence,
+        Event::CarrySent,
+        Event::CarrySent,
+        Event::CarrySent,
+    ],
+);
+
+/// A text for which the control station has no room.
+const POLLED: Played = (
+    &[HI_AT],
+    &[Event::Silence, Event::CarrySent, Event::CarrySent],
+);
+
+/// Plays these events, and returns what the watch reports of the last one, or of the first that
+/// breaks a rule.
+fn play_each<A: Allocator>(
+    watch: &mut LineWatch,
+    memory: &Refusing,
+    line: &mut Line<A>,
+    events: &[Event<'_>],
+) -> Seen {
+    let mut seen = Ok(());
+    for event in events {
+        seen = watch.play(memory, line, event)?;
+    }
+    Ok(seen)
+}
+
+/// What the watch reports of the last of these events on a new line to which `starved` refuses all
+/// memory during the second ones, if the watch takes `memory` as the allocator of the line.
+fn seen(
+    alloc: Global,
+    starved: &Refusing,
+    memory: &Refusing,
+    played: Played,
+) -> Result<Seen, Fail> {
     let (setup, terminals) = (setup(3)?, two_terminals());
     let mut watch = LineWatch::new(alloc, setup, &terminals)?;
     starved.refuse_none();
     let mut line = Line::new(starved, setup, &terminals, &[0, 1])?;
+    let before = play_each(&mut watch, memory, &mut line, played.0);
+    if before != Ok(Ok(())) {
+        return Ok(before);
+    }
     starved.refuse_from(1);
-    Ok(watch.play(memory, &mut line, &HI_AT))
+    Ok(play_each(&mut watch, memory, &mut line, played.1))
 }
 
 #[test]
 fn an_offer_fails_only_if_memory_was_refused_during_it(rt: HostRuntime) -> Result<(), Fail> {
     let alloc = rt.alloc();
     let (starved, other) = (Refusing::new(alloc), Refusing::new(alloc));
-    assert_eq!(rt;
-        seen(alloc, &starved, &starved)?,
-        Ok(Err(LineError::Memory))
-    );
-    assert_eq!(rt; seen(alloc, &starved, &other)?, Err(Broken::Answer));
+    let granted = seen(alloc, &starved, &starved, OFFERED)?;
+    assert_eq!(rt; granted, Ok(Err(LineError::Memory)));
+    let told = seen(alloc, &starved, &other, OFFERED)?;
+    assert_eq!(rt; told, Err(Broken::Answer));
 
     // A refusal before the offer is no cause.
     other.refuse_from(1);
     assert!(rt; Vec::<u8, &Refusing>::with_capacity(&other, 1).is_err());
-    assert_eq!(rt; seen(alloc, &starved, &other)?, Err(Broken::Answer));
+    let told = seen(alloc, &starved, &other, OFFERED)?;
+    assert_eq!(rt; told, Err(Broken::Answer));
+    Ok(())
+}
+
+#[test]
+fn a_station_puts_off_only_if_memory_was_refused_to_it(rt: HostRuntime) -> Result<(), Fail> {
+    let alloc = rt.alloc();
+    let (starved, other) = (Refusing::new(alloc), Refusing::new(alloc));
+    for played in [SELECTED, POLLED] {
+        let granted = seen(alloc, &starved, &starved, played)?;
+        assert_eq!(rt; granted, Ok(Ok(())));
+        let told = seen(alloc, &starved, &other, played)?;
+        assert_eq!(rt; told, Err(Broken::PutOff));
+    }
     Ok(())
 }

@@ -3,7 +3,7 @@
 use crate::Broken;
 use std::test::Fail;
 
-const TEXTS: [(Broken, &str); 15] = [
+const TEXTS: [(Broken, &str); 16] = [
     (Broken::Answer, "another answer to the event"),
     (Broken::Trust, "another trust"),
     (Broken::Channel, "a channel is missing"),
@@ -21,6 +21,7 @@ const TEXTS: [(Broken, &str); 15] = [
         Broken::OtherRecords,
         "other records arrived than were offered",
     ),
+    (Broken::PutOff, "a station puts off without a cause"),
     (Broken::Pending, "something else is pending"),
     (Broken::Message, "no message of its sender is pending"),
     (Broken::Text, "a text carries other records"),
