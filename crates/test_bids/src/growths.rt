@@ -33,11 +33,13 @@ fn offer_all(queue: &mut Queue<&Refusing>) -> usize
 
 /// Delivers the next block if there is room for it. Returns whether it was stored, room that was
 /// there already needed no memory, and storing needed none either.
-fn is_delivered(
+pub(crate) fn is_delivered(
     alloc: &Refusing,
     queue: &mut Queue<&Refusing>,
     spool: &mut Spool<&Refusing>,
-) -> bool {
+) -> bool
+    ensures { queue.new.format ≡ queue.old.format }
+{
     let Some(next) = queue.next() else {
         return false;
     };

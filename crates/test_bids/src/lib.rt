@@ -11,6 +11,8 @@ mod ends;
 #[cfg(test)]
 mod growths;
 #[cfg(test)]
+mod lengths;
+#[cfg(test)]
 mod queues;
 #[cfg(test)]
 mod receivers;
