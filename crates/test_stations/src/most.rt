@@ -19,7 +19,16 @@ const FIRST_CODE: u8 = 0x21;
 const RECORDS: usize = 4_000;
 
 /// The number of records that had arrived at the last place.
-const MOST_RECORDS: usize = 100_000;
+const MOST_RECORDS: usize = 400_000;
+
+/// The characters with which the records begin.
+const CHARS: &[u8] = &[b'A'; 144];
+
+/// The record of this number: each length from 0 to 144 in turn.
+fn record_of(number: usize) -> Option<Record> {
+    let chars = CHARS.get(..number % 145)?;
+    Record::read(chars, 144).ok()
+}
 
 /// A terminal with the polling address P and the selection addresses a, b, c and d, each followed
 /// by this code.
@@ -35,11 +44,11 @@ fn coded_terminal(code: u8) -> Result<Terminal, Fail>
     Ok(Terminal::new(Address::read(&[b'P', code])?, &selects)?)
 }
 
-/// Gives the control station this many records that had arrived from a terminal, and returns
-/// whether it keeps each.
+/// Gives the control station this many records of any length that had arrived from a terminal, and
+/// returns whether it keeps each.
 fn keeps_from<A: Allocator>(control: &mut Control<A>, terminal: usize, count: usize) -> bool {
-    for _ in 0..count {
-        let Ok(record) = Record::read(b"HI", 80) else {
+    for number in 0..count {
+        let Some(record) = record_of(number) else {
             return false;
         };
         if terminal >= control.terminals() || control.keep_arrived(terminal, record).is_err() {
@@ -65,15 +74,15 @@ fn a_control_station_keeps_thousands_of_records_from_each_of_64_terminals(
     Ok(())
 }
 
-/// Gives a terminal this many records that had arrived at the selection address of this number, 0
-/// to 3, and returns whether it keeps each.
+/// Gives a terminal this many records of any length that had arrived at the selection address of
+/// this number, 0 to 3, and returns whether it keeps each.
 fn keeps_at<A: Allocator>(tributary: &mut Tributary<A>, select: usize, count: usize) -> bool
     requires select { select < 4 }
     requires selects { length tributary.old.terminal.selects ≡ 4 }
     ensures selects { length tributary.new.terminal.selects ≡ 4 }
 {
-    for _ in 0..count {
-        let Ok(record) = Record::read(b"HI", 80) else {
+    for number in 0..count {
+        let Some(record) = record_of(number) else {
             return false;
         };
         if tributary.keep_arrived(select, record).is_err() {
