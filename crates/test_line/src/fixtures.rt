@@ -158,7 +158,7 @@ pub(crate) const MOST: On<'static> = On {
 };
 
 /// A new line with these settings, terminals and poll list.
-fn line_of<A: Allocator + Copy>(
+pub(crate) fn line_of<A: Allocator + Copy>(
     alloc: A,
     setup: Setup,
     terminals: &[Terminal],

@@ -21,6 +21,8 @@ mod hearings;
 #[cfg(test)]
 mod limits;
 #[cfg(test)]
+mod makings;
+#[cfg(test)]
 mod memory;
 #[cfg(test)]
 mod pending;
