@@ -1,8 +1,10 @@
-//! Offers, in every state of a line, while memory is granted: each is accepted, and no text is put
-//! off.
+//! Offers, in every state of a line, while memory is granted to them: each is accepted. While memory
+//! is granted to all stations, no text is put off.
 
 use crate::events::{LOSE, URGENT_AT, URGENT_FOR};
-use crate::fixtures::most_terminals;
+use crate::fixtures::{On, Play, line_of, most_terminals, play_on};
+use crate::growths::is_put_off;
+use crate::limits::{go_on, longest_poll_list};
 use bsc_bid::Setup;
 use bsc_control::Way::{FromTerminal, ToTerminal};
 use bsc_frame::{Message, Reply};
@@ -98,16 +100,33 @@ impl States {
     }
 }
 
-/// Offers a record at the first terminal and at the last one, and for the first and the last
-/// address of both.
-fn offer_each_way<A: Allocator>(line: &mut Line<A>) -> Result<(), LineError> {
+/// The characters with which the records begin.
+const CHARS: &[u8] = &[b'X'; 144];
+
+/// Offers a record at a terminal, and for its first and its last address.
+fn offer_around<A: Allocator>(
+    line: &mut Line<A>,
+    terminal: usize,
+    codes: &[u8],
+) -> Result<(), LineError> {
+    line.offer_at(terminal, codes)?;
+    line.offer_for(terminal, 0, codes)?;
+    line.offer_for(terminal, 3, codes)
+}
+
+/// Offers a record each way of the first terminal and of the last one. Its length depends on the
+/// number of the step: each from 0 to the greatest number of characters in turn.
+fn offer_each_way<A: Allocator>(
+    line: &mut Line<A>,
+    chars: u8,
+    step: usize,
+) -> Result<(), LineError> {
+    let codes = CHARS
+        .get(..step % (usize::from(chars) + 1))
+        .unwrap_or(CHARS);
     let last = line.terminals().saturating_sub(1);
-    for terminal in [0, last] {
-        line.offer_at(terminal, b"X")?;
-        line.offer_for(terminal, 0, b"X")?;
-        line.offer_for(terminal, 3, b"X")?;
-    }
-    Ok(())
+    offer_around(line, 0, codes)?;
+    offer_around(line, last, codes)
 }
 
 /// The event of this number. For thirteen events transmissions are carried, and for forty, which is
@@ -127,7 +146,11 @@ fn event_of(step: usize, is_pending: bool) -> Event<'static> {
 
 /// Plays this many events, offers each way after each of them, and returns the states that the line
 /// went through. Both ends ask for the line now and then.
-fn play_and_offer<A: Allocator>(line: &mut Line<A>, steps: usize) -> Result<States, LineError> {
+fn play_and_offer<A: Allocator>(
+    line: &mut Line<A>,
+    chars: u8,
+    steps: usize,
+) -> Result<States, LineError> {
     let mut states = NONE;
     for step in 0..steps {
         let event = event_of(step, line.pending().is_some());
@@ -136,7 +159,7 @@ fn play_and_offer<A: Allocator>(line: &mut Line<A>, steps: usize) -> Result<Stat
             line.run(&[URGENT_AT, URGENT_FOR])
                 .map_err(|stopped| stopped.why)?;
         }
-        offer_each_way(line)?;
+        offer_each_way(line, chars, step)?;
         states.see(line);
     }
     Ok(states)
@@ -148,7 +171,7 @@ fn play_with(alloc: &Refusing, of: Settings, steps: usize) -> Result<States, Fai
     let most = most_terminals()?;
     let terminals = most.get(..of.terminals).ok_or("too few terminals")?;
     let mut line = Line::new(alloc, setup, terminals, &[0])?;
-    Ok(play_and_offer(&mut line, steps)?)
+    Ok(play_and_offer(&mut line, of.chars, steps)?)
 }
 
 #[test]
@@ -178,5 +201,135 @@ fn offers_are_accepted_with_each_number_of_terminals(rt: HostRuntime) -> Result<
         play_with(&alloc, settings, 20)?;
     }
     assert_eq!(rt; alloc.refused(), 0);
+    Ok(())
+}
+
+/// The steps that a round of the longest poll list takes at most.
+const ROUND: usize = 20_000;
+
+/// Whether a poll of a terminal is pending.
+fn is_polling<A: Allocator>(line: &Line<A>) -> bool {
+    match line.pending() {
+        Some(sent) => match &sent.message {
+            Message::Call(address) => address.codes().starts_with(b"P"),
+            _ => false,
+        },
+        None => false,
+    }
+}
+
+/// Offers a record at a terminal, for its first address, or for its last one: all terminals in turn,
+/// and each way of all before the next one.
+fn offer_in_turn<A: Allocator>(line: &mut Line<A>, step: usize) -> Result<(), LineError> {
+    match step / 64 % 3 {
+        0 => line.offer_at(step % 64, b"HI"),
+        1 => line.offer_for(step % 64, 0, b"HI"),
+        _ => line.offer_for(step % 64, 3, b"HI"),
+    }
+}
+
+/// A record is offered after each transmission until this many polls were sent, so that each entry
+/// of the poll list is the present one for a while.
+#[derive(Clone, Copy)]
+struct Polls(usize);
+
+impl Play for Polls {
+    /// The number of polls, or the error of an offer.
+    type Answer = Result<usize, LineError>;
+
+    fn play<A: Allocator>(&self, line: &mut Line<A>) -> Result<usize, LineError> {
+        let mut polls = 0usize;
+        for step in 0..ROUND {
+            go_on(line, false)?;
+            offer_in_turn(line, step)?;
+            polls = polls.saturating_add(usize::from(is_polling(line)));
+            if polls == self.0 || is_put_off(line) {
+                return Ok(polls);
+            }
+        }
+        Ok(polls)
+    }
+}
+
+#[test]
+fn offers_are_accepted_at_each_entry_of_the_longest_poll_list(rt: HostRuntime) -> Result<(), Fail> {
+    let alloc = Refusing::new(rt.alloc());
+    let poll_list = longest_poll_list(rt.alloc())?;
+    let polls = play_on(&alloc, &On::first(64, &poll_list), &Polls(256))?;
+    assert_eq!(rt; (polls, alloc.refused()), (Ok(256), 0));
+    Ok(())
+}
+
+/// A bid that is put off as often as it can be: from this transmission on, memory is refused while
+/// a transmission is heard, and granted to the offers in between.
+#[derive(Clone, Copy)]
+struct PutOff<'a> {
+    alloc: &'a Refusing,
+    from_terminal: bool,
+    granted: usize,
+}
+
+impl PutOff<'_> {
+    /// Offers the longest records, for the bid.
+    fn offer_first<A: Allocator>(&self, line: &mut Line<A>) -> Result<(), LineError> {
+        for _ in 0..20u8 {
+            if self.from_terminal {
+                line.offer_at(0, CHARS)?;
+            } else {
+                line.offer_for(0, 0, CHARS)?;
+            }
+        }
+        Ok(())
+    }
+
+    /// One more transmission or silence, and offers after it. Returns whether the sender is put off.
+    fn step<A: Allocator>(&self, line: &mut Line<A>, step: usize) -> Result<bool, LineError> {
+        if step > self.granted {
+            self.alloc.refuse_from(1);
+        }
+        let done = go_on(line, false);
+        self.alloc.refuse_none();
+        done?;
+        offer_each_way(line, 144, step)?;
+        Ok(is_put_off(line))
+    }
+}
+
+impl Play for PutOff<'_> {
+    /// How often the sender was put off, or the error of an offer.
+    type Answer = Result<usize, LineError>;
+
+    fn play<A: Allocator>(&self, line: &mut Line<A>) -> Result<usize, LineError> {
+        self.offer_first(line)?;
+        let mut count = 0usize;
+        for step in 0..600usize {
+            count = count.saturating_add(usize::from(self.step(line, step)?));
+        }
+        Ok(count)
+    }
+}
+
+/// How often the sender of a bid is put off on a new line with the most waits.
+fn count_put_off(alloc: &Refusing, from_terminal: bool, granted: usize) -> Result<usize, Fail> {
+    let most = most_terminals()?;
+    alloc.refuse_none();
+    let mut line = line_of(alloc, Setup::new(144, 400, 15, 255)?, &most, &[0])?;
+    let put_off = PutOff {
+        alloc,
+        from_terminal,
+        granted,
+    };
+    Ok(put_off.play(&mut line)?)
+}
+
+/// The call that selects a terminal has no room at once. A control station that polled has room for
+/// the first text.
+#[test]
+fn offers_are_accepted_while_a_bid_is_put_off_255_times(rt: HostRuntime) -> Result<(), Fail> {
+    let alloc = Refusing::new(rt.alloc());
+    for (from_terminal, granted) in [(false, 0), (true, 2)] {
+        let count = count_put_off(&alloc, from_terminal, granted)?;
+        assert!(rt; count > 255, "{count}");
+    }
     Ok(())
 }

@@ -157,7 +157,7 @@ fn offers_all<A: Allocator>(alloc: &Refusing, line: &mut Line<A>, offered: Offer
 }
 
 /// Whether the receiver of a text or of a selection puts the sender off, with NAK or WACK.
-fn is_put_off<A: Allocator>(line: &Line<A>) -> bool {
+pub(crate) fn is_put_off<A: Allocator>(line: &Line<A>) -> bool {
     match line.pending() {
         Some(sent) => matches!(&sent.message, Message::Reply(Reply::Nak | Reply::Wack)),
         None => false,
@@ -204,7 +204,12 @@ fn are_fronts<A: Allocator>(line: &Line<A>, offered: Offered<'_>) -> bool {
 
 /// Whether this many records were offered on a channel, arrived, and are known to have arrived,
 /// without a doubt.
-fn has_count<A: Allocator>(line: &Line<A>, terminal: usize, way: Way, count: usize) -> bool {
+pub(crate) fn has_count<A: Allocator>(
+    line: &Line<A>,
+    terminal: usize,
+    way: Way,
+    count: usize,
+) -> bool {
     is_channel(line, terminal, way)
         && line.offered(terminal, way).len() == count
         && line.spooled(terminal, way).len() == count

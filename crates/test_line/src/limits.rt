@@ -17,7 +17,7 @@ use test_alloc::Refusing;
 const CALL_POLL_FIRST: &[u8] = &[0x16, 0x16, 0x04, 0xff, 0x16, 0x16, 0xd0, 0xa1, 0x85, 0xff];
 
 /// A poll list with the greatest number of entries, which names each of 64 terminals in turn.
-fn longest_poll_list(alloc: Global) -> Result<Vec<u8>, AllocError> {
+pub(crate) fn longest_poll_list(alloc: Global) -> Result<Vec<u8>, AllocError> {
     let mut entries = Vec::new(alloc);
     for place in 0..255u8 {
         entries.push(place % 64)?;

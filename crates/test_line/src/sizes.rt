@@ -5,6 +5,7 @@ use crate::channels::Has::{Arrived, Delivered};
 use crate::channels::{has_left, is_channel, offer};
 use crate::events::{HI, NONE};
 use crate::fixtures::{Answer, Play, TWO, TWO_OF_LONGEST, play_on};
+use crate::growths::{has_count, is_put_off};
 use crate::limits::carry_on;
 use crate::pending::{has_begun, is_pending};
 use bsc_block::Records;
@@ -85,6 +86,65 @@ impl Play for All {
 fn a_hundred_thousand_records_arrive_each_way(rt: HostRuntime) -> Result<(), Fail> {
     let alloc = Refusing::new(rt.alloc());
     assert_eq!(rt; play_on(&alloc, &TWO, &All)?, Ok(true));
+    Ok(())
+}
+
+/// The number of records offered on each channel while records arrive there.
+const LATER: usize = 500_000;
+
+/// The characters of the longest record of `TWO`.
+const EIGHTY: &[u8] = &[b'B'; 80];
+
+/// Offers a record of this number each way of terminal 0, of 0 to 80 characters, and carries what is
+/// pending as it was sent. Returns whether nobody is put off.
+fn offer_and_carry<A: Allocator>(line: &mut Line<A>, number: usize) -> Answer {
+    let codes = EIGHTY.get(..number % 81).unwrap_or(EIGHTY);
+    line.offer_at(0, codes)?;
+    line.offer_for(0, 0, codes)?;
+    line.carry_sent()?;
+    Ok(!is_put_off(line))
+}
+
+/// Carries what is pending as it was sent until nothing waits, in at most this many transmissions.
+/// Returns whether nobody is put off.
+fn carry_rest<A: Allocator>(line: &mut Line<A>, most: usize) -> Answer {
+    for _ in 0..most {
+        if has_count(line, 0, FromTerminal, LATER) && has_count(line, 0, ToTerminal(0), LATER) {
+            return Ok(true);
+        }
+        line.carry_sent()?;
+        if is_put_off(line) {
+            return Ok(false);
+        }
+    }
+    Ok(true)
+}
+
+/// Records that are offered while others arrive.
+struct Later;
+
+impl Play for Later {
+    type Answer = Answer;
+
+    fn play<A: Allocator>(&self, line: &mut Line<A>) -> Answer {
+        line.silence()?;
+        for number in 0..LATER {
+            if !offer_and_carry(line, number)? {
+                return Ok(false);
+            }
+        }
+        let is_carried = carry_rest(line, LATER)?;
+        let up = has_count(line, 0, FromTerminal, LATER);
+        let down = has_count(line, 0, ToTerminal(0), LATER);
+        Ok(is_carried && up && down && line.trusted())
+    }
+}
+
+#[test]
+fn records_are_accepted_while_hundreds_of_thousands_arrive(rt: HostRuntime) -> Result<(), Fail> {
+    let alloc = Refusing::new(rt.alloc());
+    assert_eq!(rt; play_on(&alloc, &TWO, &Later)?, Ok(true));
+    assert_eq!(rt; alloc.refused(), 0);
     Ok(())
 }
 
