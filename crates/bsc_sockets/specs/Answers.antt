@@ -1,6 +1,6 @@
 -- What a wait may return.
 use Rattle.std.specs.Prelude.{◌≡◌, ◌<◌, ⊤, ℕ, Bool, true, false, List, Option, None, Some}
-use Rattle.std.specs.Prelude.{option_map}
+use Rattle.std.specs.Prelude.{option_map, if◌then◌else◌}
 use Rattle.std.specs.Net.Socket.{socket_ip}
 use Rattle.std.specs.declared.net.socket_addr.SocketAddr.{SocketAddr}
 use Rattle.bsc_connections.specs.declared.awaited.Awaited.{Awaited}
@@ -40,6 +40,17 @@ IsAnswer allowed places newcomer ready NotAllowed = newcomer_may allowed newcome
 IsAnswer allowed places newcomer ready (Gap connection) = ⊤
 IsAnswer allowed places newcomer ready TimeOut = ⊤
 IsAnswer allowed places newcomer ready Stopped = ⊤
+
+-- The event of a peer that has connected.
+abbrev pub peer_event : Networks → Peer → Awaited
+peer_event allowed peer = if may_connect allowed peer then Newcomer else NotAllowed
+
+-- The event of the listener, if there is one: that of the peer that has connected, if there is one,
+-- else that the system cannot accept a peer, if that is new, as the flag says.
+abbrev pub listener_event : Networks → Option Peer → Bool → Option Awaited
+listener_event allowed (Some peer) newly_refused = Some (peer_event allowed peer)
+listener_event allowed None true = Some NotAccepted
+listener_event allowed None false = None
 
 -- Why a wait failed: the system refused to wait or to tell the time, or memory was refused.
 abbrev pub IsWaitError : LiveError → Type 0

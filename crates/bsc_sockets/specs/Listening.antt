@@ -1,5 +1,6 @@
 -- Why a station cannot listen at an address, or get its connections.
-use Rattle.std.specs.Prelude.{⊤, ◌≡◌, Bool, true}
+use Rattle.std.specs.Prelude.{⊤, ◌≡◌, Bool, true, false, ℕ, List}
+use Rattle.bsc_sockets.specs.Ready.{without_place}
 use Rattle.bsc_sockets.specs.declared.error.SocketsError.{SocketsError}
 use Rattle.bsc_sockets.specs.declared.error.SocketsError.TheVariants.{Address, AddressInUse}
 use Rattle.bsc_sockets.specs.declared.error.SocketsError.TheVariants.{CannotListen, Memory}
@@ -31,6 +32,19 @@ not_taken_by kind.WouldBlock = Nobody
 not_taken_by kind.ConnectionAborted = Gone
 not_taken_by kind.Interrupted = Gone
 not_taken_by _ = Refused
+
+-- Whether the system could not accept a peer.
+abbrev pub is_refused : NotTaken → Bool
+is_refused Nobody = false
+is_refused Gone = false
+is_refused Refused = true
+
+-- The places that are ready after no peer could be accepted, where the listener has this place. It
+-- is ready no more if no peer is waiting.
+abbrev pub sought_after : NotTaken → ℕ → List ℕ → List ℕ
+sought_after Nobody listener ready = without_place ready listener
+sought_after Gone listener ready = ready
+sought_after Refused listener ready = ready
 
 -- Why the next peer is not taken, if waiting for it fails with this.
 abbrev pub peer_error : LiveError → SocketsError

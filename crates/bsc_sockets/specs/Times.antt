@@ -3,6 +3,9 @@ use Rattle.std.specs.Prelude.{◌≡◌, ⊤, ℕ, List, Option, None, Some, IsS
 use Rattle.std.specs.Prelude.{slice_index_or, slice_set, if◌then◌else◌}
 use Rattle.bsc_connections.specs.declared.awaited.Awaited.{Awaited}
 use Rattle.bsc_connections.specs.declared.awaited.Awaited.TheVariants.{Gap, TimeOut}
+use Rattle.bsc_connections.specs.declared.awaited.Pace.{Pace}
+use Rattle.bsc_connections.specs.declared.awaited.Pace.TheVariants.{AtOnce, AfterPause}
+use Rattle.bsc_sockets.specs.declared.time_limit.TimeLimit.{TimeLimit}
 use Rattle.bsc_sockets.specs.declared.times.Time.{Time}
 use Rattle.std.specs.declared.time.Duration.{Duration}
 use Rattle.bsc_sockets.specs.declared.times.Time.TheVariants.{Anew, Since}
@@ -21,6 +24,12 @@ abbrev pub HasBegun : Duration → Time → Time → Type 0
 HasBegun whole (Since limit) new = new ≡ Since limit
 HasBegun whole Anew (Since limit) = limit.time ≡ whole
 HasBegun whole Anew Anew = ⊥
+
+-- A wait that begins so, with pauses of this length, lets this pass.
+abbrev pub Rests : Pace → Duration → Option TimeLimit → Type 0
+Rests AtOnce pause limit = limit ≡ None
+Rests AfterPause pause None = ⊥
+Rests AfterPause pause (Some limit) = limit.time ≡ pause
 
 -- The end of a time: of a gap, or of the time-out.
 abbrev pub IsEnd : Awaited → Type 0

@@ -1,7 +1,7 @@
 //! Makes the first connections of a station.
 
 ghost use Rattle.std.specs.Prelude.{◌≡◌, ◌<◌, ◌^◌, ◌+◌, [], false, is_some, length, IfErr, IfOk};
-ghost use Rattle.std.specs.Prelude.{IsNone, OnOk};
+ghost use Rattle.std.specs.Prelude.{IsNone, IsSome, OnOk, true};
 ghost use Rattle.std.specs.Net.ToAddrs.{host_addrs};
 ghost use Rattle.bsc_sockets.specs.Listening.{IsAddressError, IsConnectError, IsDenied};
 ghost use Rattle.bsc_sockets.specs.Listening.{IsListenError, IsPeerError, IsUnwatched};
@@ -68,6 +68,7 @@ pub fn connect<'a, N: Net + Clock, A: Allocator + Copy>(
 ) -> Result<Begun<'a, N, A>, SocketsError>
     ensures count { IfOk result (λ begun. length begun.connections.items ≡ 1) }
     ensures settings { IfOk result (λ begun. begun.sockets.settings ≡ settings) }
+    ensures places { IfOk result (λ begun. begun.sockets.places ≡ 1) }
     ensures failed { IfErr result (IsAddressError (is_some settings.stops_with)) }
 {
     let hosts = collected(alloc, addresses(runtime, address)?)?;
@@ -100,6 +101,7 @@ pub fn connect_to_any<'a, N: Net + Clock, A: Allocator + Copy>(
 ) -> Result<Begun<'a, N, A>, SocketsError>
     ensures count { IfOk result (λ begun. length begun.connections.items ≡ 1) }
     ensures settings { IfOk result (λ begun. begun.sockets.settings ≡ settings) }
+    ensures places { IfOk result (λ begun. begun.sockets.places ≡ 1) }
     ensures failed { IfErr result (IsConnectError (is_some settings.stops_with)) }
 {
     let mut begun = Begun::new(runtime, alloc, 1, settings)?;
@@ -163,6 +165,9 @@ pub fn listen<'a, N: Net + Clock, A: Allocator + Copy, H: Reception>(
     ensures settings { IfOk result (λ begun. begun.sockets.settings ≡ settings) }
     ensures refuses { peers.keeps_listening ≡ false
         → IfOk result (λ begun. IsNone begun.sockets.listener) }
+    ensures listens { peers.keeps_listening ≡ true
+        → IfOk result (λ begun. IsSome begun.sockets.listener) }
+    ensures places { IfOk result (λ begun. begun.sockets.places ≡ peers.count) }
     ensures failed { IfErr result (IsListenError (is_some settings.stops_with)) }
 {
     let mut begun = Begun::new(runtime, alloc, peers.count, settings)?;
@@ -181,6 +186,7 @@ impl<'a, N: Net + Clock, A: Allocator + Copy> Begun<'a, N, A> {
         requires { places < 2 ^ 16 }
         ensures none { IfOk result (λ begun. begun.connections.items ≡ []) }
         ensures settings { IfOk result (λ begun. begun.sockets.settings ≡ settings) }
+        ensures places { IfOk result (λ begun. begun.sockets.places ≡ places) }
         ensures failed { IfErr result (IsUnwatched (is_some settings.stops_with)) }
     {
         let sockets = Sockets::new(runtime, alloc, places, settings)?;
@@ -201,6 +207,8 @@ impl<'a, N: Net + Clock, A: Allocator + Copy> Begun<'a, N, A> {
         ensures count { OnOk result
             (length self.new.connections.items ≡ length self.old.connections.items + 1) }
         ensures settings { self.new.sockets.settings ≡ self.old.sockets.settings }
+        ensures places { self.new.sockets.places ≡ self.old.sockets.places }
+        ensures listener { self.new.sockets.listener ≡ self.old.sockets.listener }
         ensures failed { IfErr result IsDenied }
     {
         let directions = self.sockets.open(place, stream, peer)?;
@@ -220,6 +228,9 @@ impl<'a, N: Net + Clock, A: Allocator + Copy> Begun<'a, N, A> {
         ensures settings { self.new.sockets.settings ≡ self.old.sockets.settings }
         ensures refuses { peers.keeps_listening ≡ false
             → OnOk result (IsNone self.new.sockets.listener) }
+        ensures listens { peers.keeps_listening ≡ true
+            → OnOk result (IsSome self.new.sockets.listener) }
+        ensures places { self.new.sockets.places ≡ self.old.sockets.places }
         ensures failed { IfErr result IsPeerError }
     {
         if let Ok(address) = listening.address() {
@@ -243,6 +254,8 @@ impl<'a, N: Net + Clock, A: Allocator + Copy> Begun<'a, N, A> {
         requires { self.old.connections.items ≡ [] }
         ensures count { OnOk result (length self.new.connections.items ≡ peers) }
         ensures settings { self.new.sockets.settings ≡ self.old.sockets.settings }
+        ensures places { self.new.sockets.places ≡ self.old.sockets.places }
+        ensures listener { self.new.sockets.listener ≡ self.old.sockets.listener }
         ensures failed { IfErr result IsPeerError }
     {
         'peers: for place in 0..peers {

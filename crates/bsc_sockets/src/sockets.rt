@@ -77,6 +77,10 @@ impl<'a, N: Net + Clock, A: Allocator + Copy> Sockets<'a, N, A> {
             HasBegunSockets places sockets.ready sockets.standings sockets.times) }
         ensures counts { IfOk result
             (λ sockets. (sockets.unasked ≡ 0) × (sockets.overdue ≡ 0)) }
+        ensures nobody { IfOk result (λ sockets. (sockets.listener ≡ None)
+            × (sockets.newcomer ≡ None) × (sockets.refuses ≡ false)) }
+        ensures not_asked { IfOk result (λ sockets. sockets.stopping ≡ Stopping.NotAsked) }
+        ensures unread { IfOk result (λ sockets. IsNone sockets.unread.limit) }
         ensures failed { IfErr result (IsUnwatched (is_some settings.stops_with)) }
     {
         let poll = Poll::new(runtime)?;
@@ -106,6 +110,8 @@ impl<'a, N: Net + Clock, A: Allocator + Copy> Sockets<'a, N, A> {
     /// Accepts peers that connect at this address from now on.
     pub(crate) fn take_peers_of(&mut self, listening: Listening) -> Result<(), SocketsError>
         ensures settings { self.new.settings ≡ self.old.settings }
+        ensures places { self.new.places ≡ self.old.places }
+        ensures listens { OnOk result (IsSome self.new.listener) }
         ensures failed { IfErr result IsDenied }
     {
         let mut listener = listening.listener;
@@ -121,6 +127,8 @@ impl<'a, N: Net + Clock, A: Allocator + Copy> Sockets<'a, N, A> {
         ensures listener { IsNone self.new.listener }
         ensures newcomer { IsNone self.new.newcomer }
         ensures settings { self.new.settings ≡ self.old.settings }
+        ensures places { self.new.places ≡ self.old.places }
+        ensures ready { self.new.ready ≡ without_place self.old.ready self.old.places }
     {
         self.listener = None;
         self.newcomer = None;
@@ -149,6 +157,9 @@ impl<'a, N: Net + Clock, A: Allocator + Copy> Sockets<'a, N, A> {
             (slice_get self.old.standings.places.items place)) }
         ensures writes { IfOk result
             (λ opened. opened.1.time_out ≡ self.old.settings.time_out) }
+        ensures places { self.new.places ≡ self.old.places }
+        ensures listener { self.new.listener ≡ self.old.listener }
+        ensures unread { self.new.unread ≡ self.old.unread }
         ensures failed { IfErr result IsDenied }
     {
         let (runtime, alloc) = (self.runtime, self.alloc);
@@ -188,6 +199,9 @@ impl<'a, N: Net + Clock, A: Allocator + Copy> Sockets<'a, N, A> {
         ensures times { self.new.times ≡ self.old.times }
         ensures ready { self.new.ready ≡ self.old.ready }
         ensures standings { self.new.standings ≡ self.old.standings }
+        ensures kept { self.new ≡ record self.old { newcomer = None } }
+        ensures all { IsNone result → IsSome self.old.newcomer
+            → newcomer_may self.old.settings.allowed self.old.newcomer ≡ Some false }
     {
         let peer = self.newcomer.take()?;
         if self.settings.allowed.allows(peer.address.ip()) {
@@ -222,6 +236,9 @@ impl<'a, N: Net + Clock, A: Allocator + Copy> Sockets<'a, N, A> {
             (slice_get self.old.standings.places.items place))) }
         ensures writes { IfOk result (λ joined. IfSome joined
             (λ opened. opened.1.time_out ≡ self.old.settings.time_out)) }
+        ensures places { self.new.places ≡ self.old.places }
+        ensures listener { self.new.listener ≡ self.old.listener }
+        ensures unread { self.new.unread ≡ self.old.unread }
     {
         match self.take_admitted() {
             Some(peer) if place < self.places => {
@@ -245,7 +262,7 @@ impl<'a, N: Net + Clock, A: Allocator + Copy> Waiter<Reading, Writing<'a, N, A>>
     ghost use Rattle.bsc_sockets.specs.Standings.{IsQuietest, after_joining, counted_after};
     ghost use Rattle.bsc_sockets.specs.Standings.{is_known, moves_time_out, peer_of, silence_of};
     ghost use Rattle.bsc_sockets.specs.Standings.{standings_after, standings_value, time_after};
-    ghost use Rattle.bsc_sockets.specs.Stopping.{stops_in, times_told};
+    ghost use Rattle.bsc_sockets.specs.Stopping.{StopRuns, stops_in, times_told};
     ghost use Rattle.bsc_sockets.specs.Times.{HasBegun, IsKept, RunGaps};
     ghost use Rattle.bsc_sockets.specs.declared.times.Time.TheVariants.{Anew};
 
@@ -266,7 +283,12 @@ impl<'a, N: Net + Clock, A: Allocator + Copy> Waiter<Reading, Writing<'a, N, A>>
         × (IfOk result (λ awaited. after.standings.silence
         ≡ counted_after
         (silence_of before.settings.begins (as_nanos before.settings.time_out)) awaited
-        before.standings.silence)) };
+        before.standings.silence))
+        × (after.places ≡ before.places)
+        × (after.listener ≡ before.listener)
+        × (IsSome before.newcomer → after.newcomer ≡ before.newcomer)
+        × (OnOk result (times_told before.stopping ≡ 1 → times_told after.stopping ≡ 1
+        → StopRuns before.settings.time_out before.stopping after.stopping)) };
 
     ghost names = { λ waiter place named.
         named ≡ peer_of (slice_get waiter.standings.places.items place) };
@@ -308,7 +330,11 @@ impl<'a, N: Net + Clock, A: Allocator + Copy> Waiter<Reading, Writing<'a, N, A>>
         × (IfSome joined (λ _. standings_value after.standings
         ≡ after_joining (newcomer_address before.newcomer) (standings_value before.standings)
         place (slice_get before.standings.places.items place)))
-        × (IfSome joined (λ opened. opened.1.time_out ≡ before.settings.time_out)) };
+        × (IfSome joined (λ opened. opened.1.time_out ≡ before.settings.time_out))
+        × (after.stopping ≡ before.stopping)
+        × (after.places ≡ before.places)
+        × (after.listener ≡ before.listener)
+        × (after.unread ≡ before.unread) };
 
     ghost turns_away = { λ before after. after ≡ record before { newcomer = None } };
 
@@ -318,7 +344,7 @@ impl<'a, N: Net + Clock, A: Allocator + Copy> Waiter<Reading, Writing<'a, N, A>>
         (as_nanos waiter.settings.replace_after) named };
 
     fn wait(&mut self) -> Result<Awaited, LiveError> {
-        self.rest()?;
+        let _limit = self.rest()?;
         if self.unread.is_unbegun() {
             self.begin_unread();
         }

@@ -1,6 +1,6 @@
 //! How a station is asked to end.
 
-ghost use Rattle.std.specs.Prelude.{◌≡◌, ◌+◌, true, IfErr, IfOk, IsSome, OnOk};
+ghost use Rattle.std.specs.Prelude.{◌≡◌, ◌+◌, false, true, IfErr, IfOk, IsSome, OnOk};
 ghost use Rattle.bsc_sockets.specs.Answers.{IsWaitError};
 ghost use Rattle.bsc_sockets.specs.Stopping.{asked_if, count_if, is_asked, is_closed_in};
 ghost use Rattle.bsc_sockets.specs.Stopping.{StopRuns, times_told};
@@ -40,6 +40,7 @@ impl Stopping {
     pub(crate) fn ask(&mut self)
         ensures asked { self.new ≡ asked_if true self.old }
         ensures told { times_told self.new ≡ times_told self.old }
+        ensures since { times_told self.old ≡ 1 → self.new ≡ self.old }
     {
         if let Stopping::NotAsked = *self {
             *self = Stopping::Asked;
@@ -58,7 +59,10 @@ impl Stopping {
 
     /// Returns whether the station is to be told now that it is asked to end; if so, it is told.
     pub(crate) fn tell(&mut self) -> bool
-        ensures { times_told self.new ≡ times_told self.old + count_if result }
+        ensures told { times_told self.new ≡ times_told self.old + count_if result }
+        ensures is_asked { result ≡ is_asked self.old }
+        ensures anew { result ≡ true → self.new ≡ Stopping.Told Time.Anew }
+        ensures since { result ≡ false → self.new ≡ self.old }
     {
         let is_asked = self.is_asked();
         if is_asked {

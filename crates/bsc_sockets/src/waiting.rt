@@ -1,17 +1,19 @@
 //! Waits for what is ready.
 
 ghost use Rattle.std.specs.Prelude.{◌≡◌, ◌+◌, ◌↔◌, IfErr, IfOk, IfSome, IsSome, IsTrue, OnOk};
-ghost use Rattle.std.specs.Prelude.{◌==◌, None, true};
+ghost use Rattle.std.specs.Prelude.{◌==◌, ◌&&◌, IsNone, None, false, not, true};
 ghost use Rattle.std.specs.Duration.{as_nanos};
 ghost use Rattle.std.specs.Option.{option_map_or};
 ghost use Rattle.mio.specs.Events.{items};
-ghost use Rattle.bsc_sockets.specs.Answers.{IsAnswer, IsWaitError, may_connect};
-ghost use Rattle.bsc_sockets.specs.Listening.{IsPeerError, peer_error, not_taken_by};
+ghost use Rattle.bsc_sockets.specs.Answers.{IsAnswer, IsWaitError, listener_event as event_at};
+ghost use Rattle.bsc_sockets.specs.Answers.{may_connect, peer_event};
+ghost use Rattle.bsc_sockets.specs.Listening.{IsPeerError, is_refused, peer_error, not_taken_by};
+ghost use Rattle.bsc_sockets.specs.Listening.{sought_after};
 ghost use Rattle.bsc_sockets.specs.Ready.{with_event, with_events};
 ghost use Rattle.bsc_sockets.specs.Serving.{is_overdue, served_after, served_overdue};
 ghost use Rattle.bsc_sockets.specs.Standings.{counted_after};
 ghost use Rattle.bsc_sockets.specs.Stopping.{asked_if, is_closed_in, stops_in, times_told};
-ghost use Rattle.bsc_sockets.specs.Times.{IsEnd, ended_gap, event_of, without_ended};
+ghost use Rattle.bsc_sockets.specs.Times.{IsEnd, Rests, ended_gap, event_of, without_ended};
 
 use crate::ready::Ready;
 use crate::sockets::Peer;
@@ -58,6 +60,11 @@ impl<'a, N: Net + Clock, A: Allocator + Copy> Sockets<'a, N, A> {
             ≡ times_told self.old.stopping + stops_in awaited) }
         ensures times { self.new.times ≡ self.old.times }
         ensures standings { self.new.standings ≡ self.old.standings }
+        ensures places { self.new.places ≡ self.old.places }
+        ensures listener { self.new.listener ≡ self.old.listener }
+        ensures newcomer { IsSome self.old.newcomer → self.new.newcomer ≡ self.old.newcomer }
+        ensures since { times_told self.old.stopping ≡ 1
+            → self.new.stopping ≡ self.old.stopping }
     {
         if self.unasked >= MAX_ANSWERS_UNASKED {
             self.ask(Duration::ZERO)?;
@@ -81,6 +88,11 @@ impl<'a, N: Net + Clock, A: Allocator + Copy> Sockets<'a, N, A> {
             ≡ times_told self.old.stopping + stops_in awaited) }
         ensures times { self.new.times ≡ self.old.times }
         ensures standings { self.new.standings ≡ self.old.standings }
+        ensures places { self.new.places ≡ self.old.places }
+        ensures listener { self.new.listener ≡ self.old.listener }
+        ensures newcomer { IsSome self.old.newcomer → self.new.newcomer ≡ self.old.newcomer }
+        ensures since { times_told self.old.stopping ≡ 1
+            → self.new.stopping ≡ self.old.stopping }
     {
         if self.is_overdue(left) {
             self.begin_unread();
@@ -99,6 +111,9 @@ impl<'a, N: Net + Clock, A: Allocator + Copy> Sockets<'a, N, A> {
         ensures stopping { self.new.stopping ≡ self.old.stopping }
         ensures times { self.new.times ≡ self.old.times }
         ensures standings { self.new.standings ≡ self.old.standings }
+        ensures places { self.new.places ≡ self.old.places }
+        ensures listener { self.new.listener ≡ self.old.listener }
+        ensures newcomer { IsSome self.old.newcomer → self.new.newcomer ≡ self.old.newcomer }
     {
         self.overdue = if left.is_zero() {
             self.overdue.saturating_add(1)
@@ -126,6 +141,11 @@ impl<'a, N: Net + Clock, A: Allocator + Copy> Sockets<'a, N, A> {
             ≡ times_told self.old.stopping + stops_in awaited) }
         ensures times { self.new.times ≡ self.old.times }
         ensures standings { self.new.standings ≡ self.old.standings }
+        ensures places { self.new.places ≡ self.old.places }
+        ensures listener { self.new.listener ≡ self.old.listener }
+        ensures newcomer { IsSome self.old.newcomer → self.new.newcomer ≡ self.old.newcomer }
+        ensures since { times_told self.old.stopping ≡ 1
+            → self.new.stopping ≡ self.old.stopping }
     {
         self.ask(Duration::ZERO)?;
         if let Some(awaited) = self.found(sought) {
@@ -157,6 +177,11 @@ impl<'a, N: Net + Clock, A: Allocator + Copy> Sockets<'a, N, A> {
             ≡ times_told self.old.stopping + stops_in awaited) }
         ensures times { self.new.times ≡ self.old.times }
         ensures standings { self.new.standings ≡ self.old.standings }
+        ensures places { self.new.places ≡ self.old.places }
+        ensures listener { self.new.listener ≡ self.old.listener }
+        ensures newcomer { IsSome self.old.newcomer → self.new.newcomer ≡ self.old.newcomer }
+        ensures since { times_told self.old.stopping ≡ 1
+            → self.new.stopping ≡ self.old.stopping }
     {
         let Ok(limit) = TimeLimit::begin(self.runtime, time) else {
             return Err(LiveError::Wait);
@@ -196,6 +221,11 @@ impl<'a, N: Net + Clock, A: Allocator + Copy> Sockets<'a, N, A> {
             ≡ times_told self.old.stopping + option_map_or stops_in result 0 }
         ensures times { self.new.times ≡ self.old.times }
         ensures standings { self.new.standings ≡ self.old.standings }
+        ensures places { self.new.places ≡ self.old.places }
+        ensures listener { self.new.listener ≡ self.old.listener }
+        ensures newcomer { IsSome self.old.newcomer → self.new.newcomer ≡ self.old.newcomer }
+        ensures since { times_told self.old.stopping ≡ 1
+            → self.new.stopping ≡ self.old.stopping }
     {
         if self.stopping.tell() {
             return Some(Awaited::Stopped);
@@ -220,6 +250,9 @@ impl<'a, N: Net + Clock, A: Allocator + Copy> Sockets<'a, N, A> {
         ensures asked_nothing { option_map_or stops_in result 0 ≡ 0 }
         ensures times { self.new.times ≡ self.old.times }
         ensures standings { self.new.standings ≡ self.old.standings }
+        ensures places { self.new.places ≡ self.old.places }
+        ensures listener { self.new.listener ≡ self.old.listener }
+        ensures newcomer { IsSome self.old.newcomer → self.new.newcomer ≡ self.old.newcomer }
     {
         'turns: for _ in 0..=self.places {
             let place = self.ready.next_place()?;
@@ -227,15 +260,40 @@ impl<'a, N: Net + Clock, A: Allocator + Copy> Sockets<'a, N, A> {
                 self.unasked = self.unasked.saturating_add(1);
                 return Some(Awaited::Octets { connection: place });
             }
-            let refused = self.refuses;
-            if self.has_newcomer() {
-                return Some(self.newcomer_event());
-            }
-            if self.refuses && !refused {
-                return Some(Awaited::NotAccepted);
+            if let Some(awaited) = self.listener_event() {
+                return Some(awaited);
             }
         }
         None
+    }
+
+    /// Returns the event of the listener: that of the peer that has connected, or that the system
+    /// cannot accept one, if that is new.
+    fn listener_event(&mut self) -> Option<Awaited>
+        ensures event { result ≡ event_at self.new.settings.allowed self.new.newcomer
+            (self.new.refuses && not self.old.refuses) }
+        ensures answer { IfSome result
+            (IsAnswer self.new.settings.allowed self.new.places self.new.newcomer
+            self.new.ready) }
+        ensures no_gap { IfSome result (λ awaited. ended_gap awaited ≡ None) }
+        ensures settings { self.new.settings ≡ self.old.settings }
+        ensures stopping { self.new.stopping ≡ self.old.stopping }
+        ensures asked_nothing { option_map_or stops_in result 0 ≡ 0 }
+        ensures times { self.new.times ≡ self.old.times }
+        ensures standings { self.new.standings ≡ self.old.standings }
+        ensures places { self.new.places ≡ self.old.places }
+        ensures listener { self.new.listener ≡ self.old.listener }
+        ensures newcomer { IsSome self.old.newcomer → self.new.newcomer ≡ self.old.newcomer }
+    {
+        let refused = self.refuses;
+        if self.has_newcomer() {
+            return Some(self.newcomer_event());
+        }
+        if self.refuses && !refused {
+            Some(Awaited::NotAccepted)
+        } else {
+            None
+        }
     }
 
     /// Returns the event of the peer that has connected: `NotAllowed` if it may not.
@@ -244,6 +302,8 @@ impl<'a, N: Net + Clock, A: Allocator + Copy> Sockets<'a, N, A> {
         ensures answer { IsAnswer self.now.settings.allowed self.now.places
             self.now.newcomer
             self.now.ready result }
+        ensures event { IfSome self.now.newcomer
+            (λ peer. result ≡ peer_event self.now.settings.allowed peer) }
         ensures stops { stops_in result ≡ 0 }
         ensures no_gap { ended_gap result ≡ None }
     {
@@ -261,6 +321,12 @@ impl<'a, N: Net + Clock, A: Allocator + Copy> Sockets<'a, N, A> {
         ensures stopping { self.new.stopping ≡ self.old.stopping }
         ensures times { self.new.times ≡ self.old.times }
         ensures standings { self.new.standings ≡ self.old.standings }
+        ensures places { self.new.places ≡ self.old.places }
+        ensures listener { self.new.listener ≡ self.old.listener }
+        ensures newcomer { IsSome self.old.newcomer → self.new.newcomer ≡ self.old.newcomer }
+        ensures was_there { IsSome self.old.newcomer → (result ≡ true)
+            × (self.new.refuses ≡ self.old.refuses) }
+        ensures accepted { IsNone self.old.newcomer → result ≡ true → self.new.refuses ≡ false }
     {
         if self.newcomer.is_some() {
             return true;
@@ -269,25 +335,39 @@ impl<'a, N: Net + Clock, A: Allocator + Copy> Sockets<'a, N, A> {
             self.ready.clear(self.places);
             return false;
         };
-        self.refuses = false;
         match listener.accept() {
             Ok((stream, address)) => {
                 self.newcomer = Some(Peer { stream, address });
+                self.refuses = false;
                 true
             }
             Err(error) => {
-                match why_not_taken(error.kind()) {
-                    NotTaken::Nobody => self.ready.clear(self.places),
-                    NotTaken::Gone => {}
-                    NotTaken::Refused => self.refuses = true,
-                }
+                self.not_taken(why_not_taken(error.kind()));
                 false
             }
         }
     }
 
-    /// Lets the pause pass if this wait begins with one. What arrives meanwhile is ready after it.
-    pub(crate) fn rest(&mut self) -> Result<(), LiveError>
+    /// Records why no peer could be accepted. If none is waiting, none is sought until the system
+    /// reports one.
+    fn not_taken(&mut self, why: NotTaken)
+        ensures ready { self.new.ready ≡ sought_after why self.old.places self.old.ready }
+        ensures refuses { self.new.refuses ≡ is_refused why }
+        ensures others { self.new
+            ≡ record self.old { ready = self.new.ready; refuses = self.new.refuses } }
+    {
+        self.refuses = false;
+        match why {
+            NotTaken::Nobody => self.ready.clear(self.places),
+            NotTaken::Gone => {}
+            NotTaken::Refused => self.refuses = true,
+        }
+    }
+
+    /// Lets the pause pass if this wait begins with one, and returns its limit. What arrives
+    /// meanwhile is ready after it.
+    pub(crate) fn rest(&mut self) -> Result<Option<TimeLimit>, LiveError>
+        ensures limit { IfOk result (Rests self.old.times.pace self.old.settings.pause) }
         ensures failed { IfErr result IsWaitError }
         ensures settings { self.new.settings ≡ self.old.settings }
         ensures told { times_told self.new.stopping ≡ times_told self.old.stopping }
@@ -295,33 +375,43 @@ impl<'a, N: Net + Clock, A: Allocator + Copy> Sockets<'a, N, A> {
         ensures gaps { self.new.times.gaps ≡ self.old.times.gaps }
         ensures pace { OnOk result (self.new.times.pace ≡ Pace.AtOnce) }
         ensures standings { self.new.standings ≡ self.old.standings }
+        ensures places { self.new.places ≡ self.old.places }
+        ensures listener { self.new.listener ≡ self.old.listener }
+        ensures newcomer { IsSome self.old.newcomer → self.new.newcomer ≡ self.old.newcomer }
+        ensures since { times_told self.old.stopping ≡ 1
+            → self.new.stopping ≡ self.old.stopping }
     {
         match self.times.take_pace() {
-            Pace::AtOnce => Ok(()),
-            Pace::AfterPause => self.pause(self.settings.pause),
+            Pace::AtOnce => Ok(None),
+            Pace::AfterPause => Ok(Some(self.pause(self.settings.pause)?)),
         }
     }
 
-    /// Lets this time pass, or less of it if the station is asked to end.
-    fn pause(&mut self, time: Duration) -> Result<(), LiveError>
+    /// Lets this time pass, or less of it if the station is asked to end. Returns its limit.
+    fn pause(&mut self, time: Duration) -> Result<TimeLimit, LiveError>
+        ensures limit { IfOk result (λ limit. limit.time ≡ time) }
         ensures failed { IfErr result IsWaitError }
         ensures settings { self.new.settings ≡ self.old.settings }
         ensures told { times_told self.new.stopping ≡ times_told self.old.stopping }
         ensures times { self.new.times ≡ self.old.times }
         ensures standings { self.new.standings ≡ self.old.standings }
+        ensures places { self.new.places ≡ self.old.places }
+        ensures listener { self.new.listener ≡ self.old.listener }
+        ensures newcomer { IsSome self.old.newcomer → self.new.newcomer ≡ self.old.newcomer }
+        ensures since { times_told self.old.stopping ≡ 1
+            → self.new.stopping ≡ self.old.stopping }
     {
         let Ok(limit) = TimeLimit::begin(self.runtime, time) else {
             return Err(LiveError::Wait);
         };
-        let mut left = time;
         'asks: for _ in 0..u64::MAX {
+            let left = self.left(limit)?;
             if left.is_zero() || self.stopping.is_asked() {
                 break;
             }
             self.ask(left)?;
-            left = self.left(limit)?;
         }
-        Ok(())
+        Ok(limit)
     }
 
     /// Asks the system what has arrived, and waits until something has or the time has passed.
@@ -335,6 +425,11 @@ impl<'a, N: Net + Clock, A: Allocator + Copy> Sockets<'a, N, A> {
         ensures told { times_told self.new.stopping ≡ times_told self.old.stopping }
         ensures times { self.new.times ≡ self.old.times }
         ensures standings { self.new.standings ≡ self.old.standings }
+        ensures places { self.new.places ≡ self.old.places }
+        ensures listener { self.new.listener ≡ self.old.listener }
+        ensures newcomer { IsSome self.old.newcomer → self.new.newcomer ≡ self.old.newcomer }
+        ensures since { times_told self.old.stopping ≡ 1
+            → self.new.stopping ≡ self.old.stopping }
     {
         self.unasked = 0;
         if self.poll.poll(&mut self.events, Some(time)).is_err() {
@@ -360,6 +455,9 @@ impl<'a, N: Net + Clock, A: Allocator + Copy> Sockets<'a, N, A> {
         ensures gaps { self.new.times.gaps.items
             ≡ without_ended end.gap self.old.times.gaps.items }
         ensures places { self.new.standings.places ≡ self.old.standings.places }
+        ensures number { self.new.places ≡ self.old.places }
+        ensures listener { self.new.listener ≡ self.old.listener }
+        ensures newcomer { IsSome self.old.newcomer → self.new.newcomer ≡ self.old.newcomer }
         ensures silence { self.new.standings.silence
             ≡ counted_after (as_nanos silence) result self.old.standings.silence }
     {
@@ -377,6 +475,9 @@ impl<'a, N: Net + Clock, A: Allocator + Copy> Sockets<'a, N, A> {
         ensures told { times_told self.new.stopping ≡ 2 }
         ensures times { self.new.times ≡ self.old.times }
         ensures standings { self.new.standings ≡ self.old.standings }
+        ensures places { self.new.places ≡ self.old.places }
+        ensures listener { self.new.listener ≡ self.old.listener }
+        ensures newcomer { IsSome self.old.newcomer → self.new.newcomer ≡ self.old.newcomer }
     {
         self.stopping.tell_again();
         Awaited::Stopped
@@ -391,6 +492,8 @@ impl<'a, N: Net + Clock, A: Allocator + Copy> Sockets<'a, N, A> {
         reception: &mut H,
     ) -> Result<Peer, SocketsError>
         ensures settings { self.new.settings ≡ self.old.settings }
+        ensures places { self.new.places ≡ self.old.places }
+        ensures listener { self.new.listener ≡ self.old.listener }
         ensures admitted { IfOk result
             (λ peer. may_connect self.old.settings.allowed peer ≡ true) }
         ensures failed { IfErr result IsPeerError }
@@ -416,6 +519,8 @@ impl<'a, N: Net + Clock, A: Allocator + Copy> Sockets<'a, N, A> {
         reception: &mut H,
     ) -> Result<Option<Peer>, SocketsError>
         ensures settings { self.new.settings ≡ self.old.settings }
+        ensures places { self.new.places ≡ self.old.places }
+        ensures listener { self.new.listener ≡ self.old.listener }
         ensures admitted { IfOk result (λ found.
             IfSome found (λ peer. may_connect self.old.settings.allowed peer ≡ true)) }
         ensures failed { IfErr result IsPeerError }
