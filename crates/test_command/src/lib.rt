@@ -18,7 +18,11 @@ mod failing_traces;
 #[cfg(test)]
 mod faults;
 #[cfg(test)]
+mod given;
+#[cfg(test)]
 mod growths;
+#[cfg(test)]
+mod helped;
 #[cfg(test)]
 mod kept_lines;
 #[cfg(test)]
@@ -26,11 +30,15 @@ mod kept_sizes;
 #[cfg(test)]
 mod kept_stations;
 #[cfg(test)]
+mod kept_works;
+#[cfg(test)]
 mod largest;
 #[cfg(test)]
 mod last_calls;
 #[cfg(test)]
 mod long_runs;
+#[cfg(test)]
+mod long_words;
 #[cfg(test)]
 mod machine;
 #[cfg(test)]
@@ -69,6 +77,8 @@ mod store_words;
 mod stores;
 #[cfg(test)]
 mod traces;
+#[cfg(test)]
+mod usage;
 #[cfg(test)]
 mod wires;
 #[cfg(test)]

@@ -103,10 +103,19 @@ fn names_longest_word(alloc: Global) -> Result<bool, AllocError> {
     Ok(is_due(alloc, Call::Name, &word, "NOISE\n", None))
 }
 
+/// Whether the octets of a line of a trace are named and left out, if the line has as many octets
+/// as it may have.
+fn names_longest_trace(alloc: Global) -> Result<bool, AllocError> {
+    let line = around(alloc, "+0 ", "16", (MAX_INPUT - 3) / 2, "")?;
+    let is_named = is_due(alloc, Call::Names, &line, "NOISE\n", None);
+    Ok(is_named && is_due(alloc, Call::Show, &line, "+0\n", None))
+}
+
 #[test]
 fn the_longest_lines_and_words_are_printed(rt: HostRuntime) -> Result<(), Fail> {
     assert!(rt; keeps_longest_line(rt.alloc())?);
     assert!(rt; names_longest_word(rt.alloc())?);
+    assert!(rt; names_longest_trace(rt.alloc())?);
     Ok(())
 }
 

@@ -128,6 +128,13 @@ const ROWS: &[Row] = &[
         0,
     ),
     (
+        &["chart", "trace.txt"],
+        "    time control            0\n       5 ├─ EOT ────────────→\n       \
+6 ● one that is longer than a lin\n",
+        "",
+        0,
+    ),
+    (
         &["chart", "--ascii", "wrong.txt"],
         SILENCE,
         "bscline: line 3: not a line of a trace\n",
@@ -181,5 +188,36 @@ Usage: bscline chart [OPTIONS] [FILE]\n\nFor more information, try '--help'.\n",
 #[test]
 fn named_traces(rt: HostRuntime) -> Result<(), Fail> {
     assert_eq!(rt; first_wrong(rt.alloc(), ROWS), None);
+    Ok(())
+}
+
+/// A trace on standard input is cut to the width of the terminal too, in a text of either style.
+const WIDE: &[(&[&str], &str)] = &[
+    (
+        &["chart"],
+        "    time control            0\n       6 ● one that is longer than a lin\n",
+    ),
+    (
+        &["chart", "-", "--ascii"],
+        "    time control            0\n       6 = one that is longer than a lin\n",
+    ),
+    (
+        &["chart", "--to", "1", "--width", "41"],
+        "    time control            0\n       6 ● one that is longer than a line\n",
+    ),
+];
+
+#[test]
+fn traces_of_standard_input_have_the_width_of_the_terminal(rt: HostRuntime) -> Result<(), Fail> {
+    for (words, out) in WIDE {
+        let case = Case {
+            input: Some("+6 one that is longer than a line has room\n"),
+            ..case_of((*words, *out, "", 0))
+        };
+        assert_eq!(rt;
+            difference(rt.alloc(), &case, &Record::new(rt.alloc())),
+            None
+        );
+    }
     Ok(())
 }

@@ -6,7 +6,7 @@ use std::io::Write;
 use std::test::Fail;
 
 /// Words, and what is read from them or printed for them.
-type Row = (&'static [&'static str], &'static str);
+pub(crate) type Row = (&'static [&'static str], &'static str);
 
 /// Whether this is what the words request, or what `clap` prints for them.
 fn is_answered(alloc: Global, words: &[&str], text: &str) -> bool {
@@ -281,7 +281,7 @@ Options:
 Example: bscline store deck.db init examples/lossy_line/line.toml --terminal 0
 ";
 
-const HELPED: &[Row] = &[
+pub(crate) const HELPED: &[Row] = &[
     (&["bscline", "--help"], HELP),
     (&["bscline", "help"], HELP),
     (&["bscline", "name", "-h"], NAME_HELP),
@@ -290,10 +290,18 @@ const HELPED: &[Row] = &[
     (&["bscline", "run", "--help"], RUN_HELP),
     (&["bscline", "station", "--help"], STATION_HELP),
     (&["bscline", "store", "--help"], STORE_HELP),
+    (&["bscline", "-h"], HELP),
+    (&["bscline", "help", "name"], NAME_HELP),
+    (&["bscline", "show", "--help"], SHOW_HELP),
+    (&["bscline", "help", "chart"], CHART_HELP),
+    (&["bscline", "help", "run"], RUN_HELP),
+    (&["bscline", "help", "station"], STATION_HELP),
+    (&["bscline", "help", "store"], STORE_HELP),
+    (&["bscline", "-V"], "bscline 0.2.0\n"),
 ];
 
 /// A word that is not a command, one word too many, and one too few.
-const WRONG: &[Row] = &[
+pub(crate) const WRONG: &[Row] = &[
     (
         &["bscline", "poll", "c", "s"],
         "error: unrecognized subcommand 'poll'
