@@ -8,6 +8,8 @@ mod assembling;
 #[cfg(test)]
 mod cables;
 #[cfg(test)]
+mod ends;
+#[cfg(test)]
 mod loopback;
 #[cfg(test)]
 mod memory;

@@ -114,3 +114,17 @@ fn a_list_allows_the_addresses_of_its_networks(rt: HostRuntime) -> Result<(), Fa
     assert_eq!(rt; MAX_NETWORKS, 16);
     Ok(())
 }
+
+/// Why a text is no network, and how that is printed.
+const PRINTED: &[(NetworkError, &str)] = &[
+    (NetworkError::NoAddress, "not an IP address"),
+    (NetworkError::NoBits, "not a number of bits of the address"),
+];
+
+#[test]
+fn why_a_text_is_no_network_is_printed(rt: HostRuntime) -> Result<(), Fail> {
+    for (why, text) in PRINTED {
+        assert_eq!(rt; why.to_string(rt.alloc())?.as_str(), *text);
+    }
+    Ok(())
+}

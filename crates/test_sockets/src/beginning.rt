@@ -48,10 +48,10 @@ pub(crate) fn is_told<T: Drop>(
     }
 }
 
-/// Fails unless at least `least` milliseconds and less than a second have passed since `start`.
+/// Fails unless at least `least` milliseconds and less than four seconds have passed since `start`.
 pub(crate) fn has_passed(rt: &HostRuntime, start: Instant, least: u128) -> Result<(), Fail> {
     let passed = start.elapsed(rt)?.as_millis();
-    if least <= passed && passed < 1_000 {
+    if least <= passed && passed < 4_000 {
         Ok(())
     } else {
         Err(Fail::new(format_args!("after {passed} ms")))
@@ -94,7 +94,7 @@ fn an_address_in_use_is_named(rt: HostRuntime) -> Result<(), Fail> {
 }
 
 /// An address at which a listener was closed.
-fn left(rt: &HostRuntime) -> Result<SocketAddr, SocketsError> {
+pub(crate) fn left(rt: &HostRuntime) -> Result<SocketAddr, SocketsError> {
     let (listening, address) = bound(rt)?;
     drop(listening);
     Ok(address)

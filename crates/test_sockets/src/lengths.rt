@@ -25,7 +25,7 @@ const GAP: Encounter = Encounter {
     shows: "a gap has its own length",
     peers: 1,
     begins: false,
-    acts: &[Passes(Awaited::Gap { connection: 0 }, 10, 1_000)],
+    acts: &[Passes(Awaited::Gap { connection: 0 }, 10, 4_000)],
 };
 
 const PAUSE: Encounter = Encounter {
@@ -34,7 +34,7 @@ const PAUSE: Encounter = Encounter {
     begins: false,
     acts: &[
         Sends(0, b"here"),
-        PassesAfterPause(Awaited::Octets { connection: 0 }, 15, 1_000),
+        PassesAfterPause(Awaited::Octets { connection: 0 }, 15, 4_000),
     ],
 };
 
@@ -42,7 +42,7 @@ const TIME_OUT: Encounter = Encounter {
     shows: "a time-out has its own length, and a write waits no longer",
     peers: 1,
     begins: false,
-    acts: &[Passes(Awaited::TimeOut, 40, 1_000), Fills(0, 40, 1_000)],
+    acts: &[Passes(Awaited::TimeOut, 40, 4_000), Fills(0, 40, 4_000)],
 };
 
 /// The first of the peers is the other end of the input.
@@ -52,8 +52,8 @@ const STOP: Encounter = Encounter {
     begins: false,
     acts: &[
         Ends(0),
-        Passes(Awaited::Stopped, 0, 1_000),
-        PassesThough(Busy::Nobody, Awaited::Stopped, 40, 1_000),
+        Passes(Awaited::Stopped, 0, 4_000),
+        PassesThough(Busy::Nobody, Awaited::Stopped, 40, 4_000),
     ],
 };
 

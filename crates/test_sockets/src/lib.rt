@@ -17,6 +17,10 @@ mod ending;
 #[cfg(test)]
 mod framings;
 #[cfg(test)]
+mod hosts;
+#[cfg(test)]
+mod hours;
+#[cfg(test)]
 mod largest;
 #[cfg(test)]
 mod late;
@@ -25,9 +29,15 @@ mod lengths;
 #[cfg(test)]
 mod longest;
 #[cfg(test)]
+mod machine;
+#[cfg(test)]
 mod meeting;
 #[cfg(test)]
 mod memory;
+#[cfg(test)]
+mod patience;
+#[cfg(test)]
+mod places;
 #[cfg(test)]
 mod refusals;
 #[cfg(test)]
@@ -36,3 +46,5 @@ mod sockets;
 mod stopped;
 #[cfg(test)]
 mod watching;
+#[cfg(test)]
+mod written;

@@ -54,14 +54,14 @@ pub(crate) struct Told {
     /// The number of waits; each has to be told of as many connections.
     waits: usize,
 
-    /// The number of peers that are wanted, by the last wait.
-    wanted: usize,
+    /// The number of peers that are wanted, if each wait says the same.
+    wanted: Option<usize>,
 
     /// The number of peers that joined; each has to be told of its place.
     joined: usize,
 
-    /// The peer that joined last.
-    last: Option<SocketAddr>,
+    /// The peers that joined, by place.
+    peers: [Option<SocketAddr>; 64],
 
     /// The number of peers that were turned away.
     pub(crate) refused: usize,
@@ -73,9 +73,9 @@ impl Told {
         Told {
             address: None,
             waits: 0,
-            wanted: 0,
+            wanted: None,
             joined: 0,
-            last: None,
+            peers: [None; 64],
             refused: 0,
         }
     }
@@ -83,13 +83,20 @@ impl Told {
     /// Whether this address was told, and that each of these peers was waited for and joined.
     fn is_of(&self, address: SocketAddr, peers: &[TcpStream]) -> bool {
         let count = peers.len();
-        let last = match peers.last() {
-            Some(peer) => peer.local_addr().ok(),
-            None => None,
-        };
+        let wanted = (count > 0).then_some(count);
         self.address == Some(address)
-            && (self.waits, self.wanted, self.joined) == (count, count, count)
-            && self.last == last
+            && (self.waits, self.wanted, self.joined) == (count, wanted, count)
+            && self.are_named(peers)
+    }
+
+    /// Whether each of these peers was told by its address.
+    fn are_named(&self, peers: &[TcpStream]) -> bool {
+        for (peer, told) in peers.iter().zip(self.peers) {
+            if told.is_none() || peer.local_addr().ok() != told {
+                return false;
+            }
+        }
+        true
     }
 }
 
@@ -99,17 +106,20 @@ impl Reception for Told {
     }
 
     fn waits(&mut self, connected: usize, wanted: usize) {
-        if connected == self.waits {
+        let is_first = self.waits == 0;
+        if connected == self.waits && (is_first || self.wanted == Some(wanted)) {
             self.waits = self.waits.saturating_add(1);
         }
-        self.wanted = wanted;
+        self.wanted = Some(wanted);
     }
 
     fn joined(&mut self, place: usize, peer: SocketAddr) {
         if place == self.joined {
             self.joined = self.joined.saturating_add(1);
         }
-        self.last = Some(peer);
+        if place < self.peers.len() {
+            self.peers[place] = Some(peer);
+        }
     }
 
     fn refused(&mut self, _peer: SocketAddr) {
@@ -121,7 +131,7 @@ impl Reception for Told {
 #[derive(Drop)]
 pub(crate) struct Meeting<'a> {
     rt: &'a HostRuntime,
-    address: SocketAddr,
+    pub(crate) address: SocketAddr,
     pub(crate) begun: Begun<'a, HostRuntime, Global>,
     pub(crate) peers: Vec<TcpStream>,
 }
@@ -154,7 +164,7 @@ pub(crate) fn meet<'a>(
 }
 
 /// This many peers that have connected to this address.
-fn peers_of(
+pub(crate) fn peers_of(
     rt: &HostRuntime,
     alloc: Global,
     address: SocketAddr,

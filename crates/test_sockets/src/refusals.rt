@@ -1,13 +1,14 @@
 //! Each growth of memory is refused in turn.
 
 use crate::beginning::{connections_at, connections_to, text};
-use crate::meeting::{Told, bound, patience, peer, settings};
+use crate::meeting::{Told, bound, patience, peer, peers_of, settings};
 use bsc_connections::{Awaited, Waiter};
-use bsc_sockets::{Peers, Sockets, SocketsError, listen};
+use bsc_sockets::{ConnectionSettings, Peers, Sockets, SocketsError, listen};
 use std::alloc::{Allocator, Global};
 use std::io::{Read, Write};
 use std::net::SocketAddr;
 use std::test::Fail;
+use std::time::Duration;
 use test_alloc::{Refusal, Refusing};
 
 /// Fails unless there is one connection, or a growth was refused and the result is out of memory.
@@ -148,6 +149,51 @@ fn a_wait_needs_no_growth(rt: HostRuntime) -> Result<(), Fail> {
     alloc.refuse_nth(1);
     far.write_all(b"here")?;
     assert!(rt; tells_of_both(&rt, &mut begun.sockets, address)?);
+    assert_eq!(rt; alloc.refused(), 0);
+    Ok(())
+}
+
+/// The number of peers of a station that has as many as it may have.
+const COUNT: u16 = 64;
+
+/// How many of the connections and the newcomer of a station are told of in 260 waits.
+fn told_of<R, W, S: Waiter<R, W>>(sockets: &mut S) -> Result<usize, Fail> {
+    let mut told = [false; 65];
+    for _ in 0..260u16 {
+        let place = match sockets.wait()? {
+            Awaited::Octets { connection } => connection,
+            Awaited::Newcomer => 64,
+            _ => return Err("something else".into()),
+        };
+        if place < 65 {
+            told[place] = true;
+        }
+    }
+    Ok(told.iter().filter(|told| **told).count())
+}
+
+/// All peers have sent something, and another one has connected, when the station waits first.
+#[test]
+fn a_wait_for_64_peers_and_another_needs_no_growth(rt: HostRuntime) -> Result<(), Fail> {
+    let alloc = Refusing::new(rt.alloc());
+    let (listening, address) = bound(&rt)?;
+    let mut far = peers_of(&rt, rt.alloc(), address, COUNT)?;
+    let peers = Peers {
+        count: usize::from(COUNT),
+        patience: patience(),
+        keeps_listening: true,
+    };
+    let set = ConnectionSettings {
+        time_out: Duration::from_secs(600),
+        ..settings()
+    };
+    let mut begun = listen(&rt, &alloc, listening, peers, set, &mut Told::new())?;
+    for peer in far.iter_mut() {
+        peer.write_all(b"here")?;
+    }
+    let _newcomer = peer(&rt, address)?;
+    alloc.refuse_from(1);
+    assert_eq!(rt; told_of(&mut begun.sockets)?, 65);
     assert_eq!(rt; alloc.refused(), 0);
     Ok(())
 }

@@ -155,15 +155,15 @@ const QUIET: &[Encounter] = &[Encounter {
     peers: 1,
     begins: true,
     acts: &[
-        Passes(Awaited::TimeOut, 0, 30),
-        Passes(Awaited::TimeOut, 40, 400),
+        Passes(Awaited::TimeOut, 0, 4_000),
+        Passes(Awaited::TimeOut, 40, 4_000),
         Replaceable(None),
-        Passes(GAP, 10, 400),
-        PassesAfterPause(Awaited::TimeOut, 55, 400),
-        Passes(Awaited::TimeOut, 40, 400),
+        Passes(GAP, 10, 4_000),
+        PassesAfterPause(Awaited::TimeOut, 55, 4_000),
+        Passes(Awaited::TimeOut, 40, 4_000),
         Sends(0, b"here"),
-        PassesAfterPause(FIRST, 15, 400),
-        Passes(FIRST, 0, 15),
+        PassesAfterPause(FIRST, 15, 4_000),
+        Passes(FIRST, 0, 4_000),
     ],
 }];
 
@@ -172,10 +172,10 @@ const DISTURBED: &[Encounter] = &[Encounter {
     peers: 2,
     begins: false,
     acts: &[
-        PassesThough(Busy::Octets, Awaited::TimeOut, 40, 400),
-        PassesThough(Busy::Octets, GAP, 10, 400),
-        PassesThough(Busy::Transmissions, Awaited::TimeOut, 40, 400),
-        PassesThough(Busy::Peers, Awaited::TimeOut, 40, 400),
+        PassesThough(Busy::Octets, Awaited::TimeOut, 40, 4_000),
+        PassesThough(Busy::Octets, GAP, 10, 4_000),
+        PassesThough(Busy::Transmissions, Awaited::TimeOut, 40, 4_000),
+        PassesThough(Busy::Peers, Awaited::TimeOut, 40, 4_000),
     ],
 }];
 
@@ -193,7 +193,13 @@ const FULL: &[Encounter] = &[Encounter {
     shows: "a peer that reads nothing fails a write after the time-out, until it has read",
     peers: 1,
     begins: false,
-    acts: &[Fills(0, 40, 1_000), Empties(0), Writes(0, b"more")],
+    acts: &[
+        Fills(0, 40, 4_000),
+        Empties(0),
+        Fills(0, 40, 4_000),
+        Empties(0),
+        Writes(0, b"more"),
+    ],
 }];
 
 #[test]

@@ -1,0 +1,75 @@
+//! What is written while the system has no room for it.
+
+use crate::machine::{HasRead, Machine};
+use crate::meeting::{Told, bound, patience, peer, settings};
+use bsc_sockets::{ConnectionSettings, Peers, listen};
+use std::alloc::{AllocError, Global};
+use std::io::Write;
+use std::test::Fail;
+
+/// The octets 0 to 250, again and again, 17 times 256 of them.
+fn counting(alloc: Global) -> Result<Vec<u8>, AllocError> {
+    let mut octets = Vec::new(alloc);
+    for place in 0..4_352u16 {
+        octets.push((place % 251) as u8)?;
+    }
+    Ok(octets)
+}
+
+/// Writes on the first connection until the far end has read while a write waited, and the clock
+/// was read at least 12 times meanwhile. Returns the number of octets that were written.
+fn writes<R, W: Write>(
+    machine: &Machine<'_>,
+    connections: &mut [(R, W)],
+    octets: &[u8],
+) -> Option<usize> {
+    let (_, writing) = connections.first_mut()?;
+    let mut written = 0usize;
+    for _ in 0..100_000u32 {
+        let count = writing.write(octets.get(written % 251..)?).ok()?;
+        written = written.checked_add(count)?;
+        if machine.has_read()?.readings >= 12 {
+            return Some(written);
+        }
+    }
+    None
+}
+
+/// What the far end has read when it has read this many octets.
+fn read_of(machine: &Machine<'_>, count: usize) -> Option<HasRead> {
+    for _ in 0..1_000_000u32 {
+        machine.empties();
+        let read = machine.has_read()?;
+        if read.count >= count {
+            return Some(read);
+        }
+    }
+    None
+}
+
+/// The far end reads only while a write waits.
+#[test]
+fn what_waits_for_room_is_written_in_order(rt: HostRuntime) -> Result<(), Fail> {
+    let (listening, address) = bound(&rt)?;
+    let far = peer(&rt, address)?;
+    far.set_nonblocking(true)?;
+    let octets = counting(rt.alloc())?;
+    let machine = Machine::reading(&rt, &far, &octets);
+    let wanted = Peers {
+        count: 1,
+        patience: patience(),
+        keeps_listening: false,
+    };
+    let set = ConnectionSettings {
+        time_out: patience(),
+        ..settings()
+    };
+    let mut told = Told::new();
+    let mut begun = listen(&machine, rt.alloc(), listening, wanted, set, &mut told)?;
+    let Some(written) = writes(&machine, &mut begun.connections, &octets) else {
+        return Err("not written".into());
+    };
+    let read = read_of(&machine, written);
+    assert!(rt; read.is_some_and(|read| read.is_right && read.count == written));
+    Ok(())
+}
