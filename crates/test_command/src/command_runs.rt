@@ -57,6 +57,14 @@ const FAILING: Run = Run {
     ..POLLING
 };
 
+/// The output of a run without an event.
+const NOTHING_PRINTED: &str = "from 0: offered 0, known 0, spooled 0
+to 0: offered 0, known 0, spooled 0
+from 1: offered 0, known 0, spooled 0
+to 1: offered 0, known 0, spooled 0
+trusted
+";
+
 const RUNS: &[Run] = &[
     POLLING,
     Run {
@@ -129,7 +137,29 @@ const RUNS: &[Run] = &[
         errors: "bscline: script line 3: not an event\n",
         ..FAILING
     },
-    // The machine makes connections of two terminals only, and this line has one.
+    Run {
+        words: &["run", "secret", "none.txt"],
+        errors: "bscline: cannot read secret: permission denied\n",
+        ..FAILING
+    },
+    Run {
+        words: &["run", "line.toml", "secret"],
+        errors: "bscline: cannot read secret: permission denied\n",
+        ..FAILING
+    },
+    // The script has no event.
+    Run {
+        words: &["run", "line.toml", "-"],
+        out: NOTHING_PRINTED,
+        shown: None,
+        ..POLLING
+    },
+    // The machine makes connections of two terminals only, and has no memory for those of three.
+    Run {
+        words: &["run", "three_terminals.toml", "polled.txt"],
+        errors: "bscline: out of memory\n",
+        ..FAILING
+    },
     Run {
         words: &["run", "tries.toml", "polled.txt"],
         errors: "bscline: cannot make the sockets\n",

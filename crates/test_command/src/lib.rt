@@ -58,6 +58,8 @@ mod run_files;
 #[cfg(test)]
 mod run_traces;
 #[cfg(test)]
+mod run_words;
+#[cfg(test)]
 mod runs;
 #[cfg(test)]
 mod sizes;

@@ -201,12 +201,23 @@ poll = "A"
 select = "a"
 "#;
 
+/// A line of three terminals.
+const THREE_TERMINALS: &str = r#"version = 1
+poll_list = [0, 1, 2]
+terminals = [
+  { poll = "A", select = "a" },
+  { poll = "B", select = "b" },
+  { poll = "C", select = "c" },
+]
+"#;
+
 /// Returns the text of the file at this path.
 fn file_at(path: &str) -> Option<&'static str> {
     match path {
         "line.toml" => Some(TWO_TERMINALS),
         "three.toml" => Some(THREE_ADDRESSES),
         "tries.toml" => Some(MOST_TRIES),
+        "three_terminals.toml" => Some(THREE_TERMINALS),
         _ => run_file_at(path),
     }
 }
@@ -214,7 +225,10 @@ fn file_at(path: &str) -> Option<&'static str> {
 impl Files for Machine<'_> {
     fn read_file(&mut self, path: &str) -> Result<Vec<u8>, InputError> {
         let Some(text) = file_at(path) else {
-            let why = Unreadable::NoSuchFile;
+            let why = match path {
+                "secret" => Unreadable::PermissionDenied,
+                _ => Unreadable::NoSuchFile,
+            };
             return Err(InputError::Device { why });
         };
         match Vec::from_slice(self.alloc, text.as_bytes()) {
@@ -242,8 +256,11 @@ impl<'a> Cables for Machine<'a> {
         Metered { work, record }
     }
 
-    /// Makes connections of two terminals only.
+    /// Makes connections of two terminals only. There is no memory for those of three.
     fn connect(&mut self, count: usize) -> Result<Cable<End<'a>>, LoopbackError> {
+        if count == 3 {
+            return Err(LoopbackError::Memory);
+        }
         if count != 2 {
             return Err(LoopbackError::Sockets);
         }

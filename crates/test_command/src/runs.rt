@@ -202,8 +202,8 @@ trusted
 pub(crate) struct Machine<'a, R> {
     pub(crate) runtime: &'a R,
     pub(crate) alloc: Global,
-    pub(crate) line: &'static str,
-    pub(crate) script: &'static str,
+    pub(crate) line: &'a str,
+    pub(crate) script: &'a str,
 }
 
 impl<R: Net> Files for Machine<'_, R> {

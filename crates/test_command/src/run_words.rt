@@ -1,0 +1,190 @@
+//! Runs of each combination of their words, of each number of terminals, and with connections that
+//! fail.
+
+use crate::machine::{Answer, SILENT, answer_to};
+use crate::record::Record;
+use crate::run_files::{POLLED, POLLED_PRINTED, POLLED_TRACED};
+use crate::runs::Machine;
+use bsc_command::Fault;
+use bsc_running::{RunWords, run};
+use std::alloc::{AllocError, Global};
+use std::net::Net;
+use std::test::Fail;
+use test_fixtures::configurations::TWO_TERMINALS;
+
+/// The paths of the configuration and of the script, and what standard input has.
+const PATHS: &[(&str, &str, &str)] = &[
+    ("line.toml", "polled.txt", "unread"),
+    ("line.toml", "-", POLLED),
+    ("-", "polled.txt", TWO_TERMINALS),
+];
+
+/// The options of a run: whether it only checks, is traced, and is quiet.
+const OPTIONS: &[(bool, bool, bool)] = &[
+    (false, false, false),
+    (false, false, true),
+    (false, true, false),
+    (false, true, true),
+    (true, false, false),
+    (true, false, true),
+    (true, true, false),
+    (true, true, true),
+];
+
+/// The words of a run.
+fn words_of(
+    alloc: Global,
+    paths: (&str, &str),
+    options: (bool, bool, bool),
+) -> Result<Vec<String>, AllocError> {
+    let (check, trace, quiet) = options;
+    let mut words = Vec::new(alloc);
+    for (word, is_there) in [
+        ("bscline", true),
+        ("run", true),
+        ("--check", check),
+        ("--trace", trace),
+        ("--quiet", quiet),
+        (paths.0, true),
+        (paths.1, true),
+    ] {
+        if is_there {
+            words.push(String::from_str(alloc, word)?)?;
+        }
+    }
+    Ok(words)
+}
+
+/// The answer to a run with these words and this standard input.
+fn answer(alloc: Global, words: Vec<String>, input: &str, record: &Record) -> Result<Answer, Fail> {
+    let words = Ok::<Vec<String>, Fault>(words);
+    let mut input = input.as_bytes();
+    Ok(answer_to(alloc, words, &mut input, (true, SILENT), record)?)
+}
+
+/// Whether a run of `POLLED` with these words has its output, its trace and its progress.
+fn is_due(
+    alloc: Global,
+    row: (&str, &str, &str),
+    options: (bool, bool, bool),
+) -> Result<bool, Fail> {
+    let (config, script, input) = row;
+    let (check, trace, quiet) = options;
+    let record = Record::new(alloc);
+    let words = words_of(alloc, (config, script), options)?;
+    let answer = answer(alloc, words, input, &record)?;
+    let printed = if check { "" } else { POLLED_PRINTED };
+    let traced = if trace && !check { POLLED_TRACED } else { "" };
+    Ok(
+        answer.status == 0
+            && answer.errors.is_empty()
+            && answer.out.as_slice() == printed.as_bytes()
+            && record.difference(0, traced).is_none()
+            && record.shown.get().is_some() == (!check && !trace && !quiet),
+    )
+}
+
+#[test]
+fn a_run_may_have_each_combination_of_words(rt: HostRuntime) -> Result<(), Fail> {
+    for row in PATHS {
+        for options in OPTIONS {
+            assert!(rt;
+                is_due(rt.alloc(), *row, *options)?,
+                "{} {options:?}",
+                row.1
+            );
+        }
+    }
+    Ok(())
+}
+
+/// The number of lines of a text.
+fn count_lines(text: &[u8]) -> usize {
+    text.iter().filter(|octet| **octet == b'\n').count()
+}
+
+/// Whether a run whose reads fail after this many ended as it may. All but the first line of
+/// `POLLED` print a line, so the fault is at the event after as many lines as were printed.
+fn is_fault(alloc: Global, answer: &Answer) -> Result<bool, Fail> {
+    let line = count_lines(&answer.out).saturating_add(2);
+    let errors = format!(in alloc; "bscline: script line {line}: socket fault\n")?;
+    Ok(
+        answer.status == 1
+            && answer.errors.as_slice() == errors.as_bytes()
+            && POLLED_PRINTED.as_bytes().starts_with(&answer.out),
+    )
+}
+
+/// How many reads a run has that fails, in turn, at each of them.
+fn count_reads(alloc: Global) -> Result<usize, Fail> {
+    for reads in 0..1000usize {
+        let record = Record::new(alloc);
+        record.wires.reads.set(reads);
+        let words = words_of(alloc, ("line.toml", "polled.txt"), (false, false, true))?;
+        let answer = answer(alloc, words, "", &record)?;
+        if answer.status == 0 {
+            return Ok(reads);
+        }
+        if !is_fault(alloc, &answer)? {
+            return Err(Fail::new(format_args!("after {reads}")));
+        }
+    }
+    Err(Fail::new("no end of reads"))
+}
+
+#[test]
+fn a_fault_of_the_cable_is_told_at_its_event(rt: HostRuntime) -> Result<(), Fail> {
+    assert!(rt; count_reads(rt.alloc())? > 12);
+    Ok(())
+}
+
+/// A configuration of this many terminals, each of which is polled.
+fn line_of(alloc: Global, count: usize) -> Result<String, Fail> {
+    let mut text = format!(in alloc; "version = 1\npoll_list = [0")?;
+    for number in 1..count {
+        write!(text, ", {number}")?;
+    }
+    text.push_str("]\n")?;
+    for number in 0..count {
+        write!(
+            text,
+            "[[terminals]]\npoll = \"A{number}\"\nselect = \"a{number}\"\n"
+        )?;
+    }
+    Ok(text)
+}
+
+/// Whether the line of this many terminals is run, and only checked.
+fn is_run<R: Net>(runtime: &R, alloc: Global, count: usize) -> Result<bool, Fail> {
+    let line = line_of(alloc, count)?;
+    let mut machine = Machine {
+        runtime,
+        alloc,
+        line: &line,
+        script: POLLED,
+    };
+    for check in [false, true] {
+        let words = RunWords {
+            config: "line.toml",
+            script: "script.txt",
+            check,
+            trace: false,
+            quiet: false,
+        };
+        let (mut out, mut trace) = (Vec::<u8>::new(alloc), Vec::<u8>::new(alloc));
+        let mut input = b"".as_slice();
+        let answer = run(alloc, words, &mut input, &mut machine, &mut out, &mut trace);
+        if answer.is_err() || out.is_empty() != check {
+            return Ok(false);
+        }
+    }
+    Ok(true)
+}
+
+#[test]
+fn a_line_of_each_number_of_terminals_is_run(rt: HostRuntime) -> Result<(), Fail> {
+    for count in 1..=64usize {
+        assert!(rt; is_run(&rt, rt.alloc(), count)?, "{count}");
+    }
+    Ok(())
+}
