@@ -5,12 +5,12 @@ use crate::machine::{Due, Machine};
 use crate::meeting::{Told, bound, patience, peer, settings};
 use crate::stopped::{input, stopping_with};
 use bsc_connections::{Awaited, Handled, Pace, Waiter};
-use bsc_sockets::{Begun, ConnectionSettings, Peers, listen};
+use bsc_sockets::{Begun, ConnectionSettings, Listening, Peers, SocketsError, listen};
 use std::alloc::Global;
 use std::io::Read;
-use std::net::{Shutdown, TcpStream};
+use std::net::{Net, Shutdown, TcpStream};
 use std::test::Fail;
-use std::time::{Duration, Instant};
+use std::time::{Clock, Duration, Instant};
 
 /// What happens at a station, and what it is told.
 #[derive(Clone, Copy)]
@@ -87,8 +87,22 @@ struct Around<'a> {
     input: Option<&'a TcpStream>,
 }
 
-impl Around<'_> {
+/// What is outside a station, and moves its clock.
+trait Outside {
     /// Whether this can happen outside the station.
+    fn goes(&self, step: Step) -> bool;
+
+    /// Lets an hour but for a tenth of a second pass in the next wait, once its pause has begun.
+    fn lets_an_hour_pass(&self);
+
+    /// The time of the system's clock, moved on.
+    fn now(&self) -> Option<Instant>;
+
+    /// The number of milliseconds since this time.
+    fn since(&self, start: Instant) -> Option<u128>;
+}
+
+impl Outside for Around<'_> {
     fn goes(&self, step: Step) -> bool {
         match step {
             Step::Sends => self.machine.sends(b"x"),
@@ -110,6 +124,22 @@ impl Around<'_> {
             },
             _ => false,
         }
+    }
+
+    fn lets_an_hour_pass(&self) {
+        self.machine.is_due(Due {
+            readings: 2,
+            time: Duration::from_millis(3_599_900),
+            octets: b"",
+        });
+    }
+
+    fn now(&self) -> Option<Instant> {
+        Instant::now(self.rt).ok()
+    }
+
+    fn since(&self, start: Instant) -> Option<u128> {
+        Some(start.elapsed(self.rt).ok()?.as_millis())
     }
 }
 
@@ -144,22 +174,18 @@ fn reads<R: Read, W, S: Waiter<R, W>>(sockets: &mut S, connections: &mut [(R, W)
 
 /// The number of milliseconds in which a wait returns that there are octets, after a pause of an
 /// hour that but for a tenth of a second passes once it has begun.
-fn pauses<R, W, S: Waiter<R, W>>(around: &Around<'_>, sockets: &mut S) -> Option<u128> {
-    around.machine.is_due(Due {
-        readings: 2,
-        time: Duration::from_millis(3_599_900),
-        octets: b"",
-    });
+fn pauses<O: Outside, R, W, S: Waiter<R, W>>(around: &O, sockets: &mut S) -> Option<u128> {
+    around.lets_an_hour_pass();
     sockets.handled(Handled::Silence, Pace::AfterPause);
-    let start = Instant::now(around.rt).ok()?;
+    let start = around.now()?;
     let awaited = sockets.wait();
-    let passed = start.elapsed(around.rt).ok()?.as_millis();
+    let passed = around.since(start)?;
     (awaited == Ok(OCTETS)).then_some(passed)
 }
 
 /// Whether this step has the expected result.
-fn goes<R: Read, W, S: Waiter<R, W>>(
-    around: &Around<'_>,
+fn goes<O: Outside, R: Read, W, S: Waiter<R, W>>(
+    around: &O,
     sockets: &mut S,
     connections: &mut [(R, W)],
     step: Step,
@@ -188,8 +214,8 @@ fn goes<R: Read, W, S: Waiter<R, W>>(
 }
 
 /// The place of the first of these steps that has another result.
-fn first_wrong<R: Read, W, S: Waiter<R, W>>(
-    around: &Around<'_>,
+fn first_wrong<O: Outside, R: Read, W, S: Waiter<R, W>>(
+    around: &O,
     sockets: &mut S,
     connections: &mut [(R, W)],
     steps: &[Step],
@@ -202,7 +228,30 @@ fn first_wrong<R: Read, W, S: Waiter<R, W>>(
     None
 }
 
-/// Plays these steps at a station with these settings, that has a connection to one peer.
+/// The place of the first of these steps that has another result, at a station with these settings
+/// on this machine, that has a connection to one peer.
+fn wrong_at<N: Net + Clock, O: Outside>(
+    machine: &N,
+    alloc: Global,
+    listening: Listening,
+    settings: ConnectionSettings,
+    around: &O,
+    steps: &[Step],
+) -> Result<Option<usize>, SocketsError> {
+    let wanted = Peers {
+        count: 1,
+        patience: patience(),
+        keeps_listening: true,
+    };
+    let told = &mut Told::new();
+    let Begun {
+        mut sockets,
+        mut connections,
+    } = listen(machine, alloc, listening, wanted, settings, told)?;
+    Ok(first_wrong(around, &mut sockets, &mut connections, steps))
+}
+
+/// Plays these steps at such a station, whose peer is there.
 fn play(
     rt: &HostRuntime,
     alloc: Global,
@@ -213,28 +262,12 @@ fn play(
     let (listening, address) = bound(rt)?;
     let far = peer(rt, address)?;
     let machine = Machine::with_far(rt, &far);
-    let wanted = Peers {
-        count: 1,
-        patience: patience(),
-        keeps_listening: true,
-    };
-    let Begun {
-        mut sockets,
-        mut connections,
-    } = listen(
-        &machine,
-        alloc,
-        listening,
-        wanted,
-        settings,
-        &mut Told::new(),
-    )?;
     let around = Around {
         rt,
         machine: &machine,
         input,
     };
-    match first_wrong(&around, &mut sockets, &mut connections, steps) {
+    match wrong_at(&machine, alloc, listening, settings, &around, steps)? {
         Some(place) => Err(Fail::new(format_args!("not so at {place}"))),
         None => Ok(()),
     }

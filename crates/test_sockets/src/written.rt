@@ -2,10 +2,12 @@
 
 use crate::machine::{HasRead, Machine};
 use crate::meeting::{Told, bound, patience, peer, settings};
-use bsc_sockets::{ConnectionSettings, Peers, listen};
+use bsc_sockets::{ConnectionSettings, Listening, Peers, SocketsError, listen};
 use std::alloc::{AllocError, Global};
 use std::io::Write;
+use std::net::Net;
 use std::test::Fail;
+use std::time::Clock;
 
 /// The octets 0 to 250, again and again, 17 times 256 of them.
 fn counting(alloc: Global) -> Result<Vec<u8>, AllocError> {
@@ -47,14 +49,14 @@ fn read_of(machine: &Machine<'_>, count: usize) -> Option<HasRead> {
     None
 }
 
-/// The far end reads only while a write waits.
-#[test]
-fn what_waits_for_room_is_written_in_order(rt: HostRuntime) -> Result<(), Fail> {
-    let (listening, address) = bound(&rt)?;
-    let far = peer(&rt, address)?;
-    far.set_nonblocking(true)?;
-    let octets = counting(rt.alloc())?;
-    let machine = Machine::reading(&rt, &far, &octets);
+/// Writes to the only peer of a station on this machine, as `writes` does.
+fn written_to<N: Net + Clock>(
+    own: &N,
+    alloc: Global,
+    listening: Listening,
+    machine: &Machine<'_>,
+    octets: &[u8],
+) -> Result<Option<usize>, SocketsError> {
     let wanted = Peers {
         count: 1,
         patience: patience(),
@@ -64,9 +66,19 @@ fn what_waits_for_room_is_written_in_order(rt: HostRuntime) -> Result<(), Fail> 
         time_out: patience(),
         ..settings()
     };
-    let mut told = Told::new();
-    let mut begun = listen(&machine, rt.alloc(), listening, wanted, set, &mut told)?;
-    let Some(written) = writes(&machine, &mut begun.connections, &octets) else {
+    let mut begun = listen(own, alloc, listening, wanted, set, &mut Told::new())?;
+    Ok(writes(machine, &mut begun.connections, octets))
+}
+
+/// The far end reads only while a write waits.
+#[test]
+fn what_waits_for_room_is_written_in_order(rt: HostRuntime) -> Result<(), Fail> {
+    let (listening, address) = bound(&rt)?;
+    let far = peer(&rt, address)?;
+    far.set_nonblocking(true)?;
+    let octets = counting(rt.alloc())?;
+    let machine = Machine::reading(&rt, &far, &octets);
+    let Some(written) = written_to(&machine, rt.alloc(), listening, &machine, &octets)? else {
         return Err("not written".into());
     };
     let read = read_of(&machine, written);
