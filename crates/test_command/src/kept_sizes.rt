@@ -242,7 +242,8 @@ fn unfit() -> Result<[Change; 3], Fail> {
 
 /// The place of the first of these changes after which a station is not refused as it should be.
 fn first_fit(alloc: Global) -> Result<Option<usize>, Fail> {
-    let changes = unfit()?;
+    let unfit = unfit()?;
+    let changes = unfit.as_slice();
     for place in 0..changes.len() {
         let record = Record::new(alloc);
         keep(&record, 1, &changes[place..place + 1])?;

@@ -31,6 +31,19 @@ const OPTIONS: &[(bool, bool, bool)] = &[
     (true, true, true),
 ];
 
+/// Adds this word, if it is there.
+fn add_word(
+    alloc: Global,
+    words: &mut Vec<String>,
+    word: &str,
+    is_there: bool,
+) -> Result<(), AllocError> {
+    if is_there {
+        words.push(String::from_str(alloc, word)?)?;
+    }
+    Ok(())
+}
+
 /// The words of a run.
 fn words_of(
     alloc: Global,
@@ -39,19 +52,13 @@ fn words_of(
 ) -> Result<Vec<String>, AllocError> {
     let (check, trace, quiet) = options;
     let mut words = Vec::new(alloc);
-    for (word, is_there) in [
-        ("bscline", true),
-        ("run", true),
-        ("--check", check),
-        ("--trace", trace),
-        ("--quiet", quiet),
-        (paths.0, true),
-        (paths.1, true),
-    ] {
-        if is_there {
-            words.push(String::from_str(alloc, word)?)?;
-        }
-    }
+    add_word(alloc, &mut words, "bscline", true)?;
+    add_word(alloc, &mut words, "run", true)?;
+    add_word(alloc, &mut words, "--check", check)?;
+    add_word(alloc, &mut words, "--trace", trace)?;
+    add_word(alloc, &mut words, "--quiet", quiet)?;
+    add_word(alloc, &mut words, paths.0, true)?;
+    add_word(alloc, &mut words, paths.1, true)?;
     Ok(words)
 }
 
