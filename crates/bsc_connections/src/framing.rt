@@ -1,7 +1,8 @@
 //! How the octets of a connection are divided into transmissions.
 
-ghost use Rattle.std.specs.Prelude.{◌≡◌, ℕ, ◌≤◌, Bool, List, length, OnOk, IfOk, Result};
+ghost use Rattle.std.specs.Prelude.{◌≡◌, ℕ, ◌≤◌, Bool, List, length, OnOk, IfErr, IfOk, Result};
 ghost use Rattle.std.specs.Io.KnownBytes.{Appends};
+ghost use Rattle.bsc_carrier.specs.Faults.{IsDevice};
 ghost use Rattle.bsc_carrier.specs.declared.error.CarrierError.{CarrierError as Error};
 
 use bsc_carrier::CarrierError;
@@ -32,6 +33,9 @@ pub trait Framing {
 
     /// The octets that carry a transmission on a connection.
     ghost framed: { List ℕ → List ℕ };
+
+    /// Whether these octets can be carried as one transmission.
+    ghost carries: { List ℕ → Type 0 };
 
     /// Creates a framing on which nothing has arrived.
     fn new() -> Self
@@ -65,8 +69,9 @@ pub trait Framing {
     fn octets(&self) -> &[u8]
         ensures { result.now ≡ last self.now };
 
-    /// Writes a transmission.
+    /// Writes a transmission. If it can be carried, only a fault of the device is an error.
     fn write<W: Write>(writer: &mut W, octets: &[u8]) -> Result<(), CarrierError>
-        ensures { OnOk result
-            (Appends (W.contents writer.old) (W.contents writer.new) (framed octets.now)) };
+        ensures written { OnOk result
+            (Appends (W.contents writer.old) (W.contents writer.new) (framed octets.now)) }
+        ensures refused { IfErr result (λ error. carries octets.now → IsDevice error) };
 }

@@ -56,6 +56,8 @@ impl Framing for Gaps {
 
     ghost framed = { λ octets. octets };
 
+    ghost carries = { λ _. Unit {0} };
+
     fn new() -> Gaps {
         Gaps {
             octets: TwoBuffers::new(),

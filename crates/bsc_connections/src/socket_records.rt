@@ -15,7 +15,7 @@ pub struct SocketRecords {
 impl Framing for SocketRecords {
     ghost use Rattle.std.specs.Prelude.{◌≡◌, [], false, not};
     ghost use Rattle.bsc_carrier.specs.Assembler.{Fed, wanted_after};
-    ghost use Rattle.bsc_carrier.specs.Record.{socket_record};
+    ghost use Rattle.bsc_carrier.specs.Record.{IsCarried, socket_record};
     ghost use Rattle.bsc_connections.specs.Framings.{is_empty};
 
     ghost starts = { λ records.
@@ -34,6 +34,8 @@ impl Framing for SocketRecords {
     ghost room = { λ records. wanted_after records.assembler.begun };
 
     ghost framed = { socket_record };
+
+    ghost carries = { IsCarried };
 
     fn new() -> SocketRecords {
         SocketRecords {
