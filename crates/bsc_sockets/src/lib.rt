@@ -19,6 +19,8 @@ mod begin;
 mod directions;
 mod error;
 mod listening;
+mod next_peer;
+mod pausing;
 mod ready;
 mod settings;
 mod sockets;

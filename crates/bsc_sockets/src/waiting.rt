@@ -6,22 +6,22 @@ ghost use Rattle.std.specs.Duration.{as_nanos};
 ghost use Rattle.std.specs.Option.{option_map_or};
 ghost use Rattle.mio.specs.Events.{items};
 ghost use Rattle.bsc_sockets.specs.Answers.{IsAnswer, IsWaitError, listener_event as event_at};
-ghost use Rattle.bsc_sockets.specs.Answers.{may_connect, peer_event};
-ghost use Rattle.bsc_sockets.specs.Listening.{IsPeerError, is_refused, peer_error, not_taken_by};
+ghost use Rattle.bsc_sockets.specs.Answers.{peer_event};
+ghost use Rattle.bsc_sockets.specs.Listening.{is_refused, not_taken_by};
 ghost use Rattle.bsc_sockets.specs.Listening.{sought_after};
 ghost use Rattle.bsc_sockets.specs.Ready.{with_event, with_events};
 ghost use Rattle.bsc_sockets.specs.Serving.{is_overdue, served_after, served_overdue};
 ghost use Rattle.bsc_sockets.specs.Standings.{counted_after};
 ghost use Rattle.bsc_sockets.specs.Stopping.{asked_if, is_closed_in, stops_in, times_told};
-ghost use Rattle.bsc_sockets.specs.Times.{IsEnd, Rests, ended_gap, event_of, without_ended};
+ghost use Rattle.bsc_sockets.specs.Times.{IsEnd, ended_gap, event_of, without_ended};
 
+use crate::Sockets;
 use crate::ready::Ready;
 use crate::sockets::Peer;
 use crate::stopping::{INPUT, is_closed};
 use crate::time_limit::TimeLimit;
 use crate::times::End;
-use crate::{Reception, Sockets, SocketsError};
-use bsc_connections::{Awaited, LiveError, Pace};
+use bsc_connections::{Awaited, LiveError};
 use mio::Events;
 use std::alloc::{AllocError, Allocator};
 use std::io::ErrorKind;
@@ -201,7 +201,7 @@ impl<'a, N: Net + Clock, A: Allocator + Copy> Sockets<'a, N, A> {
     }
 
     /// Returns what is left of a time.
-    fn left(&self, limit: TimeLimit) -> Result<Duration, LiveError>
+    pub(crate) fn left(&self, limit: TimeLimit) -> Result<Duration, LiveError>
         ensures { IfErr result IsWaitError }
     {
         match limit.left(self.runtime) {
@@ -364,58 +364,8 @@ impl<'a, N: Net + Clock, A: Allocator + Copy> Sockets<'a, N, A> {
         }
     }
 
-    /// Lets the pause pass if this wait begins with one, and returns its limit. What arrives
-    /// meanwhile is ready after it.
-    pub(crate) fn rest(&mut self) -> Result<Option<TimeLimit>, LiveError>
-        ensures limit { IfOk result (Rests self.old.times.pace self.old.settings.pause) }
-        ensures failed { IfErr result IsWaitError }
-        ensures settings { self.new.settings ≡ self.old.settings }
-        ensures told { times_told self.new.stopping ≡ times_told self.old.stopping }
-        ensures time_out { self.new.times.time_out ≡ self.old.times.time_out }
-        ensures gaps { self.new.times.gaps ≡ self.old.times.gaps }
-        ensures pace { OnOk result (self.new.times.pace ≡ Pace.AtOnce) }
-        ensures standings { self.new.standings ≡ self.old.standings }
-        ensures places { self.new.places ≡ self.old.places }
-        ensures listener { self.new.listener ≡ self.old.listener }
-        ensures newcomer { IsSome self.old.newcomer → self.new.newcomer ≡ self.old.newcomer }
-        ensures since { times_told self.old.stopping ≡ 1
-            → self.new.stopping ≡ self.old.stopping }
-    {
-        match self.times.take_pace() {
-            Pace::AtOnce => Ok(None),
-            Pace::AfterPause => Ok(Some(self.pause(self.settings.pause)?)),
-        }
-    }
-
-    /// Lets this time pass, or less of it if the station is asked to end. Returns its limit.
-    fn pause(&mut self, time: Duration) -> Result<TimeLimit, LiveError>
-        ensures limit { IfOk result (λ limit. limit.time ≡ time) }
-        ensures failed { IfErr result IsWaitError }
-        ensures settings { self.new.settings ≡ self.old.settings }
-        ensures told { times_told self.new.stopping ≡ times_told self.old.stopping }
-        ensures times { self.new.times ≡ self.old.times }
-        ensures standings { self.new.standings ≡ self.old.standings }
-        ensures places { self.new.places ≡ self.old.places }
-        ensures listener { self.new.listener ≡ self.old.listener }
-        ensures newcomer { IsSome self.old.newcomer → self.new.newcomer ≡ self.old.newcomer }
-        ensures since { times_told self.old.stopping ≡ 1
-            → self.new.stopping ≡ self.old.stopping }
-    {
-        let Ok(limit) = TimeLimit::begin(self.runtime, time) else {
-            return Err(LiveError::Wait);
-        };
-        'asks: for _ in 0..u64::MAX {
-            let left = self.left(limit)?;
-            if left.is_zero() || self.stopping.is_asked() {
-                break;
-            }
-            self.ask(left)?;
-        }
-        Ok(limit)
-    }
-
     /// Asks the system what has arrived, and waits until something has or the time has passed.
-    fn ask(&mut self, time: Duration) -> Result<(), LiveError>
+    pub(crate) fn ask(&mut self, time: Duration) -> Result<(), LiveError>
         ensures failed { IfErr result IsWaitError }
         ensures settings { self.new.settings ≡ self.old.settings }
         ensures asked { self.new.stopping
@@ -482,64 +432,6 @@ impl<'a, N: Net + Clock, A: Allocator + Copy> Sockets<'a, N, A> {
         self.stopping.tell_again();
         Awaited::Stopped
     }
-
-    /// Returns the next peer that may connect and does so within this time. The reception is told
-    /// of each peer that may not, which is turned away. Fails with `Stopped` if the station is
-    /// asked to end, and with `NobodyConnected` if no such peer connects in time.
-    pub(crate) fn next_peer<H: Reception>(
-        &mut self,
-        patience: Duration,
-        reception: &mut H,
-    ) -> Result<Peer, SocketsError>
-        ensures settings { self.new.settings ≡ self.old.settings }
-        ensures places { self.new.places ≡ self.old.places }
-        ensures listener { self.new.listener ≡ self.old.listener }
-        ensures admitted { IfOk result
-            (λ peer. may_connect self.old.settings.allowed peer ≡ true) }
-        ensures failed { IfErr result IsPeerError }
-    {
-        let limit = TimeLimit::begin(self.runtime, patience)?;
-        let mut left = patience;
-        'peers: for _ in 0..u64::MAX {
-            if let Some(peer) = self.peer_within(left, reception)? {
-                return Ok(peer);
-            }
-            left = limit.left(self.runtime)?;
-            if left.is_zero() {
-                break;
-            }
-        }
-        Err(SocketsError::NobodyConnected)
-    }
-
-    /// As `next_peer`, but returns `None` after the first peer that may not connect.
-    fn peer_within<H: Reception>(
-        &mut self,
-        left: Duration,
-        reception: &mut H,
-    ) -> Result<Option<Peer>, SocketsError>
-        ensures settings { self.new.settings ≡ self.old.settings }
-        ensures places { self.new.places ≡ self.old.places }
-        ensures listener { self.new.listener ≡ self.old.listener }
-        ensures admitted { IfOk result (λ found.
-            IfSome found (λ peer. may_connect self.old.settings.allowed peer ≡ true)) }
-        ensures failed { IfErr result IsPeerError }
-    {
-        match self.within(left, Sought::Newcomer) {
-            Ok(Awaited::Newcomer) => Ok(self.take_admitted()),
-            Ok(Awaited::NotAllowed) => {
-                if let Some(peer) = self.newcomer.take() {
-                    reception.refused(peer.address);
-                }
-                // Else such peers could hide that the station is asked to end.
-                self.unasked = self.unasked.saturating_add(1);
-                Ok(None)
-            }
-            Ok(Awaited::Stopped) => Err(SocketsError::Stopped),
-            Ok(_) => Err(SocketsError::NobodyConnected),
-            Err(error) => Err(peer_error(error)),
-        }
-    }
 }
 
 /// Records that something has arrived at the place of each event, except those of the input.
@@ -587,16 +479,5 @@ fn why_not_taken(kind: ErrorKind) -> NotTaken
         ErrorKind::WouldBlock => NotTaken::Nobody,
         ErrorKind::ConnectionAborted | ErrorKind::Interrupted => NotTaken::Gone,
         _ => NotTaken::Refused,
-    }
-}
-
-/// Returns why the next peer is not taken, if waiting for it fails with this.
-fn peer_error(error: LiveError) -> SocketsError
-    ensures error { result ≡ peer_error error }
-    ensures fault { IsPeerError result }
-{
-    match error {
-        LiveError::Memory => SocketsError::Memory,
-        _ => SocketsError::Sockets,
     }
 }
