@@ -10,7 +10,8 @@ abbrev pub HasTerminal : ControlValue → ℕ → Type 0
 HasTerminal c t = t < length c.peers
 
 -- It has none, and this is the answer.
-pub record LacksTerminal (c : ControlValue) (t : ℕ) (answer : Result (Unit {0}) Fault) : Type 0 where
+pub record LacksTerminal (c : ControlValue) (t : ℕ) (answer : Result (Unit {0}) Fault)
+    : Type 0 where
   pub number : length c.peers ≤ t
   pub fault : answer ≡ Err NoSuchTerminal
 
@@ -20,7 +21,8 @@ pub record HasAddress (c : ControlValue) (t s : ℕ) : Type 0 where
   pub select : s < length (peer_at c t).outbounds
 
 -- The terminal has no such selection address, and this is the answer.
-pub record LacksSelect (c : ControlValue) (t s : ℕ) (answer : Result (Unit {0}) Fault) : Type 0 where
+pub record LacksSelect (c : ControlValue) (t s : ℕ) (answer : Result (Unit {0}) Fault)
+    : Type 0 where
   pub terminal : HasTerminal c t
   pub number : length (peer_at c t).outbounds ≤ s
   pub fault : answer ≡ Err NoSuchAddress

@@ -6,6 +6,7 @@ ghost use Rattle.bsc_sockets.specs.Listening.{IsPeerError, peer_error};
 
 use crate::sockets::Peer;
 use crate::time_limit::TimeLimit;
+use crate::waiting::Sought;
 use crate::{Reception, Sockets, SocketsError};
 use bsc_connections::{Awaited, LiveError};
 use std::alloc::Allocator;

@@ -66,8 +66,8 @@ ShowsTerminals line (suc terminal) before after =
     (mid : Option (List ℕ)) × ShowsTerminals line terminal before mid
     × ShowsPlaces line terminal (MAX_SELECTS + 1) mid after
 
--- The line for a doubt that was ended at a count, for the one at this place, and for all of them, or
--- that there was none.
+-- The line for a doubt that was ended at a count, for the one at this place, and for all of them,
+-- or that there was none.
 abbrev pub ended_shown : KeptLine → Ended → List ℕ
 ended_shown line it =
     name_shown line it.name ++ codes ": released at " ++ decimal it.count ++ codes "\n"

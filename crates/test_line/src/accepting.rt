@@ -1,5 +1,5 @@
-//! Offers, in every state of a line, while memory is granted to them: each is accepted. While memory
-//! is granted to all stations, no text is put off.
+//! Offers, in every state of a line, while memory is granted to them: each is accepted. While
+//! memory is granted to all stations, no text is put off.
 
 use crate::events::{LOSE, URGENT_AT, URGENT_FOR};
 use crate::fixtures::{On, Play, line_of, most_terminals, play_on};
@@ -218,8 +218,8 @@ fn is_polling<A: Allocator>(line: &Line<A>) -> bool {
     }
 }
 
-/// Offers a record at a terminal, for its first address, or for its last one: all terminals in turn,
-/// and each way of all before the next one.
+/// Offers a record at a terminal, for its first address, or for its last one: all terminals in
+/// turn, and each way of all before the next one.
 fn offer_in_turn<A: Allocator>(line: &mut Line<A>, step: usize) -> Result<(), LineError> {
     match step / 64 % 3 {
         0 => line.offer_at(step % 64, b"HI"),
@@ -282,7 +282,8 @@ impl PutOff<'_> {
         Ok(())
     }
 
-    /// One more transmission or silence, and offers after it. Returns whether the sender is put off.
+    /// One more transmission or silence, and offers after it. Returns whether the sender is put
+    /// off.
     fn step<A: Allocator>(&self, line: &mut Line<A>, step: usize) -> Result<bool, LineError> {
         if step > self.granted {
             self.alloc.refuse_from(1);

@@ -1,5 +1,5 @@
-//! A line is made with each setting, each number of terminals and of their addresses, each length of
-//! an address and each length of the poll list, and delivers a record each way.
+//! A line is made with each setting, each number of terminals and of their addresses, each length
+//! of an address and each length of the poll list, and delivers a record each way.
 
 use crate::channels::Has::Delivered;
 use crate::channels::has_left;

@@ -95,8 +95,8 @@ const LATER: usize = 500_000;
 /// The characters of the longest record of `TWO`.
 const EIGHTY: &[u8] = &[b'B'; 80];
 
-/// Offers a record of this number each way of terminal 0, of 0 to 80 characters, and carries what is
-/// pending as it was sent. Returns whether nobody is put off.
+/// Offers a record of this number each way of terminal 0, of 0 to 80 characters, and carries what
+/// is pending as it was sent. Returns whether nobody is put off.
 fn offer_and_carry<A: Allocator>(line: &mut Line<A>, number: usize) -> Answer {
     let codes = EIGHTY.get(..number % 81).unwrap_or(EIGHTY);
     line.offer_at(0, codes)?;
