@@ -28,7 +28,8 @@ use Rattle.bsc_script.specs.Events.{Event as Asked, offer_at, offer_for, lose, h
 use Rattle.bsc_run.specs.Crossing.{connection_count, ItemsCross, Streams}
 use Rattle.bsc_run.specs.declared.error.StepError.{StepError}
 use Rattle.bsc_run.specs.declared.error.StepError.TheVariants as step
-use Rattle.bsc_run.specs.Faults.{told, IsFault}
+use Rattle.bsc_run.specs.Faults.{told}
+use Rattle.bsc_run.proofs.Causes.{IsFault}
 use Rattle.bsc_run.specs.Speaking.{Fits}
 use Rattle.bsc_run.specs.Hearing.{ReadsAsSent}
 use Rattle.bsc_run.specs.Steps.{IsHearing, MayBe, Sends, HearsOctets, Crossing, Acts, heard_as}

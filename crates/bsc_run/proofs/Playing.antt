@@ -3,6 +3,7 @@ use Rattle.std.proofs.Common.{◌≡◌, ◌<◌, ◌≤◌, ℕ, zero, suc, ◌
 use Rattle.std.proofs.Common.{drop, get_or, inl, inr, Option, Result, Ok, Err, refl, sym, ap}
 use Rattle.std.proofs.Common.{arith, append_assoc, append-nil, add-one, Bool, true, false}
 use Rattle.std.proofs.Common.{if◌then◌else◌}
+use Rattle.std.specs.Prelude.{IfErr}
 use Rattle.std.specs.Io.KnownBytes.{Appends}
 use Rattle.std.proofs.KnownBytes.{Appends-nil, Appends-trans}
 use Rattle.bsc_line_model.specs.declared.event.Event.{Event}
@@ -185,6 +186,12 @@ runs_reported laws streams tracing steps old result new holds line p written = r
   };
   line = runs_line laws streams steps p.events old new result p.text line p.plays;
 }
+
+-- a property of a run that an error ended
+pub where_ended : {P Q : RunError → Type 0} (r : Result (Unit {0}) RunError)
+    → ((error : RunError) → P error → Q error) → IfErr r P → IfErr r Q
+where_ended (Ok done) f p = tt
+where_ended (Err error) f p = f error p
 
 -- a property of a run that no fault interrupted
 pub where_whole : {P Q : Type 0} (r : Result (Unit {0}) RunError) → (P → Q) → WhereWhole r P

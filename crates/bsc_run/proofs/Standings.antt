@@ -1,7 +1,7 @@
 -- The channels before an event, as the trace knows them.
 use Rattle.std.proofs.Common.{◌≡◌, ◌<◌, ◌≤◌, ℕ, zero, suc, List, [], ◌∷◌, ◌++◌, ap, ◌∙◌, arith}
-use Rattle.std.proofs.Common.{Ok, append_assoc, Bool, true, false, if◌then◌else◌, length, subst, sym}
-use Rattle.std.proofs.Common.{Option, None, Some}
+use Rattle.std.proofs.Common.{Ok, append_assoc, Bool, true, false, if◌then◌else◌, subst, sym}
+use Rattle.std.proofs.Common.{Option}
 use Rattle.std.specs.List.{All}
 use Rattle.std.specs.Io.KnownBytes.{Appends}
 use Rattle.std.proofs.KnownBytes.{Appends-trans}
@@ -11,7 +11,7 @@ use Rattle.bsc_run.specs.Traces.{if_traced, lines_of, number_if}
 use Rattle.std.proofs.lemmas.List.Elements.{All-append, All-cons, All-head, All-nil, All-tail}
 use Rattle.bsc_directory.specs.declared.way.Way.TheVariants.{FromTerminal, ToTerminal}
 use Rattle.bsc_line_model.specs.declared.event.Event.{Event}
-use Rattle.bsc_line_model.specs.Line.{LineValue, terminal_at, terminal_count, IsChannel}
+use Rattle.bsc_line_model.specs.Line.{LineValue, terminal_count, IsChannel}
 use Rattle.bsc_line_model.specs.Offers.{select_count}
 use Rattle.bsc_line_model.specs.Runs.{Does}
 use Rattle.bsc_line_model.proofs.OfferedGrows.{channel_stays}

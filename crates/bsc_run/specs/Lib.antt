@@ -9,5 +9,6 @@ pub mod Hearing
 pub mod Steps
 pub mod LineRuns
 pub mod Plays
+pub mod Causes
 pub mod Runs
 pub mod Counting

@@ -10,7 +10,7 @@ use Rattle.bsc_line_model.specs.Kept.{IsLine}
 use Rattle.bsc_script.specs.Actions.{NumberedEvent}
 use Rattle.bsc_script.specs.Events.{Event as Asked}
 use Rattle.bsc_run.specs.declared.error.RunError.{RunError}
-use Rattle.bsc_run.specs.declared.error.RunError.TheVariants.{Refused, Socket}
+use Rattle.bsc_run.specs.declared.error.RunError.TheVariants.{Refused}
 use Rattle.bsc_run.specs.LineRuns.{RunsLine}
 use Rattle.bsc_run.specs.Printed.{report_of}
 use Rattle.bsc_run.specs.Speaking.{Fits}
@@ -127,7 +127,6 @@ module _ {S : Type 0} (streams : Streams S) where
         × (new.outside.cable ≡ old.outside.cable)
         × Appends old.outside.held.out new.outside.held.out []
         × Appends old.outside.held.trace new.outside.held.trace []
-    pub socket : (line : ℕ) → result ≡ Err (Socket line) → line ≡ step.line
 
   -- The texts of a run of the events were written.
   pub record Played (tracing : Bool) (steps : List NumberedEvent) (old : Playing S)

@@ -11,7 +11,7 @@ use Rattle.bsc_run.specs.declared.error.RunError.{RunError}
 use Rattle.bsc_run.specs.Crossing.{Streams}
 use Rattle.bsc_run.specs.LineRuns.{script_offers}
 use Rattle.bsc_run.specs.Addresses.{addresses_traced}
-use Rattle.bsc_run.specs.Plays.{Held, Outside, Runs, holding}
+use Rattle.bsc_run.specs.Plays.{Outside, Runs, holding}
 
 -- The addresses of the terminals are written to the trace, if there is one, and then the events are
 -- run on a new line with the configuration. If the line is trusted after them, the

@@ -14,7 +14,8 @@ ghost use Rattle.bsc_script.specs.Actions.{event_in};
 ghost use Rattle.bsc_run.specs.Crossing.{connection_count, streams_of};
 ghost use Rattle.bsc_script.specs.Events.{carry, heard as heard_event, heard_each};
 ghost use Rattle.bsc_script.specs.Events.{lose as lose_event};
-ghost use Rattle.bsc_run.specs.Faults.{IsFault, told};
+ghost use Rattle.bsc_run.specs.Faults.{HasCause, IsCableFault, IsTraceFault};
+ghost use Rattle.bsc_run.specs.Faults.{IsTraceFaultOrRefusal, told};
 ghost use Rattle.bsc_run.specs.Hearing.{IsRefusedEach, ReadsAsSent, WasSent};
 ghost use Rattle.bsc_run.specs.Speaking.{Fits};
 ghost use Rattle.bsc_run.specs.Steps.{Acts, Answers, Sends, acting};
@@ -50,9 +51,10 @@ pub(crate) fn act<
     trace: &mut D,
 ) -> Result<(), StepError>
     requires { Fits line.old cable.old }
-    ensures { Acts (streams_of S.contents S.remaining) number (event_in action.now)
+    ensures acts { Acts (streams_of S.contents S.remaining) number (event_in action.now)
         (acting line.old cable.old (D.contents trace.old)) result
         (acting line.new cable.new (D.contents trace.new)) }
+    ensures cause { IfErr result (HasCause number (event_in action.now) cable.new.fault) }
 {
     match action {
         Action::OfferAt { terminal, codes } => {
@@ -107,8 +109,9 @@ fn tell<A: Allocator, C: Allocator, D: Write>(
     action: &Action<'_, C>,
     trace: &mut D,
 ) -> Result<(), StepError>
-    ensures { Answers answer (if_traced number (λ n. mark_line n (event_in action.now))) result
-        (D.contents trace.old) (D.contents trace.new) }
+    ensures answers { Answers answer (if_traced number (λ n. mark_line n (event_in action.now)))
+        result (D.contents trace.old) (D.contents trace.new) }
+    ensures cause { IfErr result (IsTraceFaultOrRefusal number) }
 {
     match answer {
         Ok(()) => Ok(trace_mark(alloc, number, action, trace)?),
@@ -125,9 +128,10 @@ fn lose<S: Read + Write + Drop, A: Allocator, B: Allocator, E: Allocator, D: Wri
     trace: &mut D,
 ) -> Result<(), StepError>
     requires { Fits line.old cable.now }
-    ensures { Acts (streams_of S.contents S.remaining) number lose_event
+    ensures acts { Acts (streams_of S.contents S.remaining) number lose_event
         (acting line.old cable.now (D.contents trace.old)) result
         (acting line.new cable.now (D.contents trace.new)) }
+    ensures cause { IfErr result (IsTraceFaultOrRefusal number) }
 {
     trace_lost(alloc, number, line, trace)?;
     tell_lost(line.carry(None))
@@ -152,9 +156,10 @@ fn carry_pending<S: Read + Write + Drop, A: Allocator, B: Allocator, E: Allocato
     trace: &mut D,
 ) -> Result<(), StepError>
     requires { Fits line.old cable.old }
-    ensures { Acts (streams_of S.contents S.remaining) number carry
+    ensures acts { Acts (streams_of S.contents S.remaining) number carry
         (acting line.old cable.old (D.contents trace.old)) result
         (acting line.new cable.new (D.contents trace.new)) }
+    ensures cause { IfErr result (HasCause number carry cable.new.fault) }
 {
     let mut read = Octets::new();
     send_pending(line, cable, &mut read)?;
@@ -179,9 +184,10 @@ fn carry_given<
     trace: &mut D,
 ) -> Result<(), StepError>
     requires { Fits line.old cable.old }
-    ensures { Acts (streams_of S.contents S.remaining) number (heard_event octets.now)
+    ensures acts { Acts (streams_of S.contents S.remaining) number (heard_event octets.now)
         (acting line.old cable.old (D.contents trace.old)) result
         (acting line.new cable.new (D.contents trace.new)) }
+    ensures cause { IfErr result (HasCause number (heard_event octets.now) cable.new.fault) }
 {
     let mut read = Octets::new();
     send_given(line, octets.as_slice(), cable, &mut read)?;
@@ -201,6 +207,7 @@ fn send_pending<S: Read + Write + Drop, A: Allocator, B: Allocator>(
     ensures refused { (why : Why) → result ≡ Err (StepError.Refused why) →
         (why ≡ LineError.NothingSent) × (line.now.pending ≡ None) × (cable.new ≡ cable.old) }
     ensures count { connection_count cable.new ≡ connection_count cable.old }
+    ensures cause { IfErr result (IsCableFault cable.new.fault) }
 {
     one_reading();
     match line.pending() {
@@ -228,6 +235,7 @@ fn send_given<S: Read + Write + Drop, A: Allocator, B: Allocator>(
     ensures refused { (why : Why) → result ≡ Err (StepError.Refused why) →
         (why ≡ LineError.NothingSent) × (line.now.pending ≡ None) × (cable.new ≡ cable.old) }
     ensures count { connection_count cable.new ≡ connection_count cable.old }
+    ensures cause { IfErr result (IsCableFault cable.new.fault) }
 {
     match line.pending() {
         None => Err(StepError::Refused(LineError::NothingSent)),
@@ -250,7 +258,7 @@ fn hear<A: Allocator, B: Allocator, D: Write>(
     ensures traced { OnOk result (Appends (D.contents trace.old) (D.contents trace.new)
         (if_traced number (λ n. if_sent line.old.pending
         (λ sent. heard_line n sent None octets.now)))) }
-    ensures faults { IfErr result IsFault }
+    ensures faults { IfErr result (IsTraceFault number) }
 {
     reads_as_sent(line);
     trace_heard(alloc, number, line, octets, trace)?;
@@ -286,9 +294,10 @@ fn carry_items<
     trace: &mut D,
 ) -> Result<(), StepError>
     requires { Fits line.old cable.old }
-    ensures { Acts (streams_of S.contents S.remaining) number (heard_each items.now)
+    ensures acts { Acts (streams_of S.contents S.remaining) number (heard_each items.now)
         (acting line.old cable.old (D.contents trace.old)) result
         (acting line.new cable.new (D.contents trace.new)) }
+    ensures cause { IfErr result (HasCause number (heard_each items.now) cable.new.fault) }
 {
     check_items(line, items.len())?;
     let words = cross_each(alloc, cable, items)?;
@@ -330,7 +339,7 @@ fn hear_each<B: Allocator, E: Allocator + Copy, D: Write>(
     ensures line { OnOk result (IsLine line.new) }
     ensures traced { OnOk result (Appends (D.contents trace.old) (D.contents trace.new)
         (if_traced number (λ n. if_sent line.old.pending (λ sent. item_lines n sent words.now)))) }
-    ensures faults { IfErr result IsFault }
+    ensures faults { IfErr result (IsTraceFault number) }
 {
     trace_items(alloc, number, line, words, trace)?;
     line.carry_each(words).unwrap();

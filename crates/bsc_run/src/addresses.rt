@@ -1,6 +1,6 @@
 //! The lines of the trace for the addresses of the terminals.
 
-ghost use Rattle.std.specs.Prelude.{◌++◌, OnOk, codes, slice_get};
+ghost use Rattle.std.specs.Prelude.{◌++◌, OnOk, IfErr, IsTrue, codes, slice_get};
 ghost use Rattle.std.specs.Fmt.{decimal};
 ghost use Rattle.std.specs.List.{flat_map};
 ghost use Rattle.std.specs.Io.KnownBytes.{Appends};
@@ -73,8 +73,9 @@ pub(crate) fn trace_addresses<W: Write>(
     terminals: &[Terminal],
     out: &mut W,
 ) -> Result<(), PrintError>
-    ensures { OnOk result (Appends (W.contents out.old) (W.contents out.new)
+    ensures traced { OnOk result (Appends (W.contents out.old) (W.contents out.new)
         (addresses_traced tracing terminals.now)) }
+    ensures cause { IfErr result (λ error. IsTrue tracing) }
 {
     if !tracing {
         return Ok(());

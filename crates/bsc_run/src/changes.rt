@@ -1,7 +1,7 @@
 //! The lines of the trace for what an event changed: the records that landed, each doubt that
 //! begins, and the end of trust.
 
-ghost use Rattle.std.specs.Prelude.{OnOk, drop};
+ghost use Rattle.std.specs.Prelude.{OnOk, IfErr, IsTrue, drop, is_some};
 ghost use Rattle.std.specs.List.{All, flat_map};
 ghost use Rattle.std.specs.Io.KnownBytes.{Appends};
 ghost use Rattle.bsc_line_model.specs.Line.{IsChannel};
@@ -168,9 +168,10 @@ pub(crate) fn trace_changes<A: Allocator + Copy, B: Allocator, C: Allocator, W: 
     out: &mut W,
 ) -> Result<(), PrintError>
     requires { All (λ one. IsChannel line.now one.terminal one.way) before.now.channels.items }
-    ensures { OnOk result (Appends (W.contents out.old) (W.contents out.new)
+    ensures traced { OnOk result (Appends (W.contents out.old) (W.contents out.new)
         (if_traced number (λ n.
         changes_since n before.now.channels.items before.now.trusted line.now))) }
+    ensures cause { IfErr result (λ error. IsTrue (is_some number)) }
 {
     let Some(number) = number else {
         return Ok(());

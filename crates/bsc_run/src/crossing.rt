@@ -1,10 +1,11 @@
 //! Transfers octets over the cable.
 
 ghost use Rattle.std.specs.Prelude.{◌≡◌, ◌≤◌, ◌<◌, length, map, option_map, OnOk, IfOk, IfErr};
+ghost use Rattle.std.specs.Prelude.{IsSome};
 ghost use Rattle.std.specs.Result.{result_err};
 ghost use Rattle.bsc_carrier.specs.Record.{IsCarried};
 ghost use Rattle.bsc_line_model.specs.Hearing.{octets_in};
-ghost use Rattle.bsc_run.specs.Faults.{IsFault};
+ghost use Rattle.bsc_run.specs.Faults.{IsItemsFault};
 ghost use Rattle.bsc_run.specs.Crossing.{connection_count, HasConnection, Crosses, ItemCrosses};
 ghost use Rattle.bsc_run.specs.Crossing.{ItemsCross, streams_of};
 
@@ -47,7 +48,7 @@ pub(crate) fn cross_each<S: Read + Write + Drop, A: Allocator, B: Allocator, C: 
     requires { length items.now ≤ connection_count cable.old }
     ensures crossed { IfOk result (λ heard. ItemsCross (streams_of S.contents S.remaining)
         items.now (map (option_map (λ w. w.items)) heard.items) cable.old cable.new) }
-    ensures faults { IfErr result IsFault }
+    ensures faults { IfErr result (IsItemsFault cable.new.fault) }
     ensures count { connection_count cable.new ≡ connection_count cable.old }
 {
     let mut heard = Vec::new(alloc);
@@ -68,6 +69,7 @@ fn cross_item<S: Read + Write + Drop, A: Allocator, B: Allocator>(
     ensures crossed { IfOk result (λ word. ItemCrosses (streams_of S.contents S.remaining)
         terminal item.now (option_map (λ w. w.items) word) cable.old cable.new) }
     ensures count { connection_count cable.new ≡ connection_count cable.old }
+    ensures fault { IfErr result (λ error. IsSome cable.new.fault) }
 {
     match item {
         None => Ok(None),

@@ -12,15 +12,17 @@ use thiserror::Error;
 /// The reason why a run of a script ended early. Lines of the script are counted from 1.
 #[derive(Clone, Copy, Debug, PartialEq, Eq, Error)]
 pub enum RunError {
-    /// The writer did not accept the output. There is no report.
+    /// The writer of the output or of the trace did not accept it. There is no report.
     #[error("output fault")]
     Output,
 
-    /// The cable did not carry the octets for the event on this line. There is no report.
+    /// The cable did not carry the octets for the `carry`, `heard` or `heard-each` on this line.
+    /// There is no report.
     #[error("script line {line}: socket fault")]
     Socket { line: u64 },
 
-    /// An allocation failed that was not for an offered record. There is no report.
+    /// An allocation failed that was not for an offered record: one for the line, the items of
+    /// `heard-each`, the trace or the report. There is no report.
     #[error("out of memory")]
     Memory,
 

@@ -1,6 +1,6 @@
 //! The lines of the trace for events in which nothing is sent.
 
-ghost use Rattle.std.specs.Prelude.{OnOk};
+ghost use Rattle.std.specs.Prelude.{OnOk, IfErr, IsTrue, is_some};
 ghost use Rattle.std.specs.Io.KnownBytes.{Appends};
 ghost use Rattle.bsc_script.specs.Actions.{event_in};
 ghost use Rattle.bsc_script.specs.Events.{offer_at, offer_for, ready as ready_event, urgent_at};
@@ -184,8 +184,9 @@ pub(crate) fn trace_mark<A: Allocator, B: Allocator, W: Write>(
     action: &Action<'_, B>,
     out: &mut W,
 ) -> Result<(), PrintError>
-    ensures { OnOk result (Appends (W.contents out.old) (W.contents out.new)
+    ensures traced { OnOk result (Appends (W.contents out.old) (W.contents out.new)
         (if_traced number (λ n. mark_line n (event_in action.now)))) }
+    ensures cause { IfErr result (λ error. IsTrue (is_some number)) }
 {
     let Some(number) = number else {
         return Ok(());

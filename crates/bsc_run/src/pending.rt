@@ -1,6 +1,6 @@
 //! The line for the pending transmission.
 
-ghost use Rattle.std.specs.Prelude.{Some, OnOk};
+ghost use Rattle.std.specs.Prelude.{◌≡◌, Some, OnOk, IfErr};
 ghost use Rattle.std.specs.Io.KnownBytes.{Appends};
 ghost use Rattle.bsc_run.specs.Printed.{speaker_name, pending_line};
 
@@ -11,8 +11,9 @@ use std::io::Write;
 
 /// Writes the sender of a transmission.
 pub(crate) fn write_speaker<W: Write>(speaker: Speaker, out: &mut W) -> Result<(), PrintError>
-    ensures { OnOk result
+    ensures ok { OnOk result
         (Appends (W.contents out.old) (W.contents out.new) (speaker_name speaker)) }
+    ensures err { IfErr result (λ error. error ≡ PrintError.Output) }
 {
     match speaker {
         Speaker::Control => put(b"control", out),
@@ -25,8 +26,9 @@ pub(crate) fn write_speaker<W: Write>(speaker: Speaker, out: &mut W) -> Result<(
 
 /// Writes the line for a transmission.
 fn write_sent<W: Write>(sent: &Transmission<'_>, out: &mut W) -> Result<(), PrintError>
-    ensures { OnOk result
+    ensures ok { OnOk result
         (Appends (W.contents out.old) (W.contents out.new) (pending_line (Some sent.now))) }
+    ensures err { IfErr result (λ error. error ≡ PrintError.Output) }
 {
     write_speaker(sent.speaker, out)?;
     put(b" ", out)?;
@@ -39,8 +41,9 @@ pub(crate) fn write_pending<A: Allocator, W: Write>(
     line: &Line<A>,
     out: &mut W,
 ) -> Result<(), PrintError>
-    ensures { OnOk result
+    ensures ok { OnOk result
         (Appends (W.contents out.old) (W.contents out.new) (pending_line line.now.pending)) }
+    ensures err { IfErr result (λ error. error ≡ PrintError.Output) }
 {
     match line.pending() {
         None => put(b"quiet\n", out),

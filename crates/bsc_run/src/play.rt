@@ -1,11 +1,12 @@
 //! Runs the events of a script in order, prints what is pending after each and its lines of the
 //! trace, and prints the report.
 
-ghost use Rattle.std.specs.Prelude.{◌≡◌, map, OnOk};
+ghost use Rattle.std.specs.Prelude.{◌≡◌, map, OnOk, IfErr, IsTrue};
 ghost use Rattle.std.specs.Io.KnownBytes.{Appends};
 ghost use Rattle.bsc_script.specs.Actions.{event_in, numbered};
 ghost use Rattle.bsc_run.specs.Crossing.{streams_of};
 ghost use Rattle.bsc_run.specs.Faults.{TellsLine};
+ghost use Rattle.bsc_run.specs.Causes.{HasEventCause, HasStepCause, IsEnded};
 ghost use Rattle.bsc_run.specs.Plays.{TakesStep, Played, Runs, WhereWhole, playing};
 ghost use Rattle.bsc_run.specs.Speaking.{Fits};
 ghost use Rattle.bsc_run.specs.Steps.{is_heard as is_heard_event, pending_after};
@@ -64,7 +65,11 @@ pub fn run_on<
     meter: &mut M,
 ) -> Result<(), RunError>
     requires { Fits line.old cable.old }
-    ensures socket { TellsLine (map numbered steps.now) result }
+    ensures socket { TellsLine (map numbered steps.now) cable.new.fault result }
+    ensures cause { IfErr result (λ error. IsEnded (streams_of S.contents S.remaining) tracing
+        (map numbered steps.now)
+        (playing line.old cable.old (W.contents out.old) (D.contents trace.old)) error
+        (playing line.new cable.new (W.contents out.new) (D.contents trace.new))) }
     ensures whole { WhereWhole result (Runs (streams_of S.contents S.remaining) tracing
         (map numbered steps.now)
         (playing line.old cable.old (W.contents out.old) (D.contents trace.old)) result
@@ -106,7 +111,8 @@ fn play<
     meter: &mut M,
 ) -> Result<(), RunError>
     requires { Fits line.old cable.old }
-    ensures socket { TellsLine (map numbered steps.now) result }
+    ensures cause { IfErr result
+        (HasEventCause tracing (map numbered steps.now) cable.new.fault) }
     ensures whole { WhereWhole result (Played (streams_of S.contents S.remaining) tracing
         (map numbered steps.now)
         (playing line.old cable.old (W.contents out.old) (D.contents trace.old)) result
@@ -143,9 +149,10 @@ fn take<
     trace: &mut D,
 ) -> Result<(), RunError>
     requires { Fits line.old cable.old }
-    ensures { TakesStep (streams_of S.contents S.remaining) tracing (numbered step.now)
+    ensures takes { TakesStep (streams_of S.contents S.remaining) tracing (numbered step.now)
         (playing line.old cable.old (W.contents out.old) (D.contents trace.old)) result
         (playing line.new cable.new (W.contents out.new) (D.contents trace.new)) }
+    ensures cause { IfErr result (HasStepCause tracing (numbered step.now) cable.new.fault) }
 {
     let number = traced_number(tracing, step.line);
     let before = line_standing(alloc, tracing, line)?;
@@ -171,8 +178,10 @@ fn write_after<A: Allocator, B: Allocator, W: Write>(
     line: &Line<A>,
     out: &mut W,
 ) -> Result<(), PrintError>
-    ensures { OnOk result (Appends (W.contents out.old) (W.contents out.new)
+    ensures ok { OnOk result (Appends (W.contents out.old) (W.contents out.new)
         (pending_after (event_in action.now) line.now)) }
+    ensures err { IfErr result (λ error. error ≡ PrintError.Output) }
+    ensures heard { IfErr result (λ error. IsTrue (is_heard_event (event_in action.now))) }
 {
     if is_heard(action) {
         return write_pending(line, out);

@@ -1,7 +1,8 @@
 //! Runs a script on the line of a configuration.
 
-ghost use Rattle.std.specs.Prelude.{◌≡◌, length};
+ghost use Rattle.std.specs.Prelude.{◌≡◌, length, IfErr};
 ghost use Rattle.bsc_run.specs.Crossing.{connection_count, streams_of};
+ghost use Rattle.bsc_run.specs.Causes.{IsScriptEnded};
 ghost use Rattle.bsc_run.specs.Faults.{TellsLine};
 ghost use Rattle.bsc_run.specs.Plays.{WhereWhole, holding};
 ghost use Rattle.bsc_run.specs.Runs.{RunsScript};
@@ -55,7 +56,16 @@ pub fn run_line<
     meter: &mut M,
 ) -> Result<(), RunError>
     requires { connection_count cable.old ≡ length config.now.terminals }
-    ensures socket { TellsLine script.now result }
+    ensures socket { TellsLine script.now cable.new.fault result }
+    ensures cause { IfErr result (λ error. IsScriptEnded (streams_of S.contents S.remaining)
+        tracing config.now script.now (record {
+          cable = cable.old;
+          held = holding (W.contents out.old) (D.contents trace.old);
+        }) error
+        (record {
+          cable = cable.new;
+          held = holding (W.contents out.new) (D.contents trace.new);
+        })) }
     ensures whole { WhereWhole result (RunsScript (streams_of S.contents S.remaining) tracing
         config.now script.now (record {
           cable = cable.old;

@@ -1,6 +1,7 @@
 //! What the trace has to know of a line from before an event.
 
-ghost use Rattle.std.specs.Prelude.{◌≡◌, ◌<◌, [], ◌++◌, IfOk, OnOk, if◌then◌else◌};
+ghost use Rattle.std.specs.Prelude.{◌≡◌, ◌<◌, [], ◌++◌, IfOk, IfErr, IsTrue, OnOk};
+ghost use Rattle.std.specs.Prelude.{if◌then◌else◌};
 ghost use Rattle.bsc_line_model.specs.Line.{terminal_count, IsChannel};
 ghost use Rattle.bsc_run.specs.Changes.{standing_at, standing_on, standings_of};
 
@@ -43,6 +44,7 @@ pub(crate) fn line_standing<A: Allocator, B: Allocator>(
     ensures channels { IfOk result (λ standing.
         standing.channels.items ≡ (if tracing then standings_of line.now else [])) }
     ensures trusted { IfOk result (λ standing. standing.trusted ≡ line.now.trusted) }
+    ensures cause { IfErr result (λ error. IsTrue tracing) }
 {
     let channels = channels_if(alloc, tracing, line)?;
     let trusted = line.trusted();
@@ -55,8 +57,9 @@ fn channels_if<A: Allocator, B: Allocator>(
     tracing: bool,
     line: &Line<B>,
 ) -> Result<Vec<ChannelStanding, A>, AllocError>
-    ensures { IfOk result (λ channels.
+    ensures channels { IfOk result (λ channels.
         channels.items ≡ (if tracing then standings_of line.now else [])) }
+    ensures cause { IfErr result (λ error. IsTrue tracing) }
 {
     if tracing {
         channel_standings(alloc, line)

@@ -1,6 +1,6 @@
 //! The lines of the trace for a transmission that is heard or lost.
 
-ghost use Rattle.std.specs.Prelude.{◌≡◌, OnOk, None, Some};
+ghost use Rattle.std.specs.Prelude.{◌≡◌, OnOk, IfErr, IsTrue, None, Some, is_some};
 ghost use Rattle.std.specs.Prelude.{slice_index_or};
 ghost use Rattle.std.specs.Io.KnownBytes.{Appends};
 ghost use Rattle.bsc_frame.specs.Wire.{wire};
@@ -206,9 +206,10 @@ pub(crate) fn trace_heard<A: Allocator, B: Allocator, W: Write>(
     octets: &[u8],
     out: &mut W,
 ) -> Result<(), PrintError>
-    ensures { OnOk result (Appends (W.contents out.old) (W.contents out.new)
+    ensures traced { OnOk result (Appends (W.contents out.old) (W.contents out.new)
         (if_traced number (λ n. if_sent line.now.pending
         (λ sent. heard_line n sent None octets.now)))) }
+    ensures cause { IfErr result (λ error. IsTrue (is_some number)) }
 {
     match (number, line.pending()) {
         (Some(number), Some(sent)) => write_heard(alloc, number, &sent, None, octets, out),
@@ -223,8 +224,9 @@ pub(crate) fn trace_lost<A: Allocator, B: Allocator, W: Write>(
     line: &Line<B>,
     out: &mut W,
 ) -> Result<(), PrintError>
-    ensures { OnOk result (Appends (W.contents out.old) (W.contents out.new)
+    ensures traced { OnOk result (Appends (W.contents out.old) (W.contents out.new)
         (if_traced number (λ n. if_sent line.now.pending (λ sent. lost_line n sent None)))) }
+    ensures cause { IfErr result (λ error. IsTrue (is_some number)) }
 {
     match (number, line.pending()) {
         (Some(number), Some(sent)) => write_lost(alloc, number, &sent, None, out),
@@ -240,9 +242,10 @@ pub(crate) fn trace_items<A: Allocator + Copy, B: Allocator, W: Write>(
     items: &[Option<&[u8]>],
     out: &mut W,
 ) -> Result<(), PrintError>
-    ensures { OnOk result (Appends (W.contents out.old) (W.contents out.new)
+    ensures traced { OnOk result (Appends (W.contents out.old) (W.contents out.new)
         (if_traced number (λ n. if_sent line.now.pending
         (λ sent. item_lines n sent items.now)))) }
+    ensures cause { IfErr result (λ error. IsTrue (is_some number)) }
 {
     match (number, line.pending()) {
         (Some(number), Some(sent)) => write_items(alloc, number, &sent, items, out),

@@ -5,10 +5,11 @@ use Rattle.bsc_script.specs.Events.{heard}
 use Rattle.bsc_run.specs.Crossing.{streams_of}
 use Rattle.bsc_run.specs.declared.error.StepError.{StepError}
 use Rattle.bsc_run.proofs.Acting.{acts_unsent, hears_octets}
+use Rattle.bsc_run.proofs.Causes.{cause_of_crossing, cause_of_traced, trace_is_fault}
 use Rattle.bsc_run.proofs.actions.carry_given.Goals as goal
 
-pub returns : goal.returns
-returns g c =
+pub returns-clause-acts : goal.returns-clause-acts
+returns-clause-acts g c =
     let given : Message → List ℕ = λ m. c.args.octets.now in
     let sends = rw c.as_slice.ensures.value at c.in_ok-send_given.ensures.sends in
     hears_octets (streams_of g.S.Write.contents g.S.Read.remaining) c.args.number
@@ -17,13 +18,23 @@ returns g c =
     (g.D.Write.contents c.hear.new.trace) c.as_slice-2.result c.send_given.new.read.items
     c.hear.result (λ e h. h) (λ n e. refl) c.requires c.as_slice-2.ensures.value sends
     c.send_given.ensures.count c.hear.ensures.reads c.hear.ensures.does c.hear.ensures.line
-    c.hear.ensures.traced c.hear.ensures.faults
+    c.hear.ensures.traced (trace_is_fault c.args.number c.hear.result c.hear.ensures.faults)
 
-pub returns-in_err-send_given : goal.returns-in_err-send_given
-returns-in_err-send_given g c =
+pub returns-in_err-send_given-clause-acts : goal.returns-in_err-send_given-clause-acts
+returns-in_err-send_given-clause-acts g c =
     let same : c.from_residual.result ≡ Err c.in_err-send_given.field-0.0 = search rules in
     rw same
     (acts_unsent (streams_of g.S.Write.contents g.S.Read.remaining) c.args.number
     (heard c.args.octets.now) c.args.line.now c.args.cable.now c.send_given.new.cable
     (g.D.Write.contents c.args.trace.now) c.in_err-send_given.field-0.0 (λ e m. m)
     (λ why is. c.in_err-send_given.ensures.refused why (ap (λ (e : StepError). Err e) is)))
+
+pub returns-clause-cause : goal.returns-clause-cause
+returns-clause-cause g c =
+    cause_of_traced c.args.number (heard c.args.octets.now) c.send_given.new.cable.fault c.hear.result c.hear.ensures.faults
+
+pub returns-in_err-send_given-clause-cause : goal.returns-in_err-send_given-clause-cause
+returns-in_err-send_given-clause-cause g c =
+    let same : c.from_residual.result ≡ Err c.in_err-send_given.field-0.0 = search rules in
+    rw same (cause_of_crossing c.args.number (heard c.args.octets.now) c.send_given.new.cable.fault c.in_err-send_given.field-0.0 refl
+    c.in_err-send_given.ensures.cause)

@@ -1,5 +1,5 @@
 -- One more address is written.
-use Rattle.std.proofs.Common.{List, ℕ, slice_get, Some, ◌≡◌, ◌++◌, codes}
+use Rattle.std.proofs.Common.{codes}
 use Rattle.std.proofs.KnownBytes.{Appends-trans}
 use Rattle.bsc_print.proofs.Lists.{flat_map_take_more}
 use Rattle.bsc_run.specs.Addresses.{address_shown}

@@ -1,11 +1,11 @@
 -- Shows that the loop performs the events in order, up to the first that fails.
-use Rattle.std.proofs.Common.{map, drop, ◌+◌, arith, ap, Err}
+use Rattle.std.proofs.Common.{map, drop, ◌+◌, arith}
 use Rattle.bsc_script.specs.Actions.{numbered}
 use Rattle.bsc_run.specs.Crossing.{streams_of}
 use Rattle.bsc_run.specs.Plays.{playing}
+use Rattle.bsc_run.proofs.Causes.{has_event_cause}
 use Rattle.bsc_run.proofs.Playing.{drop_map, drop_map_all, has_played_none, has_played_more}
 use Rattle.bsc_run.proofs.Playing.{has_played_all, has_played_stop}
-use Rattle.bsc_run.proofs.Telling.{tells_line}
 use Rattle.bsc_run.proofs.play.play.Goals as goal
 
 pub steps-init : goal.steps-init
@@ -31,12 +31,13 @@ returns-in-Err-clause-whole g c =
     (g.D.Write.contents c.steps.trace))
     (playing c.take.new.line c.take.new.cable (g.W.Write.contents c.take.new.out)
     (g.D.Write.contents c.take.new.trace))
-    c.in-Err.error (rw next at c.steps.invariant.played) c.in-Err.ensures
+    c.in-Err.error (rw next at c.steps.invariant.played) c.in-Err.ensures.takes
 
-pub returns-in-Err-clause-socket : goal.returns-in-Err-clause-socket
-returns-in-Err-clause-socket g c =
-    tells_line numbered c.args.steps.now c.steps.step-index c.step-item.result c.in-Err.error
-    (omega arith) c.step-item.is (λ line e. c.in-Err.ensures.socket line (ap Err e))
+pub returns-in-Err-clause-cause : goal.returns-in-Err-clause-cause
+returns-in-Err-clause-cause g c =
+    has_event_cause numbered c.args.tracing c.args.steps.now c.take.new.cable.fault
+    c.steps.step-index c.step-item.result c.in-Err.error (omega arith) c.step-item.is
+    c.in-Err.ensures.cause
 
 pub steps-preserved : goal.steps-preserved
 steps-preserved g c =
@@ -45,7 +46,7 @@ steps-preserved g c =
     drop_map numbered c.args.steps.now c.steps.step-index c.step-item.result (omega arith)
     c.step-item.is in
     record {
-      fits = c.in_default.ensures.fits;
+      fits = c.in_default.ensures.takes.fits;
       played =
           has_played_more (streams_of g.S.Write.contents g.S.Read.remaining) c.args.tracing all
           (playing c.args.line.now c.args.cable.now (g.W.Write.contents c.args.out.now)
@@ -55,8 +56,8 @@ steps-preserved g c =
           (g.D.Write.contents c.steps.trace))
           (playing c.take.new.line c.take.new.cable (g.W.Write.contents c.take.new.out)
           (g.D.Write.contents c.take.new.trace))
-          (rw next at c.steps.invariant.played) c.in_default.ensures.fits.line
-          c.in_default.ensures.accepted c.in_default.ensures.printed;
+          (rw next at c.steps.invariant.played) c.in_default.ensures.takes.fits.line
+          c.in_default.ensures.takes.accepted c.in_default.ensures.takes.printed;
     }
 
 pub returns-clause-whole : goal.returns-clause-whole

@@ -1,6 +1,8 @@
--- Shows that the cable fits the new line, and that the run is one of the configuration.
+-- Shows that the cable fits the new line, that the run is one of the configuration, and what ended
+-- it.
+use Rattle.std.proofs.Common.{inr}
 use Rattle.bsc_run.proofs.LineRuns.{arrived_on_new_line}
-use Rattle.bsc_run.proofs.Playing.{where_whole}
+use Rattle.bsc_run.proofs.Playing.{where_ended, where_whole}
 use Rattle.bsc_run.proofs.Speaking.{new_line_fits}
 use Rattle.bsc_run.proofs.run.run_line.Goals as goal
 
@@ -29,10 +31,30 @@ returns-in-Ok-clause-whole g c =
       ended = c.run_on.new.line;
       new_line = new;
       told = g.D.Write.contents c.trace_addresses.new.out;
-      addresses = rw c.terminal_list-terminals.ensures.value at c.in_ok-trace_addresses.ensures;
+      addresses =
+          rw c.terminal_list-terminals.ensures.value at c.in_ok-trace_addresses.ensures.traced;
       runs = r;
       arrived =
           arrived_on_new_line c.args.config.now.setup c.args.config.now.terminals
           c.args.config.now.poll_list c.args.script.now r.events c.in-Ok.line c.run_on.new.line
           c.run_on.result c.in-Ok.ensures.line new r.line;
     }) runs
+
+pub returns-in-Ok-clause-cause : goal.returns-in-Ok-clause-cause
+returns-in-Ok-clause-cause g c =
+    let new =
+    rw (
+      c.setup.ensures.value,
+      c.terminal_list-terminals.ensures.value,
+      c.poll_list-poll_list.ensures.value,
+    ) at c.in-Ok.ensures.value in
+    let ended = rw c.steps-steps.ensures at c.run_on.ensures.cause in
+    where_ended c.run_on.result (λ error ends. inr record {
+      begun = c.in-Ok.line;
+      ended = c.run_on.new.line;
+      new_line = new;
+      told = g.D.Write.contents c.trace_addresses.new.out;
+      addresses =
+          rw c.terminal_list-terminals.ensures.value at c.in_ok-trace_addresses.ensures.traced;
+      ends = ends;
+    }) ended

@@ -1,7 +1,6 @@
 -- Shows that the channels of one more terminal are added.
-use Rattle.std.proofs.Common.{◌≡◌, add-one, arith, rules}
+use Rattle.std.proofs.Common.{◌≡◌, add-one, arith}
 use Rattle.bsc_line_model.specs.Line.{terminal_count}
-use Rattle.bsc_run.specs.Changes.{standing_at, standings_below}
 use Rattle.bsc_run.proofs.standing.channel_standings.Goals as goal
 
 pub terminals-preserved : goal.terminals-preserved
