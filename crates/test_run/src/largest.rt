@@ -2,52 +2,9 @@
 //! hear, its line in the trace and its lines in the report; the longest records, and the longest
 //! transmissions that are sent and heard.
 
-use bsc_config::{Config, read_config};
-use bsc_loopback::connect;
-use bsc_progress::Unmetered;
-use bsc_run::{RunError, run_line};
-use bsc_script::{Script, read_script};
+use crate::written::written_over_sockets;
 use std::alloc::{AllocError, Global};
 use std::test::Fail;
-
-/// What a run writes.
-#[derive(Drop)]
-struct Written {
-    out: Vec<u8>,
-    trace: Vec<u8>,
-}
-
-/// Runs a script on a new line over loopback connections, and traces it.
-fn run_largest(
-    rt: &HostRuntime,
-    config: &Config,
-    script: &Script<'_, Global>,
-    written: &mut Written,
-) -> Result<Result<(), RunError>, Fail> {
-    let mut cable = connect(rt, rt.alloc(), config.terminals())?;
-    Ok(run_line(
-        rt.alloc(),
-        config,
-        script,
-        &mut cable,
-        &mut written.out,
-        true,
-        &mut written.trace,
-        &mut Unmetered,
-    ))
-}
-
-/// What is written by a script that is not refused, on the line of a configuration.
-fn written_by(rt: &HostRuntime, config: &str, script: &str) -> Result<Written, Fail> {
-    let config = read_config(rt.alloc(), config.as_bytes())?;
-    let script = read_script(rt.alloc(), script.as_bytes())?;
-    let mut written = Written {
-        out: Vec::new(rt.alloc()),
-        trace: Vec::new(rt.alloc()),
-    };
-    run_largest(rt, &config, &script, &mut written)??;
-    Ok(written)
-}
 
 /// The number of terminals.
 const COUNT: usize = 64;
@@ -140,7 +97,7 @@ fn traced_of(alloc: Global, count: usize) -> Result<String, Fail> {
 #[test]
 fn each_of_64_terminals_hears_its_item(rt: HostRuntime) -> Result<(), Fail> {
     let (config, script) = (config_of(rt.alloc(), COUNT)?, script_of(rt.alloc(), COUNT)?);
-    let written = written_by(&rt, &config, &script)?;
+    let written = written_over_sockets(&rt, &config, &script)?;
     assert!(rt; written.out.as_slice() == printed_of(rt.alloc(), COUNT)?.as_bytes());
     assert!(rt; written.trace.as_slice() == traced_of(rt.alloc(), COUNT)?.as_bytes());
     Ok(())
@@ -239,7 +196,7 @@ not trusted
 #[test]
 fn the_longest_records_and_transmissions_cross_the_cable(rt: HostRuntime) -> Result<(), Fail> {
     let script = script_of_longest(rt.alloc())?;
-    let written = written_by(&rt, LONGEST_RECORDS, &script)?;
+    let written = written_over_sockets(&rt, LONGEST_RECORDS, &script)?;
     assert!(rt; written.out.as_slice() == printed_of_longest(rt.alloc())?.as_bytes());
     Ok(())
 }

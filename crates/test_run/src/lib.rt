@@ -8,6 +8,8 @@
 #[cfg(test)]
 mod devices;
 #[cfg(test)]
+mod fates;
+#[cfg(test)]
 mod growths;
 #[cfg(test)]
 mod largest;
@@ -22,8 +24,12 @@ mod progress;
 #[cfg(test)]
 mod runs;
 #[cfg(test)]
+mod sweeps;
+#[cfg(test)]
 mod traces;
 #[cfg(test)]
 mod watched;
 #[cfg(test)]
 mod worked;
+#[cfg(test)]
+mod written;

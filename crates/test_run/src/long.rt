@@ -1,70 +1,11 @@
 //! Runs of more events than the longest script that the command reads, and of as many records as
 //! such a script offers.
 
-use crate::progress::Kept;
-use crate::watched::{Connections, NO_TROUBLE, RunWatch};
-use bsc_config::{Config, read_config};
+use crate::written::written_by;
 use bsc_progress::Counts;
-use bsc_run::{RunError, run_line};
-use bsc_script::{Script, read_script};
 use std::alloc::{AllocError, Global};
 use std::test::Fail;
 use test_fixtures::configurations::TWO_TERMINALS;
-
-/// What a run writes, and what it tells of its progress.
-#[derive(Drop)]
-struct Written {
-    out: Vec<u8>,
-    trace: Vec<u8>,
-    kept: Kept,
-}
-
-/// A writer of nothing yet.
-fn nothing_written(alloc: Global) -> Written {
-    Written {
-        out: Vec::new(alloc),
-        trace: Vec::new(alloc),
-        kept: Kept {
-            due: true,
-            times: 0,
-            last: None,
-        },
-    }
-}
-
-/// Runs a script on a new line of two terminals, over connections in memory.
-fn run_long(
-    alloc: Global,
-    config: &Config,
-    script: &Script<'_, Global>,
-    tracing: bool,
-    written: &mut Written,
-) -> Result<Result<(), RunError>, Fail> {
-    let (connections, watch) = (Connections::new(alloc), RunWatch::new(NO_TROUBLE));
-    let mut cable = connections.cable(alloc, &watch)?;
-    if config.terminals() != 2 {
-        return Err(Fail::new("not two terminals"));
-    }
-    Ok(run_line(
-        alloc,
-        config,
-        script,
-        &mut cable,
-        &mut written.out,
-        tracing,
-        &mut written.trace,
-        &mut written.kept,
-    ))
-}
-
-/// What a script writes that is not refused.
-fn written_by(alloc: Global, script: &str, tracing: bool) -> Result<Written, Fail> {
-    let config = read_config(alloc, TWO_TERMINALS.as_bytes())?;
-    let script = read_script(alloc, script.as_bytes())?;
-    let mut written = nothing_written(alloc);
-    run_long(alloc, &config, &script, tracing, &mut written)??;
-    Ok(written)
-}
 
 /// The number of lines of a text.
 fn count_lines(text: &[u8]) -> usize {
@@ -83,7 +24,7 @@ trusted
 #[test]
 fn two_million_events_are_run(rt: HostRuntime) -> Result<(), Fail> {
     let script = "silence\nlose\n".repeat(rt.alloc(), 1_000_000)?;
-    let written = written_by(rt.alloc(), &script, false)?;
+    let written = written_by(rt.alloc(), TWO_TERMINALS, &script, false)?;
     assert!(rt; written.out.ends_with(NOTHING_DELIVERED) && written.trace.is_empty());
     assert_eq!(rt; count_lines(&written.out), 2_000_005);
     let counts = Counts {
@@ -125,7 +66,8 @@ fn delivered(alloc: Global) -> Result<String, Fail> {
 /// The trace has a line for each terminal, for each event, and for each record that arrived.
 #[test]
 fn as_many_records_as_a_script_offers_are_delivered(rt: HostRuntime) -> Result<(), Fail> {
-    let written = written_by(rt.alloc(), &deliveries(rt.alloc())?, true)?;
+    let script = deliveries(rt.alloc())?;
+    let written = written_by(rt.alloc(), TWO_TERMINALS, &script, true)?;
     assert!(rt; written.out.ends_with(delivered(rt.alloc())?.as_bytes()));
     assert_eq!(rt; count_lines(&written.out), 172_006);
     assert_eq!(rt; count_lines(&written.trace), 304_003);

@@ -3,11 +3,12 @@
 use crate::loopback::run_traced;
 use crate::watched::{NO_TROUBLE, Part, Plan, RunWatch, Trouble, When, watched_writer};
 use crate::worked::{Case, WORKED, Worked};
+use bsc_line::LineError;
 use bsc_run::RunError;
 use std::alloc::Global;
 use std::test::Fail;
 use test_alloc::{Refusal, Refusing};
-use test_fixtures::configurations::TWO_TERMINALS;
+use test_fixtures::configurations::{THREE_ADDRESSES, TWO_TERMINALS};
 
 /// A transmission that is heard as it was sent, one that fails, one that is heard as another, one
 /// that is heard with other octets, and losses.
@@ -116,10 +117,70 @@ const MARKS_TRACED: &str = "+0 terminal 0 is A, selected as a.
 +7 offered for terminal 1.0: ||
 ";
 
-/// Whether the run of a script on a line of two terminals has this trace.
-fn is_traced(rt: &HostRuntime, script: &str, traced: &str) -> Result<bool, Fail> {
+/// A text to each address of terminal 0 and one from it are lost, and so is the ENQ that follows
+/// each; then the doubts are ended.
+const DOUBTS: &str = "offer-to 0 0 A
+offer-to 0 1 B
+offer-at 0 C
+silence
+carry
+carry
+lose
+silence
+lose
+silence
+carry
+carry
+lose
+silence
+lose
+silence
+carry
+lose
+silence
+lose
+silence
+release 0 to
+release 0 to 1
+release 0 from
+";
+
+/// The trace of these events on a line that gives up after the second failure.
+const DOUBTS_TRACED: &str = "+0 terminal 0 is A, selected as a c.
++0 terminal 1 is B, selected as b.
++1 offered for terminal 0.0: |A|
++2 offered for terminal 0.1: |B|
++3 offered at terminal 0: |C|
++4 silence
++5 control heard CALL a 161604ff16166185ff
++6 terminal 0 heard ACK0 161610b0ff
++7 control lost TEXT ETX 1 161602c119835bff
++8 silence
++9 control lost ENQ 161685ff
++10 silence
++10 the doubt to 0.0 begins
++11 control heard CALL c 161604ff1616e385ff
++12 terminal 0 heard ACK0 161610b0ff
++13 control lost TEXT ETX 1 161602c2198358ff
++14 silence
++15 control lost ENQ 161685ff
++16 silence
++16 the doubt to 0.1 begins
++17 control heard CALL A 161604ff1616c185ff
++18 terminal 0 lost TEXT ETX 1 161602431983d9ff
++19 silence
++20 terminal 0 lost ENQ 161685ff
++21 silence
++21 the doubt from 0 begins
++22 the doubt to 0.0 is ended
++23 the doubt to 0.1 is ended
++24 the doubt from 0 is ended
+";
+
+/// Whether the run of a script on the line of a configuration has this trace.
+fn is_traced(rt: &HostRuntime, config: &str, script: &str, traced: &str) -> Result<bool, Fail> {
     let (mut out, mut trace) = (Vec::new(rt.alloc()), Vec::new(rt.alloc()));
-    let _ = run_traced(rt, TWO_TERMINALS, script, &mut out, &mut trace)?;
+    let _ = run_traced(rt, config, script, &mut out, &mut trace)?;
     Ok(trace.as_slice() == traced.as_bytes())
 }
 
@@ -137,13 +198,20 @@ fn each_worked_run_has_its_trace_beside_its_output(rt: HostRuntime) -> Result<()
 
 #[test]
 fn each_fate_has_its_word(rt: HostRuntime) -> Result<(), Fail> {
-    assert!(rt; is_traced(&rt, FATES, FATES_TRACED)?);
+    assert!(rt; is_traced(&rt, TWO_TERMINALS, FATES, FATES_TRACED)?);
     Ok(())
 }
 
 #[test]
 fn each_event_in_which_nothing_is_sent_is_told(rt: HostRuntime) -> Result<(), Fail> {
-    assert!(rt; is_traced(&rt, MARKS, MARKS_TRACED)?);
+    assert!(rt; is_traced(&rt, TWO_TERMINALS, MARKS, MARKS_TRACED)?);
+    Ok(())
+}
+
+#[test]
+fn each_doubt_that_begins_or_is_ended_is_told(rt: HostRuntime) -> Result<(), Fail> {
+    let config = format!(in rt.alloc(); "tries = 1\n{THREE_ADDRESSES}")?;
+    assert!(rt; is_traced(&rt, &config, DOUBTS, DOUBTS_TRACED)?);
     Ok(())
 }
 
@@ -182,6 +250,23 @@ fn each_write_of_the_trace_fails_in_turn(rt: HostRuntime) -> Result<(), Fail> {
     Ok(())
 }
 
+/// Whether a traced run in which a growth may have been refused ended as it may: in the midst of
+/// its trace for want of memory, with the first event refused for want of memory, or in any other
+/// way without a fault, since a text may be put off.
+fn is_told(answer: Result<(), RunError>, trace: &[u8], traced: &str) -> bool {
+    match answer {
+        Err(RunError::Memory) => is_part(trace, traced),
+        Err(
+            RunError::Refused {
+                line,
+                why: LineError::Memory,
+            },
+        ) => line == 1 && !trace.is_empty() && is_part(trace, traced),
+        Err(RunError::Output | RunError::Socket { .. }) => false,
+        _ => true,
+    }
+}
+
 /// Refuses each growth of a traced run in turn, until none is refused. Returns how often the run
 /// was out of memory.
 fn try_growths(alloc: Global, worked: &Worked<'_>, traced: &str) -> Result<usize, Fail> {
@@ -191,10 +276,11 @@ fn try_growths(alloc: Global, worked: &Worked<'_>, traced: &str) -> Result<usize
     for number in refusing.in_turn(Refusal::Nth, 1..99_999) {
         number?;
         let mut trace = watched_writer(alloc, &watch);
-        if case.run_traced(alloc, &refusing, &watch, &mut trace)? == Err(RunError::Memory) {
-            if !is_part(&trace.inner, traced) {
-                return Err(Fail::new("another trace"));
-            }
+        let answer = case.run_traced(alloc, &refusing, &watch, &mut trace)?;
+        if !is_told(answer, &trace.inner, traced) {
+            return Err(Fail::new("something else is told"));
+        }
+        if answer == Err(RunError::Memory) {
             failed = failed.wrapping_add(1);
         }
     }
@@ -205,6 +291,58 @@ fn try_growths(alloc: Global, worked: &Worked<'_>, traced: &str) -> Result<usize
 fn each_growth_of_a_traced_run_is_refused_in_turn(rt: HostRuntime) -> Result<(), Fail> {
     for (worked, traced) in WORKED.iter().zip(WORKED_TRACED) {
         assert!(rt; try_growths(rt.alloc(), worked, traced)? > 5);
+    }
+    Ok(())
+}
+
+/// Whether this is the trace up to the events of this line of the script.
+fn is_trace_before(alloc: Global, trace: &[u8], traced: &str, line: u64) -> Result<bool, Fail> {
+    let next = format!(in alloc; "+{line} ")?;
+    match traced.as_bytes().strip_prefix(trace) {
+        Some(left) => Ok(left.starts_with(next.as_bytes())),
+        None => Ok(false),
+    }
+}
+
+/// Lets each call of an end of a connection fail in turn, until none does. Returns how many did.
+fn try_streams(
+    alloc: Global,
+    worked: &Worked<'_>,
+    traced: &str,
+    part: Part,
+) -> Result<usize, Fail> {
+    let case = Case::read(alloc, worked)?;
+    for call in 1..5000usize {
+        let watch = RunWatch::new(Plan {
+            part,
+            when: When::At { call },
+            ..NO_TROUBLE
+        });
+        let mut trace = watched_writer(alloc, &watch);
+        let answer = case.run_traced(alloc, alloc, &watch, &mut trace)?;
+        if watch.seen().troubles == 0 {
+            return Ok(call - 1);
+        }
+        let Err(RunError::Socket { line }) = answer else {
+            return Err(Fail::new("something else is told"));
+        };
+        if !is_trace_before(alloc, &trace.inner, traced, line)? {
+            return Err(Fail::new("another trace"));
+        }
+    }
+    Err(Fail::new("no end of calls"))
+}
+
+/// The event that a fault of the cable interrupted has no line in the trace.
+#[test]
+fn the_trace_ends_before_a_fault_of_the_cable(rt: HostRuntime) -> Result<(), Fail> {
+    for (worked, traced) in WORKED.iter().zip(WORKED_TRACED) {
+        for terminal in 0..2usize {
+            let near = Part::ControlEnd { terminal };
+            let far = Part::TerminalEnd { terminal };
+            assert!(rt; try_streams(rt.alloc(), worked, traced, near)? > 0);
+            assert!(rt; try_streams(rt.alloc(), worked, traced, far)? > 0);
+        }
     }
     Ok(())
 }
