@@ -4,11 +4,8 @@
 //! The standard, GA27-3004, defines no command; all of this is this project's own.
 #![tactic(auto)]
 
-mod machine;
-mod stores;
-
 use bsc_command::{Fault, command, fail, given_words};
-use machine::{Errors, Machine, Output, Screen};
+use bsc_machine::{Errors, Machine, Output, Screen};
 use std::cell::Cell;
 use std::fs::File;
 use std::io;

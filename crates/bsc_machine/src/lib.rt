@@ -1,0 +1,23 @@
+//! The devices of the program: what the traits of other crates ask of a machine (`Files`, `Traces`,
+//! `Cables`, `Network`, `Stores`, `StoreFiles`), and its standard output and standard error.
+//!
+//! No contract can say what a file, a socket, a clock or a terminal does. So each device takes any
+//! runtime, but the stores, which take that of the system: tests can give it one that keeps what is
+//! printed and whose clock they set. That is why the devices are a library apart from the program.
+//!
+//! The standard, GA27-3004, speaks of no machine; all of this is this project's own.
+#![tactic(auto)]
+
+mod connecting;
+mod machine;
+mod network;
+mod output;
+mod receiving;
+mod screen;
+mod stores;
+
+pub use connecting::{Peer, connect_within};
+pub use machine::Machine;
+pub use output::Output;
+pub use screen::{Errors, Progress, Screen, Showing, Since};
+pub use stores::KeptFile;

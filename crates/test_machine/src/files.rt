@@ -1,0 +1,119 @@
+//! The files of the machine: texts that are read whole, traces, the width of a terminal, and why
+//! there is none.
+
+use crate::fake::{Fake, NO_FILE};
+use crate::lent::Lent;
+use bsc_chart::Traces;
+use bsc_input::{Files, InputError, MAX_INPUT, Unreadable};
+use std::alloc::Global;
+use std::fs;
+use std::io::Read;
+use std::rt::HostRuntime;
+use std::test::Fail;
+
+/// Returns octets of this number, each of which tells its place.
+fn octets(alloc: Global, count: usize) -> Result<Vec<u8>, Fail> {
+    let mut octets = Vec::new(alloc);
+    for place in 0..count {
+        octets.push((place % 251) as u8)?;
+    }
+    Ok(octets)
+}
+
+/// The result of reading the file at this path: the octets.
+fn read(host: &HostRuntime, path: &str) -> Result<Vec<u8>, InputError> {
+    let lent = Lent::new(false);
+    lent.machine(host).read_file(path)
+}
+
+/// Whether the file at this path has these octets.
+fn is_read(host: &HostRuntime, path: &str, octets: &[u8]) -> bool {
+    match read(host, path) {
+        Ok(read) => read.as_slice() == octets,
+        Err(_) => false,
+    }
+}
+
+#[test]
+fn texts_of_files_are_read_whole(rt: HostRuntime) -> Result<(), Fail> {
+    fs::write(&rt, "other", b"other")?;
+    for count in [0, 1, 4_096, 70_001, MAX_INPUT] {
+        let text = octets(rt.alloc(), count)?;
+        fs::write(&rt, "text", text.as_slice())?;
+        assert!(rt; is_read(&rt, "text", text.as_slice()), "{count}");
+    }
+    assert!(rt; is_read(&rt, "other", b"other"));
+    let longer = octets(rt.alloc(), MAX_INPUT + 1)?;
+    fs::write(&rt, "text", longer.as_slice())?;
+    assert!(rt; read(&rt, "text") == Err(InputError::TooLong));
+    Ok(())
+}
+
+/// Paths, and why there is no text.
+const UNREADABLE: &[(&str, Unreadable)] = &[
+    ("none", Unreadable::NoSuchFile),
+    (".", Unreadable::IsADirectory),
+    ("file/below", Unreadable::NotInADirectory),
+];
+
+#[test]
+fn it_is_told_why_a_text_cannot_be_read(rt: HostRuntime) -> Result<(), Fail> {
+    fs::write(&rt, "file", b"")?;
+    for (path, why) in UNREADABLE {
+        assert!(rt;
+            read(&rt, path) == Err(InputError::Device { why: *why }),
+            "{path}"
+        );
+    }
+    Ok(())
+}
+
+/// Whether the trace at this path has these octets.
+fn has_trace(host: &HostRuntime, path: &str, octets: &[u8]) -> Result<bool, Fail> {
+    let lent = Lent::new(false);
+    let mut read = Vec::new(host.alloc());
+    match lent.machine(host).open_trace(path) {
+        Ok(mut file) => file.read_to_end(&mut read)?,
+        Err(_) => return Ok(false),
+    };
+    Ok(read.as_slice() == octets)
+}
+
+/// The reason why the trace at this path cannot be opened, if it cannot.
+fn not_opened(host: &HostRuntime, path: &str) -> Option<Unreadable> {
+    let lent = Lent::new(false);
+    lent.machine(host).open_trace(path).err()
+}
+
+/// A trace is read to its end, and opening leaves it as it was.
+#[test]
+fn traces_are_opened(rt: HostRuntime) -> Result<(), Fail> {
+    let text = octets(rt.alloc(), 70_001)?;
+    fs::write(&rt, "trace", text.as_slice())?;
+    fs::write(&rt, "other", b"+0 silence\n")?;
+    for _ in 0..2 {
+        assert!(rt; has_trace(&rt, "trace", text.as_slice())?);
+        assert!(rt; has_trace(&rt, "other", b"+0 silence\n")?);
+    }
+    assert!(rt; not_opened(&rt, "none") == Some(Unreadable::NoSuchFile));
+    assert!(rt; not_opened(&rt, "none") == Some(Unreadable::NoSuchFile));
+    assert!(rt; not_opened(&rt, "other/below") == Some(Unreadable::NotInADirectory));
+    Ok(())
+}
+
+/// The width is what the environment tells, whatever it is.
+#[test]
+fn the_environment_tells_the_width(rt: HostRuntime) -> Result<(), Fail> {
+    let (fake, lent) = (Fake::new(&rt, NO_FILE), Lent::new(false));
+    let mut machine = lent.machine(&fake);
+    for width in ["132", "", "wide"] {
+        fake.columns.set(Some(width));
+        assert!(rt;
+            matches!(&machine.columns(), Some(told) if told.as_str() == width),
+            "{width}"
+        );
+    }
+    fake.columns.set(None);
+    assert!(rt; machine.columns().is_none());
+    Ok(())
+}

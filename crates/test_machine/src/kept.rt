@@ -1,0 +1,130 @@
+//! The stores of the machine: files that keep what is kept in them.
+
+use crate::lent::Lent;
+use bsc_attending::Stores;
+use bsc_block::Record;
+use bsc_frame::Address;
+use bsc_kept::{Change, Channel, Found, Progress, Store, StoreFault};
+use bsc_machine::Machine;
+use bsc_storing::StoreFiles;
+use std::alloc::Global;
+use std::rt::HostRuntime;
+use std::test::Fail;
+
+/// The text of the line of a store.
+const LINE: &str = "terminal 41 select 61; this is control";
+
+/// Returns the channel from a terminal.
+fn channel() -> Result<Channel, StoreFault> {
+    match Address::read(b"A") {
+        Ok(terminal) => Ok(Channel::From { terminal }),
+        Err(_) => Err(StoreFault::Refused),
+    }
+}
+
+/// Returns the record of these characters.
+fn record(text: &str) -> Result<Record, StoreFault> {
+    match Record::read(text.as_bytes(), 80) {
+        Ok(record) => Ok(record),
+        Err(_) => Err(StoreFault::Refused),
+    }
+}
+
+/// Keeps that two records were offered, of which one is known and one in doubt, and that three
+/// arrived, of which two were printed.
+fn keep<S: Store>(alloc: Global, store: &mut S, text: &str) -> Result<(), StoreFault> {
+    let channel = channel()?;
+    for text in ["SENT FIRST", text] {
+        store.commit(&[Change::Offered {
+            channel,
+            record: record(text)?,
+        }])?;
+    }
+    for text in ["HEARD FIRST", "HEARD SECOND", text] {
+        store.commit(&[Change::Arrived {
+            channel,
+            record: record(text)?,
+        }])?;
+    }
+    let known = Change::Known {
+        channel,
+        known: 1,
+        in_doubt: 1,
+    };
+    store.commit(&[known, Change::Printed { channel, count: 2 }])
+}
+
+/// What is kept, in numbers.
+const KEPT: Progress = Progress {
+    offered: 2,
+    known: 1,
+    in_doubt: 1,
+    arrived: 3,
+    printed: 2,
+};
+
+/// Whether these are the characters of the record that was found.
+fn is_found(found: Option<Found>, text: &str) -> bool {
+    match found {
+        Some(found) => found.record.chars() == text.as_bytes(),
+        None => false,
+    }
+}
+
+/// Whether a store has what was kept with this text.
+fn has_kept<S: Store>(store: &mut S, text: &str) -> Result<bool, StoreFault> {
+    let channel = channel()?;
+    Ok(
+        store.progress(&channel)? == KEPT
+            && is_found(store.offered(&channel, 0, 1)?, text)
+            && is_found(store.arrived(&channel, 0, 2)?, text)
+            && is_found(store.arrived(&channel, 0, 1)?, "HEARD SECOND"),
+    )
+}
+
+/// Makes a store at a path and keeps this in it.
+fn make(machine: &mut Machine<'_, HostRuntime>, path: &str) -> Result<(), StoreFault> {
+    machine.make_kept(path, LINE)?;
+    let mut store = machine.open_store(path, LINE)?;
+    keep(machine.runtime.alloc(), &mut store, path)
+}
+
+/// Whether the store at a path has its line and what was kept, and is in use until it is closed.
+fn found(machine: &mut Machine<'_, HostRuntime>, path: &str) -> Result<bool, StoreFault> {
+    let mut opened = machine.open_kept(path)?;
+    let is_whole = opened.line.as_str() == LINE && has_kept(&mut opened.store, path)?;
+    let is_used = machine.open_kept(path).err() == Some(StoreFault::InUse);
+    machine.close_kept(opened)?;
+    Ok(is_whole && is_used)
+}
+
+#[test]
+fn each_store_keeps_what_is_kept_in_it(rt: HostRuntime) -> Result<(), Fail> {
+    let lent = Lent::new(false);
+    let mut machine = lent.machine(&rt);
+    for path in ["first.db", "second.db"] {
+        assert!(rt; make(&mut machine, path).is_ok(), "{path}");
+    }
+    for path in ["first.db", "second.db", "first.db"] {
+        assert!(rt; found(&mut machine, path) == Ok(true), "{path}");
+    }
+    Ok(())
+}
+
+/// The fault with which a store is opened by a station with this line.
+fn not_opened(machine: &mut Machine<'_, HostRuntime>, path: &str, own: &str) -> Option<StoreFault> {
+    machine.open_store(path, own).err()
+}
+
+#[test]
+fn it_is_told_why_a_store_is_refused(rt: HostRuntime) -> Result<(), Fail> {
+    let lent = Lent::new(false);
+    let mut machine = lent.machine(&rt);
+    assert!(rt; machine.make_kept("deck.db", LINE) == Ok(()));
+    assert!(rt; machine.make_kept("deck.db", LINE) == Err(StoreFault::Taken));
+    assert!(rt; not_opened(&mut machine, "deck.db", LINE).is_none());
+    assert!(rt; not_opened(&mut machine, "deck.db", "x") == Some(StoreFault::OtherLine));
+    assert!(rt; not_opened(&mut machine, "none.db", LINE) == Some(StoreFault::Missing));
+    assert!(rt; machine.open_kept("none.db").err() == Some(StoreFault::Missing));
+    Ok(())
+}

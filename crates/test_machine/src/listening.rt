@@ -1,0 +1,157 @@
+//! How the machine waits for peers, and what it tells of that.
+
+use crate::connecting::{opened, wanted};
+use crate::fake::{Fake, NO_FILE};
+use bsc_attending::Wanted;
+use bsc_options::Place;
+use bsc_peers::{Network, Networks};
+use bsc_sockets::SocketsError;
+use std::net::TcpListener;
+use std::test::Fail;
+
+/// Where the station listens, at a port that the system chooses.
+const HERE: Place<'static> = Place::Listen {
+    address: "127.0.0.2:0",
+};
+
+/// Whether this is the line, which may have `~` in place of a port.
+fn is_line(told: &str, line: &str) -> bool {
+    let Some((front, back)) = line.split_once('~') else {
+        return told == line;
+    };
+    match told.strip_prefix(front) {
+        Some(rest) => rest != back && rest.trim_start_matches(is_digit) == back,
+        None => false,
+    }
+}
+
+/// Whether this is a digit of a port.
+fn is_digit(character: char) -> bool {
+    character.is_ascii_digit()
+}
+
+/// Whether these are the lines, which may have `~` in place of ports.
+fn are_lines(told: &str, lines: &str) -> bool {
+    let mut rest = lines.lines();
+    for told in told.lines() {
+        match rest.next() {
+            Some(line) if is_line(told, line) => {}
+            _ => return false,
+        }
+    }
+    rest.next().is_none()
+}
+
+/// What a station tells that waits for peers, and what comes of it.
+#[derive(Clone, Copy)]
+struct Waits {
+    wanted: Wanted<'static>,
+
+    /// How many peers connect.
+    peers: usize,
+
+    /// How many connections it makes, and what it tells, with `~` in place of each port.
+    result: Result<usize, SocketsError>,
+    told: &'static str,
+}
+
+/// What the control station tells that waits for two terminals.
+const CONTROL: &str = "listening at 127.0.0.2:~
+waiting for terminals: 0 of 2 connected
+connection 0 from 127.0.0.1:~ joined
+waiting for terminals: 1 of 2 connected
+connection 1 from 127.0.0.1:~ joined
+";
+
+/// What a terminal tells that waits for the control station.
+const TERMINAL: &str = "listening at 127.0.0.2:~
+waiting for the control station
+connection 0 from 127.0.0.1:~ joined
+";
+
+/// The same with a trace.
+const TRACED: &str = "+0 listening at 127.0.0.2:~
++0 waiting for the control station
++0 connection 0 from 127.0.0.1:~ joined
+";
+
+/// What a terminal tells that turns a peer away.
+const TURNED_AWAY: &str = "listening at 127.0.0.2:~
+waiting for the control station
+refused 127.0.0.1:~: its address is not allowed
+";
+
+/// Peers from other addresses than those of the system.
+fn elsewhere() -> Networks {
+    match Network::read("10.0.0.0/8") {
+        Ok(network) => Networks::new().with(network).unwrap_or(Networks::new()),
+        Err(_) => Networks::new(),
+    }
+}
+
+fn cases() -> [Waits; 4] {
+    let one = wanted(HERE);
+    [
+        Waits {
+            wanted: Wanted {
+                connections: 2,
+                stays: true,
+                ..one
+            },
+            peers: 2,
+            result: Ok(2),
+            told: CONTROL,
+        },
+        Waits {
+            wanted: one,
+            peers: 1,
+            result: Ok(1),
+            told: TERMINAL,
+        },
+        Waits {
+            wanted: Wanted { trace: true, ..one },
+            peers: 1,
+            result: Ok(1),
+            told: TRACED,
+        },
+        Waits {
+            wanted: Wanted {
+                allowed: elsewhere(),
+                ..one
+            },
+            peers: 1,
+            result: Err(SocketsError::NobodyConnected),
+            told: TURNED_AWAY,
+        },
+    ]
+}
+
+#[test]
+fn a_station_tells_how_it_waits(rt: HostRuntime) -> Result<(), Fail> {
+    for case in cases() {
+        let fake = Fake::new(&rt, NO_FILE);
+        fake.due.set(case.peers);
+        let result = opened(&fake, &case.wanted);
+        assert!(rt; result == case.result, "{result:?}");
+        let told = fake.told()?;
+        assert!(rt; are_lines(told.as_str(), case.told), "{told}");
+    }
+    Ok(())
+}
+
+#[test]
+fn it_is_told_why_a_station_cannot_listen(rt: HostRuntime) -> Result<(), Fail> {
+    let listener = TcpListener::bind(&rt, "127.0.0.4:0")?;
+    let port = listener.local_addr()?.port();
+    let text = format!(in rt.alloc(); "127.0.0.4:{port}")?;
+    let fake = Fake::new(&rt, NO_FILE);
+    for (address, due) in [
+        (text.as_str(), SocketsError::AddressInUse),
+        ("127.0.0.4", SocketsError::Address),
+    ] {
+        let result = opened(&fake, &wanted(Place::Listen { address }));
+        assert!(rt; result == Err(due), "{address}");
+    }
+    assert!(rt; fake.has_told(""));
+    Ok(())
+}
