@@ -1,6 +1,6 @@
 //! How a station connects to a peer that may not listen yet.
 
-ghost use Rattle.std.specs.Prelude.{◌≡◌, IfOk};
+ghost use Rattle.std.specs.Prelude.{◌≡◌, length, IfOk};
 
 use bsc_sockets::{Begun, ConnectionSettings, SocketsError, connect};
 use std::alloc::Global;
@@ -69,7 +69,8 @@ pub(crate) struct PeerAt<'a, 'b, R> {
 impl<'a, R: AllocGlobal + Clock + Net> Peer for PeerAt<'a, '_, R> {
     type Connection = Begun<'a, R, Global>;
 
-    ghost gives = { λ peer begun. begun.sockets.settings ≡ peer.settings };
+    ghost gives = { λ peer begun. (begun.sockets.settings ≡ peer.settings)
+        × (length begun.connections.items ≡ 1) };
 
     fn connect(&self, patience: Duration) -> Result<Begun<'a, R, Global>, SocketsError> {
         let runtime = self.runtime;

@@ -1,5 +1,8 @@
 //! The machine of a runtime: its files and its loopback address.
 
+ghost use Rattle.std.specs.Prelude.{◌≡◌};
+ghost use Rattle.bsc_machine.specs.Showing.{is_shown, shows};
+
 use crate::screen::{Progress, Screen, progress};
 use bsc_carrier::Cable;
 use bsc_chart::Traces;
@@ -70,7 +73,9 @@ impl<'a, R: AllocGlobal + Clock + Eprint + Net> Cables for Machine<'a, R> {
 
     type Meter = Progress<'a, R>;
 
-    fn meter(&mut self, work: Option<Work>) -> Progress<'a, R> {
+    fn meter(&mut self, work: Option<Work>) -> Progress<'a, R>
+        ensures { shows result ≡ is_shown self.old.screen.now.is_terminal work }
+    {
         progress(self.runtime, self.screen, work)
     }
 

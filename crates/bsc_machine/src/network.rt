@@ -1,5 +1,9 @@
 //! The connections of a machine to other processes, its clock, and the writer for a trace.
 
+ghost use Rattle.std.specs.Prelude.{◌≡◌, length, IfOk};
+ghost use Rattle.bsc_machine.specs.Connections.{AreSettings, ListensOn, count_at};
+ghost use Rattle.bsc_machine.specs.Showing.{is_shown, shows};
+
 use crate::connecting::{PeerAt, connect_within};
 use crate::machine::Machine;
 use crate::receiving::Receiving;
@@ -8,18 +12,33 @@ use bsc_attending::{Network, Opened, Wanted};
 use bsc_monitor::Beginning;
 use bsc_options::Place;
 use bsc_progress::Work;
-use bsc_sockets::{Begun, Listening, Reading, Sockets, SocketsError, Writing, listen};
+use bsc_sockets::{
+    Begun, ConnectionSettings, Listening, Reading, Sockets, SocketsError, Writing, listen,
+};
 use std::alloc::Global;
 use std::net::Net;
 use std::time::{Clock, Duration};
+
+/// Returns the settings of the connections that a station asks for.
+fn settings_of(wanted: &Wanted<'_>) -> ConnectionSettings
+    ensures { AreSettings wanted.now result }
+{
+    wanted.settings()
+}
 
 /// Makes the connections that a station asks for.
 fn begin<'a, R: AllocGlobal + Clock + Eprint + Net>(
     runtime: &'a R,
     screen: &'a Screen,
     wanted: &Wanted<'_>,
-) -> Result<Begun<'a, R, Global>, SocketsError> {
-    let settings = wanted.settings();
+) -> Result<Begun<'a, R, Global>, SocketsError>
+    ensures count { IfOk result (λ begun. length begun.connections.items
+        ≡ count_at wanted.now.place wanted.now.connections) }
+    ensures settings { IfOk result (λ begun. AreSettings wanted.now begun.sockets.settings) }
+    ensures listens { IfOk result (λ begun. ListensOn wanted.now.place wanted.now.stays
+        begun.sockets.listener) }
+{
+    let settings = settings_of(wanted);
     match wanted.place {
         Place::Connect { address } => {
             let patience = Duration::from_millis(wanted.patience);
@@ -65,7 +84,13 @@ impl<'a, R: AllocGlobal + Clock + Eprint + Net> Network for Machine<'a, R> {
     fn open(
         &mut self,
         wanted: &Wanted<'_>,
-    ) -> Result<Opened<Self::Reader, Self::Writer, Self::Waiter>, SocketsError> {
+    ) -> Result<Opened<Self::Reader, Self::Writer, Self::Waiter>, SocketsError>
+        ensures count { IfOk result (λ opened. length opened.connections.items
+            ≡ count_at wanted.now.place wanted.now.connections) }
+        ensures settings { IfOk result (λ opened. AreSettings wanted.now opened.waiter.settings) }
+        ensures listens { IfOk result (λ opened. ListensOn wanted.now.place wanted.now.stays
+            opened.waiter.listener) }
+    {
         let begun = begin(self.runtime, self.screen, wanted)?;
         Ok(Opened {
             waiter: begun.sockets,
@@ -73,7 +98,9 @@ impl<'a, R: AllocGlobal + Clock + Eprint + Net> Network for Machine<'a, R> {
         })
     }
 
-    fn timer(&mut self, work: Option<Work>) -> Progress<'a, R> {
+    fn timer(&mut self, work: Option<Work>) -> Progress<'a, R>
+        ensures { shows result ≡ is_shown self.old.screen.now.is_terminal work }
+    {
         progress(self.runtime, self.screen, work)
     }
 

@@ -1,5 +1,8 @@
 //! Standard error: what is told there, and the line that shows progress on a terminal.
 
+ghost use Rattle.std.specs.Prelude.{◌≡◌};
+ghost use Rattle.bsc_machine.specs.Showing.{is_shown, shows};
+
 use bsc_progress::{ProgressLine, Timer, Work, write_cleared};
 use std::cell::Cell;
 use std::io;
@@ -119,7 +122,9 @@ pub(crate) fn progress<'a, R: Clock + Eprint>(
     runtime: &'a R,
     screen: &'a Screen,
     work: Option<Work>,
-) -> Progress<'a, R> {
+) -> Progress<'a, R>
+    ensures { shows result ≡ is_shown screen.now.is_terminal work }
+{
     let start = match Instant::now(runtime) {
         Ok(start) => Some(start),
         Err(_) => None,

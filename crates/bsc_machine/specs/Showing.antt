@@ -1,0 +1,13 @@
+-- When progress is shown.
+use Rattle.std.specs.Prelude.{Bool, false, Option, None, Some}
+use Rattle.bsc_progress.specs.declared.counts.Work.{Work}
+use Rattle.bsc_progress.specs.declared.progress_line.ProgressLine.{ProgressLine}
+
+-- Only on a terminal, and only of work.
+abbrev pub is_shown : Bool → Option Work → Bool
+is_shown is_terminal None = false
+is_shown is_terminal (Some work) = is_terminal
+
+-- Whether the line of the progress is shown.
+abbrev pub shows : {T D : Type 0} → ProgressLine T D → Bool
+shows line = line.on
