@@ -205,7 +205,16 @@ fn offers_are_accepted_with_each_number_of_terminals(rt: HostRuntime) -> Result<
 }
 
 /// The steps that a round of the longest poll list takes at most.
-const ROUND: usize = 20_000;
+const ROUND: usize = 100_000;
+
+/// Offers a record at a terminal, and one for each of its addresses.
+fn offer_each<A: Allocator>(line: &mut Line<A>, terminal: usize) -> Result<(), LineError> {
+    line.offer_at(terminal, b"HI")?;
+    for select in 0..4usize {
+        line.offer_for(terminal, select, b"HI")?;
+    }
+    Ok(())
+}
 
 /// Whether a poll of a terminal is pending.
 fn is_polling<A: Allocator>(line: &Line<A>) -> bool {
@@ -218,18 +227,9 @@ fn is_polling<A: Allocator>(line: &Line<A>) -> bool {
     }
 }
 
-/// Offers a record at a terminal, for its first address, or for its last one: all terminals in
-/// turn, and each way of all before the next one.
-fn offer_in_turn<A: Allocator>(line: &mut Line<A>, step: usize) -> Result<(), LineError> {
-    match step / 64 % 3 {
-        0 => line.offer_at(step % 64, b"HI"),
-        1 => line.offer_for(step % 64, 0, b"HI"),
-        _ => line.offer_for(step % 64, 3, b"HI"),
-    }
-}
-
-/// A record is offered after each transmission until this many polls were sent, so that each entry
-/// of the poll list is the present one for a while.
+/// Records are offered after each transmission until this many polls were sent, at all terminals in
+/// turn and for each of their addresses. So much is to be sent that each entry of the poll list is
+/// the present one for about as many transmissions as there are terminals.
 #[derive(Clone, Copy)]
 struct Polls(usize);
 
@@ -241,7 +241,7 @@ impl Play for Polls {
         let mut polls = 0usize;
         for step in 0..ROUND {
             go_on(line, false)?;
-            offer_in_turn(line, step)?;
+            offer_each(line, step % 64)?;
             polls = polls.saturating_add(usize::from(is_polling(line)));
             if polls == self.0 || is_put_off(line) {
                 return Ok(polls);
