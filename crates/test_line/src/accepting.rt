@@ -260,6 +260,33 @@ fn offers_are_accepted_at_each_entry_of_the_longest_poll_list(rt: HostRuntime) -
     Ok(())
 }
 
+/// Records of a line of 64 terminals: this many at each terminal and for each address.
+#[derive(Clone, Copy)]
+struct OfEach(usize);
+
+impl Play for OfEach {
+    type Answer = Result<(), LineError>;
+
+    fn play<A: Allocator>(&self, line: &mut Line<A>) -> Result<(), LineError> {
+        for _ in 0..self.0 {
+            for terminal in 0..64usize {
+                offer_each(line, terminal)?;
+            }
+        }
+        Ok(())
+    }
+}
+
+#[test]
+fn thousands_of_records_are_accepted_at_each_terminal_and_for_each_address(
+    rt: HostRuntime,
+) -> Result<(), Fail> {
+    let alloc = Refusing::new(rt.alloc());
+    let answer = play_on(&alloc, &On::first(64, &[0]), &OfEach(1_200))?;
+    assert_eq!(rt; (answer, alloc.refused()), (Ok(()), 0));
+    Ok(())
+}
+
 /// A bid that is put off as often as it can be: from this transmission on, memory is refused while
 /// a transmission is heard, and granted to the offers in between.
 #[derive(Clone, Copy)]

@@ -147,21 +147,23 @@ fn is_written_after<F: Framing>(
     })
 }
 
-/// A record of one octet and one of 2,048 are written, one of 2,049 is refused.
+/// A record of each length from 1 to 2,048 octets is written, one of 2,049 is refused.
 #[test]
-fn the_shortest_and_the_longest_record_are_written(rt: HostRuntime) -> Result<(), Fail> {
-    assert!(rt; is_written_after::<SocketRecords>(rt.alloc(), &[0x00, 0x01], 1)?);
-    assert!(rt; is_written_after::<SocketRecords>(rt.alloc(), &[0x04, 0x09], 1_033)?);
-    assert!(rt; is_written_after::<SocketRecords>(rt.alloc(), &[0x08, 0x00], 2_048)?);
+fn a_record_of_each_length_is_written(rt: HostRuntime) -> Result<(), Fail> {
+    for count in 1..=2_048u16 {
+        let is_written =
+            is_written_after::<SocketRecords>(rt.alloc(), &count.to_be_bytes(), count.into())?;
+        assert!(rt; is_written, "{count}");
+    }
     let longer = written::<SocketRecords>(rt.alloc(), 2_049)?;
     assert!(rt; longer.err() == Some(CarrierError::Length));
     Ok(())
 }
 
 #[test]
-fn the_longest_transmission_without_framing_is_written(rt: HostRuntime) -> Result<(), Fail> {
-    for count in [0usize, 1, 1_033, 2_048, 4_096] {
-        assert!(rt; is_written_after::<Gaps>(rt.alloc(), &[], count)?);
+fn a_transmission_of_each_length_is_written_without_framing(rt: HostRuntime) -> Result<(), Fail> {
+    for count in 0..=4_096usize {
+        assert!(rt; is_written_after::<Gaps>(rt.alloc(), &[], count)?, "{count}");
     }
     Ok(())
 }
