@@ -1,6 +1,6 @@
 //! The arguments with which the program was started: many, long ones, and those that are not text.
 
-use bsc_command::{Fault, given_words, status};
+use bsc_command::{Fault, fail, given_words};
 use std::alloc::Global;
 use std::env::FillError;
 use std::rt::{Env, HostRuntime};
@@ -89,6 +89,14 @@ fn each_argument_is_given(rt: HostRuntime) -> Result<(), Fail> {
     Ok(())
 }
 
+/// What is told of such an argument.
+const NOT_TEXT: &str = "error: a word is not UTF-8
+
+Usage: bscline [COMMAND]
+
+For more information, try '--help'.
+";
+
 /// An argument that is not UTF-8 is wrong usage, wherever it is.
 #[test]
 fn an_argument_that_is_not_text_is_wrong_usage(rt: HostRuntime) -> Result<(), Fail> {
@@ -100,12 +108,13 @@ fn an_argument_that_is_not_text_is_wrong_usage(rt: HostRuntime) -> Result<(), Fa
             length: 1,
             octet: 0xff,
         };
-        let told = given_words(&started);
-        assert!(rt; matches!(&told, Err(Fault::Usage(_))), "{place}");
-        assert!(rt;
-            matches!(&told, Err(fault) if status(fault) == 2),
-            "{place}"
-        );
+        let Err(fault) = given_words(&started) else {
+            return Err("it is text".into());
+        };
+        assert!(rt; matches!(&fault, Fault::Usage(_)), "{place}");
+        let mut errors = Vec::new(rt.alloc());
+        assert_eq!(rt; fail(&fault, &mut errors), 2);
+        assert!(rt; errors.as_slice() == NOT_TEXT.as_bytes(), "{place}");
     }
     Ok(())
 }

@@ -2,9 +2,11 @@
 //! output. The octets are those of docs/PROTOCOL.md.
 
 use crate::control_options::EOT;
-use crate::kept_stations::{CALLED, DONE, ENDED, SELECTED, STATUS, first_wrong_in_turn};
-use crate::machine::{Asking, Case, Due, SILENT, Scene};
+use crate::kept_stations::{CALLED, DONE, ENDED, SELECTED, STATUS, TERMINAL, first_wrong_in_turn};
+use crate::machine::{Asking, Case, Due, SILENT, Scene, difference};
+use crate::record::Record;
 use crate::stations::{CONNECTING, RECORDS};
+use bsc_progress::Work;
 use std::test::Fail;
 
 /// The words of terminal 0 of a line in which it has two selection addresses, with its store.
@@ -243,6 +245,7 @@ const WITH_OPTIONS: &[Case] = &[
             "--store",
             "kept",
             "--bytes",
+            "--numbers",
             "--report-records",
         ]),
         scene: Scene {
@@ -250,7 +253,8 @@ const WITH_OPTIONS: &[Case] = &[
             ..SILENT
         },
         due: Due {
-            out: "to 0: HI\nto 0: HI\nfrom 0: offered 0, known 0\nto 0: spooled 2\n  HI\n  HI\n",
+            out: "to 0 0: HI\nto 0 1: HI\n\
+            from 0: offered 0, known 0\nto 0: spooled 2\n  HI\n  HI\n",
             ..ENDED
         },
         ..STATUS
@@ -260,5 +264,29 @@ const WITH_OPTIONS: &[Case] = &[
 #[test]
 fn a_record_that_could_not_be_printed_is_printed_again(rt: HostRuntime) -> Result<(), Fail> {
     assert_eq!(rt; first_wrong_in_turn(rt.alloc(), WITH_OPTIONS), None);
+    Ok(())
+}
+
+/// Terminal 0 with its store, to which a record arrives.
+const ARRIVING: Case = Case {
+    scene: Scene {
+        pieces: RECORDS,
+        ..SILENT
+    },
+    due: Due {
+        out: "to 0: 4849\nfrom 0: offered 0, known 0\nto 0: spooled 1\n",
+        ..ENDED
+    },
+    ..TERMINAL
+};
+
+#[test]
+fn a_station_with_a_store_tells_its_progress(rt: HostRuntime) -> Result<(), Fail> {
+    let record = Record::new(rt.alloc());
+    assert_eq!(rt; difference(rt.alloc(), &ARRIVING, &record), None);
+    let Some((work, counts)) = record.shown.get() else {
+        return Err("nothing is shown".into());
+    };
+    assert!(rt; work == Work::Events && counts.arrived == 1);
     Ok(())
 }

@@ -47,9 +47,13 @@ fn keep(record: &Record, count: usize, step: &[Change]) -> Result<(), Fail> {
     Ok(())
 }
 
-/// What is kept of the last terminal: two records have arrived from it, of which one is printed,
-/// and of three records to its last address one is known and one in doubt.
-fn keep_of_last(record: &Record) -> Result<(), Fail> {
+/// What is kept of 64 terminals: a record has arrived from each but the last; from that two, of
+/// which one is printed, and of three records to its last address one is known and one in doubt.
+fn keep_of_each(alloc: Global, record: &Record) -> Result<(), Fail> {
+    for number in 0..63u8 {
+        let address = format!(in alloc; "A{number}")?;
+        keep(record, 1, &[arrived(from(address.as_bytes())?, b"HI")?])?;
+    }
     let (inward, outward) = (from(b"A63")?, to(b"d63")?);
     keep(record, 2, &[arrived(inward, b"HI")?])?;
     keep(record, 3, &[offered(outward, b"HI")?])?;
@@ -84,11 +88,14 @@ const CLOSED: Scene = Scene {
     ..SILENT
 };
 
-/// What this control station prints: the record that was not printed, and its report.
+/// What this control station prints: the records that were not printed, and its report.
 fn printed(alloc: Global) -> Result<String, Fail> {
-    let mut text = String::from_str(alloc, "from 63: 4849\n")?;
+    let mut text = String::new(alloc);
+    for number in 0..64u8 {
+        write!(text, "from {number}: 4849\n")?;
+    }
     for number in 0..63u8 {
-        write!(text, "from {number}: spooled 0\n")?;
+        write!(text, "from {number}: spooled 1\n")?;
         for select in 0..4u8 {
             write!(text, "to {number}.{select}: offered 0, known 0\n")?;
         }
@@ -122,11 +129,40 @@ fn is_due(
     Ok(answer.out.as_slice() == out.as_bytes() && answer.status == status)
 }
 
+/// A configuration of this many terminals, and what the control station of this line prints.
+fn line_of(alloc: Global, count: u8) -> Result<(String, String), Fail> {
+    let mut line = String::from_str(alloc, "version = 1\npoll_list = [0]\n")?;
+    let mut report = String::new(alloc);
+    for number in 0..count {
+        write!(
+            line,
+            "[[terminals]]\npoll = \"A{number}\"\nselect = \"a{number}\"\n"
+        )?;
+        write!(
+            report,
+            "from {number}: spooled 0\nto {number}: offered 0, known 0\n"
+        )?;
+    }
+    report.push_str("slowest answer: none\ntrusted\n")?;
+    Ok((line, report))
+}
+
 #[test]
-fn a_control_station_has_what_is_kept_of_the_last_terminal(rt: HostRuntime) -> Result<(), Fail> {
+fn a_control_station_of_each_number_of_terminals_has_a_store(rt: HostRuntime) -> Result<(), Fail> {
+    let alloc = rt.alloc();
+    for count in 1..=64u8 {
+        let (line, report) = line_of(alloc, count)?;
+        let on = (CLOSED, &Record::new(alloc));
+        assert!(rt; is_due(alloc, MOST, &line, on, (&report, 0))?, "{count}");
+    }
+    Ok(())
+}
+
+#[test]
+fn a_control_station_has_what_is_kept_of_each_terminal(rt: HostRuntime) -> Result<(), Fail> {
     let alloc = rt.alloc();
     let record = Record::new(alloc);
-    keep_of_last(&record)?;
+    keep_of_each(alloc, &record)?;
     let (line, out) = (config(alloc)?, printed(alloc)?);
     assert!(rt; is_due(alloc, MOST, &line, (CLOSED, &record), (&out, 3))?);
     Ok(())

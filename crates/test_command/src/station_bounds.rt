@@ -123,26 +123,35 @@ const TERMINAL: &[&str] = &[
 /// The characters of the longest record, as they are sent.
 const CHARS: &[u8] = &[0xC1; 144];
 
+/// A selection of terminal 0, and texts of seven of the longest records, of which each has this end.
+macro_rules! texts_of_seven {
+    ($($end:literal),*) => {
+        &[
+            b"\x00\x09\x16\x16\x04\xFF\x16\x16\x61\x85\xFF",
+            $(
+                b"\x04\x02\x16\x16\x02",
+                CHARS,
+                b"\x1F\x1F",
+                CHARS,
+                b"\x1F\x1F",
+                CHARS,
+                b"\x1F\x1F",
+                CHARS,
+                b"\x1F\x1F",
+                CHARS,
+                b"\x1F\x1F",
+                CHARS,
+                b"\x1F\x1F",
+                CHARS,
+                $end
+            ),*
+        ]
+    };
+}
+
 /// What terminal 0 hears: a selection, and a text of seven of the longest records.
 const TO_TERMINAL: Scene = Scene {
-    pieces: &[
-        b"\x00\x09\x16\x16\x04\xFF\x16\x16\x61\x85\xFF",
-        b"\x04\x02\x16\x16\x02",
-        CHARS,
-        b"\x1F\x1F",
-        CHARS,
-        b"\x1F\x1F",
-        CHARS,
-        b"\x1F\x1F",
-        CHARS,
-        b"\x1F\x1F",
-        CHARS,
-        b"\x1F\x1F",
-        CHARS,
-        b"\x1F\x1F",
-        CHARS,
-        b"\x83\x83\xFF",
-    ],
+    pieces: texts_of_seven!(b"\x83\x83\xFF"),
     ..SILENT
 };
 
@@ -184,6 +193,38 @@ fn seven_of_the_longest_records_arrive_in_one_text(rt: HostRuntime) -> Result<()
     let alloc = rt.alloc();
     let (out, trace) = (longest_printed(alloc)?, longest_traced(alloc)?);
     assert!(rt; is_due(alloc, TERMINAL, LONGEST, TO_TERMINAL, (&out, 0, &trace))?);
+    Ok(())
+}
+
+/// The words of terminal 0 of this line with a store in which nothing is kept.
+const KEEPING: &[&str] = &[
+    "station",
+    "-",
+    "--terminal",
+    "0",
+    "--connect",
+    "h:1",
+    "--store",
+    "any",
+    "--text",
+];
+
+/// What it hears: a selection, and two texts of seven records, of which the first ends with ETB.
+const TWO_TEXTS: Scene = Scene {
+    pieces: texts_of_seven!(b"\x97\x97\xFF", b"\x83\x83\xFF"),
+    ..SILENT
+};
+
+/// With the second text it keeps seven records, and that those of the first are printed.
+#[test]
+fn two_texts_of_seven_records_are_kept(rt: HostRuntime) -> Result<(), Fail> {
+    let alloc = rt.alloc();
+    let chars = "A".repeat(alloc, 144)?;
+    let line = format!(in alloc; "to 0: {chars}\n")?;
+    let mut out = line.repeat(alloc, 14)?;
+    out.push_str("from 0: offered 0, known 0\nto 0: spooled 14\n")?;
+    let due = (out.as_str(), 0, "connection 0 closed\n");
+    assert!(rt; is_due(alloc, KEEPING, LONGEST, TWO_TEXTS, due)?);
     Ok(())
 }
 
@@ -270,17 +311,19 @@ fn offers_each(alloc: Global, count: usize) -> Result<bool, Fail> {
         ["station", "-", "--terminal", "0", "--connect", "h:1"],
     )?;
     for _ in 0..count {
-        words.push("--offer")?;
-        words.push("hi.cards")?;
+        words.push("--offer=hi.cards")?;
     }
     let out = format!(in alloc; "from 0: offered {count}, known 0\nto 0: spooled 0\n")?;
     let due = (out.as_str(), 4, "connection 0 closed\n");
     is_due(alloc, &words, LONGEST, SILENT, due)
 }
 
+/// So a command may have each number of words.
 #[test]
-fn a_terminal_may_be_given_256_offers(rt: HostRuntime) -> Result<(), Fail> {
-    assert!(rt; offers_each(rt.alloc(), 256)?);
+fn a_terminal_may_be_given_1_to_256_offers(rt: HostRuntime) -> Result<(), Fail> {
+    for count in 1..=256usize {
+        assert!(rt; offers_each(rt.alloc(), count)?, "{count}");
+    }
     Ok(())
 }
 
