@@ -5,7 +5,6 @@ use Rattle.bsc_carrier.specs.declared.limits.TheConstants.{MAX_CONNECTIONS}
 use Rattle.bsc_options.specs.declared.settings.Place.{Place}
 use Rattle.bsc_options.specs.declared.settings.Place.TheVariants.{Listen, Connect}
 use Rattle.bsc_attending.specs.Wanted.{input_if}
-use Rattle.bsc_attending.specs.declared.wanted.TheConstants.{LATE_SHARE}
 use Rattle.bsc_attending.specs.declared.wanted.Wanted.{Wanted}
 use Rattle.bsc_sockets.specs.declared.settings.ConnectionSettings.{ConnectionSettings}
 
@@ -21,14 +20,14 @@ ListensOn (Listen address) true listener = IsSome listener
 ListensOn (Listen address) false listener = IsNone listener
 ListensOn (Connect address) stays listener = ⊤
 
--- The settings of the connections are those that the station asks for. It has its times in
--- milliseconds.
+-- The settings of the connections are those that the station asks for, whose times are in
+-- milliseconds. What it sends is late after half of the time-out of the line.
 pub record AreSettings (wanted : Wanted) (settings : ConnectionSettings) : Type 0 where
   pub time_out : as_nanos settings.time_out ≡ wanted.time_out * 1000000
   pub gap : as_nanos settings.gap ≡ wanted.gap * 1000000
   pub replace_after : as_nanos settings.replace_after ≡ wanted.replace_after * 1000000
   pub pause : as_nanos settings.pause ≡ wanted.pause * 1000000
-  pub late_after : as_nanos settings.late_after ≡ wanted.line_time_out * 1000000 / LATE_SHARE
+  pub late_after : as_nanos settings.late_after ≡ wanted.line_time_out * 1000000 / 2
   pub begins : settings.begins ≡ wanted.begins
   pub allowed : settings.allowed ≡ wanted.allowed
   pub stops : settings.stops_with ≡ input_if wanted.stops
