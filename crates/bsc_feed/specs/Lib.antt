@@ -1,1 +1,5 @@
 pub mod Lines
+pub mod Numbers
+pub mod Channels
+pub mod Faults
+pub mod Commands

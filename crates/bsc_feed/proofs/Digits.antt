@@ -1,0 +1,41 @@
+-- The values of numbers with at most ten digits.
+use Rattle.std.proofs.Common.{◌≡◌, ◌<◌, ◌≤◌, ◌^◌, ◌==◌, ◌&&◌, ℕ, List, [], ◌∷◌, Bool, true, false}
+use Rattle.std.proofs.Common.{not, length, take, arith, refl}
+use Rattle.std.specs.Prelude.{nat_le}
+use Rattle.std.specs.Char.{is_ascii_digit}
+use Rattle.std.specs.List.{list_all}
+use Rattle.std.specs.Str.Parse.{AllDigits, digits_value}
+use Rattle.std.proofs.Math.Nat.{pow-le-pow_right}
+use Rattle.std.proofs.lemmas.Bool.{leb-true}
+use Rattle.std.proofs.lemmas.Int.Digits.{digits_value-lt}
+use Rattle.std.proofs.lemmas.Str.{digit_value_digit}
+use Rattle.std.proofs.lemmas.Str.Parse.{digits_value-take-le}
+use Rattle.bsc_script.specs.Numbers.{has_digits}
+
+both_of_and : (a b : Bool) → (a && b) ≡ true → (a ≡ true) × (b ≡ true)
+both_of_and true b e = (refl, e)
+both_of_and false b e = cc
+
+all_digits : (word : List ℕ) → list_all is_ascii_digit word ≡ true → AllDigits 10 word
+all_digits [] e = tt
+all_digits (c ∷ word) e =
+    let p = both_of_and (is_ascii_digit c) (list_all is_ascii_digit word) e in
+    let range = both_of_and (nat_le 48 c) (nat_le c 57) p.0 in
+    let value = digit_value_digit c (leb-true 48 c range.0, leb-true c 57 range.1) in
+    (omega (arith, leb-true 48 c range.0, leb-true c 57 range.1), all_digits word p.1)
+
+-- at most ten digits, and every prefix of them, are below 10 ^ 10
+pub below_ten_digits : (most : ℕ) (word : List ℕ) (i : ℕ) → most ≤ 10
+    → has_digits most word ≡ true → digits_value 10 (take i word) < 10 ^ 10
+below_ten_digits most word i few e =
+    let tests =
+    both_of_and (not (length word == 0) && nat_le (length word) most) (list_all is_ascii_digit word)
+    e in
+    let short =
+    leb-true (length word) most (both_of_and (not (length word == 0)) (nat_le (length word) most)
+    tests.0).1 in
+    let front = digits_value-take-le 10 word i (omega arith) in
+    let whole = digits_value-lt 10 word (all_digits word tests.1) in
+    let power : 10 ^ length word ≤ 10 ^ 10 =
+    pow-le-pow_right {n = 10} (omega arith) {i = length word} {j = 10} (omega arith) in
+    omega arith

@@ -1,0 +1,44 @@
+//! The first words of commands.
+
+ghost use Rattle.std.specs.Prelude.{◌≡◌};
+ghost use Rattle.bsc_feed.specs.Commands.{keyword_of};
+
+use crate::words::spells;
+
+/// The first word of a command.
+#[derive(Clone, Copy)]
+pub(crate) enum Keyword {
+    Offer,
+    OfferHex,
+    Status,
+    Release,
+    Ready,
+    Urgent,
+    Follow,
+    Stop,
+}
+
+/// Returns the keyword that the word spells, or `None` if it is not a keyword.
+pub(crate) fn read_keyword(word: &[u8]) -> Option<Keyword>
+    ensures { result ≡ keyword_of word.now }
+{
+    if spells(word, "offer") {
+        Some(Keyword::Offer)
+    } else if spells(word, "offer-hex") {
+        Some(Keyword::OfferHex)
+    } else if spells(word, "status") {
+        Some(Keyword::Status)
+    } else if spells(word, "release") {
+        Some(Keyword::Release)
+    } else if spells(word, "ready") {
+        Some(Keyword::Ready)
+    } else if spells(word, "urgent") {
+        Some(Keyword::Urgent)
+    } else if spells(word, "follow") {
+        Some(Keyword::Follow)
+    } else if spells(word, "stop") {
+        Some(Keyword::Stop)
+    } else {
+        None
+    }
+}
