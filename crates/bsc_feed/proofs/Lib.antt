@@ -1,3 +1,4 @@
 pub mod Kept
 pub mod Dividing
 pub mod Digits
+pub mod Quiet

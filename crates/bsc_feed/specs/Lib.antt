@@ -3,3 +3,11 @@ pub mod Numbers
 pub mod Channels
 pub mod Faults
 pub mod Commands
+pub mod Places
+pub mod Offering
+pub mod News
+pub mod Following
+pub mod States
+pub mod Answering
+pub mod Texts
+pub mod Clients

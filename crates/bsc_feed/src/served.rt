@@ -1,0 +1,72 @@
+//! Stations that programs feed.
+
+ghost use Rattle.std.specs.Prelude.{◌≡◌, ◌<◌, ◌≤◌, ℕ, Bool, List, Result, length};
+ghost use Rattle.bsc_block.specs.Format.{IsFormat};
+ghost use Rattle.bsc_directory.specs.declared.way.Way.{Way as WayValue};
+ghost use Rattle.bsc_feed.specs.declared.fault.Fault.{Fault as FaultValue};
+ghost use Rattle.bsc_feed.specs.Offering.{IsSending, OffersRecord};
+ghost use Rattle.bsc_monitor.specs.Ends.{IsWay};
+
+use crate::Fault;
+use bsc_block::{Format, Record};
+use bsc_directory::Way;
+use bsc_monitor::Party;
+
+/// A station that is fed while it runs. Terminals are counted from 0 among those that the station
+/// knows. After a fault nothing of the station has changed that a client could see.
+pub trait Served: Party {
+    /// The records that were offered on each channel on which the station sends, in order.
+    ghost offered: { Self → ℕ → WayValue → List (List ℕ) };
+
+    /// The record of this number, counted from 0, is kept: with a store, on the disk.
+    ghost is_kept: { Self → ℕ → WayValue → ℕ → Type 0 };
+
+    /// The full length of its records.
+    ghost full: { Self → ℕ };
+
+    /// What a release does: the station before, the terminal, the direction, the count, the result,
+    /// the station after.
+    ghost releases: { Self → ℕ → WayValue → ℕ → Result (Unit {0}) FaultValue → Self → Type 0 };
+
+    /// What it does to accept selections, or to stop it.
+    ghost readies: { Self → Bool → Result (Unit {0}) FaultValue → Self → Type 0 };
+
+    /// What it does to ask for the line.
+    ghost urges: { Self → Result (Unit {0}) FaultValue → Self → Type 0 };
+
+    /// What it does to end after the present visit.
+    ghost stops: { Self → Self → Type 0 };
+
+    /// Returns the format of its blocks, which has the full length of a record.
+    fn format(&self) -> Format
+        ensures { result.full ≡ full self.now };
+
+    /// Offers a record on a channel on which the station sends, keeps it, and returns its number,
+    /// counted from 0. Fails with `OutOfMemory` or `NotKept`; then nothing is offered.
+    fn offer(&mut self, terminal: usize, way: Way, new: Record) -> Result<usize, Fault>
+        requires known { terminal < Self.count self.old }
+        requires its_way { IsWay way (Self.selects self.old terminal) }
+        requires sends { IsSending (Self.ends self.old terminal way) }
+        requires short { length new ≤ full self.old }
+        ensures { OffersRecord offered is_kept self.old terminal way new result self.new };
+
+    /// Ends the doubt of a channel on which the station sends, of which the other end has this many
+    /// records. Fails with `NotInDoubt`, `CountMismatch` or `NotKept`.
+    fn release(&mut self, terminal: usize, way: Way, count: usize) -> Result<(), Fault>
+        requires known { terminal < Self.count self.old }
+        requires its_way { IsWay way (Self.selects self.old terminal) }
+        requires sends { IsSending (Self.ends self.old terminal way) }
+        ensures { releases self.old terminal way count result self.new };
+
+    /// Starts or stops accepting selections. Fails with `NotATerminal` at a control station.
+    fn set_ready(&mut self, ready: bool) -> Result<(), Fault>
+        ensures { readies self.old ready result self.new };
+
+    /// Asks for the line. Fails with `NotATerminal` at a control station.
+    fn set_urgent(&mut self) -> Result<(), Fault>
+        ensures { urges self.old result self.new };
+
+    /// Ends the station after the present visit.
+    fn stop(&mut self)
+        ensures { stops self.old self.new };
+}
