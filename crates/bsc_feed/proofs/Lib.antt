@@ -2,3 +2,6 @@ pub mod Kept
 pub mod Dividing
 pub mod Digits
 pub mod Quiet
+pub mod Steps
+pub mod Obeying
+pub mod Telling

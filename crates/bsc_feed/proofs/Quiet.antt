@@ -1,10 +1,10 @@
 -- Places of which there is nothing to tell.
-use Rattle.std.proofs.Common.{◌≡◌, ◌≤◌, ◌<◌, ℕ, ◌+◌, List, Option, Some, None, Bool, true, false}
-use Rattle.std.proofs.Common.{get_or, refl, sym, ap, ◌∙◌, subst, arith, inl, inr}
+use Rattle.std.proofs.Common.{◌≡◌, ◌≤◌, ℕ, ◌+◌, List, Option, Some, Bool, true, false}
+use Rattle.std.proofs.Common.{get_or, refl, ap, ◌∙◌, subst, arith, inl, inr}
 use Rattle.std.proofs.Math.Nat.{eq-or-lt_of_le}
 use Rattle.std.proofs.lemmas.Bool.{ltb-true, ltb-false}
 use Rattle.std.proofs.lemmas.Option.{get_or_from_slice_get}
-use Rattle.std.specs.Prelude.{nat_lt, slice_get}
+use Rattle.std.specs.Prelude.{nat_lt}
 use Rattle.bsc_monitor.specs.declared.party.Party as party_of
 use Rattle.bsc_feed.specs.declared.news.News.{News}
 use Rattle.bsc_feed.specs.News.{AreQuiet, HasNews, news_at}

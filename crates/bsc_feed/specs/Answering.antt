@@ -1,19 +1,18 @@
 -- What a line of a client does, and how it is answered.
-use Rattle.std.specs.Prelude.{◌≡◌, ◌⊎◌, ℕ, Bool, List, length, Option, Some, None, Result, Ok, Err}
+use Rattle.std.specs.Prelude.{◌≡◌, ◌⊎◌, ℕ, Bool, true, List, length, Option, Some, None, Result, Ok, Err}
 use Rattle.std.specs.Prelude.{slice_set, unwrap_or}
 use Rattle.bsc_block.specs.Records.{record_of}
 use Rattle.bsc_block.specs.declared.record.RecordError.{RecordError}
 use Rattle.bsc_directory.specs.declared.way.Way.{Way}
 use Rattle.bsc_monitor.specs.Ends.{End, sending, receiving}
 use Rattle.bsc_monitor.specs.declared.party.Party as party_of
-use Rattle.bsc_feed.specs.declared.channel.Channel.{Channel}
 use Rattle.bsc_feed.specs.declared.fault.Fault.{Fault}
 use Rattle.bsc_feed.specs.declared.fault.Fault.TheVariants.{LineTooLong, NoSuchChannel, NotSending}
 use Rattle.bsc_feed.specs.declared.fault.Fault.TheVariants.{OutOfMemory}
 use Rattle.bsc_feed.specs.declared.told.Told.{Told}
 use Rattle.bsc_feed.specs.declared.told.Told.TheVariants.{Kept, Done, Refused}
 use Rattle.bsc_feed.specs.Commands.{Asked, asked_in, offer, status, release, ready, urgent, follow}
-use Rattle.bsc_feed.specs.Commands.{stop}
+use Rattle.bsc_feed.specs.Commands.{stop, takes_memory}
 use Rattle.bsc_feed.specs.Faults.{record_fault}
 use Rattle.bsc_feed.specs.Following.{FollowsValue}
 use Rattle.bsc_feed.specs.Places.{IsFound, end_at, terminal_at, way_at}
@@ -116,7 +115,7 @@ module _ {S M : Type 0} (party : party_of.Ghosts S M) where
   FollowsIf (Some place) from station old told new =
       (told ≡ Done)
       × (new ≡ slice_set old place
-          (Some (unwrap_or from (counted (end_at party station place)))))
+      (Some (unwrap_or from (counted (end_at party station place)))))
 
 -- The same, and what it does for clients.
 module _ {S M : Type 0} (party : party_of.Ghosts S M) (serves : Serving S) where
@@ -150,10 +149,11 @@ module _ {S M : Type 0} (party : party_of.Ghosts S M) (serves : Serving S) where
       (answer ≡ Some (Refused fault)) × (after ≡ follows) × (new ≡ old)
   DoesIf (Ok asked) follows old answer after new = Does asked follows old answer after new
 
-  -- A line does what it says, and is answered; or memory runs out before it is read, and it does
-  -- nothing.
+  -- A line does what it says, and is answered; or it offers a record, memory runs out before it is
+  -- read, and it does nothing.
   abbrev pub Answers : Option (List ℕ) → FollowsValue → S → Option Told → FollowsValue → S
       → Type 0
   Answers line follows old answer after new =
       DoesIf (asked_of line) follows old answer after new
-      ⊎ DoesIf (Err OutOfMemory) follows old answer after new
+      ⊎ (takes_memory (asked_of line) ≡ true)
+      × DoesIf (Err OutOfMemory) follows old answer after new

@@ -127,8 +127,14 @@ asked_if rest (Some keyword) = asked_after rest keyword
 abbrev pub asked_in : List ℕ → Result Asked Fault
 asked_in line = asked_if (after_word line) (keyword_of (first_word line))
 
+-- Whether what was read takes memory: a record in hexadecimal text may be long.
+abbrev pub takes_memory : Result Asked Fault → Bool
+takes_memory (Ok (offer channel given)) = true
+takes_memory (Err NotHexadecimal) = true
+takes_memory _ = false
+
 -- A line was read as it says, or memory ran out.
 abbrev pub IsRead : {A : Type 0} → Result Asked Fault → Result (Command A) Fault → Type 0
 IsRead asked (Ok command) = asked ≡ Ok (asked_by command)
-IsRead asked (Err OutOfMemory) = Unit {0}
+IsRead asked (Err OutOfMemory) = takes_memory asked ≡ true
 IsRead asked (Err fault) = asked ≡ Err fault

@@ -11,3 +11,4 @@ pub mod States
 pub mod Answering
 pub mod Texts
 pub mod Clients
+pub mod Sessions

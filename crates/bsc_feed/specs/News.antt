@@ -1,6 +1,6 @@
 -- What is told of the channels that a client follows.
-use Rattle.std.specs.Prelude.{◌≡◌, ◌<◌, ◌≤◌, ℕ, ◌+◌, nat_lt, List, [], length, Option, Some, None}
-use Rattle.std.specs.Prelude.{if◌then◌else◌, slice_get, slice_set}
+use Rattle.std.specs.Prelude.{◌≡◌, ◌<◌, ◌≤◌, ℕ, ◌+◌, nat_lt, List, length, Option, Some, None}
+use Rattle.std.specs.Prelude.{if◌then◌else◌, slice_get}
 use Rattle.std.specs.Option.{option_and_then}
 use Rattle.bsc_monitor.specs.Ends.{End, sending, receiving}
 use Rattle.bsc_monitor.specs.declared.party.Party as party_of

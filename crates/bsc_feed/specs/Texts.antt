@@ -1,9 +1,9 @@
 -- The text of what is told.
 use Rattle.std.specs.Prelude.{◌≡◌, ℕ, Bool, true, false, List, [], ◌++◌, codes, slice_get, unwrap_or}
-use Rattle.std.specs.Prelude.{Option, Some, None, Result, Ok, OnOk, IfOk, if◌then◌else◌}
+use Rattle.std.specs.Prelude.{Option, Some, None, Result, Ok, IfOk, if◌then◌else◌}
 use Rattle.std.specs.Fmt.{decimal}
 use Rattle.std.specs.Io.KnownBytes.{Appends}
-use Rattle.bsc_monitor.specs.Ends.{End, sending, receiving}
+use Rattle.bsc_monitor.specs.Ends.{End, receiving}
 use Rattle.bsc_monitor.specs.Printed.{end_shown}
 use Rattle.bsc_monitor.specs.declared.party.Party as party_of
 use Rattle.bsc_print.specs.Forms.{escaped}

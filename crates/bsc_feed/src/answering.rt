@@ -171,12 +171,7 @@ fn release_at<S: Served>(place: usize, count: usize, station: &mut S) -> Told
 }
 
 /// Follows the channel with this name, from a number on or from now on.
-fn follow<P: Party>(
-    channel: Channel,
-    from: Option<u32>,
-    follows: &mut Follows,
-    station: &P,
-) -> Told
+fn follow<P: Party>(channel: Channel, from: Option<u32>, follows: &mut Follows, station: &P) -> Told
     ensures { (found : Option ℕ) × IsFound P.Party station.now channel found
         × FollowsIf P.Party found from station.now follows.old result follows.new }
 {

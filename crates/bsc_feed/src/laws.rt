@@ -2,7 +2,12 @@
 
 ghost use Rattle.std.specs.Prelude.{◌≡◌, ℕ, List, [], map};
 ghost use Rattle.std.specs.List.{concat};
+ghost use Rattle.bsc_feed.specs.Answering.{serving};
+ghost use Rattle.bsc_feed.specs.Offering.{OffersRecord};
+ghost use Rattle.bsc_feed.specs.Sessions.{ChangesByLines, ObeysEachLine, TellsEachOnce};
 ghost use Rattle.bsc_feed.specs.Lines.{AreLines, Divides, LinesValue, kept_of, line_of};
+
+use crate::Served;
 
 /// However the octets of a client arrive, the lines that end are those of all its octets, each once
 /// and in order, and the octets after the last line feed end none.
@@ -21,4 +26,23 @@ pub fn lines()
     ensures no_others { (octets : List ℕ) (lines others : List (List ℕ)) (half other : List ℕ)
         → AreLines octets lines half → AreLines octets others other
         → (lines ≡ others) × (half ≡ other) }
+{}
+
+/// In every session of a client, however its octets arrive and however seldom it is told something,
+/// what it sends obeys the station line by line, and nothing but a line changes the station; and of
+/// a channel that it follows it is told each record once, in order.
+pub fn sessions<S: Served>()
+    // The lines that were obeyed, and the one that waits for its answer, are all lines of the
+    // client that are not skipped, each once and in order; a half line is not one of them.
+    ensures lines { ObeysEachLine S.Party (serving (OffersRecord S.offered S.is_kept) S.full
+        S.releases S.readies S.urges S.stops) }
+
+    // Where no line waits, the station is as it was, whatever is told.
+    ensures quiet { ChangesByLines S.Party (serving (OffersRecord S.offered S.is_kept) S.full
+        S.releases S.readies S.urges S.stops) }
+
+    // What is told of a followed channel are its records from the number asked for, in order, each
+    // once, those that had arrived and those that arrive.
+    ensures arrivals { TellsEachOnce S.Party (serving (OffersRecord S.offered S.is_kept) S.full
+        S.releases S.readies S.urges S.stops) }
 {}

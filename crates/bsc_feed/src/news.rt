@@ -4,8 +4,8 @@ ghost use Rattle.std.specs.Prelude.{◌≡◌, ◌<◌, ◌≤◌, ℕ, None, le
 ghost use Rattle.bsc_feed.specs.News.{IsFirstNews, news_at as at_place, news_of as of_end};
 ghost use Rattle.bsc_monitor.specs.EndValues.{end_of};
 
-use crate::told::Told;
 use crate::places::end_at;
+use crate::told::Told;
 use bsc_monitor::{ChannelEnd, Party};
 use std::alloc::Allocator;
 

@@ -102,11 +102,7 @@ fn write_numbered<P: Party, W: Write>(
 }
 
 /// Writes the line for the state of the channel at a place.
-fn write_state<P: Party, W: Write>(
-    station: &P,
-    place: usize,
-    out: &mut W,
-) -> Result<(), PrintError>
+fn write_state<P: Party, W: Write>(station: &P, place: usize, out: &mut W) -> Result<(), PrintError>
     ensures { OnOk result (Appends (W.contents out.old) (W.contents out.new)
         (named P.Party station.now place ++ state_shown (at_place P.Party station.now place))) }
 {

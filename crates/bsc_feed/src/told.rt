@@ -6,32 +6,20 @@ use crate::Fault;
 #[derive(Clone, Copy, Debug, PartialEq, Eq)]
 pub(crate) enum Told {
     /// A record was offered and kept, with this number on its channel.
-    Kept {
-        number: usize,
-    },
+    Kept { number: usize },
 
     /// A command was obeyed.
     Done,
 
     /// A command was refused.
-    Refused {
-        fault: Fault,
-    },
+    Refused { fault: Fault },
 
     /// The state of the channel at this place.
-    State {
-        place: usize,
-    },
+    State { place: usize },
 
     /// The record with this number arrived on the channel at this place.
-    Arrived {
-        place: usize,
-        number: usize,
-    },
+    Arrived { place: usize, number: usize },
 
     /// This many records of the channel at this place are known to have arrived.
-    Delivered {
-        place: usize,
-        known: usize,
-    },
+    Delivered { place: usize, known: usize },
 }

@@ -1,5 +1,5 @@
 -- No terminal so far has the channel with this name.
-use Rattle.std.proofs.Common.{◌≡◌, ◌<◌, ℕ}
+use Rattle.std.proofs.Common.{◌<◌, ℕ}
 use Rattle.bsc_feed.specs.Places.{IsNamed, terminal_at}
 use Rattle.bsc_feed.proofs.places.find.Given as goal
 
