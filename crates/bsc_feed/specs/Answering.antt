@@ -1,5 +1,6 @@
 -- What a line of a client does, and how it is answered.
-use Rattle.std.specs.Prelude.{◌≡◌, ◌⊎◌, ℕ, Bool, true, List, length, Option, Some, None, Result, Ok, Err}
+use Rattle.std.specs.Prelude.{◌≡◌, ◌⊎◌, ℕ, Bool, true, List, length, Option, Some, None, Result}
+use Rattle.std.specs.Prelude.{Ok, Err}
 use Rattle.std.specs.Prelude.{slice_set, unwrap_or}
 use Rattle.bsc_block.specs.Records.{record_of}
 use Rattle.bsc_block.specs.declared.record.RecordError.{RecordError}
@@ -124,12 +125,14 @@ module _ {S M : Type 0} (party : party_of.Ghosts S M) (serves : Serving S) where
   abbrev pub Does : Asked → FollowsValue → S → Option Told → FollowsValue → S → Type 0
   Does (offer channel given) follows old answer after new =
       (found : Option ℕ) × (told : Told) × IsFound party old channel found
-      × Offers party serves.offers serves.full found given old told new × (answer ≡ Some told) × (after ≡ follows)
+      × Offers party serves.offers serves.full found given old told new
+      × (answer ≡ Some told) × (after ≡ follows)
   Does status follows old answer after new =
       (answer ≡ None) × (after ≡ follows) × (new ≡ old)
   Does (release channel count) follows old answer after new =
       (found : Option ℕ) × (told : Told) × IsFound party old channel found
-      × Releases party serves.releases found count old told new × (answer ≡ Some told) × (after ≡ follows)
+      × Releases party serves.releases found count old told new
+      × (answer ≡ Some told) × (after ≡ follows)
   Does (ready takes) follows old answer after new =
       (result : Result (Unit {0}) Fault) × serves.readies old takes result new
       × (answer ≡ Some (done_or result)) × (after ≡ follows)

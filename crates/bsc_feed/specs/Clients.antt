@@ -1,5 +1,6 @@
 -- The steps of a client.
-use Rattle.std.specs.Prelude.{◌≡◌, ℕ, ◌+◌, Bool, true, false, not, ◌&&◌, List, [], Option, Some, None}
+use Rattle.std.specs.Prelude.{◌≡◌, ℕ, ◌+◌, Bool, true, false, not, ◌&&◌, List, [], Option, Some}
+use Rattle.std.specs.Prelude.{None}
 use Rattle.std.specs.Prelude.{replicate}
 use Rattle.bsc_monitor.specs.declared.party.Party as party_of
 use Rattle.bsc_script.specs.Script as script

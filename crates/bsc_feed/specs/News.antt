@@ -29,8 +29,8 @@ module _ {P M : Type 0} (party : party_of.Ghosts P M) (station : P) where
   -- not followed.
   abbrev pub news_at : ℕ → Option ℕ → Option News
   news_at place next =
-      option_and_then (λ n. option_and_then (λ end. news_of end place n) (end_at party station place))
-      next
+      option_and_then
+      (λ n. option_and_then (λ end. news_of end place n) (end_at party station place)) next
 
   -- Of this channel, which is followed as this list of numbers says, there is something to tell.
   abbrev pub HasNews : List (Option ℕ) → ℕ → News → Type 0

@@ -1,6 +1,7 @@
 -- The channels of a station, by their places in its report: five places for each terminal, one for
 -- the channel from it and one for each address that it may have. A place may have no channel.
-use Rattle.std.specs.Prelude.{◌≡◌, ◌<◌, ℕ, ◌+◌, ◌-◌, ◌*◌, ◌/◌, ◌%◌, nat_eq, nat_lt, ◌&&◌, Bool, true}
+use Rattle.std.specs.Prelude.{◌≡◌, ◌<◌, ℕ, ◌+◌, ◌-◌, ◌*◌, ◌/◌, ◌%◌, nat_eq, nat_lt, ◌&&◌, Bool}
+use Rattle.std.specs.Prelude.{true}
 use Rattle.std.specs.Prelude.{List, Option, Some, None, if◌then◌else◌}
 use Rattle.bsc_directory.specs.declared.way.Way.{Way}
 use Rattle.bsc_directory.specs.declared.way.Way.TheVariants.{FromTerminal, ToTerminal}

@@ -1,5 +1,6 @@
 -- Whole sessions of a client: what it says, what it is told, and what becomes of the station.
-use Rattle.std.specs.Prelude.{◌≡◌, ℕ, ◌+◌, nat_eq, Bool, true, false, not, List, [], ◌∷◌, ◌++◌, length}
+use Rattle.std.specs.Prelude.{◌≡◌, ℕ, ◌+◌, nat_eq, Bool, true, false, not, List, [], ◌∷◌, ◌++◌}
+use Rattle.std.specs.Prelude.{length}
 use Rattle.std.specs.Prelude.{take, drop, filter, map, Option, Some, None, Result, Ok}
 use Rattle.std.specs.Prelude.{slice_get, if◌then◌else◌}
 use Rattle.bsc_monitor.specs.Ends.{receiving}
@@ -127,7 +128,8 @@ module _ {S M : Type 0} (party : party_of.Ghosts S M) (place : ℕ) where
 
   -- In this event the channel is not asked for anew, and what had arrived on it stays.
   abbrev pub IsFollowedOn : Event S → Type 0
-  IsFollowedOn (Obeyed line before after) = IsNoFollow (asked_of (line_of line)) × Grows before after
+  IsFollowedOn (Obeyed line before after) =
+      IsNoFollow (asked_of (line_of line)) × Grows before after
   IsFollowedOn (Moved before after) = Grows before after
   IsFollowedOn _ = Unit {0}
 

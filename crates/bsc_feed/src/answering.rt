@@ -23,8 +23,8 @@ pub(crate) fn answer<A: Allocator + Copy, S: Served>(
     follows: &mut Follows,
     station: &mut S,
 ) -> Option<Told>
-    ensures { Answers S.Party (serving (OffersRecord S.offered S.is_kept) S.full S.releases S.readies
-        S.urges S.stops)
+    ensures { Answers S.Party
+        (serving (OffersRecord S.offered S.is_kept) S.full S.releases S.readies S.urges S.stops)
         (option_map (λ l. l.now) line.entry)
         follows.old station.old result follows.new station.new }
 {
@@ -43,8 +43,8 @@ fn answer_line<A: Allocator + Copy, S: Served>(
     follows: &mut Follows,
     station: &mut S,
 ) -> Option<Told>
-    ensures { Answers S.Party (serving (OffersRecord S.offered S.is_kept) S.full S.releases S.readies
-        S.urges S.stops)
+    ensures { Answers S.Party
+        (serving (OffersRecord S.offered S.is_kept) S.full S.releases S.readies S.urges S.stops)
         (Some line.now)
         follows.old station.old result follows.new station.new }
 {
@@ -94,7 +94,8 @@ fn done(outcome: Result<(), Fault>) -> Told
 /// Offers a record of these codes on the channel with this name.
 fn offer<S: Served>(channel: Channel, codes: &[u8], station: &mut S) -> Told
     ensures { (found : Option ℕ) × IsFound S.Party station.old channel found
-        × Offers S.Party (OffersRecord S.offered S.is_kept) S.full found codes.now station.old result station.new }
+        × Offers S.Party (OffersRecord S.offered S.is_kept) S.full found codes.now station.old
+        result station.new }
 {
     match find(station, channel) {
         Some(place) => offer_at(place, codes, station),
@@ -117,8 +118,8 @@ fn sends<P: Party>(station: &P, place: usize) -> bool
 /// Offers a record of these codes on the channel at a place.
 fn offer_at<S: Served>(place: usize, codes: &[u8], station: &mut S) -> Told
     requires { is_there S.Party station.old place ≡ true }
-    ensures { OffersAt (OffersRecord S.offered S.is_kept) S.full place codes.now (at_place S.Party station.old place)
-        station.old result station.new }
+    ensures { OffersAt (OffersRecord S.offered S.is_kept) S.full place codes.now
+        (at_place S.Party station.old place) station.old result station.new }
 {
     if !sends(station, place) {
         return Told::Refused {
