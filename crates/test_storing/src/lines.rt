@@ -8,10 +8,11 @@ use bsc_kept::{Change, Channel};
 use std::alloc::Global;
 use std::test::Fail;
 
-/// A configuration of 64 terminals with four selection addresses each.
-fn config(alloc: Global) -> Result<String, Fail> {
-    let mut text = String::from_str(alloc, "version = 2\nfull = 144\npoll_list = [63]\n")?;
-    for number in 0..64u8 {
+/// A configuration of this many terminals with four selection addresses each.
+fn config(alloc: Global, count: u8) -> Result<String, Fail> {
+    let last = count.saturating_sub(1);
+    let mut text = format!(in alloc; "version = 2\nfull = 144\npoll_list = [{last}]\n")?;
+    for number in 0..count {
         write!(
             text,
             "[[terminals]]\npoll = \"A{number}\"\n\
@@ -40,17 +41,17 @@ const INIT_LAST: Given = Given {
 
 /// Returns a machine with the store of the control station and that of the last terminal.
 fn longest_line(alloc: Global) -> Result<Machine, Fail> {
-    let config = config(alloc)?;
+    let config = config(alloc, 64)?;
     let mut machine = no_stores(alloc);
     told(alloc, &mut machine, INIT_CONTROL, &config)?;
     told(alloc, &mut machine, INIT_LAST, &config)?;
     Ok(machine)
 }
 
-/// What is told of the channels at the control station of this line.
-fn status_of_control(alloc: Global) -> Result<String, Fail> {
+/// What is told of the channels at the control station of a line of this many terminals.
+fn status_of_control(alloc: Global, count: u8) -> Result<String, Fail> {
     let mut text = String::new(alloc);
-    for number in 0..64u8 {
+    for number in 0..count {
         write!(text, "from {number}: arrived 0, printed 0\n")?;
         for select in 0..4u8 {
             write!(
@@ -81,8 +82,24 @@ fn each_channel_of_the_longest_line_is_told(rt: HostRuntime) -> Result<(), Fail>
     let alloc = rt.alloc();
     let mut machine = longest_line(alloc)?;
     let status = told(alloc, &mut machine, STATUS, "")?;
-    assert!(rt; status.as_slice() == status_of_control(alloc)?.as_bytes());
+    assert!(rt; status.as_slice() == status_of_control(alloc, 64)?.as_bytes());
     assert_eq!(rt; first_wrong(alloc, &mut machine, LAST_STATUS), None);
+    Ok(())
+}
+
+/// Whether each channel at the control station of a line of this many terminals is told.
+fn are_told(alloc: Global, count: u8) -> Result<bool, Fail> {
+    let mut machine = no_stores(alloc);
+    told(alloc, &mut machine, INIT_CONTROL, &config(alloc, count)?)?;
+    let status = told(alloc, &mut machine, STATUS, "")?;
+    Ok(status.as_slice() == status_of_control(alloc, count)?.as_bytes())
+}
+
+#[test]
+fn a_line_of_each_number_of_terminals_has_a_store(rt: HostRuntime) -> Result<(), Fail> {
+    for count in 1..=64u8 {
+        assert!(rt; are_told(rt.alloc(), count)?, "{count}");
+    }
     Ok(())
 }
 
@@ -170,7 +187,7 @@ const OF_TWO_LINES: &[Row] = &[
 fn stores_of_two_lines_are_not_reconciled(rt: HostRuntime) -> Result<(), Fail> {
     let alloc = rt.alloc();
     let mut machine = no_stores(alloc);
-    told(alloc, &mut machine, INIT_LAST, &config(alloc)?)?;
+    told(alloc, &mut machine, INIT_LAST, &config(alloc, 64)?)?;
     assert_eq!(rt; first_wrong(alloc, &mut machine, OF_TWO_LINES), None);
     Ok(())
 }
