@@ -105,6 +105,36 @@ fn a_million_records_of_every_length_are_taken(rt: HostRuntime) -> Result<(), Fa
     Ok(())
 }
 
+/// Offers this many records with these characters and then delivers them, and returns whether each
+/// is taken.
+fn take_each(alloc: &Refusing, format: Format, chars: &[u8], count: usize) -> bool
+    requires { format.full ≡ 144 }
+{
+    let mut queue = Queue::new(alloc, format);
+    let mut spool = Spool::new(alloc);
+    for _ in 0..count {
+        let Ok(record) = Record::read(chars, 144) else {
+            return false;
+        };
+        if queue.offer(record).is_err() {
+            return false;
+        }
+    }
+    are_delivered(alloc, &mut queue, &mut spool, count) && spool.records().len() == count
+}
+
+#[test]
+fn thousands_of_records_of_one_length_are_taken(rt: HostRuntime) -> Result<(), Fail> {
+    let alloc = Refusing::new(rt.alloc());
+    let format = Format::new(144, 400)?;
+    for length in 0..=144usize {
+        let chars = CHARS.get(..length).ok_or("too long")?;
+        assert!(rt; take_each(&alloc, format, chars, 1_500), "{length}");
+    }
+    assert_eq!(rt; alloc.refused(), 0);
+    Ok(())
+}
+
 /// How often memory is refused.
 const REFUSALS: usize = 100_000;
 
