@@ -159,26 +159,67 @@ fn a_line_is_made_with_each_number_of_terminals_and_addresses(rt: HostRuntime) -
     Ok(())
 }
 
-/// The longest poll list: the last of 64 terminals, then each of them in turn, the last one first.
-fn entries() -> [u8; 255] {
-    let mut entries = [63; 255];
+/// The longest poll list: each of the terminals up to this one in turn, the last one first.
+fn entries(last: u8) -> [u8; 255] {
+    let mut entries = [0; 255];
     for (entry, number) in entries.iter_mut().zip(0..255u8) {
-        *entry = 63 - number % 64;
+        *entry = last.saturating_sub(number % last.saturating_add(1).max(1));
     }
     entries
+}
+
+/// Whether a line of the terminals up to this one delivers records with each length of the poll
+/// list.
+fn delivers_with_each_length(
+    alloc: &Refusing,
+    terminals: &[Terminal],
+    last: u8,
+) -> Result<bool, Fail> {
+    let setup = Setup::new(80, 400, 3, 10)?;
+    let first = terminals
+        .get(..=usize::from(last))
+        .ok_or("too few terminals")?;
+    for length in 1..=255usize {
+        let poll_list = entries(last);
+        let poll_list = poll_list.get(..length).ok_or("too few entries")?;
+        if !delivers(alloc, setup, first, poll_list, 80)? {
+            return Ok(false);
+        }
+    }
+    Ok(true)
 }
 
 #[test]
 fn a_line_is_made_with_each_length_of_the_poll_list(rt: HostRuntime) -> Result<(), Fail> {
     let alloc = Refusing::new(rt.alloc());
-    let (terminals, entries) = (coded_each(1)?, entries());
-    let setup = Setup::new(80, 400, 3, 10)?;
-    for length in 1..=255usize {
-        let poll_list = entries.get(..length).ok_or("too few entries")?;
+    let terminals = coded_each(1)?;
+    for last in [0, 1, 2, 63u8] {
         assert!(rt;
-            delivers(&alloc, setup, &terminals, poll_list, 80)?,
-            "{length}"
+            delivers_with_each_length(&alloc, &terminals, last)?,
+            "{last}"
         );
+    }
+    Ok(())
+}
+
+/// Five terminals with the combination of this number of their numbers of addresses, 0 to 1,023.
+fn mixed(number: usize) -> Result<[Terminal; 5], Fail> {
+    let mut terminals = [coded(FIRST_CODE, 1)?; 5];
+    let mut left = number;
+    for (terminal, code) in terminals.iter_mut().zip(FIRST_CODE..=0x7e) {
+        *terminal = coded(code, left % 4 + 1)?;
+        left /= 4;
+    }
+    Ok(terminals)
+}
+
+#[test]
+fn a_line_is_made_with_each_combination_of_addresses(rt: HostRuntime) -> Result<(), Fail> {
+    let alloc = Refusing::new(rt.alloc());
+    let setup = Setup::new(80, 400, 3, 10)?;
+    for number in 0..1_024usize {
+        let terminals = mixed(number)?;
+        assert!(rt; delivers(&alloc, setup, &terminals, &[4], 80)?, "{number}");
     }
     Ok(())
 }
