@@ -9,11 +9,15 @@ use std::net::Net;
 use std::test::Fail;
 use std::time::Clock;
 
-/// The octets 0 to 250, again and again, 17 times 256 of them.
+/// The octets 0 to 250, again and again: so many that the system never has room for all of them.
 fn counting(alloc: Global) -> Result<Vec<u8>, AllocError> {
+    let mut front = [0u8; 251];
+    for (octet, number) in front.iter_mut().zip(0..251u8) {
+        *octet = number;
+    }
     let mut octets = Vec::new(alloc);
-    for place in 0..4_352u16 {
-        octets.push((place % 251) as u8)?;
+    for _ in 0..65_536u32 {
+        octets.extend_from_slice(&front)?;
     }
     Ok(octets)
 }
