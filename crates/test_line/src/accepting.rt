@@ -144,6 +144,32 @@ fn event_of(step: usize, is_pending: bool) -> Event<'static> {
     if step % 53 < 13 { CarrySent } else { LOSE }
 }
 
+/// A terminal that accepts no selections and asks for the line, and one that accepts them again.
+const ASKING: &[Event<'static>] = &[
+    URGENT_AT,
+    URGENT_FOR,
+    Event::Ready {
+        terminal: 0,
+        ready: false,
+    },
+];
+
+const ACCEPTING: &[Event<'static>] = &[Event::Ready {
+    terminal: 0,
+    ready: true,
+}];
+
+/// Offers each way while both ends ask for the line and the terminal accepts no selections.
+fn offer_while_asking<A: Allocator>(
+    line: &mut Line<A>,
+    chars: u8,
+    step: usize,
+) -> Result<(), LineError> {
+    line.run(ASKING).map_err(|stopped| stopped.why)?;
+    offer_each_way(line, chars, step)?;
+    line.run(ACCEPTING).map_err(|stopped| stopped.why)
+}
+
 /// Plays this many events, offers each way after each of them, and returns the states that the line
 /// went through. Both ends ask for the line now and then.
 fn play_and_offer<A: Allocator>(
@@ -156,8 +182,7 @@ fn play_and_offer<A: Allocator>(
         let event = event_of(step, line.pending().is_some());
         line.run(&[event]).map_err(|stopped| stopped.why)?;
         if step % 11 == 0 {
-            line.run(&[URGENT_AT, URGENT_FOR])
-                .map_err(|stopped| stopped.why)?;
+            offer_while_asking(line, chars, step)?;
         }
         offer_each_way(line, chars, step)?;
         states.see(line);
