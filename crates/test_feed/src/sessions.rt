@@ -44,7 +44,8 @@ fn answers(alloc: Global, station: &mut Station, said: &[u8]) -> Result<Vec<u8>,
 const SAID: &[u8] = b"# a session\n\nstatus\noffer to 7 HELLO\r\noffer to 7.1 A B \noffer to 7.1\n\
 offer-hex to 7 48 49\nready off\nurgent\nstatus\nrelease to 7 0\nstop\nstatus";
 
-const TOLD: &[u8] = b"from 7: spooled 0\nto 7.0: offered 0, known 0\nto 7.1: offered 0, known 0\nok\n\
+const TOLD: &[u8] =
+    b"from 7: spooled 0\nto 7.0: offered 0, known 0\nto 7.1: offered 0, known 0\nok\n\
 ok 0\nok 0\nok 1\nok 1\nok\nok\n\
 from 7: spooled 0\nto 7.0: offered 2, known 0, in doubt\nto 7.1: offered 2, known 0\nok\nok\nok\n";
 
@@ -94,7 +95,11 @@ fault not a command\nfault not a command\nfault no such channel\n";
 fn faults_of_the_station(rt: HostRuntime) -> Result<(), Fail> {
     let mut station = Station::new(rt.alloc(), 7);
     station.doubt = true;
-    let told = answers(rt.alloc(), &mut station, b"release to 7 1\nrelease to 7 0\n")?;
+    let told = answers(
+        rt.alloc(),
+        &mut station,
+        b"release to 7 1\nrelease to 7 0\n",
+    )?;
     assert_eq!(rt; told.as_slice(), b"fault count mismatch\nok\n".as_slice());
     station.refuses = Some(Fault::NotKept);
     let told = answers(rt.alloc(), &mut station, b"offer to 7 A\n")?;
@@ -165,12 +170,24 @@ to 7.0: offered 0, known 0\nto 7.1: offered 0, known 0\nok\n";
     let next = told(rt.alloc(), &mut station, &mut client, b"", 4096)?;
     let expected: &[u8] = b"delivered to 7.0 2\narrived from 7 3 FOUR\\t\n";
     assert_eq!(rt; next.as_slice(), expected);
-    let again = told(rt.alloc(), &mut station, &mut client, b"tus\nfollow from 7\n", 4096)?;
+    let again = told(
+        rt.alloc(),
+        &mut station,
+        &mut client,
+        b"tus\nfollow from 7\n",
+        4096,
+    )?;
     let expected: &[u8] = b"from 7: spooled 4\nto 7.0: offered 0, known 2\n\
 to 7.1: offered 0, known 0\nok\nok\n";
     assert_eq!(rt; again.as_slice(), expected);
     station.arrive(b"FIVE")?;
-    let last = told(rt.alloc(), &mut station, &mut client, b"follow to 7 1\n", 4096)?;
+    let last = told(
+        rt.alloc(),
+        &mut station,
+        &mut client,
+        b"follow to 7 1\n",
+        4096,
+    )?;
     let expected: &[u8] = b"arrived from 7 4 FIVE\nok\ndelivered to 7.0 2\n";
     assert_eq!(rt; last.as_slice(), expected);
     Ok(())

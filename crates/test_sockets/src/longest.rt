@@ -151,8 +151,11 @@ fn is_written_after<F: Framing>(
 #[test]
 fn a_record_of_each_length_is_written(rt: HostRuntime) -> Result<(), Fail> {
     for count in 1..=2_048u16 {
-        let is_written =
-            is_written_after::<SocketRecords>(rt.alloc(), &count.to_be_bytes(), count.into())?;
+        let is_written = is_written_after::<SocketRecords>(
+            rt.alloc(),
+            &count.to_be_bytes(),
+            count.into(),
+        )?;
         assert!(rt; is_written, "{count}");
     }
     let longer = written::<SocketRecords>(rt.alloc(), 2_049)?;
@@ -163,7 +166,10 @@ fn a_record_of_each_length_is_written(rt: HostRuntime) -> Result<(), Fail> {
 #[test]
 fn a_transmission_of_each_length_is_written_without_framing(rt: HostRuntime) -> Result<(), Fail> {
     for count in 0..=4_096usize {
-        assert!(rt; is_written_after::<Gaps>(rt.alloc(), &[], count)?, "{count}");
+        assert!(rt;
+            is_written_after::<Gaps>(rt.alloc(), &[], count)?,
+            "{count}"
+        );
     }
     Ok(())
 }
