@@ -68,21 +68,17 @@ fn it_is_told_why_a_text_cannot_be_read(rt: HostRuntime) -> Result<(), Fail> {
     Ok(())
 }
 
-/// Whether the trace at this path has these octets.
-fn has_trace(host: &HostRuntime, path: &str, octets: &[u8]) -> Result<bool, Fail> {
+/// Whether the trace at this path has these octets, or the reason why it cannot be opened.
+fn has_trace(host: &HostRuntime, path: &str, octets: &[u8]) -> Result<bool, Unreadable> {
     let lent = Lent::new(false);
     let mut read = Vec::new(host.alloc());
     match lent.machine(host).open_trace(path) {
-        Ok(mut file) => file.read_to_end(&mut read)?,
-        Err(_) => return Ok(false),
-    };
-    Ok(read.as_slice() == octets)
-}
-
-/// The reason why the trace at this path cannot be opened, if it cannot.
-fn not_opened(host: &HostRuntime, path: &str) -> Option<Unreadable> {
-    let lent = Lent::new(false);
-    lent.machine(host).open_trace(path).err()
+        Ok(mut file) => {
+            let is_read = file.read_to_end(&mut read).is_ok();
+            Ok(is_read && read.as_slice() == octets)
+        }
+        Err(why) => Err(why),
+    }
 }
 
 /// A trace is read to its end, and opening leaves it as it was.
@@ -92,12 +88,11 @@ fn traces_are_opened(rt: HostRuntime) -> Result<(), Fail> {
     fs::write(&rt, "trace", text.as_slice())?;
     fs::write(&rt, "other", b"+0 silence\n")?;
     for _ in 0..2 {
-        assert!(rt; has_trace(&rt, "trace", text.as_slice())?);
-        assert!(rt; has_trace(&rt, "other", b"+0 silence\n")?);
+        assert!(rt; has_trace(&rt, "trace", text.as_slice()) == Ok(true));
+        assert!(rt; has_trace(&rt, "other", b"+0 silence\n") == Ok(true));
+        assert!(rt; has_trace(&rt, "none", b"") == Err(Unreadable::NoSuchFile));
     }
-    assert!(rt; not_opened(&rt, "none") == Some(Unreadable::NoSuchFile));
-    assert!(rt; not_opened(&rt, "none") == Some(Unreadable::NoSuchFile));
-    assert!(rt; not_opened(&rt, "other/below") == Some(Unreadable::NotInADirectory));
+    assert!(rt; has_trace(&rt, "other/below", b"") == Err(Unreadable::NotInADirectory));
     Ok(())
 }
 

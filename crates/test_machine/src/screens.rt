@@ -6,6 +6,7 @@ use bsc_attending::Network;
 use bsc_machine::{Errors, Output};
 use bsc_progress::{Counts, Meter, Timer, Work};
 use bsc_running::Cables;
+use std::cell::Cell;
 use std::io::{ErrorKind, Write, writer};
 use std::test::Fail;
 
@@ -25,9 +26,9 @@ const ROUNDS: &str = "\r8 rounds, known 3, arrived 2, in doubt 1, 4 a second\x1b
 /// What clears the line.
 const CLEARED: &str = "\r\x1b[K";
 
-/// Shows how far work has come after two seconds, if that is due.
-fn show<M: Meter>(fake: &Fake<'_>, meter: &mut M) {
-    fake.time.set(7_000);
+/// Shows how far work has come after two seconds of this time, if that is due.
+fn show<M: Meter>(time: &Cell<u64>, meter: &mut M) {
+    time.set(7_000);
     if meter.is_due() {
         meter.show(COUNTS);
     }
@@ -36,13 +37,13 @@ fn show<M: Meter>(fake: &Fake<'_>, meter: &mut M) {
 /// Shows how far the work of a run has come.
 fn show_run(fake: &Fake<'_>, lent: &Lent, work: Option<Work>) {
     fake.time.set(5_000);
-    show(fake, &mut lent.machine(fake).meter(work));
+    show(&fake.time, &mut lent.machine(fake).meter(work));
 }
 
 /// Shows how far the work of a station has come.
 fn show_station(fake: &Fake<'_>, lent: &Lent, work: Option<Work>) {
     fake.time.set(5_000);
-    show(fake, &mut lent.machine(fake).timer(work));
+    show(&fake.time, &mut lent.machine(fake).timer(work));
 }
 
 /// Whether both show this line on standard error, which may be a terminal.
@@ -108,26 +109,37 @@ fn progress_is_cleared_before_a_line(rt: HostRuntime) -> Result<(), Fail> {
     Ok(())
 }
 
-/// What standard error does not take is told, and what is not UTF-8 is not written. A line of
-/// progress that it does not take is not shown again.
+/// The kind of the error with which these octets are not written on standard error.
+fn refused(fake: &Fake<'_>, lent: &Lent, octets: &[u8]) -> Option<ErrorKind> {
+    let mut errors = Errors {
+        runtime: fake,
+        screen: &lent.screen,
+    };
+    match errors.write(octets) {
+        Ok(_) => None,
+        Err(error) => Some(error.kind()),
+    }
+}
+
+/// Whether progress is due again that was shown before.
+fn is_due_again(fake: &Fake<'_>, lent: &Lent) -> bool {
+    let mut meter = lent.machine(fake).meter(Some(Work::Events));
+    show(&fake.time, &mut meter);
+    fake.time.set(9_000);
+    meter.is_due()
+}
+
+/// What standard error does not take is told, and what is not UTF-8 is not written. Progress that
+/// it does not take is not shown again.
 #[test]
 fn standard_error_may_refuse(rt: HostRuntime) -> Result<(), Fail> {
     let (fake, lent) = (Fake::new(&rt, NO_FILE), Lent::new(true));
-    let mut errors = Errors {
-        runtime: &fake,
-        screen: &lent.screen,
-    };
-    let wrong = errors.write(&[0xff]);
-    assert!(rt; matches!(&wrong, Err(error) if error.kind() == ErrorKind::InvalidData));
+    assert!(rt; refused(&fake, &lent, &[0xff]) == Some(ErrorKind::InvalidData));
+    assert!(rt; is_due_again(&fake, &lent) && fake.has_told(EVENTS));
     fake.takes.set(false);
-    let refused = errors.write(b"x");
-    assert!(rt; matches!(&refused, Err(error) if error.kind() == ErrorKind::StorageFull));
-    let mut meter = lent.machine(&fake).meter(Some(Work::Events));
-    show(&fake, &mut meter);
-    lent.screen.clear(&fake);
-    fake.takes.set(true);
-    fake.time.set(9_000);
-    assert!(rt; !meter.is_due());
+    assert!(rt; refused(&fake, &lent, b"x") == Some(ErrorKind::StorageFull));
+    fake.time.set(5_000);
+    assert!(rt; !is_due_again(&fake, &lent));
     assert!(rt; fake.has_told(""));
     Ok(())
 }
