@@ -123,6 +123,7 @@ fn refused(fake: &Fake<'_>, lent: &Lent, octets: &[u8]) -> Option<ErrorKind> {
 
 /// Whether progress is due again that was shown before.
 fn is_due_again(fake: &Fake<'_>, lent: &Lent) -> bool {
+    fake.time.set(5_000);
     let mut meter = lent.machine(fake).meter(Some(Work::Events));
     show(&fake.time, &mut meter);
     fake.time.set(9_000);
@@ -138,7 +139,6 @@ fn standard_error_may_refuse(rt: HostRuntime) -> Result<(), Fail> {
     assert!(rt; is_due_again(&fake, &lent) && fake.has_told(EVENTS));
     fake.takes.set(false);
     assert!(rt; refused(&fake, &lent, b"x") == Some(ErrorKind::StorageFull));
-    fake.time.set(5_000);
     assert!(rt; !is_due_again(&fake, &lent));
     assert!(rt; fake.has_told(""));
     Ok(())
