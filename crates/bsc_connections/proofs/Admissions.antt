@@ -6,7 +6,7 @@ use Rattle.bsc_frame.specs.declared.message.Message.{Message}
 use Rattle.bsc_connections.specs.declared.awaited.Awaited.{Awaited}
 use Rattle.bsc_connections.specs.declared.awaited.Awaited.TheVariants.{Octets, Newcomer, Gap}
 use Rattle.bsc_connections.specs.declared.awaited.Awaited.TheVariants.{NotAccepted, NotAllowed}
-use Rattle.bsc_connections.specs.declared.awaited.Awaited.TheVariants.{TimeOut, Stopped}
+use Rattle.bsc_connections.specs.declared.awaited.Awaited.TheVariants.{TimeOut, Stopped, Client}
 use Rattle.bsc_connections.specs.declared.awaited.LiveError.{LiveError}
 use Rattle.bsc_connections.specs.declared.connection.Taken.{Taken}
 use Rattle.bsc_connections.specs.declared.connection.Taken.TheVariants.{Nothing, Interrupted, Part}
@@ -135,6 +135,8 @@ module _ {S R W F M T : Type 0} (parts : SessionParts S R W F M T) where
       (tt, due_of_sent old new (WasSilent ∷ sent_where_some r.in_time r.due) r.in_time r.due)
   due_of_event Stopped old happened result new (same, kept, stopped, waits) =
       due_if_equal old new happened _ stopped.0 (tt, tt)
+  due_of_event Client old happened result new (same, kept, told, waits) =
+      due_if_equal old new happened _ told.0 (tt, tt)
 
   pub hears_what_is_admitted : HearsWhatIsAdmitted parts
   hears_what_is_admitted old new happened result step =

@@ -4,7 +4,8 @@ use Rattle.std.proofs.Common.{◌∙◌, ap, slice_get}
 use Rattle.bsc_frame.specs.declared.message.Message.{Message}
 use Rattle.bsc_connections.specs.declared.awaited.Awaited.{Awaited}
 use Rattle.bsc_connections.specs.declared.awaited.Awaited.TheVariants.{Octets, Newcomer, Gap}
-use Rattle.bsc_connections.specs.declared.awaited.Awaited.TheVariants.{NotAccepted, NotAllowed, TimeOut, Stopped}
+use Rattle.bsc_connections.specs.declared.awaited.Awaited.TheVariants.{NotAccepted, NotAllowed}
+use Rattle.bsc_connections.specs.declared.awaited.Awaited.TheVariants.{TimeOut, Stopped, Client}
 use Rattle.bsc_connections.specs.declared.awaited.LiveError.{LiveError}
 use Rattle.bsc_connections.specs.declared.connection.Taken.{Taken}
 use Rattle.bsc_connections.specs.declared.connection.Taken.TheVariants.{Nothing, Interrupted, Part}
@@ -104,6 +105,8 @@ module _ {S R W F M T : Type 0} (parts : SessionParts S R W F M T) where
       ∙ silences_of_sent silent.answers.replies.in_time silent.answers.replies.due)
   silences_are_due Stopped old happened result new (same, unchanged, stopped, waits) =
       ap silences stopped.0
+  silences_are_due Client old happened result new (same, unchanged, told, waits) =
+      ap silences told.0
 
   pub tells_each_silence : TellsEachSilence parts
   tells_each_silence old new happened result step =

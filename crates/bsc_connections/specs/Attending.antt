@@ -12,7 +12,7 @@ use Rattle.bsc_frame.specs.Spells.{IsHeardAs}
 use Rattle.bsc_connections.specs.declared.awaited.Awaited.{Awaited}
 use Rattle.bsc_connections.specs.declared.awaited.Awaited.TheVariants.{Octets, Newcomer, Gap}
 use Rattle.bsc_connections.specs.declared.awaited.Awaited.TheVariants.{NotAccepted, NotAllowed}
-use Rattle.bsc_connections.specs.declared.awaited.Awaited.TheVariants.{TimeOut, Stopped}
+use Rattle.bsc_connections.specs.declared.awaited.Awaited.TheVariants.{TimeOut, Stopped, Client}
 use Rattle.bsc_connections.specs.declared.awaited.Handled.{Handled}
 use Rattle.bsc_connections.specs.declared.awaited.Handled.TheVariants.{Answered, Unanswered}
 use Rattle.bsc_connections.specs.declared.awaited.Handled.TheVariants.{Silence}
@@ -27,7 +27,7 @@ use Rattle.bsc_connections.specs.Parts.{ConnectionParts, SessionParts}
 use Rattle.bsc_connections.specs.Connections.{ConnectionValue, Takes, Sends}
 use Rattle.bsc_connections.specs.Histories.{Happening, WasHeard, WasSilent, HasJoined}
 use Rattle.bsc_connections.specs.Histories.{HasClosed, WasIgnored, WasRefused, WasStopped}
-use Rattle.bsc_connections.specs.Histories.{sent_if_in_time, sent_where_some}
+use Rattle.bsc_connections.specs.Histories.{HadClient, sent_if_in_time, sent_where_some}
 use Rattle.bsc_carrier.specs.Cable.{ChangesAt}
 
 -- A station, its connections, the monitor that is told what happens, and the waiter.
@@ -365,6 +365,11 @@ module _ {S R W F M T : Type 0} (parts : SessionParts S R W F M T) where
       (new.station ≡ old.station)
       × (new.connections ≡ old.connections)
       × TellsOne WasStopped new.station old.monitor happened result new.monitor
+      × (new.waiter ≡ old.waiter)
+  Does Client old happened result new =
+      (new.station ≡ old.station)
+      × (new.connections ≡ old.connections)
+      × TellsOne HadClient new.station old.monitor happened result new.monitor
       × (new.waiter ≡ old.waiter)
 
   -- What a step begins with: if a write has failed that is not told yet, with a read at the place

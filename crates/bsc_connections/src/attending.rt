@@ -136,6 +136,7 @@ fn step<
         }
         Ok(Awaited::TimeOut) => silence(station, connections, waiter, monitor),
         Ok(Awaited::Stopped) => monitor.note(station, Note::Stopped),
+        Ok(Awaited::Client) => monitor.note(station, Note::Client),
         Err(error) => Err(error),
     }
 }

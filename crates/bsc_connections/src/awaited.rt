@@ -35,6 +35,10 @@ pub enum Awaited {
     /// The station is asked to end. A waiter returns it once when that is asked, and a second time
     /// when a time-out has passed since then.
     Stopped,
+
+    /// A program that the station serves beside its line may have to be served. Nothing has
+    /// happened on the line.
+    Client,
 }
 
 /// What a station has handled, after which the time of the time-out may begin anew.

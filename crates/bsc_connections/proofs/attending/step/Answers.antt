@@ -4,10 +4,10 @@
 use Rattle.std.proofs.Common.{◌≡◌, ℕ, Option, [], ◌∷◌, None, Some, Ok, inl, refl, sym, ◌∙◌, subst}
 use Rattle.bsc_connections.specs.declared.awaited.Awaited.{Awaited}
 use Rattle.bsc_connections.specs.declared.awaited.Awaited.TheVariants.{NotAccepted, NotAllowed, Octets}
-use Rattle.bsc_connections.specs.declared.awaited.Awaited.TheVariants.{Stopped}
+use Rattle.bsc_connections.specs.declared.awaited.Awaited.TheVariants.{Stopped, Client}
 use Rattle.bsc_connections.specs.declared.monitor.Refusal.TheVariants as refusal
 use Rattle.bsc_connections.specs.Attending.{BeginsWith}
-use Rattle.bsc_connections.specs.Histories.{WasRefused, WasStopped}
+use Rattle.bsc_connections.specs.Histories.{WasRefused, WasStopped, HadClient}
 use Rattle.bsc_connections.specs.Parts.{SessionParts, session_parts}
 use Rattle.bsc_connections.proofs.attending.step.Goals as goal
 
@@ -78,6 +78,22 @@ returns-in-Ok-Stopped-clause-steps g c =
             (subst (λ (a : Awaited). g.T.Waiter.waits c.args.waiter.now (Ok a) c.wait.new.self)
             c.in-Ok-Stopped.field-0-is c.in-Ok-Stopped.ensures);
         does = (refl, refl, (refl, c.note-in-Ok-Stopped.ensures.told), refl);
+      },
+    )
+
+pub returns-in-Ok-Client-clause-steps : goal.returns-in-Ok-Client-clause-steps
+returns-in-Ok-Client-clause-steps g c =
+    inl (
+      HadClient ∷ [],
+      record {
+        awaited = Client;
+        waiter = c.wait.new.self;
+        begins = begins_with_wait (session_parts g.S.Station g.R.Read g.W.Write g.F.Framing
+            g.M.Monitor.is_told g.M.Monitor.admits g.M.Monitor.paces g.T.Waiter) _ _ Client _
+            (sym c.first_untold.ensures ∙ c.in_default.is)
+            (subst (λ (a : Awaited). g.T.Waiter.waits c.args.waiter.now (Ok a) c.wait.new.self)
+            c.in-Ok-Client.field-0-is c.in-Ok-Client.ensures);
+        does = (refl, refl, (refl, c.note-in-Ok-Client.ensures.told), refl);
       },
     )
 
