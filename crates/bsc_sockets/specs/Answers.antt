@@ -6,7 +6,7 @@ use Rattle.std.specs.declared.net.socket_addr.SocketAddr.{SocketAddr}
 use Rattle.bsc_connections.specs.declared.awaited.Awaited.{Awaited}
 use Rattle.bsc_connections.specs.declared.awaited.Awaited.TheVariants.{Octets, Newcomer, Gap}
 use Rattle.bsc_connections.specs.declared.awaited.Awaited.TheVariants.{NotAccepted, NotAllowed}
-use Rattle.bsc_connections.specs.declared.awaited.Awaited.TheVariants.{TimeOut, Stopped}
+use Rattle.bsc_connections.specs.declared.awaited.Awaited.TheVariants.{TimeOut, Stopped, Client}
 use Rattle.bsc_connections.specs.declared.awaited.LiveError.{LiveError}
 use Rattle.bsc_connections.specs.declared.awaited.LiveError.TheVariants.{Wait, Memory}
 use Rattle.bsc_peers.specs.Lists.{listed}
@@ -40,6 +40,7 @@ IsAnswer allowed places newcomer ready NotAllowed = newcomer_may allowed newcome
 IsAnswer allowed places newcomer ready (Gap connection) = ⊤
 IsAnswer allowed places newcomer ready TimeOut = ⊤
 IsAnswer allowed places newcomer ready Stopped = ⊤
+IsAnswer allowed places newcomer ready Client = ⊤
 
 -- The event of a peer that has connected.
 abbrev pub peer_event : Networks → Peer → Awaited

@@ -1,5 +1,6 @@
 pub mod Answers
 pub mod Beginning
+pub mod Calls
 pub mod Listening
 pub mod Ready
 pub mod Serving

@@ -7,8 +7,8 @@ use Rattle.bsc_sockets.specs.declared.error.SocketsError.TheVariants.{CannotList
 use Rattle.bsc_sockets.specs.declared.error.SocketsError.TheVariants.{CannotWatchInput}
 use Rattle.bsc_sockets.specs.declared.error.SocketsError.TheVariants.{NobodyConnected, NobodyThere}
 use Rattle.bsc_sockets.specs.declared.error.SocketsError.TheVariants.{Sockets, Stopped}
-use Rattle.bsc_sockets.specs.declared.waiting.NotTaken.{NotTaken}
-use Rattle.bsc_sockets.specs.declared.waiting.NotTaken.TheVariants.{Nobody, Gone, Refused}
+use Rattle.bsc_sockets.specs.declared.newcomers.NotTaken.{NotTaken}
+use Rattle.bsc_sockets.specs.declared.newcomers.NotTaken.TheVariants.{Nobody, Gone, Refused}
 use Rattle.bsc_connections.specs.declared.awaited.LiveError.{LiveError}
 use Rattle.bsc_connections.specs.declared.awaited.LiveError.TheVariants as live
 use Rattle.std.specs.declared.io.ErrorKind.{ErrorKind}

@@ -1,9 +1,10 @@
 -- The order in which places are served.
-use Rattle.std.specs.Prelude.{◌≡◌, ◌∷◌, ◌++◌, ◌==◌, [], List, ℕ, Option, None, Some, if◌then◌else◌}
-use Rattle.std.specs.Prelude.{not, filter}
+use Rattle.std.specs.Prelude.{◌≡◌, ◌∷◌, ◌++◌, ◌==◌, ◌||◌, [], Bool, List, ℕ, Option, None, Some}
+use Rattle.std.specs.Prelude.{if◌then◌else◌, not, filter}
 use Rattle.std.specs.List.{list_any}
 use Rattle.mio.specs.Event.{event_token}
 use Rattle.mio.specs.declared.event.event.Event.{Event}
+use Rattle.bsc_sockets.specs.declared.asking.TheConstants.{CLIENTS}
 use Rattle.bsc_sockets.specs.declared.stopping.TheConstants.{INPUT}
 
 -- These places, followed by this one unless it is one of them.
@@ -11,9 +12,14 @@ abbrev pub with_place : List ℕ → ℕ → List ℕ
 with_place places place =
     if list_any (λ other. other == place) places then places else (places ++ place ∷ [])
 
--- These places, followed by that of an event, unless it is that of the input.
+-- Whether an event with this token is of no connection and of no listener, but of the input or of
+-- the programs that the station serves.
+abbrev pub is_apart : ℕ → Bool
+is_apart token = (token == INPUT) || (token == CLIENTS)
+
+-- These places, followed by that of an event, if it has a place.
 abbrev pub with_event : List ℕ → ℕ → List ℕ
-with_event places place = if place == INPUT then places else with_place places place
+with_event places place = if is_apart place then places else with_place places place
 
 -- These places, followed by those of these events, in order.
 abbrev pub with_events : List ℕ → List Event → List ℕ

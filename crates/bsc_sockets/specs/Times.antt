@@ -1,10 +1,12 @@
--- The times of the time-out and of the gaps.
+-- The times of the pause, the time-out and the gaps.
 use Rattle.std.specs.Prelude.{◌≡◌, ⊤, ℕ, List, Option, None, Some, IsSome, nat_le}
 use Rattle.std.specs.Prelude.{slice_index_or, slice_set, if◌then◌else◌}
 use Rattle.bsc_connections.specs.declared.awaited.Awaited.{Awaited}
-use Rattle.bsc_connections.specs.declared.awaited.Awaited.TheVariants.{Gap, TimeOut}
+use Rattle.bsc_connections.specs.declared.awaited.Awaited.TheVariants.{Client, Gap, TimeOut}
 use Rattle.bsc_connections.specs.declared.awaited.Pace.{Pace}
 use Rattle.bsc_connections.specs.declared.awaited.Pace.TheVariants.{AtOnce, AfterPause}
+use Rattle.bsc_sockets.specs.declared.pausing.Rest.{Rest}
+use Rattle.bsc_sockets.specs.declared.pausing.Rest.TheVariants.{Over, Called}
 use Rattle.bsc_sockets.specs.declared.time_limit.TimeLimit.{TimeLimit}
 use Rattle.bsc_sockets.specs.declared.times.Time.{Time}
 use Rattle.std.specs.declared.time.Duration.{Duration}
@@ -25,11 +27,10 @@ HasBegun whole (Since limit) new = new ≡ Since limit
 HasBegun whole Anew (Since limit) = limit.time ≡ whole
 HasBegun whole Anew Anew = ⊥
 
--- A wait that begins so, with pauses of this length, lets this pass.
-abbrev pub Rests : Pace → Duration → Option TimeLimit → Type 0
-Rests AtOnce pause limit = limit ≡ None
-Rests AfterPause pause None = ⊥
-Rests AfterPause pause (Some limit) = limit.time ≡ pause
+-- The time of the pause with which a wait begins so, if it begins with one.
+abbrev pub pause_of : Pace → Option Time
+pause_of AtOnce = None
+pause_of AfterPause = Some Anew
 
 -- The end of a time: of a gap, or of the time-out.
 abbrev pub IsEnd : Awaited → Type 0
@@ -46,15 +47,33 @@ event_of (Some place) = Gap place
 abbrev pub gap_at : List (Option Time) → ℕ → Option Time
 gap_at gaps place = slice_index_or gaps place None
 
--- If a gap is awaited its time has begun, and has this length; if none is, none is.
-abbrev pub GapRuns : Duration → Option Time → Option Time → Type 0
-GapRuns whole None new = new ≡ None
-GapRuns whole (Some time) None = ⊥
-GapRuns whole (Some time) (Some new) = HasBegun whole time new
+-- If a time is awaited it has begun, and has this length; if none is, none is.
+abbrev pub Runs : Duration → Option Time → Option Time → Type 0
+Runs whole None new = new ≡ None
+Runs whole (Some time) None = ⊥
+Runs whole (Some time) (Some new) = HasBegun whole time new
+
+-- The time that begins with a wait that has this limit, if it has one.
+abbrev pub since : Option TimeLimit → Option Time
+since None = None
+since (Some limit) = Some (Since limit)
+
+-- A pause of this length with which a wait begins so has let its time pass, which had this limit;
+-- or a program has interrupted it, and then it goes on.
+abbrev pub IsRest : Duration → Option Time → Rest → Option Time → Type 0
+IsRest pause before (Over limit) after = Runs pause before (since limit) × (after ≡ None)
+IsRest pause before (Called limit) after =
+    Runs pause before (Some (Since limit)) × (after ≡ Some (Since limit))
+
+-- The pause, of this length, with which a wait begins that ends with this event. It has ended
+-- unless a program has interrupted it: then it has begun, and the next wait goes on with it.
+abbrev pub Rests : Duration → Option Time → Awaited → Option Time → Type 0
+Rests pause before Client after = IsSome after → Runs pause before after
+Rests pause before awaited after = after ≡ None
 
 -- This is so at each place.
 abbrev pub GapsRun : Duration → List (Option Time) → List (Option Time) → Type 0
-GapsRun whole old new = (place : ℕ) → GapRuns whole (gap_at old place) (gap_at new place)
+GapsRun whole old new = (place : ℕ) → Runs whole (gap_at old place) (gap_at new place)
 
 -- What ends next, with a gap at this place of which this is left: the gap, if no more is left of
 -- it.

@@ -8,6 +8,9 @@
 //!   peer with an address that is not allowed is turned away.
 //! - A descriptor such as that of standard input asks the station to end when its other end is
 //!   closed.
+//! - Another one, such as that of another `Poll`, tells when a program may have to be served that
+//!   the station serves beside its line. No program holds up the line: its time-outs and pauses end
+//!   in their time, and its connections are served in turn with the programs.
 //! - `Reading` and `Writing` are the two directions of a connection. A read does not wait, and a
 //!   write waits no longer than the time-out.
 //!
@@ -15,10 +18,12 @@
 //! and the order in which connections are served is this project's own.
 #![tactic(auto)]
 
+mod asking;
 mod begin;
 mod directions;
 mod error;
 mod listening;
+mod newcomers;
 mod next_peer;
 mod pausing;
 mod ready;

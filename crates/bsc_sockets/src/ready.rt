@@ -1,7 +1,8 @@
 //! The order in which places are served.
 
-ghost use Rattle.std.specs.Prelude.{◌≡◌, ◌∷◌, ◌++◌, ◌↔◌, [], List, ℕ, IfOk, IsNone, MatchOption};
-ghost use Rattle.std.specs.Prelude.{OnOk, OnErr};
+ghost use Rattle.std.specs.Prelude.{◌≡◌, ◌∷◌, ◌++◌, ◌↔◌, ◌==◌, [], List, ℕ, IfOk, IsNone};
+ghost use Rattle.std.specs.Prelude.{MatchOption, OnOk, OnErr};
+ghost use Rattle.std.specs.List.{list_all};
 ghost use Rattle.bsc_sockets.specs.Ready.{with_place, without_place, IsServed};
 
 use std::alloc::{AllocError, Allocator};
@@ -47,6 +48,13 @@ impl<A: Allocator> Ready<A> {
         ensures { self.new ≡ without_place self.old place }
     {
         self.places.retain(|ready| *ready != place);
+    }
+
+    /// Returns whether no place is in the list but this one.
+    pub fn has_only(&self, place: usize) -> bool
+        ensures { result ≡ list_all (λ other. other == place) self.now }
+    {
+        self.places.iter().all(|ready| *ready == place)
     }
 
     /// Returns the place to be served now, which then becomes the last; None if no place is ready.

@@ -37,4 +37,8 @@ pub struct ConnectionSettings {
     /// A descriptor, such as 0 for standard input: the station is asked to end when its other end
     /// is closed. It is neither read nor closed.
     pub stops_with: Option<RawFd>,
+
+    /// A descriptor that is readable when a program that the station serves may have to be served,
+    /// such as that of another `Poll`. It is neither read nor closed.
+    pub serves: Option<RawFd>,
 }

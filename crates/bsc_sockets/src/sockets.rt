@@ -9,7 +9,9 @@ ghost use Rattle.bsc_sockets.specs.Ready.{without_place};
 ghost use Rattle.bsc_sockets.specs.Standings.{after_joining, is_known, moves_time_out};
 ghost use Rattle.bsc_sockets.specs.Standings.{standings_value};
 
+use crate::asking::watch_programs;
 use crate::directions::{Reading, Writing, directions};
+use crate::pausing::Rest;
 use crate::ready::Ready;
 use crate::standings::Standings;
 use crate::stopping::{Stopping, watch};
@@ -42,9 +44,11 @@ pub struct Sockets<'a, N: Net + Clock, A: Allocator> {
     pub(crate) settings: ConnectionSettings,
     /// Whether the station is asked to end.
     pub(crate) stopping: Stopping,
+    /// Whether a program has called that may have to be served, and that was not told yet.
+    pub(crate) called: bool,
     /// The peers, and how long nobody has answered at each place.
     pub(crate) standings: Standings<A>,
-    /// The times of the time-out and of the gaps.
+    /// The times of the pause, the time-out and the gaps.
     pub(crate) times: Times<A>,
     /// The time for which what is read next may have lain unread.
     pub(crate) unread: Unread,
@@ -63,7 +67,9 @@ pub(crate) struct Peer {
 
 impl<'a, N: Net + Clock, A: Allocator + Copy> Sockets<'a, N, A> {
     /// Creates this many places, with no connection and no listener. Fails with `CannotWatchInput`
-    /// if the system does not report the descriptor that asks the station to end.
+    /// if the system does not report the descriptor that asks the station to end, with `Sockets` if
+    /// it does not report that of the programs or refuses what else is needed, and with `Memory` if
+    /// memory cannot be allocated.
     pub(crate) fn new(
         runtime: &'a N,
         alloc: A,
@@ -80,6 +86,7 @@ impl<'a, N: Net + Clock, A: Allocator + Copy> Sockets<'a, N, A> {
         ensures nobody { IfOk result (λ sockets. (sockets.listener ≡ None)
             × (sockets.newcomer ≡ None) × (sockets.refuses ≡ false)) }
         ensures not_asked { IfOk result (λ sockets. sockets.stopping ≡ Stopping.NotAsked) }
+        ensures not_called { IfOk result (λ sockets. sockets.called ≡ false) }
         ensures unread { IfOk result (λ sockets. IsNone sockets.unread.limit) }
         ensures failed { IfErr result (IsUnwatched (is_some settings.stops_with)) }
     {
@@ -87,11 +94,14 @@ impl<'a, N: Net + Clock, A: Allocator + Copy> Sockets<'a, N, A> {
         if let Some(fd) = settings.stops_with {
             watch(&poll, fd)?;
         }
+        if let Some(fd) = settings.serves {
+            watch_programs(&poll, fd)?;
+        }
         Ok(Sockets {
             runtime,
             alloc,
             poll,
-            events: Events::with_capacity(alloc, places + 2)?,
+            events: Events::with_capacity(alloc, places + 3)?,
             ready: Ready::new(alloc, places + 1)?,
             places,
             listener: None,
@@ -99,6 +109,7 @@ impl<'a, N: Net + Clock, A: Allocator + Copy> Sockets<'a, N, A> {
             refuses: false,
             settings,
             stopping: Stopping::NotAsked,
+            called: false,
             standings: Standings::new(alloc, places)?,
             times: Times::new(alloc, places)?,
             unread: Unread::new(),
@@ -255,15 +266,16 @@ impl<'a, N: Net + Clock, A: Allocator + Copy> Waiter<Reading, Writing<'a, N, A>>
     ghost use Rattle.std.specs.Prelude.{◌≡◌, ◌+◌, IfErr, IfOk, IfSome, IsNone, IsSome, OnOk, None};
     ghost use Rattle.std.specs.Prelude.{Some};
     ghost use Rattle.std.specs.Prelude.{true, false, is_some, length, slice_get, slice_set};
-    ghost use Rattle.bsc_connections.specs.declared.awaited.Pace.TheVariants.{AtOnce};
     ghost use Rattle.bsc_sockets.specs.Answers.{IsAnswer, IsWaitError, newcomer_address};
     ghost use Rattle.bsc_sockets.specs.Answers.{newcomer_may};
+    ghost use Rattle.bsc_sockets.specs.Calls.{TellsCall, is_reported_in};
     ghost use Rattle.bsc_sockets.specs.Ready.{without_place};
     ghost use Rattle.bsc_sockets.specs.Standings.{IsQuietest, after_joining, counted_after};
     ghost use Rattle.bsc_sockets.specs.Standings.{is_known, moves_time_out, peer_of, silence_of};
     ghost use Rattle.bsc_sockets.specs.Standings.{standings_after, standings_value, time_after};
     ghost use Rattle.bsc_sockets.specs.Stopping.{StopRuns, stops_in, times_told};
-    ghost use Rattle.bsc_sockets.specs.Times.{HasBegun, IsKept, RunGaps};
+    ghost use Rattle.bsc_sockets.specs.Times.{HasBegun, IsKept, Rests, RunGaps, pause_of};
+    ghost use Rattle.bsc_sockets.specs.declared.asking.TheConstants.{CLIENTS};
     ghost use Rattle.bsc_sockets.specs.declared.times.Time.TheVariants.{Anew};
 
     ghost waits = { λ before result after.
@@ -272,14 +284,20 @@ impl<'a, N: Net + Clock, A: Allocator + Copy> Waiter<Reading, Writing<'a, N, A>>
         × (IfOk result (λ awaited.
         times_told after.stopping ≡ times_told before.stopping + stops_in awaited))
         × (after.settings.allowed ≡ before.settings.allowed)
-        × (OnOk result (after.settings ≡ record before.settings { begins = false }))
+        × (OnOk result (IsNone after.times.pause
+        → after.settings ≡ record before.settings { begins = false }))
+        × (OnOk result (IsSome after.times.pause → after.settings ≡ before.settings))
         × IsKept before.times.time_out after.times.time_out
-        × (OnOk result
-        (HasBegun before.settings.time_out before.times.time_out after.times.time_out))
-        × (OnOk result (after.times.pace ≡ AtOnce))
+        × (OnOk result (IsNone after.times.pause
+        → HasBegun before.settings.time_out before.times.time_out after.times.time_out))
+        × (OnOk result (IsSome after.times.pause
+        → after.times.time_out ≡ before.times.time_out))
+        × (IfOk result (λ awaited. Rests before.settings.pause before.times.pause awaited
+        after.times.pause))
         × (after.standings.places ≡ before.standings.places)
-        × (IfOk result (λ awaited. RunGaps before.settings.gap awaited before.times.gaps.items
-        after.times.gaps.items))
+        × (IfOk result (λ awaited. IsNone after.times.pause
+        → RunGaps before.settings.gap awaited before.times.gaps.items after.times.gaps.items))
+        × (OnOk result (IsSome after.times.pause → after.times.gaps ≡ before.times.gaps))
         × (IfOk result (λ awaited. after.standings.silence
         ≡ counted_after
         (silence_of before.settings.begins (as_nanos before.settings.time_out)) awaited
@@ -287,7 +305,12 @@ impl<'a, N: Net + Clock, A: Allocator + Copy> Waiter<Reading, Writing<'a, N, A>>
         × (after.places ≡ before.places)
         × (after.listener ≡ before.listener)
         × (IsSome before.newcomer → after.newcomer ≡ before.newcomer)
+        × (IfOk result (λ awaited. TellsCall before.called
+        (is_reported_in CLIENTS after.events) awaited after.called))
+        × (OnOk result (times_told before.stopping ≡ 1 → IsSome after.times.pause
+        → after.stopping ≡ before.stopping))
         × (OnOk result (times_told before.stopping ≡ 1 → times_told after.stopping ≡ 1
+        → IsNone after.times.pause
         → StopRuns before.settings.time_out before.stopping after.stopping)) };
 
     ghost names = { λ waiter place named.
@@ -299,7 +322,7 @@ impl<'a, N: Net + Clock, A: Allocator + Copy> Waiter<Reading, Writing<'a, N, A>>
         let standings = standings_value before.standings in
         (after.times.time_out ≡ time_after
         (moves_time_out (is_some before.listener) standings what) before.times.time_out)
-        × (after.times.pace ≡ pace)
+        × (after.times.pause ≡ pause_of pace)
         × (after.times.gaps ≡ before.times.gaps)
         × (standings_value after.standings ≡ standings_after standings what)
         × (after ≡ record before { times = after.times; standings = after.standings }) };
@@ -313,7 +336,7 @@ impl<'a, N: Net + Clock, A: Allocator + Copy> Waiter<Reading, Writing<'a, N, A>>
     ghost begins_gap = { λ before place after.
         (after.times.time_out ≡ before.times.time_out)
         × (after.times.gaps.items ≡ slice_set before.times.gaps.items place (Some Anew))
-        × (after.times.pace ≡ before.times.pace)
+        × (after.times.pause ≡ before.times.pause)
         × (after ≡ record before { times = after.times }) };
 
     ghost has_nothing_left = { λ before place after.
@@ -344,7 +367,9 @@ impl<'a, N: Net + Clock, A: Allocator + Copy> Waiter<Reading, Writing<'a, N, A>>
         (as_nanos waiter.settings.replace_after) named };
 
     fn wait(&mut self) -> Result<Awaited, LiveError> {
-        let _limit = self.rest()?;
+        if let Rest::Called { .. } = self.rest()? {
+            return Ok(Awaited::Client);
+        }
         if self.unread.is_unbegun() {
             self.begin_unread();
         }

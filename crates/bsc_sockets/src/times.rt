@@ -1,10 +1,12 @@
-//! The times of the time-out and of the gaps.
+//! The times of the pause, the time-out and the gaps.
 
-ghost use Rattle.std.specs.Prelude.{◌≡◌, IfErr, IfOk, IsSome, None, OnOk, Some, replicate};
+ghost use Rattle.std.specs.Prelude.{◌≡◌, IfErr, IfOk, IsSome, None, OnOk, Some, false, replicate};
 ghost use Rattle.std.specs.Prelude.{slice_set};
 ghost use Rattle.bsc_sockets.specs.Answers.{IsWaitError};
-ghost use Rattle.bsc_sockets.specs.Times.{GapRuns, GapsRun, HasBegun, IsAwaited, IsEnd, IsKept};
-ghost use Rattle.bsc_sockets.specs.Times.{earlier, event_of, without_ended};
+ghost use Rattle.bsc_sockets.specs.Calls.{is_call};
+ghost use Rattle.bsc_sockets.specs.Times.{GapsRun, HasBegun, IsAwaited, IsEnd, IsKept, Runs};
+ghost use Rattle.bsc_sockets.specs.Times.{earlier, ended_gap, event_of, pause_of, since};
+ghost use Rattle.bsc_sockets.specs.Times.{without_ended};
 
 use crate::time_limit::TimeLimit;
 use bsc_connections::{Awaited, LiveError, Pace};
@@ -30,23 +32,24 @@ pub(crate) struct End {
     pub(crate) gap: Option<usize>,
 }
 
-/// The time of the time-out, and of the gap of each connection on which one is awaited. Each is
-/// begun anew by its own call, and by nothing else.
+/// The time of the time-out, of the pause with which a wait begins, and of the gap of each
+/// connection on which one is awaited. Each is begun anew by its own call, and by nothing else.
 #[derive(Drop)]
 pub(crate) struct Times<A: Allocator> {
     time_out: Time,
-    /// How the next wait begins.
-    pace: Pace,
+    /// The time of the pause with which the next wait begins, or goes on; None if it begins at
+    /// once.
+    pause: Option<Time>,
     /// The time of the gap at each place, if one is awaited there.
     gaps: Vec<Option<Time>, A>,
 }
 
 impl<A: Allocator> Times<A> {
-    /// Returns the times for this many places: that of the time-out begins with the next wait, and
-    /// no gap is awaited.
+    /// Returns the times for this many places: that of the time-out begins with the next wait,
+    /// which begins at once, and no gap is awaited.
     pub(crate) fn new(alloc: A, places: usize) -> Result<Times<A>, AllocError>
         ensures time_out { IfOk result (λ times. times.time_out ≡ Time.Anew) }
-        ensures pace { IfOk result (λ times. times.pace ≡ Pace.AtOnce) }
+        ensures pause { IfOk result (λ times. times.pause ≡ None) }
         ensures gaps { IfOk result (λ times. times.gaps.items ≡ replicate places None) }
     {
         let mut gaps = Vec::new(alloc);
@@ -55,7 +58,7 @@ impl<A: Allocator> Times<A> {
         }
         Ok(Times {
             time_out: Time::Anew,
-            pace: Pace::AtOnce,
+            pause: None,
             gaps,
         })
     }
@@ -63,7 +66,7 @@ impl<A: Allocator> Times<A> {
     /// Begins the time of the time-out anew, with the next wait.
     pub(crate) fn begin_time_out(&mut self)
         ensures time_out { self.new.time_out ≡ Time.Anew }
-        ensures pace { self.new.pace ≡ self.old.pace }
+        ensures pause { self.new.pause ≡ self.old.pause }
         ensures gaps { self.new.gaps ≡ self.old.gaps }
     {
         self.time_out = Time::Anew;
@@ -72,7 +75,7 @@ impl<A: Allocator> Times<A> {
     /// Begins the gap at this place anew, with the next wait.
     pub(crate) fn begin_gap(&mut self, place: usize)
         ensures time_out { self.new.time_out ≡ self.old.time_out }
-        ensures pace { self.new.pace ≡ self.old.pace }
+        ensures pause { self.new.pause ≡ self.old.pause }
         ensures gaps { self.new.gaps.items
             ≡ slice_set self.old.gaps.items place (Some Time.Anew) }
     {
@@ -84,28 +87,50 @@ impl<A: Allocator> Times<A> {
     /// Begins the next wait so.
     pub(crate) fn set_pace(&mut self, pace: Pace)
         ensures time_out { self.new.time_out ≡ self.old.time_out }
-        ensures pace { self.new.pace ≡ pace }
+        ensures pause { self.new.pause ≡ pause_of pace }
         ensures gaps { self.new.gaps ≡ self.old.gaps }
     {
-        self.pace = pace;
+        self.pause = match pace {
+            Pace::AtOnce => None,
+            Pace::AfterPause => Some(Time::Anew),
+        };
     }
 
-    /// Returns how this wait begins; the next one begins at once.
-    pub(crate) fn take_pace(&mut self) -> Pace
+    /// Begins the time of the pause, which takes `pause`, if this wait is to begin with one and it
+    /// has not begun. Returns its limit; None if there is none. Fails with `Wait` if the clock
+    /// does.
+    pub(crate) fn begin_pause<C: Clock>(
+        &mut self,
+        clock: &C,
+        pause: Duration,
+    ) -> Result<Option<TimeLimit>, LiveError>
         ensures time_out { self.new.time_out ≡ self.old.time_out }
-        ensures pace { self.new.pace ≡ Pace.AtOnce }
+        ensures runs { OnOk result (Runs pause self.old.pause self.new.pause) }
+        ensures limit { IfOk result (λ limit. self.new.pause ≡ since limit) }
+        ensures failed { IfErr result IsWaitError }
         ensures gaps { self.new.gaps ≡ self.old.gaps }
-        ensures taken { result ≡ self.old.pace }
     {
-        let pace = self.pace;
-        self.pace = Pace::AtOnce;
-        pace
+        let Some(begun) = self.pause else {
+            return Ok(None);
+        };
+        let (limit, _) = running(clock, begun, pause)?;
+        self.pause = Some(Time::Since(limit));
+        Ok(Some(limit))
+    }
+
+    /// Ends the pause with which this wait began.
+    pub(crate) fn end_pause(&mut self)
+        ensures time_out { self.new.time_out ≡ self.old.time_out }
+        ensures pause { self.new.pause ≡ None }
+        ensures gaps { self.new.gaps ≡ self.old.gaps }
+    {
+        self.pause = None;
     }
 
     /// Awaits no gap at this place.
     pub(crate) fn stop_gap(&mut self, place: usize)
         ensures time_out { self.new.time_out ≡ self.old.time_out }
-        ensures pace { self.new.pace ≡ self.old.pace }
+        ensures pause { self.new.pause ≡ self.old.pause }
         ensures gaps { self.new.gaps.items ≡ slice_set self.old.gaps.items place None }
     {
         if let Some(gap) = self.gaps.get_mut(place) {
@@ -125,7 +150,7 @@ impl<A: Allocator> Times<A> {
         ensures time_out { IsKept self.old.time_out self.new.time_out }
         ensures begun { OnOk result (HasBegun time_out self.old.time_out self.new.time_out) }
         ensures failed { IfErr result IsWaitError }
-        ensures pace { self.new.pace ≡ self.old.pace }
+        ensures pause { self.new.pause ≡ self.old.pause }
         ensures gaps { OnOk result (GapsRun gap self.old.gaps.items self.new.gaps.items) }
         ensures awaited { IfOk result (λ end. IsAwaited end.gap self.old.gaps.items) }
     {
@@ -143,9 +168,11 @@ impl<A: Allocator> Times<A> {
     /// Returns the event of this end. A gap that has ended is no longer awaited.
     pub(crate) fn end(&mut self, end: End) -> Awaited
         ensures event { IsEnd result }
+        ensures no_call { is_call result ≡ false }
         ensures whose { result ≡ event_of end.gap }
+        ensures gap { ended_gap result ≡ end.gap }
         ensures time_out { self.new.time_out ≡ self.old.time_out }
-        ensures pace { self.new.pace ≡ self.old.pace }
+        ensures pause { self.new.pause ≡ self.old.pause }
         ensures gaps { self.new.gaps.items ≡ without_ended end.gap self.old.gaps.items }
     {
         let Some(connection) = end.gap else {
@@ -163,7 +190,7 @@ fn run_gap<C: Clock>(
     time: &mut Option<Time>,
     gap: Duration,
 ) -> Result<Option<Duration>, LiveError>
-    ensures runs { OnOk result (GapRuns gap time.old time.new) }
+    ensures runs { OnOk result (Runs gap time.old time.new) }
     ensures awaited { IfOk result (λ left. IsSome left → IsSome time.old) }
     ensures failed { IfErr result IsWaitError }
 {

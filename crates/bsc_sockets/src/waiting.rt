@@ -1,30 +1,22 @@
 //! Waits for what is ready.
 
-ghost use Rattle.std.specs.Prelude.{◌≡◌, ◌+◌, ◌↔◌, IfErr, IfOk, IfSome, IsSome, IsTrue, OnOk};
-ghost use Rattle.std.specs.Prelude.{◌==◌, ◌&&◌, IsNone, None, false, not, true};
+ghost use Rattle.std.specs.Prelude.{◌≡◌, ◌≢◌, ◌+◌, ◌==◌, IfErr, IfOk, IfSome, IsNone};
+ghost use Rattle.std.specs.Prelude.{IsSome, None, false, true};
 ghost use Rattle.std.specs.Duration.{as_nanos};
 ghost use Rattle.std.specs.Option.{option_map_or};
-ghost use Rattle.mio.specs.Events.{items};
-ghost use Rattle.bsc_sockets.specs.Answers.{IsAnswer, IsWaitError, listener_event as event_at};
-ghost use Rattle.bsc_sockets.specs.Answers.{peer_event};
-ghost use Rattle.bsc_sockets.specs.Listening.{is_refused, not_taken_by};
-ghost use Rattle.bsc_sockets.specs.Listening.{sought_after};
-ghost use Rattle.bsc_sockets.specs.Ready.{with_event, with_events};
+ghost use Rattle.bsc_sockets.specs.Answers.{IsAnswer, IsWaitError};
+ghost use Rattle.bsc_sockets.specs.Calls.{FindsCall, TellsCall, is_call, is_reported_in, sought_in};
 ghost use Rattle.bsc_sockets.specs.Serving.{is_overdue, served_after, served_overdue};
 ghost use Rattle.bsc_sockets.specs.Standings.{counted_after};
-ghost use Rattle.bsc_sockets.specs.Stopping.{asked_if, is_closed_in, stops_in, times_told};
+ghost use Rattle.bsc_sockets.specs.Stopping.{stops_in, times_told};
 ghost use Rattle.bsc_sockets.specs.Times.{IsEnd, ended_gap, event_of, without_ended};
 
 use crate::Sockets;
-use crate::ready::Ready;
-use crate::sockets::Peer;
-use crate::stopping::{INPUT, is_closed};
+use crate::asking::CLIENTS;
 use crate::time_limit::TimeLimit;
 use crate::times::End;
 use bsc_connections::{Awaited, LiveError};
-use mio::Events;
-use std::alloc::{AllocError, Allocator};
-use std::io::ErrorKind;
+use std::alloc::Allocator;
 use std::net::Net;
 use std::time::{Clock, Duration};
 
@@ -40,8 +32,11 @@ const MAX_SERVED_OVERDUE: usize = 4;
 /// What is sought among what is ready.
 #[derive(Clone, Copy)]
 pub(crate) enum Sought {
-    /// A peer, or octets.
+    /// A peer, octets, or a program that may have to be served.
     Anything,
+
+    /// A peer, or octets.
+    Line,
 
     /// A peer.
     Newcomer,
@@ -65,6 +60,10 @@ impl<'a, N: Net + Clock, A: Allocator + Copy> Sockets<'a, N, A> {
         ensures newcomer { IsSome self.old.newcomer → self.new.newcomer ≡ self.old.newcomer }
         ensures since { times_told self.old.stopping ≡ 1
             → self.new.stopping ≡ self.old.stopping }
+        ensures calls { IfOk result (λ awaited. TellsCall self.old.called
+            (is_reported_in CLIENTS self.new.events) awaited self.new.called) }
+        ensures sought { IfOk result (λ awaited.
+            is_call awaited ≡ true → sought ≡ Sought.Anything) }
     {
         if self.unasked >= MAX_ANSWERS_UNASKED {
             self.ask(Duration::ZERO)?;
@@ -75,8 +74,8 @@ impl<'a, N: Net + Clock, A: Allocator + Copy> Sockets<'a, N, A> {
         }
     }
 
-    /// As `within`, of anything, but returns `TimeOut` at once if no time is left and enough was
-    /// served since.
+    /// As `within`, of anything, but if no time is left no program is served, so that none holds up
+    /// the end, and `TimeOut` is returned at once if enough was served since.
     pub(crate) fn in_time(&mut self, left: Duration) -> Result<Awaited, LiveError>
         ensures answer { IfOk result
             (IsAnswer self.new.settings.allowed self.new.places self.new.newcomer
@@ -93,12 +92,16 @@ impl<'a, N: Net + Clock, A: Allocator + Copy> Sockets<'a, N, A> {
         ensures newcomer { IsSome self.old.newcomer → self.new.newcomer ≡ self.old.newcomer }
         ensures since { times_told self.old.stopping ≡ 1
             → self.new.stopping ≡ self.old.stopping }
+        ensures calls { IfOk result (λ awaited. TellsCall self.old.called
+            (is_reported_in CLIENTS self.new.events) awaited self.new.called) }
+        ensures sought { IfOk result (λ awaited. is_call awaited ≡ true
+            → sought_in (as_nanos left == 0) ≡ Sought.Anything) }
     {
         if self.is_overdue(left) {
             self.begin_unread();
             return Ok(Awaited::TimeOut);
         }
-        self.within(left, Sought::Anything)
+        self.within(left, sought_in(left))
     }
 
     /// Returns whether no time is left and enough was served since.
@@ -114,6 +117,8 @@ impl<'a, N: Net + Clock, A: Allocator + Copy> Sockets<'a, N, A> {
         ensures places { self.new.places ≡ self.old.places }
         ensures listener { self.new.listener ≡ self.old.listener }
         ensures newcomer { IsSome self.old.newcomer → self.new.newcomer ≡ self.old.newcomer }
+        ensures called { self.new.called ≡ self.old.called }
+        ensures events { self.new.events ≡ self.old.events }
     {
         self.overdue = if left.is_zero() {
             self.overdue.saturating_add(1)
@@ -146,9 +151,14 @@ impl<'a, N: Net + Clock, A: Allocator + Copy> Sockets<'a, N, A> {
         ensures newcomer { IsSome self.old.newcomer → self.new.newcomer ≡ self.old.newcomer }
         ensures since { times_told self.old.stopping ≡ 1
             → self.new.stopping ≡ self.old.stopping }
+        ensures calls { IfOk result (λ awaited. TellsCall self.old.called
+            (is_reported_in CLIENTS self.new.events) awaited self.new.called) }
+        ensures sought { IfOk result (λ awaited.
+            is_call awaited ≡ true → sought ≡ Sought.Anything) }
     {
         self.ask(Duration::ZERO)?;
         if let Some(awaited) = self.found(sought) {
+            self.renew_unread(awaited);
             return Ok(awaited);
         }
         let awaited = self.arriving_within(time, sought)?;
@@ -163,6 +173,19 @@ impl<'a, N: Net + Clock, A: Allocator + Copy> Sockets<'a, N, A> {
             (λ limit. limit.time ≡ self.old.settings.late_after) }
     {
         self.unread.begin(self.runtime, self.settings.late_after);
+    }
+
+    /// If a program is served, and there is nothing to read on the line, begins the time anew for
+    /// which what is read next may have lain unread. So a program that always calls makes nothing
+    /// late that the station sends.
+    fn renew_unread(&mut self, awaited: Awaited)
+        ensures others { self.new ≡ record self.old { unread = self.new.unread } }
+        ensures late { self.new.unread ≢ self.old.unread → IfSome self.new.unread.limit
+            (λ limit. limit.time ≡ self.old.settings.late_after) }
+    {
+        if awaited == Awaited::Client && self.ready.has_only(self.places) {
+            self.begin_unread();
+        }
     }
 
     /// As `within`, but looks only at what arrives from now on.
@@ -182,6 +205,10 @@ impl<'a, N: Net + Clock, A: Allocator + Copy> Sockets<'a, N, A> {
         ensures newcomer { IsSome self.old.newcomer → self.new.newcomer ≡ self.old.newcomer }
         ensures since { times_told self.old.stopping ≡ 1
             → self.new.stopping ≡ self.old.stopping }
+        ensures calls { IfOk result (λ awaited. TellsCall self.old.called
+            (is_reported_in CLIENTS self.new.events) awaited self.new.called) }
+        ensures sought { IfOk result (λ awaited.
+            is_call awaited ≡ true → sought ≡ Sought.Anything) }
     {
         let Ok(limit) = TimeLimit::begin(self.runtime, time) else {
             return Err(LiveError::Wait);
@@ -226,6 +253,13 @@ impl<'a, N: Net + Clock, A: Allocator + Copy> Sockets<'a, N, A> {
         ensures newcomer { IsSome self.old.newcomer → self.new.newcomer ≡ self.old.newcomer }
         ensures since { times_told self.old.stopping ≡ 1
             → self.new.stopping ≡ self.old.stopping }
+        ensures events { self.new.events ≡ self.old.events }
+        ensures calls { IfSome result (λ awaited.
+            FindsCall self.old.called awaited self.new.called) }
+        ensures sought { IfSome result (λ awaited.
+            is_call awaited ≡ true → sought ≡ Sought.Anything) }
+        ensures nothing { IsNone result → (sought ≡ Sought.Anything → self.old.called ≡ false)
+            × (self.new.called ≡ self.old.called) }
     {
         if self.stopping.tell() {
             return Some(Awaited::Stopped);
@@ -233,8 +267,20 @@ impl<'a, N: Net + Clock, A: Allocator + Copy> Sockets<'a, N, A> {
         match sought {
             Sought::Newcomer if self.has_newcomer() => Some(self.newcomer_event()),
             Sought::Newcomer => None,
-            Sought::Anything => self.next_ready(),
+            Sought::Anything if self.take_call() => Some(Awaited::Client),
+            Sought::Anything | Sought::Line => self.next_ready(),
         }
+    }
+
+    /// Returns whether a program has called that may have to be served. It is then served, so that
+    /// it has called no more.
+    pub(crate) fn take_call(&mut self) -> bool
+        ensures called { result ≡ self.old.called }
+        ensures others { self.new ≡ record self.old { called = false } }
+    {
+        let is_called = self.called;
+        self.called = false;
+        is_called
     }
 
     /// Returns what is to be served now. It takes the ready places in turn, including that of the
@@ -245,6 +291,7 @@ impl<'a, N: Net + Clock, A: Allocator + Copy> Sockets<'a, N, A> {
             (IsAnswer self.new.settings.allowed self.new.places self.new.newcomer
             self.new.ready) }
         ensures no_gap { IfSome result (λ awaited. ended_gap awaited ≡ None) }
+        ensures no_call { IfSome result (λ awaited. is_call awaited ≡ false) }
         ensures settings { self.new.settings ≡ self.old.settings }
         ensures stopping { self.new.stopping ≡ self.old.stopping }
         ensures asked_nothing { option_map_or stops_in result 0 ≡ 0 }
@@ -253,6 +300,8 @@ impl<'a, N: Net + Clock, A: Allocator + Copy> Sockets<'a, N, A> {
         ensures places { self.new.places ≡ self.old.places }
         ensures listener { self.new.listener ≡ self.old.listener }
         ensures newcomer { IsSome self.old.newcomer → self.new.newcomer ≡ self.old.newcomer }
+        ensures called { self.new.called ≡ self.old.called }
+        ensures events { self.new.events ≡ self.old.events }
     {
         'turns: for _ in 0..=self.places {
             let place = self.ready.next_place()?;
@@ -267,141 +316,16 @@ impl<'a, N: Net + Clock, A: Allocator + Copy> Sockets<'a, N, A> {
         None
     }
 
-    /// Returns the event of the listener: that of the peer that has connected, or that the system
-    /// cannot accept one, if that is new.
-    fn listener_event(&mut self) -> Option<Awaited>
-        ensures event { result ≡ event_at self.new.settings.allowed self.new.newcomer
-            (self.new.refuses && not self.old.refuses) }
-        ensures answer { IfSome result
-            (IsAnswer self.new.settings.allowed self.new.places self.new.newcomer
-            self.new.ready) }
-        ensures no_gap { IfSome result (λ awaited. ended_gap awaited ≡ None) }
-        ensures settings { self.new.settings ≡ self.old.settings }
-        ensures stopping { self.new.stopping ≡ self.old.stopping }
-        ensures asked_nothing { option_map_or stops_in result 0 ≡ 0 }
-        ensures times { self.new.times ≡ self.old.times }
-        ensures standings { self.new.standings ≡ self.old.standings }
-        ensures places { self.new.places ≡ self.old.places }
-        ensures listener { self.new.listener ≡ self.old.listener }
-        ensures newcomer { IsSome self.old.newcomer → self.new.newcomer ≡ self.old.newcomer }
-    {
-        let refused = self.refuses;
-        if self.has_newcomer() {
-            return Some(self.newcomer_event());
-        }
-        if self.refuses && !refused {
-            Some(Awaited::NotAccepted)
-        } else {
-            None
-        }
-    }
-
-    /// Returns the event of the peer that has connected: `NotAllowed` if it may not.
-    fn newcomer_event(&self) -> Awaited
-        requires { IsSome self.now.newcomer }
-        ensures answer { IsAnswer self.now.settings.allowed self.now.places
-            self.now.newcomer
-            self.now.ready result }
-        ensures event { IfSome self.now.newcomer
-            (λ peer. result ≡ peer_event self.now.settings.allowed peer) }
-        ensures stops { stops_in result ≡ 0 }
-        ensures no_gap { ended_gap result ≡ None }
-    {
-        match &self.newcomer {
-            Some(peer) if !self.settings.allowed.allows(peer.address.ip()) => Awaited::NotAllowed,
-            _ => Awaited::Newcomer,
-        }
-    }
-
-    /// Returns whether there is a peer that has connected and has no place yet, and keeps that
-    /// peer. Records whether the system refuses to accept one.
-    fn has_newcomer(&mut self) -> bool
-        ensures answer { IsTrue result ↔ IsSome self.new.newcomer }
-        ensures settings { self.new.settings ≡ self.old.settings }
-        ensures stopping { self.new.stopping ≡ self.old.stopping }
-        ensures times { self.new.times ≡ self.old.times }
-        ensures standings { self.new.standings ≡ self.old.standings }
-        ensures places { self.new.places ≡ self.old.places }
-        ensures listener { self.new.listener ≡ self.old.listener }
-        ensures newcomer { IsSome self.old.newcomer → self.new.newcomer ≡ self.old.newcomer }
-        ensures was_there { IsSome self.old.newcomer → (result ≡ true)
-            × (self.new.refuses ≡ self.old.refuses) }
-        ensures accepted { IsNone self.old.newcomer → result ≡ true → self.new.refuses ≡ false }
-    {
-        if self.newcomer.is_some() {
-            return true;
-        }
-        let Some(listener) = &self.listener else {
-            self.ready.clear(self.places);
-            return false;
-        };
-        match listener.accept() {
-            Ok((stream, address)) => {
-                self.newcomer = Some(Peer { stream, address });
-                self.refuses = false;
-                true
-            }
-            Err(error) => {
-                self.not_taken(why_not_taken(error.kind()));
-                false
-            }
-        }
-    }
-
-    /// Records why no peer could be accepted. If none is waiting, none is sought until the system
-    /// reports one.
-    fn not_taken(&mut self, why: NotTaken)
-        ensures ready { self.new.ready ≡ sought_after why self.old.places self.old.ready }
-        ensures refuses { self.new.refuses ≡ is_refused why }
-        ensures others { self.new
-            ≡ record self.old { ready = self.new.ready; refuses = self.new.refuses } }
-    {
-        self.refuses = false;
-        match why {
-            NotTaken::Nobody => self.ready.clear(self.places),
-            NotTaken::Gone => {}
-            NotTaken::Refused => self.refuses = true,
-        }
-    }
-
-    /// Asks the system what has arrived, and waits until something has or the time has passed.
-    pub(crate) fn ask(&mut self, time: Duration) -> Result<(), LiveError>
-        ensures failed { IfErr result IsWaitError }
-        ensures settings { self.new.settings ≡ self.old.settings }
-        ensures asked { self.new.stopping
-            ≡ asked_if (is_closed_in INPUT self.new.events) self.old.stopping }
-        ensures reported { OnOk result
-            (self.new.ready ≡ with_events self.old.ready (items self.new.events)) }
-        ensures told { times_told self.new.stopping ≡ times_told self.old.stopping }
-        ensures times { self.new.times ≡ self.old.times }
-        ensures standings { self.new.standings ≡ self.old.standings }
-        ensures places { self.new.places ≡ self.old.places }
-        ensures listener { self.new.listener ≡ self.old.listener }
-        ensures newcomer { IsSome self.old.newcomer → self.new.newcomer ≡ self.old.newcomer }
-        ensures since { times_told self.old.stopping ≡ 1
-            → self.new.stopping ≡ self.old.stopping }
-    {
-        self.unasked = 0;
-        if self.poll.poll(&mut self.events, Some(time)).is_err() {
-            return Err(LiveError::Wait);
-        }
-        if is_closed(&self.events) {
-            self.stopping.ask();
-        }
-        match set_all(&mut self.ready, &self.events) {
-            Ok(()) => Ok(()),
-            Err(_) => Err(LiveError::Memory),
-        }
-    }
-
     /// Returns the event of this end, and counts this time if it is a silence.
     pub(crate) fn end(&mut self, end: End, silence: Duration) -> Awaited
         ensures event { IsEnd result }
+        ensures no_call { is_call result ≡ false }
         ensures settings { self.new.settings ≡ self.old.settings }
         ensures stopping { self.new.stopping ≡ self.old.stopping }
         ensures time_out { self.new.times.time_out ≡ self.old.times.time_out }
-        ensures pace { self.new.times.pace ≡ self.old.times.pace }
+        ensures pause { self.new.times.pause ≡ self.old.times.pause }
         ensures whose { result ≡ event_of end.gap }
+        ensures gap { ended_gap result ≡ end.gap }
         ensures gaps { self.new.times.gaps.items
             ≡ without_ended end.gap self.old.times.gaps.items }
         ensures places { self.new.standings.places ≡ self.old.standings.places }
@@ -410,6 +334,8 @@ impl<'a, N: Net + Clock, A: Allocator + Copy> Sockets<'a, N, A> {
         ensures newcomer { IsSome self.old.newcomer → self.new.newcomer ≡ self.old.newcomer }
         ensures silence { self.new.standings.silence
             ≡ counted_after (as_nanos silence) result self.old.standings.silence }
+        ensures called { self.new.called ≡ self.old.called }
+        ensures events { self.new.events ≡ self.old.events }
     {
         let awaited = self.times.end(end);
         if awaited == Awaited::TimeOut {
@@ -428,56 +354,21 @@ impl<'a, N: Net + Clock, A: Allocator + Copy> Sockets<'a, N, A> {
         ensures places { self.new.places ≡ self.old.places }
         ensures listener { self.new.listener ≡ self.old.listener }
         ensures newcomer { IsSome self.old.newcomer → self.new.newcomer ≡ self.old.newcomer }
+        ensures called { self.new.called ≡ self.old.called }
+        ensures events { self.new.events ≡ self.old.events }
     {
         self.stopping.tell_again();
         Awaited::Stopped
     }
 }
 
-/// Records that something has arrived at the place of each event, except those of the input.
-fn set_all<A: Allocator, B: Allocator>(
-    ready: &mut Ready<A>,
-    events: &Events<B>,
-) -> Result<(), AllocError>
-    ensures { OnOk result (ready.new ≡ with_events ready.old (items events.now)) }
+/// What is sought in a wait of which this is left.
+fn sought_in(left: Duration) -> Sought
+    ensures { result ≡ sought_in (as_nanos left == 0) }
 {
-    'events: for event in events {
-        set_one(ready, event.token().0)?;
-    }
-    Ok(())
-}
-
-/// Records that something has arrived at this place, unless it is that of the input.
-fn set_one<A: Allocator>(ready: &mut Ready<A>, place: usize) -> Result<(), AllocError>
-    ensures { OnOk result (ready.new ≡ with_event ready.old place) }
-{
-    if place == INPUT {
-        return Ok(());
-    }
-    ready.set(place)
-}
-
-/// What it means that a peer cannot be accepted.
-#[derive(Clone, Copy)]
-pub(crate) enum NotTaken {
-    /// There is no peer.
-    Nobody,
-
-    /// The peer has left, or a signal came: another peer may be waiting.
-    Gone,
-
-    /// The system could not accept the peer, for example because no descriptor is left. It is asked
-    /// again later.
-    Refused,
-}
-
-/// Returns what an error of this kind means to a peer that is accepted.
-fn why_not_taken(kind: ErrorKind) -> NotTaken
-    ensures { result ≡ not_taken_by kind }
-{
-    match kind {
-        ErrorKind::WouldBlock => NotTaken::Nobody,
-        ErrorKind::ConnectionAborted | ErrorKind::Interrupted => NotTaken::Gone,
-        _ => NotTaken::Refused,
+    if left.is_zero() {
+        Sought::Line
+    } else {
+        Sought::Anything
     }
 }

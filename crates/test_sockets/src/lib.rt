@@ -39,9 +39,13 @@ mod patience;
 #[cfg(test)]
 mod places;
 #[cfg(test)]
+mod programs;
+#[cfg(test)]
 mod refusals;
 #[cfg(test)]
 mod sockets;
+#[cfg(test)]
+mod steps;
 #[cfg(test)]
 mod stopped;
 #[cfg(test)]

@@ -28,6 +28,7 @@ pub(crate) fn settings() -> ConnectionSettings {
         begins: false,
         allowed: Networks::new(),
         stops_with: None,
+        serves: None,
     }
 }
 
@@ -301,7 +302,8 @@ impl<'a> Meeting<'a> {
                 }
             }
             Awaited::Newcomer | Awaited::NotAllowed => sockets.turn_away(),
-            Awaited::NotAccepted | Awaited::Gap { .. } | Awaited::TimeOut | Awaited::Stopped => {}
+            Awaited::NotAccepted | Awaited::Gap { .. } | Awaited::TimeOut => {}
+            Awaited::Stopped | Awaited::Client => {}
         }
         Some(awaited)
     }

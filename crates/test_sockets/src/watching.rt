@@ -97,6 +97,7 @@ fn parts<'a>(
             ..
         } => (None, Some(connection), Some(why)),
         Note::Stopped => (None, None, Some(None)),
+        Note::Client => (Some(b"program"), None, None),
     }
 }
 

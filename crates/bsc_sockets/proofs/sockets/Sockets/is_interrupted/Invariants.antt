@@ -1,10 +1,11 @@
--- The loop invariant of `pause`.
+-- The loop invariant of `is_interrupted`.
 use Rattle.std.proofs.Common.{◌≡◌, IsSome}
 use Rattle.bsc_sockets.specs.Stopping.{times_told}
-use Rattle.bsc_sockets.proofs.sockets.Sockets.pause.Given as goal
+use Rattle.bsc_sockets.proofs.sockets.Sockets.is_interrupted.Given as goal
 
 -- The settings, the times, the standings, the number of places and the listener stay as they were,
--- so does a newcomer and the time since the station was told, and it is told nothing.
+-- so does a newcomer and the time since the station was told, and it is told nothing. It is called
+-- if it was called before.
 abbrev pub invariant-asks : goal.invariant-asks
 invariant-asks g l =
     (l.self.settings ≡ l.fn.self.settings)
@@ -13,3 +14,4 @@ invariant-asks g l =
     × (l.self.places ≡ l.fn.self.places) × (l.self.listener ≡ l.fn.self.listener)
     × (IsSome l.fn.self.newcomer → l.self.newcomer ≡ l.fn.self.newcomer)
     × (times_told l.fn.self.stopping ≡ 1 → l.self.stopping ≡ l.fn.self.stopping)
+    × (l.self.called ≡ l.fn.self.called)

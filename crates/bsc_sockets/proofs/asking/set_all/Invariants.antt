@@ -3,7 +3,7 @@ use Rattle.std.proofs.Common.{◌≡◌}
 use Rattle.std.specs.Slice.Iter.{iter_rest}
 use Rattle.mio.specs.Events.{items}
 use Rattle.bsc_sockets.specs.Ready.{with_events}
-use Rattle.bsc_sockets.proofs.waiting.set_all.Given as goal
+use Rattle.bsc_sockets.proofs.asking.set_all.Given as goal
 
 -- With the events that are left, the places become those with all events.
 abbrev pub invariant-events : goal.invariant-events
