@@ -5,7 +5,8 @@ use Rattle.std.proofs.Common.{slice_get, slice_index, OnOk}
 use Rattle.bsc_frame.specs.declared.message.Message.{Message}
 use Rattle.bsc_connections.specs.declared.awaited.Awaited.{Awaited}
 use Rattle.bsc_connections.specs.declared.awaited.Awaited.TheVariants.{Octets, Newcomer, Gap}
-use Rattle.bsc_connections.specs.declared.awaited.Awaited.TheVariants.{NotAccepted, NotAllowed, TimeOut, Stopped}
+use Rattle.bsc_connections.specs.declared.awaited.Awaited.TheVariants.{NotAccepted, NotAllowed}
+use Rattle.bsc_connections.specs.declared.awaited.Awaited.TheVariants.{TimeOut, Stopped, Client}
 use Rattle.bsc_connections.specs.declared.awaited.LiveError.{LiveError}
 use Rattle.bsc_connections.specs.declared.connection.Taken.{Taken}
 use Rattle.bsc_connections.specs.declared.connection.Taken.TheVariants.{Nothing, Interrupted, Part}
@@ -191,6 +192,8 @@ module _ {S R W F M T Z : Type 0} (parts : SessionParts S R W F M T) (party : pa
       (λ more. refl) silent.answers some
   printed_by_event Stopped old happened result new (same, kept, stopped, waits) some =
       absurd (nothing_sent happened _ stopped.0 refl some)
+  printed_by_event Client old happened result new (same, kept, told, waits) some =
+      absurd (nothing_sent happened _ told.0 refl some)
 
   -- What is printed is all that arrived.
   all_are_printed : (station : S) (old new : Output) → PrintsArrivals party station old new

@@ -1,7 +1,7 @@
 -- What a watch prints to its trace.
-use Rattle.std.specs.Prelude.{◌≡◌, ℕ, List, [], ◌++◌, Option, None, Some}
+use Rattle.std.specs.Prelude.{◌≡◌, ℕ, Bool, true, false, List, [], ◌++◌, Option, None, Some}
 use Rattle.std.specs.Io.KnownBytes.{Appends}
-use Rattle.bsc_connections.specs.Histories.{Happening}
+use Rattle.bsc_connections.specs.Histories.{Happening, HadClient}
 use Rattle.bsc_control.specs.Control.{ControlValue}
 use Rattle.bsc_control.specs.declared.task.Task.{Task}
 use Rattle.bsc_control.specs.declared.task.Task.TheVariants.{Polling}
@@ -43,10 +43,22 @@ ShowsIn Exchanges calls me time happening old new =
 ShowsIn All calls me time happening old new =
     IsTraced happening time me old.contents new.contents × (new.held ≡ old.held)
 
+-- Whether this is nothing of the line: a program has to be served.
+abbrev pub is_off_line : Happening → Bool
+is_off_line HadClient = true
+is_off_line _ = false
+
+-- So it is for all that is of the line. What is not has no line, and leaves the one that is held
+-- back.
+abbrev pub ShowsUnless : Bool → Tracing → Calls → Who → ℕ → Happening → Trace → Trace → Type 0
+ShowsUnless true tracing calls me time happening old new = new ≡ old
+ShowsUnless false tracing calls me time happening old new =
+    ShowsIn tracing calls me time happening old new
+
 pub record ShowsEvent (calls : Calls) (me : Who) (time : ℕ) (happening : Happening)
     (old new : Trace) : Type 0 where
   pub tracing : new.tracing ≡ old.tracing
-  pub line : ShowsIn old.tracing calls me time happening old new
+  pub line : ShowsUnless (is_off_line happening) old.tracing calls me time happening old new
 
 -- The start of a line that tells of no event: in a trace the line that is held back, and the time.
 abbrev pub start_of : Tracing → Option CallLine → ℕ → List ℕ

@@ -7,7 +7,7 @@ use Rattle.std.specs.Net.Text.{socket_text}
 use Rattle.std.specs.declared.net.socket_addr.SocketAddr.{SocketAddr}
 use Rattle.bsc_connections.specs.Histories.{Happening, WasHeard, WasIgnored, WasSilent, WasSent}
 use Rattle.bsc_connections.specs.Histories.{WasStopped, WasWithheld, HasJoined, HasClosed}
-use Rattle.bsc_connections.specs.Histories.{WasRefused}
+use Rattle.bsc_connections.specs.Histories.{WasRefused, HadClient}
 use Rattle.bsc_connections.specs.declared.monitor.Refusal.{Refusal}
 use Rattle.bsc_connections.specs.declared.monitor.Refusal.TheVariants as refusal
 use Rattle.bsc_carrier.specs.declared.error.CarrierError.{CarrierError}
@@ -137,7 +137,8 @@ ShowsChange (WasRefused peer why) old new = Appends old new (refused_line peer w
 ShowsChange (HasClosed place peer why) old new = Appends old new (closed_line place peer why)
 ShowsChange happening old new = new ≡ old
 
--- The line for what happened to this station was written, with the time.
+-- The line for what happened to this station was written, with the time. That a program has to be
+-- served is nothing of the line, and has none.
 abbrev pub IsTraced : Happening → ℕ → Who → Option (List ℕ) → Option (List ℕ) → Type 0
 IsTraced (WasHeard place octets) time me old new =
     Appends old new (transmission_line time (heard_from me place) deed.Heard (heard octets) octets)
@@ -150,6 +151,7 @@ IsTraced (WasWithheld octets) time me old new =
     Appends old new (transmission_line time me deed.Withheld (heard octets) octets)
 IsTraced WasSilent time me old new = Appends old new (silence_line time)
 IsTraced WasStopped time me old new = Appends old new (stopped_line time)
+IsTraced HadClient time me old new = new ≡ old
 IsTraced (HasJoined place peer replaces) time me old new =
     Appends old new (time_shown time ++ joined_line place peer replaces)
 IsTraced (WasRefused peer why) time me old new =

@@ -47,7 +47,7 @@ impl Answering {
             Note::Silence => self.silence = true,
             Note::Sent { .. } => return self.sent(control),
             Note::Joined { .. } | Note::Refused { .. } | Note::Closed { .. } => {}
-            Note::Ignored { .. } | Note::Withheld { .. } | Note::Stopped => {}
+            Note::Ignored { .. } | Note::Withheld { .. } | Note::Stopped | Note::Client => {}
         }
         None
     }

@@ -120,7 +120,7 @@ impl<'a, A: Allocator + Copy, T: Timer + Meter + Drop, W: Write, D: Write> Monit
                 self.stopped = true;
             }
             Note::Ignored { .. } | Note::Sent { .. } | Note::Withheld { .. } => {}
-            Note::Joined { .. } | Note::Refused { .. } => {}
+            Note::Joined { .. } | Note::Refused { .. } | Note::Client => {}
         }
         Ok(!self.ended)
     }

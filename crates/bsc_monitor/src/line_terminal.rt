@@ -1,20 +1,21 @@
 //! A terminal of a configured line.
 
-ghost use Rattle.std.specs.Prelude.{◌≡◌, ◌≤◌, ◌<◌, length, IfErr, OnErr, OnOk};
+ghost use Rattle.std.specs.Prelude.{◌≡◌, ◌≤◌, ◌<◌, length, true, IfErr, OnErr, OnOk};
 ghost use Rattle.bsc_monitor.specs.Ends.{IsWay};
 ghost use Rattle.bsc_monitor.specs.LineTerminal.{line_terminal_of, with_own_queue, with_spool};
 ghost use Rattle.bsc_spool.specs.Queue.{with_offered};
 ghost use Rattle.bsc_spool.specs.Spool.{GainsRecord};
+ghost use Rattle.bsc_bid.specs.Sender.{release_step};
 ghost use Rattle.bsc_bid.specs.Stored.{kept_of, recall_step};
 ghost use Rattle.bsc_bid.specs.Terminal.{HasDistinctAddresses};
 ghost use Rattle.bsc_tributary.specs.Kept.{IsNewTerminal};
 ghost use Rattle.bsc_tributary.specs.Stored.{after_recall};
-ghost use Rattle.bsc_tributary.specs.Tributary.{is_control_mode, spool_at};
+ghost use Rattle.bsc_tributary.specs.Tributary.{after_release, is_control_mode, spool_at};
 
 use crate::channel_end::queue_end;
 use crate::{ChannelEnd, Party, Received};
-use bsc_bid::{KeptSender, RecallError, Setup, Station, Terminal};
-use bsc_block::Record;
+use bsc_bid::{KeptSender, RecallError, ReleaseError, Setup, Station, Terminal};
+use bsc_block::{Format, Record};
 use bsc_control::Way;
 use bsc_frame::{Heard, MessageBuffer};
 use bsc_tributary::Tributary;
@@ -26,6 +27,9 @@ use std::marker::Model;
 pub struct LineTerminal<A: Allocator> {
     /// Its number on the line, counted from 0.
     number: usize,
+
+    /// Its settings.
+    setup: Setup,
 
     /// Its addresses.
     terminal: Terminal,
@@ -42,7 +46,8 @@ impl<A: Allocator> Model for LineTerminal<A> {
 
     ghost view = { λ l. line_terminal_of l.number l.tributary };
 
-    ghost invariant = { λ l. l.tributary.terminal ≡ l.terminal };
+    ghost invariant = { λ l.
+        (l.tributary.terminal ≡ l.terminal) × (l.tributary.sender.setup ≡ l.setup) };
 }
 
 impl<A: Allocator> LineTerminal<A> {
@@ -56,6 +61,7 @@ impl<A: Allocator> LineTerminal<A> {
     {
         LineTerminal {
             number,
+            setup,
             terminal,
             tributary: Tributary::new(alloc, setup, terminal),
         }
@@ -89,6 +95,42 @@ impl<A: Allocator> LineTerminal<A> {
         ensures given_back { IfErr result (λ r. r ≡ «record») }
     {
         self.tributary.offer(record)
+    }
+
+    /// Returns the format of its blocks, which has the full length of a record.
+    pub fn format(&self) -> Format
+        ensures { result ≡ self.now.tributary.queue.format }
+    {
+        // Reading the queue makes known here that its format is that of the settings.
+        let _ = self.tributary.queue();
+        self.setup.format()
+    }
+
+    /// Sets whether it accepts selections, as [`Tributary::set_ready`] does.
+    pub fn set_ready(&mut self, ready: bool)
+        ensures { self.new
+            ≡ line_terminal_of self.old.number (record self.old.tributary { ready = ready }) }
+    {
+        self.tributary.set_ready(ready);
+    }
+
+    /// Asks for the line, as [`Tributary::set_urgent`] does.
+    pub fn set_urgent(&mut self)
+        ensures { self.new
+            ≡ line_terminal_of self.old.number (record self.old.tributary { urgent = true }) }
+    {
+        self.tributary.set_urgent();
+    }
+
+    /// Ends the doubt, of which the other end has `count` records. The errors are those of
+    /// [`Tributary::release`]; both change nothing.
+    pub fn release(&mut self, count: usize) -> Result<(), ReleaseError>
+        ensures state { self.new
+            ≡ line_terminal_of self.old.number (after_release self.old.tributary count) }
+        ensures answer { result
+            ≡ (release_step self.old.tributary.sender self.old.tributary.queue count).answer }
+    {
+        self.tributary.release(count)
     }
 
     /// Returns what is to be kept now of the sending side of the terminal, beside its records.

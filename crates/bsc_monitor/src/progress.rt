@@ -138,7 +138,7 @@ impl Progress {
                 was_stopped
             }
             Note::Heard { .. } | Note::Ignored { .. } | Note::Withheld { .. } => false,
-            Note::Joined { .. } | Note::Refused { .. } => false,
+            Note::Joined { .. } | Note::Refused { .. } | Note::Client => false,
         }
     }
 

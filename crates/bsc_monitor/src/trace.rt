@@ -171,6 +171,7 @@ pub(crate) fn write_note<A: Allocator, W: Write>(
         }
         Note::Silence => write_silence(time, out),
         Note::Stopped => write_stopped(time, out),
+        Note::Client => Ok(()),
         Note::Joined {
             connection,
             peer,
@@ -260,7 +261,7 @@ pub(crate) fn write_change<W: Write>(note: &Note<'_>, out: &mut W) -> Result<(),
             why,
         } => write_closed(*connection, *peer, *why, out),
         Note::Heard { .. } | Note::Ignored { .. } | Note::Sent { .. } => Ok(()),
-        Note::Silence | Note::Stopped => Ok(()),
+        Note::Silence | Note::Stopped | Note::Client => Ok(()),
     }
 }
 

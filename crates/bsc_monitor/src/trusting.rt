@@ -89,7 +89,7 @@ impl Trusting {
                 self.trust.closed(*connection);
                 None
             }
-            Note::Silence | Note::Refused { .. } | Note::Stopped => None,
+            Note::Silence | Note::Refused { .. } | Note::Stopped | Note::Client => None,
         }
     }
 

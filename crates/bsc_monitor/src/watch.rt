@@ -4,7 +4,7 @@ ghost use Rattle.std.specs.Prelude.{◌≡◌, ◌+◌, IfErr, IfOk, OnOk, true}
 ghost use Rattle.bsc_connections.specs.Notes.{told_by};
 ghost use Rattle.bsc_progress.specs.Counts.{saturated};
 ghost use Rattle.bsc_monitor.specs.Telling.{BeginsLine, ShowsDistrust, ShowsEvent, ShowsLine};
-ghost use Rattle.bsc_monitor.specs.Telling.{ShowsUnanswered, trace_of};
+ghost use Rattle.bsc_monitor.specs.Telling.{ShowsUnanswered, is_off_line, trace_of};
 ghost use Rattle.bsc_monitor.specs.Traces.{distrust_line, unanswered_line};
 ghost use Rattle.bsc_monitor.specs.Refusing.{IsTraceFault, IsUnprinted, Refuses};
 ghost use Rattle.bsc_monitor.specs.Watching.{IsFlushed, IsFound, PrintsArrivals, Sees};
@@ -166,7 +166,7 @@ impl<'a, A: Allocator + Copy, T: Timer + Meter + Drop, W: Write, D: Write> Watch
         match note {
             Note::Heard { .. } | Note::Silence => self.print_records(station),
             Note::Sent { .. } | Note::Withheld { .. } => Ok(false),
-            Note::Ignored { .. } | Note::Stopped => Ok(false),
+            Note::Ignored { .. } | Note::Stopped | Note::Client => Ok(false),
             Note::Joined { .. } | Note::Refused { .. } | Note::Closed { .. } => Ok(false),
         }
     }
@@ -278,19 +278,30 @@ impl<'a, A: Allocator + Copy, T: Timer + Meter + Drop, W: Write, D: Write> Watch
     }
 
     /// Prints the line for an event: a line of the trace, or without a trace only that of a peer
-    /// that joined, left or was refused, or of something that was withheld.
+    /// that joined, left or was refused, or of something that was withheld. What is nothing of the
+    /// line has none.
     pub(crate) fn tell(&mut self, seen: Seen, note: &Note<'_>) -> Result<(), PrintError>
         ensures records { output_of W.contents self.new ≡ output_of W.contents self.old }
         ensures trace { OnOk result (ShowsEvent seen.calls seen.me seen.time (told_by note.now)
             (trace_of D.contents self.old)
             (trace_of D.contents self.new)) }
     {
+        if is_off_line(note) {
+            return Ok(());
+        }
         match self.printing.trace {
             Tracing::Off => write_change(note, self.errors),
             Tracing::Exchanges => write_next(self.alloc, seen, note, &mut self.held, self.errors),
             Tracing::All => write_note(self.alloc, seen.time, seen.me, note, self.errors),
         }
     }
+}
+
+/// Whether an event is nothing of the line: a program has to be served.
+fn is_off_line(note: &Note<'_>) -> bool
+    ensures { result ≡ is_off_line (told_by note.now) }
+{
+    matches!(note, Note::Client)
 }
 
 /// Converts the result of printing a line of the trace to that of attending a station.

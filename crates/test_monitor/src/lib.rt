@@ -6,6 +6,8 @@
 #![tactic(auto)]
 
 #[cfg(test)]
+mod asked;
+#[cfg(test)]
 mod attended_control;
 #[cfg(test)]
 mod attended_terminal;

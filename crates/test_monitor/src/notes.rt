@@ -2,9 +2,10 @@
 
 use crate::beginning::address;
 use crate::fakes::{HEXADECIMAL, NO_LIMITS, control_watch, tell_each, trust_of};
+use crate::happenings::{falls_silent, hears};
 use crate::stations::control_of;
 use bsc_carrier::CarrierError;
-use bsc_connections::{LiveError, Note, Refusal};
+use bsc_connections::{LiveError, Monitor, Note, Refusal};
 use bsc_control::Control;
 use bsc_monitor::{Printing, Tracing};
 use std::alloc::Global;
@@ -128,5 +129,50 @@ fn a_line_of_a_trace_that_is_not_taken_is_told(rt: HostRuntime) -> Result<(), Fa
     let control = control_of(rt.alloc(), TWO_TERMINALS)?;
     let count = failing_writes(rt.alloc(), &control)?;
     assert!(rt; NOTES.len() <= count && count < 200);
+    Ok(())
+}
+
+/// Polls a terminal, tells the watch of a program that has to be served, and has the terminal
+/// answer that it has nothing to send. Returns whether the station is to be attended further after
+/// each of the three.
+fn is_polled_beside_a_program(
+    alloc: Global,
+    tracing: Tracing,
+    trace: &mut Vec<u8>,
+) -> Result<bool, Fail> {
+    let mut control = control_of(alloc, TWO_TERMINALS)?;
+    let mut out = Vec::new(alloc);
+    let printing = Printing {
+        records: HEXADECIMAL,
+        trace: tracing,
+    };
+    let settings = (printing, NO_LIMITS, true, trust_of(1_000));
+    let mut watch = control_watch(alloc, &control, settings, &mut out, trace)?;
+    let polls = falls_silent(&mut control, &mut watch)?;
+    let serves = watch.note(&control, Note::Client)?;
+    let goes_on = hears(&mut control, &mut watch, 0, EOT)?;
+    Ok(polls && serves && goes_on)
+}
+
+/// The lines of a trace that tells all. The watch asks the clock also when it is told of a program.
+const POLLED: &[u8] = b"+1 silence
++2 control sent CALL A 161604ff1616c185ff
++4 connection 0 heard EOT 161604ff
++5 control sent CALL B 161604ff1616c285ff
+";
+
+#[test]
+fn a_program_to_serve_has_no_line_and_ends_nothing(rt: HostRuntime) -> Result<(), Fail> {
+    let mut trace = Vec::new(rt.alloc());
+    assert!(rt; is_polled_beside_a_program(rt.alloc(), Tracing::All, &mut trace)?);
+    assert_eq!(rt; trace.as_slice(), POLLED);
+    Ok(())
+}
+
+#[test]
+fn a_program_to_serve_leaves_an_idle_poll_without_a_line(rt: HostRuntime) -> Result<(), Fail> {
+    let mut trace = Vec::new(rt.alloc());
+    assert!(rt; is_polled_beside_a_program(rt.alloc(), Tracing::Exchanges, &mut trace)?);
+    assert_eq!(rt; trace.as_slice(), b"+1 silence\n".as_slice());
     Ok(())
 }
