@@ -16,7 +16,7 @@ use Rattle.bsc_connections.specs.Attending.{Session, Steps}
 use Rattle.bsc_connections.specs.declared.awaited.LiveError.{LiveError}
 use Rattle.bsc_connections.specs.Histories.{Happening, WasHeard, WasSilent, WasSent, WasIgnored}
 use Rattle.bsc_connections.specs.Histories.{WasWithheld, HasJoined, WasRefused, HasClosed}
-use Rattle.bsc_connections.specs.Histories.{WasStopped, sent_if_in_time}
+use Rattle.bsc_connections.specs.Histories.{WasStopped, HadClient, sent_if_in_time}
 use Rattle.bsc_monitor.specs.declared.party.Party as party_of
 use Rattle.bsc_keeping.specs.Keeping.{KeepsAll, SurvivesAll, KeepsStep, KeepsIfStep, step_of}
 use Rattle.bsc_keeping.specs.Keeping.{KeepsAndTells, TellsIfKept}
@@ -89,6 +89,8 @@ module _ {S M K Z : Type 0} (party : party_of.Ghosts S Z)
       unchanged station before after tells.keeps.1
   leaves_told station before WasStopped result after tells =
       unchanged station before after tells.keeps.1
+  leaves_told station before HadClient result after tells =
+      unchanged station before after tells.keeps.1
 
   -- What is kept is the same.
   abbrev pub IsSame : Keeping M K → Keeping M K → Type 0
@@ -111,6 +113,7 @@ module _ {S M K Z : Type 0} (party : party_of.Ghosts S Z)
   same_of_other station before (WasRefused peer why) result after is tells = tells.keeps.1
   same_of_other station before (HasClosed place peer why) result after is tells = tells.keeps.1
   same_of_other station before WasStopped result after is tells = tells.keeps.1
+  same_of_other station before HadClient result after is tells = tells.keeps.1
 
   kept_if_told : (kept : Result (Unit {0}) StoreFault) (happening : Happening) (station : S)
       (goes_on : Bool) (before after : Keeping M K)

@@ -5,3 +5,4 @@ mod Lists
 mod Filled
 mod Throughout
 mod AllKept
+mod OffersKept

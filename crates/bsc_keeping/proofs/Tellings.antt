@@ -7,7 +7,8 @@ use Rattle.bsc_frame.specs.Wire.{wire}
 use Rattle.bsc_frame.specs.declared.message.Message.{Message}
 use Rattle.bsc_connections.specs.declared.awaited.Awaited.{Awaited}
 use Rattle.bsc_connections.specs.declared.awaited.Awaited.TheVariants.{Octets, Newcomer, Gap}
-use Rattle.bsc_connections.specs.declared.awaited.Awaited.TheVariants.{NotAccepted, NotAllowed, TimeOut, Stopped}
+use Rattle.bsc_connections.specs.declared.awaited.Awaited.TheVariants.{NotAccepted, NotAllowed}
+use Rattle.bsc_connections.specs.declared.awaited.Awaited.TheVariants.{TimeOut, Stopped, Client}
 use Rattle.bsc_connections.specs.declared.awaited.LiveError.{LiveError}
 use Rattle.bsc_connections.specs.declared.connection.Taken.{Taken}
 use Rattle.bsc_connections.specs.declared.connection.Taken.TheVariants.{Nothing, Interrupted, Part}
@@ -255,6 +256,8 @@ module _ {S R W F M T : Type 0} (parts : SessionParts S R W F M T)
       silent.answers
   by_event Stopped old happened result new (station, kept, stopped, waits) =
       told_one _ old happened result new station refl tt stopped
+  by_event Client old happened result new (station, kept, told, waits) =
+      told_one _ old happened result new station refl tt told
 
   pub shown_of_step : (old new : Now) (happened : List Happening)
       (result : Result Bool LiveError) → Steps parts old happened result new

@@ -1,8 +1,10 @@
 pub mod Ends
 pub mod Changes
 pub mod Keeping
+pub mod Offers
 pub mod Sessions
 pub mod AllKept
+pub mod OffersKept
 pub mod Filling
 pub mod OwnText
 pub mod Own

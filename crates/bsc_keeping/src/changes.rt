@@ -92,8 +92,9 @@ fn add_printed(
 }
 
 /// Returns the record of these characters.
-fn record_of(chars: &[u8]) -> Result<Record, StoreFault>
-    ensures { result ≡ record_kept chars.now }
+pub(crate) fn record_of(chars: &[u8]) -> Result<Record, StoreFault>
+    ensures value { result ≡ record_kept chars.now }
+    ensures chars { IfOk result (λ it. it ≡ chars.now) }
 {
     match Record::read(chars, MAX_FULL) {
         Ok(record) => Ok(record),

@@ -4,10 +4,13 @@ ghost use Rattle.std.specs.Prelude.{◌≡◌, None, OnOk, length, slice_get};
 ghost use Rattle.bsc_keeping.specs.Changes.{known_now, received_now, sending_now, receiving_now};
 ghost use Rattle.bsc_keeping.specs.Changes.{printed_of, records_of};
 ghost use Rattle.bsc_keeping.specs.Keeping.{Commits, KeepsStep, step_of};
+ghost use Rattle.bsc_keeping.specs.Offers.{KeepsOffer};
 
 use crate::changes::{changes_since, in_doubt};
+use crate::offering::offer_to;
 use crate::{Prints, Sends};
 use bsc_bid::KeptSender;
+use bsc_block::Record;
 use bsc_kept::{Change, Receiving, Sending, Store, StoreFault};
 use bsc_monitor::Party;
 use std::alloc::Global;
@@ -74,6 +77,25 @@ impl<K: Store + Drop> Keeper<K> {
             Some(end) => end.printed,
             None => 0,
         }
+    }
+
+    /// Keeps a record that is offered on the channel to this selection address of this terminal, at
+    /// once, and returns it, to be offered to the station after that. A terminal has one channel on
+    /// which it sends, and 0 for both. Fails with `Refused` if the station sends on no such
+    /// channel, and with the faults of the store.
+    pub fn offer(
+        &mut self,
+        terminal: usize,
+        select: usize,
+        new: Record,
+    ) -> Result<Record, StoreFault>
+        ensures { KeepsOffer K.Store terminal select new result self.old self.new }
+    {
+        let kept = offer_to(&self.sending, &mut self.store, terminal, select, new);
+        if let Err(fault) = &kept {
+            self.fault = Some(*fault);
+        }
+        kept
     }
 
     /// Keeps all that the station has changed since what is kept, at once, and how many records

@@ -40,7 +40,7 @@ impl<'a, M: Prints, K: Store + Drop> Keeping<'a, M, K> {
         match note {
             Note::Heard { .. } | Note::Silence => self.keeper.keep(station, &*self.watch),
             Note::Sent { .. } | Note::Withheld { .. } => Ok(()),
-            Note::Ignored { .. } | Note::Stopped => Ok(()),
+            Note::Ignored { .. } | Note::Stopped | Note::Client => Ok(()),
             Note::Joined { .. } | Note::Refused { .. } | Note::Closed { .. } => Ok(()),
         }
     }

@@ -1,15 +1,18 @@
-//! The law of a station whose records are kept, stated over the definitions that the contracts
+//! The laws of a station whose records are kept, stated over the definitions that the contracts
 //! cite.
 
 ghost use Rattle.bsc_connections.specs.Parts.{session_parts};
 ghost use Rattle.bsc_keeping.specs.AllKept.{HasAllThroughout, KeepsEachChange};
+ghost use Rattle.bsc_keeping.specs.OffersKept.{HasAllOnceOffered, control_with, terminal_with};
 ghost use Rattle.bsc_keeping.specs.Sessions.{KeepsBeforeSending};
 
 use crate::{Keeping, Prints, Sends};
 use bsc_bid::Station;
 use bsc_connections::{Framing, Monitor, Waiter};
+use bsc_control::Control;
 use bsc_kept::Store;
-use bsc_monitor::Party;
+use bsc_monitor::{LineTerminal, Party};
+use std::alloc::Allocator;
 use std::io::{Read, Write};
 
 /// What a station sends whose records are kept, it sends after all that it has changed is kept: in
@@ -45,4 +48,15 @@ pub fn kept_before_sent<
         ⟦<Keeping<'static, M, K> as Monitor<S>>⟧.admits
         ⟦<Keeping<'static, M, K> as Monitor<S>>⟧.paces
         T.Waiter) }
+{}
+
+/// If a store has all that is to be kept of a station, it still has it once a record that was
+/// offered is kept and then offered to the station: the record is then among those that are kept as
+/// offered, and an offer changes nothing else that is to be kept. So a station may be offered
+/// records between two sessions, and the law of its sessions holds of the next one.
+pub fn kept_before_offered<A: Allocator, M: Prints, K: Store + Drop>()
+    ensures terminal { HasAllOnceOffered ⟦<LineTerminal<A> as Party>⟧
+        ⟦<LineTerminal<A> as Sends>⟧.kept_at K.Store M.printed terminal_with }
+    ensures control { HasAllOnceOffered ⟦<Control<A> as Party>⟧ ⟦<Control<A> as Sends>⟧.kept_at
+        K.Store M.printed control_with }
 {}

@@ -16,6 +16,7 @@ mod filling;
 mod keeper;
 mod keeping;
 pub mod laws;
+mod offering;
 mod own;
 mod own_text;
 

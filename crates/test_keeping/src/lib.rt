@@ -4,4 +4,6 @@
 #[cfg(test)]
 mod exchanges;
 #[cfg(test)]
+mod offers;
+#[cfg(test)]
 mod stations;

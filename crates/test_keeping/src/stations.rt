@@ -129,6 +129,16 @@ impl<S: Station + Party + Sends + Drop> Kept<S> {
         )
     }
 
+    /// Keeps a record that is offered to this selection address of this terminal, and returns it.
+    pub(crate) fn offer(
+        &mut self,
+        terminal: usize,
+        select: usize,
+        new: Record,
+    ) -> Result<Record, StoreFault> {
+        self.keeper.offer(terminal, select, new)
+    }
+
     /// Returns why a step was not kept.
     pub(crate) fn fault(&self) -> Option<StoreFault> {
         self.keeper.fault()
