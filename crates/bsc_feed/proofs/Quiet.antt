@@ -1,8 +1,9 @@
 -- Places of which there is nothing to tell.
 use Rattle.std.proofs.Common.{◌≡◌, ◌≤◌, ℕ, ◌+◌, List, Option, Some, Bool, true, false}
-use Rattle.std.proofs.Common.{get_or, refl, ap, ◌∙◌, subst, arith, inl, inr}
+use Rattle.std.proofs.Common.{get_or, refl, ap, ◌∙◌, subst, arith, inl, inr, None, replicate}
 use Rattle.std.proofs.Math.Nat.{eq-or-lt_of_le}
 use Rattle.std.proofs.lemmas.Bool.{ltb-true, ltb-false}
+use Rattle.std.proofs.lemmas.List.{get_or-replicate}
 use Rattle.std.proofs.lemmas.Option.{get_or_from_slice_get}
 use Rattle.std.specs.Prelude.{nat_lt}
 use Rattle.bsc_monitor.specs.declared.party.Party as party_of
@@ -42,3 +43,13 @@ module _ {P M : Type 0} (party : party_of.Ghosts P M) (station : P) where
       by : (b : Bool) → nat_lt place turn ≡ b → ⊥
       by true e = before place news low (ltb-true place turn e) has
       by false e = after place news (ltb-false place turn e) high has
+
+  -- all places are quiet where none is followed
+  pub quiet_none : (count : ℕ) → AreQuiet party station (replicate count None) 0 count
+  quiet_none count place news low high (next, at, same) =
+      let nothing : Option ℕ = None in
+      let followed : get_or (replicate count nothing) place nothing ≡ Some next =
+      get_or_from_slice_get (replicate count nothing) place (Some next) nothing at in
+      let unfollowed : get_or (replicate count nothing) place nothing ≡ nothing =
+      get_or-replicate count place nothing nothing high in
+      absurd (cc (followed, unfollowed))

@@ -15,6 +15,10 @@ use Rattle.bsc_feed.specs.declared.told.Told.TheVariants.{Delivered}
 use Rattle.bsc_feed.specs.Faults.{fault_text}
 use Rattle.bsc_feed.specs.Places.{end_at, is_there, name_at}
 
+-- What one line tells a client.
+abbrev pub Telling : Type 0
+Telling = Told
+
 -- The state of a channel with this end, as the report of a station has it.
 abbrev pub state_shown : Option End → List ℕ
 state_shown None = codes "\n"

@@ -18,17 +18,21 @@ pub(crate) struct Follows {
 
     /// The place at which the search for news begins, so that no channel keeps others waiting.
     turn: usize,
+
+    /// Whether a channel is followed. A search for news costs nothing where none is.
+    any: bool,
 }
 
 impl Model for Follows {
-    ghost use Rattle.std.specs.Prelude.{ℕ, ◌≤◌, ◌≡◌, List, Option, length};
+    ghost use Rattle.std.specs.Prelude.{ℕ, ◌≤◌, ◌≡◌, List, Option, None, false, length, replicate};
     ghost use Rattle.bsc_feed.specs.declared.limits.TheConstants.{MAX_PLACES};
 
     ghost Value = { List (Option ℕ) };
 
     ghost view = { λ f. f.next };
 
-    ghost invariant = { λ f. (f.turn ≤ MAX_PLACES) × (length f.next ≡ MAX_PLACES) };
+    ghost invariant = { λ f. (f.turn ≤ MAX_PLACES) × (length f.next ≡ MAX_PLACES)
+        × (f.any ≡ false → f.next ≡ replicate MAX_PLACES None) };
 }
 
 impl Follows {
@@ -39,6 +43,7 @@ impl Follows {
         Follows {
             next: [None; MAX_PLACES],
             turn: 0,
+            any: false,
         }
     }
 
@@ -49,12 +54,16 @@ impl Follows {
         ensures { self.new ≡ slice_set self.old place (Some next) }
     {
         self.next[place] = Some(next);
+        self.any = true;
     }
 
     /// Returns what is to be told next of the channels that are followed, and takes note of it.
     pub fn tell<P: Party>(&mut self, station: &P) -> Option<Told>
         ensures { TellsNext P.Party station.now self.old result self.new }
     {
+        if !self.any {
+            return None;
+        }
         let found = match first_news(station, &self.next, self.turn, MAX_PLACES) {
             Some(found) => found,
             None => first_news(station, &self.next, 0, self.turn)?,

@@ -52,9 +52,10 @@ fn news_of<A: Allocator>(end: &ChannelEnd<'_, A>, place: usize, next: usize) -> 
 fn news_at<P: Party>(station: &P, place: usize, next: Option<usize>) -> Option<News>
     ensures { result ≡ at_place P.Party station.now place next }
 {
-    match (next, end_at(station, place)) {
-        (Some(next), Some(end)) => news_of(&end, place, next),
-        _ => None,
+    let next = next?;
+    match end_at(station, place) {
+        Some(end) => news_of(&end, place, next),
+        None => None,
     }
 }
 
