@@ -1,0 +1,4 @@
+pub mod Offered
+pub mod Kept
+pub mod Steps
+pub mod Asked

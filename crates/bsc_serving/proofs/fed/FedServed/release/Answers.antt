@@ -1,0 +1,21 @@
+-- Shows what becomes of a release.
+use Rattle.std.proofs.Common.{Ok, Err, refl}
+use Rattle.bsc_serving.proofs.fed.FedServed.release.Goals as goal
+
+pub returns-in-Ok : goal.returns-in-Ok
+returns-in-Ok g c = record {
+  answer = Ok c.in-Ok.field-0;
+  between = _;
+  released = c.in-Ok.ensures;
+  keeps_rest = (refl, refl, refl);
+  keeps = c.keep_release.ensures;
+}
+
+pub returns-in-Err : goal.returns-in-Err
+returns-in-Err g c = record {
+  answer = Err c.in-Err.fault;
+  between = _;
+  released = c.in-Err.ensures;
+  keeps_rest = (refl, refl, refl);
+  keeps = (refl, refl);
+}

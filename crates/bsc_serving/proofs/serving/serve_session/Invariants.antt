@@ -1,0 +1,13 @@
+-- The station was asked by steps of programs alone, and has not failed.
+use Rattle.std.proofs.Common.{◌≡◌, None}
+use Rattle.bsc_feed.specs.Answering.{serving}
+use Rattle.bsc_feed.specs.Offering.{OffersRecord}
+use Rattle.bsc_serving.specs.Serves.{IsServed}
+use Rattle.bsc_serving.proofs.serving.serve_session.Given as goal
+
+abbrev pub invariant-steps : goal.invariant-steps
+invariant-steps g l =
+    let served = g.F.Served in
+    IsServed g.F.Party (serving (OffersRecord served.offered served.is_kept) served.full
+    served.releases served.readies served.urges served.stops) g.F.Failing.fails l.initial.fed None
+    l.fed

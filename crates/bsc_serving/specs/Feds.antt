@@ -1,0 +1,63 @@
+-- What a station does for programs whose records are kept.
+use Rattle.std.specs.Prelude.{◌≡◌, ℕ, List, Option, Some, Result, Ok, Err, slice_get}
+use Rattle.bsc_connections.specs.declared.awaited.LiveError.{LiveError}
+use Rattle.bsc_connections.specs.declared.awaited.LiveError.TheVariants.{Unkept}
+use Rattle.bsc_directory.specs.declared.way.Way.{Way}
+use Rattle.bsc_feed.specs.declared.fault.Fault.{Fault}
+use Rattle.bsc_feed.specs.declared.fault.Fault.TheVariants.{NotKept}
+use Rattle.bsc_kept.specs.declared.fault.StoreFault.{StoreFault}
+use Rattle.bsc_serving.specs.declared.fed.Fed.{Fed}
+
+module _ {S Q : Type 0} (offered : S → ℕ → Way → List (List ℕ))
+    (has_kept : Q → ℕ → Way → List ℕ → Type 0) where
+  -- The record with this number on a channel was kept.
+  pub record HasKeptNumber (fed : Fed S Q) (t : ℕ) (way : Way) (number : ℕ) : Type 0 where
+    pub chars : List ℕ
+    pub at : slice_get (offered fed.station.now t way) number ≡ Some chars
+    pub kept : has_kept fed.keeps t way chars
+
+module _ {S Q : Type 0}
+    (keeps_changes : Q → S → Result (Unit {0}) StoreFault → Q → Type 0) where
+  -- What is answered to a release that the station did, and why the station has to end, by whether
+  -- the release is kept.
+  abbrev pub AnswersKept : Result (Unit {0}) StoreFault → Option LiveError
+      → Result (Unit {0}) Fault → Option LiveError → Type 0
+  AnswersKept (Ok done) before result after = (result ≡ Ok tt) × (after ≡ before)
+  AnswersKept (Err fault) before result after =
+      (result ≡ Err NotKept) × (after ≡ Some Unkept)
+
+  -- What the station has changed is kept, or it has to end.
+  pub record KeepsRelease (old : Fed S Q) (result : Result (Unit {0}) Fault) (new : Fed S Q)
+      : Type 0 where
+    pub kept : Result (Unit {0}) StoreFault
+    pub keeps : keeps_changes old.keeps old.station.now kept new.keeps
+    pub answers : AnswersKept kept old.failure result new.failure
+    pub same : new.station ≡ old.station
+    pub stopped : new.stopped ≡ old.stopped
+
+module _ {S Q : Type 0}
+    (releases : S → ℕ → Way → ℕ → Result (Unit {0}) Fault → S → Type 0)
+    (keeps_changes : Q → S → Result (Unit {0}) StoreFault → Q → Type 0) where
+  -- What becomes of the records of a station that has this answer to a release.
+  abbrev pub KeepsIfDone : Result (Unit {0}) Fault → Fed S Q → Result (Unit {0}) Fault → Fed S Q
+      → Type 0
+  KeepsIfDone (Ok done) old result new = KeepsRelease keeps_changes old result new
+  KeepsIfDone (Err fault) old result new = (result ≡ Err fault) × (new ≡ old)
+
+  -- The station releases, and what it has changed is kept.
+  pub record ReleasesAndKeeps (old : Fed S Q) (t : ℕ) (way : Way) (count : ℕ)
+      (result : Result (Unit {0}) Fault) (new : Fed S Q) : Type 0 where
+    pub answer : Result (Unit {0}) Fault
+    pub between : Fed S Q
+    pub released : releases old.station.now t way count answer between.station.now
+    pub keeps_rest : (between.keeps ≡ old.keeps) × (between.stopped ≡ old.stopped)
+        × (between.failure ≡ old.failure)
+    pub keeps : KeepsIfDone answer between result new
+
+-- The station changes so, and nothing else does.
+pub record ChangesStation {S Q : Type 0} (changes : S → S → Type 0) (old new : Fed S Q)
+    : Type 0 where
+  pub changed : changes old.station.now new.station.now
+  pub keeps : new.keeps ≡ old.keeps
+  pub stopped : new.stopped ≡ old.stopped
+  pub failure : new.failure ≡ old.failure

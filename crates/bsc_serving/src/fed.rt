@@ -1,0 +1,184 @@
+//! A station that programs feed, and what keeps its records.
+
+ghost use Rattle.std.specs.Prelude.{◌≡◌, None, false};
+ghost use Rattle.bsc_serving.specs.Feds.{KeepsRelease};
+
+use crate::failing::Failing;
+use crate::{Feeds, Keeps};
+use bsc_block::{Format, Record};
+use bsc_connections::LiveError;
+use bsc_directory::Way;
+use bsc_feed::{Fault, Served};
+use bsc_monitor::{ChannelEnd, Party, Received};
+
+/// A station that is fed, and what keeps its records. What is offered is kept before the station
+/// offers it. Once there is a failure the station must not be asked for more: it has to end.
+#[derive(Drop)]
+pub struct Fed<'a, S, Q> {
+    /// The station.
+    station: &'a mut S,
+
+    /// What keeps its records.
+    keeps: Q,
+
+    /// Whether a program asked the station to end.
+    stopped: bool,
+
+    /// Why the station has to end, if it has.
+    failure: Option<LiveError>,
+}
+
+impl<'a, S: Feeds, Q: Keeps<S>> Fed<'a, S, Q> {
+    /// Returns the station that is fed, with what keeps its records.
+    pub fn new(station: &'a mut S, keeps: Q) -> Fed<'a, S, Q>
+        ensures station { result.station ≡ station.entry }
+        ensures keeps { result.keeps ≡ keeps }
+        ensures stopped { result.stopped ≡ false }
+        ensures failure { result.failure ≡ None }
+    {
+        Fed {
+            station,
+            keeps,
+            stopped: false,
+            failure: None,
+        }
+    }
+
+    /// Returns whether a program asked the station to end.
+    pub fn is_stopped(&self) -> bool
+        ensures { result ≡ self.now.stopped }
+    {
+        self.stopped
+    }
+
+    /// Returns why the station has to end, if it has: `Unkept` if what a program did could not be
+    /// kept, and `Memory` if a record was kept for which the station has no memory.
+    pub fn failure(&self) -> Option<LiveError>
+        ensures { result ≡ self.now.failure }
+    {
+        self.failure
+    }
+
+    /// Keeps a release that the station has done. Fails with `NotKept`, and the station has to end.
+    fn keep_release(&mut self) -> Result<(), Fault>
+        ensures { KeepsRelease Q.keeps_changes self.old result self.new }
+    {
+        match self.keeps.changed(&*self.station) {
+            Ok(()) => Ok(()),
+            Err(_) => {
+                self.failure = Some(LiveError::Unkept);
+                Err(Fault::NotKept)
+            }
+        }
+    }
+}
+
+impl<'a, S: Feeds, Q: Keeps<S>> Failing for Fed<'a, S, Q> {
+    ghost fails = { λ f. f.failure };
+
+    ghost has_stopped = { λ f. f.stopped };
+
+    fn failure(&self) -> Option<LiveError> {
+        Fed::failure(self)
+    }
+
+    fn is_stopped(&self) -> bool {
+        Fed::is_stopped(self)
+    }
+}
+
+impl<'a, S: Feeds, Q: Keeps<S>> Party for Fed<'a, S, Q> {
+    type Memory = S::Memory;
+
+    ghost count = { λ f. S.count f.station.now };
+
+    ghost numbers = { λ f. S.numbers f.station.now };
+
+    ghost selects = { λ f. S.selects f.station.now };
+
+    ghost ends = { λ f. S.ends f.station.now };
+
+    ghost receives = { λ f. S.receives f.station.now };
+
+    ghost terminal_of = { S.terminal_of };
+
+    ghost way_of = { S.way_of };
+
+    fn terminals(&self) -> usize {
+        self.station.terminals()
+    }
+
+    fn number(&self, terminal: usize) -> usize {
+        self.station.number(terminal)
+    }
+
+    fn addresses(&self, terminal: usize) -> usize {
+        self.station.addresses(terminal)
+    }
+
+    fn end(&self, terminal: usize, way: Way) -> ChannelEnd<'_, S::Memory> {
+        self.station.end(terminal, way)
+    }
+
+    fn spools(&self) -> usize {
+        self.station.spools()
+    }
+
+    fn received(&self, number: usize) -> Received<'_, S::Memory> {
+        self.station.received(number)
+    }
+}
+
+impl<'a, S: Feeds, Q: Keeps<S>> Served for Fed<'a, S, Q> {
+    ghost use Rattle.std.specs.Prelude.{◌≡◌, true};
+    ghost use Rattle.bsc_serving.specs.Feds.{ChangesStation, HasKeptNumber, ReleasesAndKeeps};
+
+    ghost offered = { λ f. S.offered f.station.now };
+
+    ghost is_kept = { HasKeptNumber S.offered Q.has_kept };
+
+    ghost full = { λ f. S.full f.station.now };
+
+    ghost releases = { ReleasesAndKeeps S.releases Q.keeps_changes };
+
+    ghost readies = { λ f ready result. ChangesStation (λ old new. S.readies old ready result new) f };
+
+    ghost urges = { λ f result. ChangesStation (λ old new. S.urges old result new) f };
+
+    ghost stops = { λ f new. new ≡ record f { stopped = true } };
+
+    fn format(&self) -> Format {
+        self.station.format()
+    }
+
+    fn offer(&mut self, terminal: usize, way: Way, new: Record) -> Result<usize, Fault> {
+        let Ok(new) = self.keeps.offered(terminal, way, new) else {
+            self.failure = Some(LiveError::Unkept);
+            return Err(Fault::NotKept);
+        };
+        let offered = self.station.offer(terminal, way, new);
+        if offered.is_err() {
+            self.failure = Some(LiveError::Memory);
+        }
+        offered
+    }
+
+    fn release(&mut self, terminal: usize, way: Way, count: usize) -> Result<(), Fault> {
+        match self.station.release(terminal, way, count) {
+            Ok(()) => self.keep_release(),
+            Err(fault) => Err(fault),
+        }
+    }
+
+    fn set_ready(&mut self, ready: bool) -> Result<(), Fault> {
+        self.station.set_ready(ready)
+    }
+
+    fn set_urgent(&mut self) -> Result<(), Fault> {
+        self.station.set_urgent()
+    }
+
+    fn stop(&mut self) {
+        self.stopped = true;
+    }
+}

@@ -1,0 +1,101 @@
+//! What keeps the records of a station while programs feed it.
+
+ghost use Rattle.std.specs.Prelude.{◌≡◌, ℕ, List, Result, IfOk, OnOk};
+ghost use Rattle.bsc_directory.specs.declared.way.Way.{Way as WayValue};
+ghost use Rattle.bsc_kept.specs.declared.fault.StoreFault.{StoreFault as StoreFaultValue};
+ghost use Rattle.bsc_serving.specs.Keeping.{select_in};
+
+use bsc_block::Record;
+use bsc_directory::Way;
+use bsc_keeping::{Keeper, Prints, Sends};
+use bsc_kept::{Store, StoreFault};
+use bsc_monitor::Party;
+
+/// What keeps the records of a station of type `S` while programs feed it.
+pub trait Keeps<S> {
+    /// A record of these characters was kept as offered on the channel of this terminal in this
+    /// direction, and nothing was kept after it.
+    ghost has_kept: { Self → ℕ → WayValue → List ℕ → Type 0 };
+
+    /// What it does to keep what the station has changed: what keeps, the station, the result, what
+    /// keeps after it.
+    ghost keeps_changes: { Self → S → Result (Unit {0}) StoreFaultValue → Self → Type 0 };
+
+    /// Keeps a record that is going to be offered on a channel on which the station sends, and
+    /// returns it. Fails if it is not kept; then nothing is.
+    fn offered(&mut self, terminal: usize, way: Way, new: Record) -> Result<Record, StoreFault>
+        ensures kept { OnOk result (has_kept self.new terminal way new) }
+        ensures same { IfOk result (λ r. r ≡ new) };
+
+    /// Keeps what the station has changed since what is kept.
+    fn changed(&mut self, station: &S) -> Result<(), StoreFault>
+        ensures { keeps_changes self.old station.now result self.new };
+}
+
+/// Keeps nothing: for a station without a store.
+#[derive(Clone, Copy, Debug, PartialEq, Eq)]
+pub struct Unkept;
+
+impl<S> Keeps<S> for Unkept {
+    ghost use Rattle.std.specs.Prelude.{◌≡◌, Ok};
+
+    ghost has_kept = { λ _ _ _ _. Unit {0} };
+
+    ghost keeps_changes = { λ old _ result new. (result ≡ Ok tt) × (new ≡ old) };
+
+    fn offered(&mut self, _terminal: usize, _way: Way, new: Record) -> Result<Record, StoreFault> {
+        Ok(new)
+    }
+
+    fn changed(&mut self, _station: &S) -> Result<(), StoreFault> {
+        Ok(())
+    }
+}
+
+/// Keeps in the store of the station. The watch tells how many records were printed.
+#[derive(Drop)]
+pub struct KeptBy<'a, K: Drop, V> {
+    /// The keeper of the station.
+    keeper: &'a mut Keeper<K>,
+
+    /// The watch of the station.
+    watch: &'a V,
+}
+
+impl<'a, K: Store + Drop, V: Prints> KeptBy<'a, K, V> {
+    /// Returns what keeps with this keeper the records of a station that this watch prints.
+    pub fn new(keeper: &'a mut Keeper<K>, watch: &'a V) -> KeptBy<'a, K, V>
+        ensures keeper { result.keeper ≡ keeper.entry }
+        ensures watch { result.watch ≡ watch.entry }
+    {
+        KeptBy { keeper, watch }
+    }
+}
+
+/// Returns the number of the selection address of a channel; 0 for the channel from a terminal.
+fn select_in(way: Way) -> usize
+    ensures { result ≡ select_in way }
+{
+    match way {
+        Way::FromTerminal => 0,
+        Way::ToTerminal(select) => select,
+    }
+}
+
+impl<'a, S: Party + Sends, K: Store + Drop, V: Prints> Keeps<S> for KeptBy<'a, K, V> {
+    ghost use Rattle.bsc_keeping.specs.Keeping.{KeepsStep};
+    ghost use Rattle.bsc_serving.specs.Keeping.{HasKept};
+
+    ghost has_kept = { λ k terminal way chars. HasKept K.Store terminal way chars k.keeper.now };
+
+    ghost keeps_changes = { λ old station result new. KeepsStep S.Party S.kept_at K.Store
+        (V.printed old.watch.now) station result old.keeper.now new.keeper.now };
+
+    fn offered(&mut self, terminal: usize, way: Way, new: Record) -> Result<Record, StoreFault> {
+        self.keeper.offer(terminal, select_in(way), new)
+    }
+
+    fn changed(&mut self, station: &S) -> Result<(), StoreFault> {
+        self.keeper.keep(station, self.watch)
+    }
+}

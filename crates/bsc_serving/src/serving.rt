@@ -1,0 +1,212 @@
+//! The programs of a station and their sessions.
+
+ghost use Rattle.std.specs.Prelude.{◌≡◌, IfOk, None, replicate};
+ghost use Rattle.bsc_feed.specs.Answering.{serving};
+ghost use Rattle.bsc_feed.specs.Offering.{OffersRecord};
+ghost use Rattle.bsc_serving.specs.Serves.{IsAsked, IsServed, ServesPrograms, failure_of};
+ghost use Rattle.bsc_serving.specs.declared.programs.TheConstants.{MAX_PROGRAMS};
+
+use crate::failing::Failing;
+use crate::session::{Session, Step};
+use crate::{Called, Fed, Feeds, Keeps, MAX_PROGRAMS, Programs};
+use bsc_connections::LiveError;
+use bsc_feed::Served;
+use bsc_monitor::Party;
+use std::alloc::{AllocError, Global};
+use std::io::{Read, Write};
+
+/// The most steps of a session before others have their turn.
+const MAX_STEPS: usize = 16;
+
+/// The programs of a station and their sessions, 64 at most.
+#[derive(Drop)]
+pub struct Serving<P: Programs + Drop> {
+    alloc: Global,
+
+    /// The programs, as the machine gives them.
+    programs: P,
+
+    /// The session of the program at each place.
+    places: Vec<Option<Session<P::Stream>>>,
+
+    /// The turn of serving, by which another place is served first each time.
+    turn: u8,
+
+    /// Whether programs may have connected that are neither taken nor turned away.
+    newcomers: bool,
+}
+
+impl<P: Programs + Drop> Serving<P> {
+    /// Returns the programs of a station, none of which is served yet. Fails if an allocation does.
+    pub fn new(alloc: Global, programs: P) -> Result<Serving<P>, AllocError>
+        ensures programs { IfOk result (λ s. s.programs ≡ programs) }
+        ensures places { IfOk result (λ s. s.places.items ≡ replicate MAX_PROGRAMS None) }
+    {
+        let mut places = Vec::with_capacity(alloc, MAX_PROGRAMS)?;
+        'places: for _ in 0..MAX_PROGRAMS {
+            places.push(None)?;
+        }
+        Ok(Serving {
+            alloc,
+            programs,
+            places,
+            turn: 0,
+            newcomers: true,
+        })
+    }
+
+    /// Serves the programs: takes those that have connected, obeys their lines, and writes their
+    /// answers and what happened on the channels that they follow, for a short while: each program
+    /// has a turn of 16 steps at most. Returns whether a program asked the station to end. Fails
+    /// with `Unkept` or `Memory` if what a program offered or released could not be kept, or not be
+    /// offered after that; its line is then not answered, and no program is served after it.
+    pub fn serve<'s, S: Feeds, Q: Keeps<S> + Drop>(
+        &mut self,
+        station: &'s mut S,
+        keeps: Q,
+    ) -> Result<bool, LiveError>
+        ensures { ServesPrograms
+            (IsAsked ⟦<Fed<'s, S, Q> as Party>⟧
+            (serving (OffersRecord ⟦<Fed<'s, S, Q> as Served>⟧.offered
+            ⟦<Fed<'s, S, Q> as Served>⟧.is_kept) ⟦<Fed<'s, S, Q> as Served>⟧.full
+            ⟦<Fed<'s, S, Q> as Served>⟧.releases ⟦<Fed<'s, S, Q> as Served>⟧.readies
+            ⟦<Fed<'s, S, Q> as Served>⟧.urges ⟦<Fed<'s, S, Q> as Served>⟧.stops) (λ f. f.failure))
+            station.old keeps result }
+    {
+        self.programs.ask();
+        self.hear();
+        self.admit();
+        let mut fed = Fed::new(station, keeps);
+        match self.serve_all(&mut fed) {
+            Ok(()) => Ok(fed.is_stopped()),
+            Err(failure) => Err(failure),
+        }
+    }
+
+    /// Takes note of what has happened to the programs.
+    fn hear(&mut self) {
+        'called: for _ in 0..u64::MAX {
+            match self.programs.next() {
+                Some(Called::Newcomer) => self.newcomers = true,
+                Some(Called::Program { place }) => wake(&mut self.places, place),
+                None => return,
+            }
+        }
+    }
+
+    /// Takes the programs that have connected while there are free places, and turns away others.
+    fn admit(&mut self) {
+        if self.newcomers {
+            self.newcomers = accept(&mut self.programs, &mut self.places);
+        }
+        if self.newcomers {
+            self.newcomers = turn_away(&mut self.programs);
+        }
+        if self.newcomers {
+            self.programs.call();
+        }
+    }
+
+    /// Serves the program at each place, one after another.
+    fn serve_all<F: Failing>(&mut self, fed: &mut F) -> Result<(), LiveError>
+        requires { F.fails fed.old ≡ None }
+        ensures { IsServed F.Party (serving (OffersRecord F.offered F.is_kept) F.full F.releases
+            F.readies F.urges F.stops) F.fails fed.old (failure_of result) fed.new }
+    {
+        let first = usize::from(self.turn);
+        self.turn = self.turn.wrapping_add(1);
+        let mut more = false;
+        'turns: for turn in 0..MAX_PROGRAMS {
+            let place = (first + turn) % MAX_PROGRAMS;
+            match serve_place(self.alloc, &mut self.places, place, fed) {
+                Ok(again) => more |= again,
+                Err(failure) => return Err(failure),
+            }
+        }
+        if more {
+            self.programs.call();
+        }
+        Ok(())
+    }
+}
+
+/// Wakes the session at a place, if there is one.
+fn wake<T: Read + Write + Drop>(places: &mut Vec<Option<Session<T>>>, place: usize) {
+    if let Some(Some(session)) = places.get_mut(place) {
+        session.wake();
+    }
+}
+
+/// Takes programs that have connected while there are free places. Returns whether more may have.
+fn accept<P: Programs>(programs: &mut P, places: &mut [Option<Session<P::Stream>>]) -> bool {
+    'places: for place in 0..places.len() {
+        if places[place].is_none() {
+            match programs.accept(place) {
+                Some(stream) => places[place] = Some(Session::new(stream)),
+                None => return false,
+            }
+        }
+    }
+    true
+}
+
+/// Turns away programs that have connected, 64 at most. Returns whether more may have.
+fn turn_away<P: Programs>(programs: &mut P) -> bool {
+    'away: for _ in 0..MAX_PROGRAMS {
+        if !programs.turn_away() {
+            return false;
+        }
+    }
+    true
+}
+
+/// Serves the program at a place, if there is one; its place is free once its session has ended.
+/// Returns whether there is more to do.
+fn serve_place<T: Read + Write + Drop, F: Failing>(
+    alloc: Global,
+    places: &mut Vec<Option<Session<T>>>,
+    place: usize,
+    fed: &mut F,
+) -> Result<bool, LiveError>
+    requires { F.fails fed.old ≡ None }
+    ensures { IsServed F.Party (serving (OffersRecord F.offered F.is_kept) F.full F.releases
+        F.readies F.urges F.stops) F.fails fed.old (failure_of result) fed.new }
+{
+    let Some(at) = places.get_mut(place) else {
+        return Ok(false);
+    };
+    let Some(session) = at else {
+        return Ok(false);
+    };
+    match serve_session(alloc, session, fed) {
+        Ok(Step::More) => Ok(true),
+        Ok(Step::Idle) => Ok(false),
+        Ok(Step::Closed) => {
+            *at = None;
+            Ok(false)
+        }
+        Err(failure) => Err(failure),
+    }
+}
+
+/// Does at most 16 steps of a session, and returns what they leave to do.
+fn serve_session<T: Read + Write + Drop, F: Failing>(
+    alloc: Global,
+    session: &mut Session<T>,
+    fed: &mut F,
+) -> Result<Step, LiveError>
+    requires { F.fails fed.old ≡ None }
+    ensures { IsServed F.Party (serving (OffersRecord F.offered F.is_kept) F.full F.releases
+        F.readies F.urges F.stops) F.fails fed.old (failure_of result) fed.new }
+{
+    'steps: for _ in 0..MAX_STEPS {
+        let step = session.step(alloc, fed);
+        if let Some(failure) = fed.failure() {
+            return Err(failure);
+        }
+        if step != Step::More {
+            return Ok(step);
+        }
+    }
+    Ok(Step::More)
+}

@@ -1,0 +1,272 @@
+//! Programs and their connections, in memory.
+
+use bsc_serving::{Called, Programs};
+use std::alloc::{AllocError, Global};
+use std::cell::{Cell, RefCell};
+use std::collections::VecDeque;
+use std::io;
+use std::io::{Error, ErrorKind, Read, Write};
+use std::test::Fail;
+
+/// What one program says and was told.
+#[derive(Drop)]
+pub struct Program {
+    said: RefCell<VecDeque<u8>>,
+    told: RefCell<Vec<u8>>,
+
+    /// Whether it says nothing more.
+    ended: Cell<bool>,
+
+    /// How many octets it takes yet.
+    pub room: Cell<usize>,
+
+    /// How many octets a read or a write takes at most.
+    pub piece: Cell<usize>,
+
+    /// Its place, once it is taken.
+    place: Cell<Option<usize>>,
+
+    /// Whether the system has something to tell of it.
+    changed: Cell<bool>,
+
+    /// How many reads there were.
+    pub reads: Cell<usize>,
+}
+
+impl Program {
+    fn new(alloc: Global) -> Program {
+        Program {
+            said: RefCell::new(VecDeque::new(alloc)),
+            told: RefCell::new(Vec::new(alloc)),
+            ended: Cell::new(false),
+            room: Cell::new(usize::MAX),
+            piece: Cell::new(usize::MAX),
+            place: Cell::new(None),
+            changed: Cell::new(false),
+            reads: Cell::new(0),
+        }
+    }
+
+    /// Says more.
+    pub fn say(&self, octets: &[u8]) -> Result<(), Fail> {
+        let _ = self.said.try_borrow_mut()?.write(octets)?;
+        self.changed.set(true);
+        Ok(())
+    }
+
+    /// Ends its side.
+    pub fn end(&self) {
+        self.ended.set(true);
+        self.changed.set(true);
+    }
+
+    /// Takes this many octets more.
+    pub fn make_room(&self, count: usize) {
+        self.room.set(count);
+        self.changed.set(true);
+    }
+
+    /// Whether it was told exactly this.
+    pub fn was_told(&self, expected: &[u8]) -> bool {
+        match self.told.try_borrow() {
+            Ok(told) => told.as_slice() == expected,
+            Err(_) => false,
+        }
+    }
+
+    /// How many lines it was told.
+    pub fn lines(&self) -> usize {
+        let mut count = 0usize;
+        if let Ok(told) = self.told.try_borrow() {
+            for octet in told.as_slice() {
+                if *octet == b'\n' {
+                    count = count.saturating_add(1);
+                }
+            }
+        }
+        count
+    }
+
+    /// How many octets it has said that nobody has read.
+    pub fn unread(&self) -> usize {
+        match self.said.try_borrow() {
+            Ok(said) => said.len(),
+            Err(_) => 0,
+        }
+    }
+}
+
+/// All programs of a test, and what is asked of the system.
+#[derive(Drop)]
+pub struct World {
+    /// The programs, in the order in which they connect.
+    pub programs: Vec<Program>,
+
+    /// How many of them have connected.
+    connected: Cell<usize>,
+
+    /// How many of these were taken or turned away.
+    met: Cell<usize>,
+
+    /// How many were turned away.
+    pub turned_away: Cell<usize>,
+
+    /// How often the next wait was to end at once.
+    pub calls: Cell<usize>,
+}
+
+impl World {
+    /// Returns a world of this many programs, none of which has connected.
+    pub fn new(alloc: Global, count: usize) -> Result<World, AllocError> {
+        let mut programs = Vec::new(alloc);
+        for _ in 0..count {
+            programs.push(Program::new(alloc))?;
+        }
+        Ok(World {
+            programs,
+            connected: Cell::new(0),
+            met: Cell::new(0),
+            turned_away: Cell::new(0),
+            calls: Cell::new(0),
+        })
+    }
+
+    /// Lets the first programs connect, this many in all.
+    pub fn connect(&self, count: usize) {
+        self.connected.set(count.min(self.programs.len()));
+    }
+
+    /// Returns the program with this number.
+    pub fn at(&self, number: usize) -> Result<&Program, Fail> {
+        match self.programs.get(number) {
+            Some(program) => Ok(program),
+            None => Err(Fail::new("no such program")),
+        }
+    }
+
+    /// Returns the programs as a machine gives them.
+    pub fn scripted(&self) -> Scripted<'_> {
+        Scripted {
+            world: self,
+            asked: 0,
+            newcomer: false,
+        }
+    }
+
+    /// Returns the next program that has connected and was not met, and meets it.
+    fn meet(&self) -> Option<&Program> {
+        let met = self.met.get();
+        if met >= self.connected.get() {
+            return None;
+        }
+        self.met.set(met.saturating_add(1));
+        self.programs.get(met)
+    }
+}
+
+/// The programs of a world.
+#[derive(Drop)]
+pub struct Scripted<'a> {
+    world: &'a World,
+
+    /// The program of which is told next.
+    asked: usize,
+
+    /// Whether it is to be told that programs have connected.
+    newcomer: bool,
+}
+
+impl<'a> Programs for Scripted<'a> {
+    type Stream = End<'a>;
+
+    fn ask(&mut self) {
+        self.asked = 0;
+        self.newcomer = self.world.met.get() < self.world.connected.get();
+    }
+
+    fn next(&mut self) -> Option<Called> {
+        if self.newcomer {
+            self.newcomer = false;
+            return Some(Called::Newcomer);
+        }
+        for number in self.asked..self.world.programs.len() {
+            if let Some(program) = self.world.programs.get(number) {
+                if let Some(place) = program.place.get() {
+                    if program.changed.get() {
+                        program.changed.set(false);
+                        self.asked = number;
+                        return Some(Called::Program { place });
+                    }
+                }
+            }
+        }
+        None
+    }
+
+    fn accept(&mut self, place: usize) -> Option<End<'a>> {
+        let program = self.world.meet()?;
+        program.place.set(Some(place));
+        program.changed.set(false);
+        Some(End { program })
+    }
+
+    fn turn_away(&mut self) -> bool {
+        let away = self.world.meet().is_some();
+        if away {
+            let count = self.world.turned_away.get();
+            self.world.turned_away.set(count.saturating_add(1));
+        }
+        away
+    }
+
+    fn call(&mut self) {
+        let count = self.world.calls.get();
+        self.world.calls.set(count.saturating_add(1));
+    }
+}
+
+/// The end of a connection at the station.
+#[derive(Drop)]
+pub struct End<'a> {
+    program: &'a Program,
+}
+
+/// Each third call is interrupted.
+fn interrupts(program: &Program) -> bool {
+    let reads = program.reads.get();
+    program.reads.set(reads.wrapping_add(1));
+    reads % 3 == 2
+}
+
+impl Read for End<'_> {
+    fn read(&mut self, buffer: &mut [u8]) -> io::Result<usize> {
+        if interrupts(self.program) {
+            return Err(Error::from(ErrorKind::Interrupted));
+        }
+        let mut said = self.program.said.try_borrow_mut()?;
+        if said.is_empty() && !self.program.ended.get() {
+            return Err(Error::from(ErrorKind::WouldBlock));
+        }
+        let most = buffer.len().min(self.program.piece.get());
+        said.read(&mut buffer[..most])
+    }
+}
+
+impl Write for End<'_> {
+    fn write(&mut self, octets: &[u8]) -> io::Result<usize> {
+        if interrupts(self.program) {
+            return Err(Error::from(ErrorKind::Interrupted));
+        }
+        let room = self.program.room.get();
+        let most = octets.len().min(self.program.piece.get()).min(room);
+        if most == 0 {
+            return Err(Error::from(ErrorKind::WouldBlock));
+        }
+        self.program.room.set(room - most);
+        self.program.told.try_borrow_mut()?.write(&octets[..most])
+    }
+
+    fn flush(&mut self) -> io::Result<()> {
+        Ok(())
+    }
+}
