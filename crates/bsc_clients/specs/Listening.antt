@@ -1,0 +1,84 @@
+-- Where a station listens for programs, and why it cannot, or a program cannot connect.
+use Rattle.std.specs.Prelude.{⊤, ◌≡◌, Bool, false, Option, Some, None}
+use Rattle.std.specs.Net.Addr.{IsLoopbackV4, IsLoopbackV6, MatchIp}
+use Rattle.std.specs.Net.Socket.{socket_ip}
+use Rattle.std.specs.declared.net.socket_addr.SocketAddr.{SocketAddr}
+use Rattle.std.specs.declared.io.ErrorKind.{ErrorKind}
+use Rattle.std.specs.declared.io.ErrorKind.TheVariants as kind
+use Rattle.bsc_clients.specs.declared.error.ClientsError.{ClientsError}
+use Rattle.bsc_clients.specs.declared.error.ClientsError.TheVariants.{Address, NotLoopback, InUse}
+use Rattle.bsc_clients.specs.declared.error.ClientsError.TheVariants.{OtherFile, CannotListen}
+use Rattle.bsc_clients.specs.declared.error.ClientsError.TheVariants.{NobodyThere, Sockets, Memory}
+use Rattle.bsc_clients.specs.declared.served_at.ServedAt.{ServedAt}
+use Rattle.bsc_clients.specs.declared.served_at.ServedAt.TheVariants as at
+
+-- The address is a loopback address.
+abbrev pub IsLocal : SocketAddr → Type 0
+IsLocal host = MatchIp (socket_ip host) IsLoopbackV4 IsLoopbackV6
+
+-- Whether anyone may reach a station there. A path is for the user of the station.
+abbrev pub is_for_anyone : ServedAt → Bool
+is_for_anyone (at.Address address anyone) = anyone
+is_for_anyone (at.Path path) = false
+
+-- Why an address or a path cannot be bound, by the kind of the error.
+abbrev pub bind_error : ErrorKind → ClientsError
+bind_error kind.AddrInUse = InUse
+bind_error _ = CannotListen
+
+-- Why a socket file is not removed, by the kind of the error with which connecting to it fails; if
+-- that is refused, nobody listens there any more.
+abbrev pub kept_by : ErrorKind → Option ClientsError
+kept_by kind.ConnectionRefused = None
+kept_by kind.WouldBlock = Some InUse
+kept_by _ = Some CannotListen
+
+-- The text is not an address, or memory is refused.
+abbrev pub IsNameError : ClientsError → Type 0
+IsNameError Address = ⊤
+IsNameError Memory = ⊤
+IsNameError _ = ⊥
+
+-- None of some addresses can be bound, or there are none.
+abbrev pub IsBindError : ClientsError → Type 0
+IsBindError Address = ⊤
+IsBindError InUse = ⊤
+IsBindError CannotListen = ⊤
+IsBindError _ = ⊥
+
+-- An address cannot be bound: one that is not a loopback address only if not anyone may reach the
+-- station.
+abbrev pub IsAddressError : Bool → ClientsError → Type 0
+IsAddressError anyone NotLoopback = anyone ≡ false
+IsAddressError anyone Address = ⊤
+IsAddressError anyone InUse = ⊤
+IsAddressError anyone CannotListen = ⊤
+IsAddressError anyone Memory = ⊤
+IsAddressError anyone _ = ⊥
+
+-- A path cannot be bound.
+abbrev pub IsPathError : ClientsError → Type 0
+IsPathError InUse = ⊤
+IsPathError OtherFile = ⊤
+IsPathError CannotListen = ⊤
+IsPathError _ = ⊥
+
+-- A station cannot listen there.
+abbrev pub IsListenError : ServedAt → ClientsError → Type 0
+IsListenError place Sockets = ⊤
+IsListenError place Memory = ⊤
+IsListenError (at.Address address anyone) error = IsAddressError anyone error
+IsListenError (at.Path path) error = IsPathError error
+
+-- No station answers at some addresses.
+abbrev pub IsConnectError : ClientsError → Type 0
+IsConnectError NobodyThere = ⊤
+IsConnectError _ = ⊥
+
+-- A program cannot connect there.
+abbrev pub IsReachError : ServedAt → ClientsError → Type 0
+IsReachError (at.Address address anyone) Address = ⊤
+IsReachError place NobodyThere = ⊤
+IsReachError place Sockets = ⊤
+IsReachError place Memory = ⊤
+IsReachError place _ = ⊥

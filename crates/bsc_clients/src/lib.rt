@@ -1,0 +1,25 @@
+//! The sockets of the programs that feed a station while it runs: the `bsc_serving::Programs` over
+//! the sockets of this machine, by the readiness reports of the system, and the connection of such
+//! a program to its station. It knows nothing of what is said on them.
+//!
+//! - `ServedAt` is where programs reach a station: a TCP address or the path of a Unix socket.
+//! - `Clients` listens there. Its descriptor tells that a program may have to be served.
+//! - `reach` connects a program to a station that serves.
+//!
+//! The standard, GA27-3004, defines none of this; all of it is this project's own.
+#![tactic(auto)]
+
+mod calls;
+mod clients;
+mod error;
+mod listener;
+mod reaching;
+mod served_at;
+mod socket_file;
+mod stream;
+
+pub use clients::Clients;
+pub use error::ClientsError;
+pub use reaching::{Direction, Reached, reach};
+pub use served_at::ServedAt;
+pub use stream::Stream;

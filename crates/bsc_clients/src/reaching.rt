@@ -1,0 +1,114 @@
+//! The connection of a program to a station.
+
+ghost use Rattle.std.specs.Prelude.{◌≡◌, IfErr};
+ghost use Rattle.bsc_clients.specs.Listening.{IsConnectError, IsReachError};
+
+use crate::listener::addresses;
+use crate::{ClientsError, ServedAt};
+use std::alloc::Global;
+use std::io;
+use std::io::{Read, Write};
+use std::net::{Net, OpenStream, SocketAddr, TcpStream};
+use std::os::unix::net::UnixStream;
+use std::time::Duration;
+
+/// One direction of the connection of a program to a station. A read waits until something has
+/// arrived, and a write until the system has room; neither has a time limit. A read returns 0 if
+/// the station has ended the connection.
+#[derive(Drop)]
+pub enum Direction<S> {
+    /// Over TCP.
+    Tcp { stream: S },
+
+    /// Over a Unix socket.
+    Unix { stream: UnixStream },
+}
+
+/// The connection of a program to a station, which ends when both of its directions are dropped.
+#[derive(Drop)]
+pub struct Reached<S> {
+    /// What the program hears.
+    pub hears: Direction<S>,
+
+    /// What the program says.
+    pub says: Direction<S>,
+}
+
+impl<S: Read> Read for Direction<S> {
+    fn read(&mut self, buffer: &mut [u8]) -> io::Result<usize> {
+        match self {
+            Direction::Tcp { stream } => stream.read(buffer),
+            Direction::Unix { stream } => stream.read(buffer),
+        }
+    }
+}
+
+impl<S: Write> Write for Direction<S> {
+    fn write(&mut self, octets: &[u8]) -> io::Result<usize> {
+        match self {
+            Direction::Tcp { stream } => stream.write(octets),
+            Direction::Unix { stream } => stream.write(octets),
+        }
+    }
+
+    fn flush(&mut self) -> io::Result<()> {
+        match self {
+            Direction::Tcp { stream } => stream.flush(),
+            Direction::Unix { stream } => stream.flush(),
+        }
+    }
+}
+
+/// Connects to the station that serves there; of a host with several addresses, to the first that
+/// answers within `patience`. Whether anyone may reach the station is not asked.
+///
+/// Fails with `Address` if the text is not an address, with `NobodyThere` if no station answers,
+/// with `Sockets` if the system refuses what else is needed, and with `Memory` if memory cannot be
+/// allocated.
+pub fn reach<N: Net>(
+    runtime: &N,
+    alloc: Global,
+    at: ServedAt<'_>,
+    patience: Duration,
+) -> Result<Reached<N::Stream>, ClientsError>
+    ensures failed { IfErr result (IsReachError at.entry) }
+{
+    match at {
+        ServedAt::Address { address, .. } => {
+            let hosts = addresses(runtime, alloc, address)?;
+            let hears = first_answer(runtime, &hosts, patience)?;
+            hears.set_nodelay(true)?;
+            let says = hears.try_clone()?;
+            Ok(Reached {
+                hears: Direction::Tcp { stream: hears },
+                says: Direction::Tcp { stream: says },
+            })
+        }
+        ServedAt::Path { path } => {
+            let Ok(hears) = UnixStream::connect(runtime, path) else {
+                return Err(ClientsError::NobodyThere);
+            };
+            let says = hears.try_clone()?;
+            Ok(Reached {
+                hears: Direction::Unix { stream: hears },
+                says: Direction::Unix { stream: says },
+            })
+        }
+    }
+}
+
+/// Returns a stream to the first of these addresses that answers.
+fn first_answer<N: Net>(
+    runtime: &N,
+    hosts: &[SocketAddr],
+    patience: Duration,
+) -> Result<N::Stream, ClientsError>
+    ensures { IfErr result IsConnectError }
+{
+    for host in hosts {
+        if let Ok(stream) = TcpStream::connect_timeout(runtime, host, patience) {
+            return Ok(stream);
+        }
+    }
+    Err(ClientsError::NobodyThere)
+}
