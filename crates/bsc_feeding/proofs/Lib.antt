@@ -1,0 +1,4 @@
+mod Errors
+mod Sent
+mod Told
+mod Unfinished

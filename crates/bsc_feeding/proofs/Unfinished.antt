@@ -1,0 +1,17 @@
+-- A command with more than three words.
+use Rattle.std.proofs.Common.{◌≡◌, ◌<◌, ◌==◌, ℕ, List, [], ◌∷◌, false, length, refl, arith}
+use Rattle.std.proofs.lemmas.List.Splits.{length-slice_split}
+use Rattle.bsc_input.specs.Parts.{parts_at}
+use Rattle.bsc_feeding.specs.Commands.{is_unfinished}
+
+unfinished_four : (a b c : List ℕ) (parts : List (List ℕ)) → 0 < length parts
+    → is_unfinished (a ∷ b ∷ c ∷ parts) ≡ false
+unfinished_four a b c [] h = absurd (omega arith)
+unfinished_four a b c (d ∷ parts) h = refl
+
+-- A text has at least one word, so that three words before it are not all.
+pub unfinished_more : (a b c text : List ℕ)
+    → is_unfinished (a ∷ b ∷ c ∷ parts_at 32 text) ≡ false
+unfinished_more a b c text =
+    unfinished_four a b c (parts_at 32 text)
+    (omega (arith, length-slice_split (λ octet. octet == 32) text))

@@ -1,0 +1,6 @@
+-- No line so far is a fault.
+use Rattle.bsc_feeding.specs.Answers.{TellsNoFault}
+use Rattle.bsc_feeding.proofs.exchange.follow.Given as goal
+
+abbrev pub invariant-lines : goal.invariant-lines
+invariant-lines g l = TellsNoFault (g.W.Write.contents l.fn.out) (g.W.Write.contents l.out)

@@ -1,0 +1,46 @@
+-- Shows that what is told after the last command is printed after its answer.
+use Rattle.bsc_feeding.specs.Feeding.{commands_known}
+use Rattle.bsc_feeding.proofs.Errors.{ok_moved}
+use Rattle.bsc_feeding.proofs.Sent.{feeds_followed, feeds_plain, some_fault}
+use Rattle.bsc_feeding.proofs.feeding.feed.Goals as goal
+
+pub returns-then-follows-clause-fed : goal.returns-then-follows-clause-fed
+returns-then-follows-clause-fed g c =
+    ok_moved c.follow.result
+    (λ told. record {
+      text = c.in_ok-given.given.text.items;
+      takes_lines = c.in_ok-given.given.takes_lines;
+      given = c.in_ok-given.ensures.given;
+      feeds =
+          feeds_followed
+          (commands_known c.in_ok-given.given.takes_lines c.in_ok-given.given.text.items
+          (g.R.Read.remaining c.args.input.now))
+          (g.O.Write.contents c.args.said.now) (g.O.Write.contents c.send_given.new.said)
+          (g.W.Write.contents c.args.out.now) (g.W.Write.contents c.send_given.new.out)
+          (g.W.Write.contents c.follow.new.out)
+          (rw c.if-follows.true at c.in_ok-follows.ensures.sent) told;
+    }) c.follow.ensures.told
+
+pub returns-then-follows-clause-refused : goal.returns-then-follows-clause-refused
+returns-then-follows-clause-refused g c =
+    λ e. some_fault
+    (commands_known c.in_ok-given.given.takes_lines c.in_ok-given.given.text.items
+    (g.R.Read.remaining c.args.input.now)) c.in_ok-follows.follows
+    (g.O.Write.contents c.args.said.now) (g.O.Write.contents c.send_given.new.said)
+    (g.W.Write.contents c.args.out.now) (g.W.Write.contents c.send_given.new.out)
+    (g.W.Write.contents c.follow.new.out) c.in_ok-follows.ensures.sent
+    (c.follow.ensures.refused e)
+
+pub returns-clause-fed : goal.returns-clause-fed
+returns-clause-fed g c = record {
+  text = c.in_ok-given.given.text.items;
+  takes_lines = c.in_ok-given.given.takes_lines;
+  given = c.in_ok-given.ensures.given;
+  feeds =
+      feeds_plain
+      (commands_known c.in_ok-given.given.takes_lines c.in_ok-given.given.text.items
+      (g.R.Read.remaining c.args.input.now))
+      (g.O.Write.contents c.args.said.now) (g.O.Write.contents c.send_given.new.said)
+      (g.W.Write.contents c.args.out.now) (g.W.Write.contents c.send_given.new.out)
+      (rw c.if-follows.false at c.in_ok-follows.ensures.sent);
+}

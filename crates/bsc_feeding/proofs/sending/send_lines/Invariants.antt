@@ -1,0 +1,9 @@
+-- The commands of the lines so far were sent.
+use Rattle.bsc_feeding.proofs.Sent.{HasSentOf}
+use Rattle.bsc_feeding.proofs.sending.send_lines.Given as goal
+
+abbrev pub invariant-lines : goal.invariant-lines
+invariant-lines g l =
+    HasSentOf (g.L.Read.remaining l.fn.input) (g.L.Read.remaining l.input) l.text l.follows
+    (g.O.Write.contents l.fn.said) (g.O.Write.contents l.said)
+    (g.W.Write.contents l.fn.out) (g.W.Write.contents l.out)

@@ -1,0 +1,44 @@
+//! The lines of a station.
+
+ghost use Rattle.std.specs.Prelude.{◌≡◌};
+ghost use Rattle.bsc_feeding.specs.Answers.{is_fault, kind_of as kind_shown};
+
+use crate::words::begins_with;
+
+/// What a line of a station is.
+#[derive(Clone, Copy)]
+pub(crate) enum Kind {
+    /// The answer to a command that was done: `ok`, or `ok` and a number.
+    Done,
+
+    /// The answer to a command that was refused: `fault` and a text.
+    Refused,
+
+    /// Anything else: what arrived, what is delivered, or the state of a channel.
+    News,
+}
+
+impl Kind {
+    /// Whether it is the answer to a command that was refused.
+    pub(crate) fn is_fault(self) -> bool
+        ensures { result ≡ is_fault self }
+    {
+        match self {
+            Kind::Refused => true,
+            Kind::Done | Kind::News => false,
+        }
+    }
+}
+
+/// Returns what this line is, by its first word.
+pub(crate) fn kind_of(line: &[u8]) -> Kind
+    ensures { result ≡ kind_shown line.now }
+{
+    if begins_with(line, "ok") {
+        Kind::Done
+    } else if begins_with(line, "fault") {
+        Kind::Refused
+    } else {
+        Kind::News
+    }
+}

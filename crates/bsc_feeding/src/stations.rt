@@ -1,0 +1,57 @@
+//! The stations that can be fed.
+
+ghost use Rattle.std.specs.Prelude.{◌≡◌, ◌⊎◌, IfErr, IsErrOf, OnOk, map, string_bytes};
+ghost use Rattle.bsc_feeding.specs.Answers.{EndsInFault};
+ghost use Rattle.bsc_feeding.specs.Errors.{IsFeedError, IsReachError};
+ghost use Rattle.bsc_feeding.specs.Feeding.{HasFed};
+
+use crate::{FeedError, feed};
+use std::alloc::Global;
+use std::io::{Read, Write};
+
+/// The connection to a station: what is heard of it, and what is said to it.
+#[derive(Drop)]
+pub struct Reached<I: Drop, O: Drop> {
+    pub heard: I,
+    pub said: O,
+}
+
+/// Stations that serve programs.
+pub trait Stations {
+    /// What is heard of a station.
+    type Heard: Read + Drop;
+
+    /// What is said to it.
+    type Said: Write + Drop;
+
+    /// Connects to the station that serves programs at this address, `HOST:PORT` or `unix:PATH`.
+    /// Fails with `Address` if it is not one, with `NobodyThere` if no station answers, and with
+    /// `Sockets` or `Memory` if the system refuses what is needed.
+    fn reach(&mut self, address: &str) -> Result<Reached<Self::Heard, Self::Said>, FeedError>
+        ensures { IfErr result IsReachError };
+}
+
+/// Connects to the station that serves programs at this address, and then sends what these words
+/// ask for, as [`feed`] does, and with its errors.
+pub fn feed_at<R: Read, H: Stations, W: Write>(
+    alloc: Global,
+    address: &str,
+    words: &[String],
+    input: &mut R,
+    machine: &mut H,
+    out: &mut W,
+) -> Result<(), FeedError>
+    ensures fed { OnOk result (HasFed (map string_bytes words.now) (R.remaining input.old)
+        (W.contents out.old) (W.contents out.new)) }
+    ensures refused { IsErrOf result FeedError.Refused →
+        EndsInFault (W.contents out.old) (W.contents out.new) }
+    ensures failed { IfErr result (λ error.
+        IsReachError error ⊎ IsFeedError (map string_bytes words.now) error) }
+    ensures early { IsErrOf result FeedError.NotOneLine → out.new ≡ out.old }
+{
+    let Reached {
+        mut heard,
+        mut said,
+    } = machine.reach(address)?;
+    feed(alloc, words, input, &mut heard, &mut said, out)
+}
