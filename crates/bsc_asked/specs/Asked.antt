@@ -1,8 +1,8 @@
 -- The work that is asked of the command, with its arguments as texts.
-use Rattle.std.specs.Prelude.{ℕ, List, Bool, string_bytes}
+use Rattle.std.specs.Prelude.{ℕ, List, Bool, map, string_bytes}
 use Rattle.bsc_asked.specs.declared.asked.Asked.{Asked}
 use Rattle.bsc_asked.specs.declared.asked.Asked.TheVariants.{Names, Name, Show, Chart, Run}
-use Rattle.bsc_asked.specs.declared.asked.Asked.TheVariants.{Station, Store}
+use Rattle.bsc_asked.specs.declared.asked.Asked.TheVariants.{Station, Feed, Store}
 use Rattle.bsc_asked.specs.ChartWords.{AskedChart, chart_words}
 use Rattle.bsc_asked.specs.StationWords.{AskedWords, asked_words}
 use Rattle.bsc_asked.specs.StoreWords.{AskedStore, store_words}
@@ -15,6 +15,7 @@ pub data AskedValue : Type 0 where
   chart : AskedChart → AskedValue
   run : List ℕ → List ℕ → Bool → Bool → Bool → AskedValue
   station : AskedWords → AskedValue
+  feed : List ℕ → List (List ℕ) → AskedValue
   store : AskedStore → AskedValue
 
 -- The value of the work in the code.
@@ -26,4 +27,5 @@ asked (Chart words) = chart (chart_words words)
 asked (Run config script check trace quiet) =
     run (string_bytes config) (string_bytes script) check trace quiet
 asked (Station words) = station (asked_words words)
+asked (Feed address command) = feed (string_bytes address) (map string_bytes command.items)
 asked (Store words) = store (store_words words)

@@ -11,6 +11,8 @@ pub record AskedWords : Type 0 where
   pub allowed : List (List ℕ)
   pub peers : List (List ℕ)
   pub connect : Option (List ℕ)
+  pub serve : Option (List ℕ)
+  pub serve_anyone : Bool
   pub shared : Bool
   pub raw : Bool
   pub gap : Option (List ℕ)
@@ -41,6 +43,8 @@ asked_words w = record {
   allowed = map string_bytes w.allowed.items;
   peers = map string_bytes w.peers.items;
   connect = option_map string_bytes w.connect;
+  serve = option_map string_bytes w.serve;
+  serve_anyone = w.serve_anyone;
   shared = w.shared;
   raw = w.raw;
   gap = option_map string_bytes w.gap;

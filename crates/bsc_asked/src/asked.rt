@@ -32,6 +32,13 @@ pub enum Asked {
     /// Run one station of a line over TCP.
     Station(StationWords),
 
+    /// Feed the station that serves at this address: send it this command, whose words are joined
+    /// by spaces, or without words each line of standard input as a command.
+    Feed {
+        address: String,
+        command: Vec<String>,
+    },
+
     /// Do a work on the store of a station.
     Store(StoreWords),
 }

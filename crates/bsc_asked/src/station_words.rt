@@ -25,6 +25,12 @@ pub struct StationWords {
     /// The address at which a peer listens.
     pub connect: Option<String>,
 
+    /// The address at which programs feed the station.
+    pub serve: Option<String>,
+
+    /// Whether programs of other machines may feed it too.
+    pub serve_anyone: bool,
+
     /// Whether all terminals are reached over one connection.
     pub shared: bool,
 

@@ -12,6 +12,7 @@ use Rattle.bsc_options.specs.declared.error.OptionError.TheVariants.{AllowNeedsL
 use Rattle.bsc_options.specs.declared.error.OptionError.TheVariants.{PeerNeedsListen}
 use Rattle.bsc_options.specs.declared.error.OptionError.TheVariants.{GapNeedsRaw, TextAndBytes}
 use Rattle.bsc_options.specs.declared.error.OptionError.TheVariants.{StoreAndOffer}
+use Rattle.bsc_options.specs.declared.error.OptionError.TheVariants.{ServeAnyoneNeedsServe}
 use Rattle.bsc_options.specs.declared.error.OptionError.TheVariants.{RepeatedInput, Gap, TimeOut}
 use Rattle.bsc_options.specs.declared.error.OptionError.TheVariants.{GapNotBelowTimeOut, Patience}
 use Rattle.bsc_options.specs.declared.error.OptionError.TheVariants.{Rounds, IdleRounds, NoTerminal}
@@ -36,6 +37,7 @@ reason PeerNeedsListen = codes "--peer needs --control and --listen, and not --s
 reason GapNeedsRaw = codes "--gap needs --raw"
 reason TextAndBytes = codes "--text and --bytes cannot both be given"
 reason StoreAndOffer = codes "--store and --offer cannot both be given"
+reason ServeAnyoneNeedsServe = codes "--serve-anyone needs --serve with HOST:PORT"
 reason RepeatedInput =
     codes "CONFIG, --offer and --until-input-ends cannot use standard input more than once"
 reason Gap = codes "--gap takes milliseconds, 1 to 3600000"
@@ -78,6 +80,7 @@ is_conflict PeerNeedsListen = true
 is_conflict GapNeedsRaw = true
 is_conflict TextAndBytes = true
 is_conflict StoreAndOffer = true
+is_conflict ServeAnyoneNeedsServe = true
 is_conflict RepeatedInput = true
 is_conflict Gap = false
 is_conflict TimeOut = false

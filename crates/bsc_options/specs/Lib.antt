@@ -4,5 +4,6 @@ pub mod Numbers
 pub mod Inputs
 pub mod Offers
 pub mod Admission
+pub mod Serves
 pub mod Settings
 pub mod StoreWorks

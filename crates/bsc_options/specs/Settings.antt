@@ -1,6 +1,6 @@
 -- The settings in the options of a station.
-use Rattle.std.specs.Prelude.{ℕ, ◌-◌, ◌*◌, ◌^◌, ◌==◌, min, nat_le, ◌&&◌, ◌||◌, not, Bool, true}
-use Rattle.std.specs.Prelude.{false}
+use Rattle.std.specs.Prelude.{ℕ, ◌-◌, ◌*◌, ◌/◌, ◌^◌, ◌==◌, min, nat_le, ◌&&◌, ◌||◌, not, Bool}
+use Rattle.std.specs.Prelude.{true, false, option_map}
 use Rattle.std.specs.Prelude.{List, [], ◌∷◌, Option, Some, None, is_some, ok_or, Result, Ok, Err}
 use Rattle.std.specs.Prelude.{if◌then◌else◌}
 use Rattle.bsc_asked.specs.StationWords.{AskedWords}
@@ -21,6 +21,7 @@ use Rattle.bsc_options.specs.declared.settings.StationSettings.{StationSettings}
 use Rattle.bsc_options.specs.Inputs.{repeats_input}
 use Rattle.bsc_options.specs.Numbers.{number_within}
 use Rattle.bsc_options.specs.Readings.{◌>>=◌}
+use Rattle.bsc_options.specs.Serves.{ServesValue, is_address, serves_in, serves_value}
 
 -- The station with this number, if it is one.
 abbrev pub terminal_of : Option ℕ → Result Role OptionError
@@ -67,19 +68,25 @@ abbrev pub is_any : {X : Type 0} → List X → Bool
 is_any [] = false
 is_any (x ∷ xs) = true
 
--- The options fit the station and one another.
-abbrev pub fits_together : AskedWords → Role → Result (Unit {0}) OptionError
-fits_together w role = do
-  of_role ← fits_role w role
+-- The options that need a place of the connections have it.
+abbrev pub fits_place : AskedWords → Result (Unit {0}) OptionError
+fits_place w = do
   patience ← unless (is_some w.patience && not (is_some w.connect)) error.PatienceNeedsConnect
   replace ← unless (is_some w.replace_after && not (w.control && is_some w.listen))
       error.ReplaceAfterNeedsListen
   allow ← unless (is_any w.allowed && not (is_some w.listen)) error.AllowNeedsListen
-  peer ← unless (is_any w.peers && (not (w.control && is_some w.listen) || w.shared))
+  unless (is_any w.peers && (not (w.control && is_some w.listen) || w.shared))
       error.PeerNeedsListen
+
+-- The options fit the station and one another.
+abbrev pub fits_together : AskedWords → Role → Result (Unit {0}) OptionError
+fits_together w role = do
+  of_role ← fits_role w role
+  of_place ← fits_place w
   gap ← unless (is_some w.gap && not w.raw) error.GapNeedsRaw
   form ← unless (w.text && w.bytes) error.TextAndBytes
   store ← unless (is_some w.store && is_any w.offers) error.StoreAndOffer
+  anyone ← unless (w.serve_anyone && not (is_address w.serve)) error.ServeAnyoneNeedsServe
   unless (repeats_input w role) error.RepeatedInput
 
 -- The number in the text of an option, from `least` to `most`, or `absent` if it is not given.
@@ -95,8 +102,13 @@ hour = 3600000
 abbrev pub three_times : ℕ → ℕ
 three_times time = min (time * 3) (2 ^ 64 - 1)
 
+-- The pause unless it is given: 20, and for a station that programs feed 100, but no more than half
+-- of the time-out.
+abbrev pub absent_pause : Bool → ℕ → ℕ
+absent_pause serves time_out = if serves then min (time_out / 2) 100 else 20
+
 -- The times of a station in milliseconds. The gap is 50 and the time-out 3000 unless given, and the
--- patience is the time-out, and a connection is replaced after three time-outs. The pause is 20.
+-- patience is the time-out, and a connection is replaced after three time-outs.
 -- With raw octets the gap is less than the time-out: otherwise no transmission would end before a
 -- silence. A pause that is given is less than it too: otherwise a terminal that answers during the
 -- pause would act on its time-out before it is heard.
@@ -107,7 +119,7 @@ times_in w = do
   below ← unless (w.raw && nat_le time_out gap) error.GapNotBelowTimeOut
   patience ← number_in error.Patience 1 hour time_out w.patience
   replace_after ← number_in error.ReplaceAfter 1 hour (three_times time_out) w.replace_after
-  pause ← number_in error.Pause 0 hour 20 w.pause
+  pause ← number_in error.Pause 0 hour (absent_pause (is_some w.serve) time_out) w.pause
   short ← unless (is_some w.pause && nat_le time_out pause) error.PauseNotBelowTimeOut
   Ok (record {
     gap = gap;
@@ -124,11 +136,17 @@ rounds_in (Some text) = do
   rounds ← ok_or (number_within 1 (2 ^ 64 - 1) text) error.Rounds
   Ok (Some rounds)
 
--- The limits at which a control station ends: after two idle rounds in a row unless given.
+-- The number of idle rounds in a row unless it is given: two, and for a station that programs feed
+-- the greatest number.
+abbrev pub absent_idle_rounds : Bool → ℕ
+absent_idle_rounds serves = if serves then 2 ^ 64 - 1 else 2
+
+-- The limits at which a control station ends.
 abbrev pub limits_in : AskedWords → Result Limits OptionError
 limits_in w = do
   rounds ← rounds_in w.rounds
-  idle_rounds ← number_in error.IdleRounds 1 (2 ^ 64 - 1) 2 w.idle_rounds
+  idle_rounds ← number_in error.IdleRounds 1 (2 ^ 64 - 1) (absent_idle_rounds (is_some w.serve))
+      w.idle_rounds
   Ok (record { rounds = rounds; idle_rounds = idle_rounds })
 
 -- The form of records in the output.
@@ -151,6 +169,7 @@ printing_in w = record {
 pub record SettingsValue : Type 0 where
   pub role : Role
   pub place : PlaceValue
+  pub serves : Option ServesValue
   pub shared : Bool
   pub raw : Bool
   pub times : Times
@@ -166,6 +185,7 @@ abbrev pub settings_value : StationSettings → SettingsValue
 settings_value s = record {
   role = s.role;
   place = place_value s.place;
+  serves = option_map serves_value s.serves;
   shared = s.shared;
   raw = s.raw;
   times = s.times;
@@ -193,6 +213,7 @@ settings_in w = do
   Ok (record {
     role = role;
     place = place;
+    serves = serves_in w.serve w.serve_anyone;
     shared = w.shared;
     raw = w.raw;
     times = times;

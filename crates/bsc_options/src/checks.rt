@@ -2,10 +2,11 @@
 
 ghost use Rattle.std.specs.Prelude.{◌≡◌, is_some, map, option_map, string_bytes};
 ghost use Rattle.bsc_asked.specs.StationWords.{asked_words};
-ghost use Rattle.bsc_options.specs.Settings.{fits_role, fits_together, is_any};
+ghost use Rattle.bsc_options.specs.Settings.{fits_place, fits_role, fits_together, is_any};
 ghost use Rattle.bsc_options.specs.Settings.{unless as error_unless};
 
 use crate::inputs::repeats_input;
+use crate::serves::is_at_address;
 use crate::{OptionError, Role};
 use bsc_asked::StationWords;
 
@@ -53,11 +54,10 @@ fn check_role(words: &StationWords, role: Role) -> Result<(), OptionError>
     }
 }
 
-/// Checks that the options fit the station and one another.
-pub(crate) fn check_together(words: &StationWords, role: Role) -> Result<(), OptionError>
-    ensures { result ≡ fits_together (asked_words words.now) role }
+/// Checks the options that need a place of the connections.
+fn check_place(words: &StationWords) -> Result<(), OptionError>
+    ensures { result ≡ fits_place (asked_words words.now) }
 {
-    check_role(words, role)?;
     let is_broken = is_given(&words.patience) && !is_given(&words.connect);
     unless(is_broken, OptionError::PatienceNeedsConnect)?;
     let listens = is_given(&words.listen);
@@ -69,10 +69,20 @@ pub(crate) fn check_together(words: &StationWords, role: Role) -> Result<(), Opt
         OptionError::AllowNeedsListen,
     )?;
     let is_broken = has_any(&words.peers) && (!is_listening || words.shared);
-    unless(is_broken, OptionError::PeerNeedsListen)?;
+    unless(is_broken, OptionError::PeerNeedsListen)
+}
+
+/// Checks that the options fit the station and one another.
+pub(crate) fn check_together(words: &StationWords, role: Role) -> Result<(), OptionError>
+    ensures { result ≡ fits_together (asked_words words.now) role }
+{
+    check_role(words, role)?;
+    check_place(words)?;
     unless(is_given(&words.gap) && !words.raw, OptionError::GapNeedsRaw)?;
     unless(words.text && words.bytes, OptionError::TextAndBytes)?;
     let is_broken = is_given(&words.store) && has_any(&words.offers);
     unless(is_broken, OptionError::StoreAndOffer)?;
+    let is_broken = words.serve_anyone && !is_at_address(&words.serve);
+    unless(is_broken, OptionError::ServeAnyoneNeedsServe)?;
     unless(repeats_input(words, role), OptionError::RepeatedInput)
 }

@@ -46,6 +46,9 @@ pub enum OptionError {
     /// `--store` and `--offer` are both given.
     StoreAndOffer,
 
+    /// `--serve-anyone` is given without `--serve` with an address other than `unix:PATH`.
+    ServeAnyoneNeedsServe,
+
     /// Standard input is used more than once, by CONFIG, `--offer` and `--until-input-ends`.
     RepeatedInput,
 
@@ -145,6 +148,7 @@ impl OptionError {
             OptionError::GapNeedsRaw => "--gap needs --raw",
             OptionError::TextAndBytes => "--text and --bytes cannot both be given",
             OptionError::StoreAndOffer => "--store and --offer cannot both be given",
+            OptionError::ServeAnyoneNeedsServe => "--serve-anyone needs --serve with HOST:PORT",
             OptionError::RepeatedInput => {
                 "CONFIG, --offer and --until-input-ends cannot use standard input more than once"
             }
@@ -194,6 +198,7 @@ impl OptionError {
             | OptionError::GapNeedsRaw
             | OptionError::TextAndBytes
             | OptionError::StoreAndOffer
+            | OptionError::ServeAnyoneNeedsServe
             | OptionError::RepeatedInput
             | OptionError::GapNotBelowTimeOut
             | OptionError::PauseNotBelowTimeOut

@@ -3,13 +3,15 @@
 ghost use Rattle.std.specs.Prelude.{◌≡◌, option_map, string_bytes};
 ghost use Rattle.bsc_asked.specs.StationWords.{asked_words};
 ghost use Rattle.bsc_options.specs.Readings.{Gives};
-ghost use Rattle.bsc_options.specs.Settings.{form_in, limits_in, number_in, place_in, place_value};
+ghost use Rattle.bsc_options.specs.Settings.{absent_idle_rounds, absent_pause, form_in, limits_in};
+ghost use Rattle.bsc_options.specs.Settings.{number_in, place_in, place_value};
 ghost use Rattle.bsc_options.specs.Settings.{printing_in, reported_in, role_in, rounds_in};
 ghost use Rattle.bsc_options.specs.Settings.{settings_in, settings_value, times_in, tracing_in};
 
-use crate::OptionError;
 use crate::checks::{check_together, is_given, unless};
 use crate::numbers::{number_within, octet_in};
+use crate::serves::serves_of;
+use crate::{OptionError, Serves};
 use bsc_asked::StationWords;
 use bsc_monitor::{Limits, Printing, RecordLines, Tracing};
 use bsc_print::Form;
@@ -23,8 +25,14 @@ const TIME_OUT: u64 = 3_000;
 /// The pause after an idle round in milliseconds, unless given.
 const PAUSE: u64 = 20;
 
+/// The same for a station that programs feed, where it is at most half of the time-out.
+const SERVING_PAUSE: u64 = 100;
+
 /// The number of idle rounds in a row after which a control station ends, unless given.
 const IDLE_ROUNDS: u64 = 2;
+
+/// The same for a station that programs feed: as many as are counted, which never come.
+const SERVING_IDLE_ROUNDS: u64 = u64::MAX;
 
 /// The maximum of each time, in milliseconds: one hour.
 const HOUR: u64 = 3_600_000;
@@ -76,6 +84,9 @@ pub struct StationSettings<'a> {
 
     /// The place of its connections.
     pub place: Place<'a>,
+
+    /// Where programs feed it; `None` if none do.
+    pub serves: Option<Serves<'a>>,
 
     /// Whether the control station reaches all terminals by one connection.
     pub shared: bool,
@@ -163,6 +174,30 @@ fn number(
     }
 }
 
+/// Returns the pause after an idle round unless it is given, for a station that programs feed or
+/// not.
+fn absent_pause(serves: bool, time_out: u64) -> u64
+    ensures { result ≡ absent_pause serves time_out }
+{
+    if serves {
+        (time_out / 2).min(SERVING_PAUSE)
+    } else {
+        PAUSE
+    }
+}
+
+/// Returns the number of idle rounds in a row after which a control station ends, unless it is
+/// given, for a station that programs feed or not.
+fn absent_idle_rounds(serves: bool) -> u64
+    ensures { result ≡ absent_idle_rounds serves }
+{
+    if serves {
+        SERVING_IDLE_ROUNDS
+    } else {
+        IDLE_ROUNDS
+    }
+}
+
 /// Returns the times. With raw octets the gap has to be less than the time-out, and so has a pause
 /// that is given.
 fn read_times(words: &StationWords) -> Result<Times, OptionError>
@@ -183,7 +218,8 @@ fn read_times(words: &StationWords) -> Result<Times, OptionError>
         three,
         OptionError::ReplaceAfter,
     )?;
-    let pause = number(&words.pause, 0, HOUR, PAUSE, OptionError::Pause)?;
+    let absent = absent_pause(is_given(&words.serve), time_out);
+    let pause = number(&words.pause, 0, HOUR, absent, OptionError::Pause)?;
     unless(
         words.pause.is_some() && time_out <= pause,
         OptionError::PauseNotBelowTimeOut,
@@ -216,7 +252,8 @@ fn read_limits(words: &StationWords) -> Result<Limits, OptionError>
 {
     let rounds = read_rounds(&words.rounds)?;
     let why = OptionError::IdleRounds;
-    let idle_rounds = number(&words.idle_rounds, 1, u64::MAX, IDLE_ROUNDS, why)?;
+    let absent = absent_idle_rounds(is_given(&words.serve));
+    let idle_rounds = number(&words.idle_rounds, 1, u64::MAX, absent, why)?;
     Ok(Limits {
         rounds,
         idle_rounds,
@@ -285,6 +322,7 @@ pub fn read_settings(words: &StationWords) -> Result<StationSettings<'_>, Option
     Ok(StationSettings {
         role,
         place,
+        serves: serves_of(&words.serve, words.serve_anyone),
         shared: words.shared,
         raw: words.raw,
         times,

@@ -5,9 +5,9 @@ use Rattle.std.specs.Str.{bytes_eq}
 use Rattle.clap.specs.Words.{App, Kinds, Row, Text, fault_of, first_of, new_app, subcommand_of}
 use Rattle.clap.specs.declared.error.kind.ErrorKind.{ErrorKind}
 use Rattle.clap.specs.declared.error.kind.ErrorKind.TheVariants.{DisplayHelp, DisplayVersion}
-use Rattle.bsc_asked.specs.Asked.{AskedValue, names, name, show, chart, run, station, store}
-use Rattle.bsc_words.specs.Options.{flag, is_true_text, option, optional, required, value_at}
-use Rattle.bsc_words.specs.Options.{with_rules, with_shapes}
+use Rattle.bsc_asked.specs.Asked.{AskedValue, names, name, show, chart, run, station, feed, store}
+use Rattle.bsc_words.specs.Options.{flag, is_true_text, option, optional, required, rest, value_at}
+use Rattle.bsc_words.specs.Options.{values_of, with_rules, with_shapes}
 use Rattle.bsc_words.specs.StationWords.{station_app, words_in}
 use Rattle.bsc_words.specs.StoreWords.{store_app, store_words_in}
 
@@ -35,6 +35,11 @@ run_app =
     (required (codes "CONFIG") ∷ required (codes "SCRIPT") ∷ flag (codes "check")
     ∷ flag (codes "trace") ∷ flag (codes "quiet") ∷ [])
 
+-- `feed ADDRESS`, and after it the words of a command.
+abbrev pub feed_app : App
+feed_app =
+    with_rules (new_app (codes "feed")) (required (codes "ADDRESS") ∷ rest (codes "COMMAND") ∷ [])
+
 -- The program, which has a version, without its commands.
 abbrev pub program_app : App
 program_app =
@@ -44,8 +49,8 @@ program_app =
 abbrev pub bscline_app : App
 bscline_app =
     with_shapes program_app
-    (name_app.top ∷ show_app.top ∷ chart_app.top ∷ run_app.top ∷ station_app.top ∷ store_app.top
-    ∷ [])
+    (name_app.top ∷ show_app.top ∷ chart_app.top ∷ run_app.top ∷ station_app.top ∷ feed_app.top
+    ∷ store_app.top ∷ [])
 
 -- The kinds of error that `clap` may return for the arguments; none if they are a command.
 unfoldable pub faults_at : List Text → Kinds
@@ -76,6 +81,10 @@ asked_run rows =
 abbrev pub asked_station : List Row → AskedValue
 asked_station rows = station (words_in rows)
 
+-- What a station is fed: its address, and the words of the command.
+abbrev pub asked_feed : List Row → AskedValue
+asked_feed rows = feed (value_at (codes "ADDRESS") rows) (values_of (codes "COMMAND") rows)
+
 -- A work on a store, with its arguments.
 abbrev pub asked_store : List Row → AskedValue
 asked_store rows = store (store_words_in rows)
@@ -87,7 +96,8 @@ asked_by sub rows =
     else (if bytes_eq sub (codes "chart") then asked_chart rows
     else (if bytes_eq sub (codes "run") then asked_run rows
     else (if bytes_eq sub (codes "station") then asked_station rows
-    else (if bytes_eq sub (codes "store") then asked_store rows else show))))
+    else (if bytes_eq sub (codes "feed") then asked_feed rows
+    else (if bytes_eq sub (codes "store") then asked_store rows else show)))))
 
 -- The work for a command. Without a command it is naming the lines of standard input.
 abbrev pub asked_sub : Option (Text × List Row) → AskedValue

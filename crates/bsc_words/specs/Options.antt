@@ -1,8 +1,8 @@
 -- Arguments and options of the command line, and their values.
 use Rattle.std.specs.Prelude.{List, [], ◌∷◌, map, Bool, true, Some, unwrap_or, codes}
 use Rattle.std.specs.Str.{bytes_eq}
-use Rattle.clap.specs.Words.{App, Row, Rule, Shape, Text, first_of, new_app, new_rule, with_rule}
-use Rattle.clap.specs.Words.{with_subcommand}
+use Rattle.clap.specs.Words.{App, Row, Rule, Shape, Text, all_of, first_of, new_app, new_rule}
+use Rattle.clap.specs.Words.{with_rule, with_subcommand}
 use Rattle.bsc_words.specs.declared.entries.Entry.{Entry}
 use Rattle.bsc_words.specs.declared.entries.Subcommand.{Subcommand}
 use Rattle.bsc_words.specs.declared.entries.Given.{Given}
@@ -33,6 +33,10 @@ option id = record (new_rule id) { long = Some id; value_names = 1; action = Som
 abbrev pub value_list : Text → Rule
 value_list id = record (new_rule id) { long = Some id; value_names = 1; action = Some Append }
 
+-- Values without a name, any number of them, after the first of which all words are values.
+abbrev pub rest : Text → Rule
+rest id = record (new_rule id) { action = Some Append; trailing_var_arg = true }
+
 -- The rule for an entry with this name that is given in this form.
 abbrev pub given_rule : Given → Text → Rule
 given_rule given.Required id = required id
@@ -41,6 +45,7 @@ given_rule given.Flag id = flag id
 given_rule given.Count id = counted id
 given_rule given.Value id = option id
 given_rule given.Values id = value_list id
+given_rule given.Rest id = rest id
 
 -- The rule for an entry of a table.
 abbrev pub entry_rule : Entry → Rule
@@ -60,6 +65,10 @@ subcommand_shape row =
 abbrev pub with_shapes : App → List Shape → App
 with_shapes program [] = program
 with_shapes program (shape ∷ shapes) = with_shapes (with_subcommand program shape) shapes
+
+-- The values of an argument that may be given any number of times.
+abbrev pub values_of : Text → List Row → List Text
+values_of id rows = unwrap_or (all_of id rows) []
 
 -- The value of a required argument.
 abbrev pub value_at : Text → List Row → Text

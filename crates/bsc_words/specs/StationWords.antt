@@ -1,9 +1,8 @@
 -- The arguments of `station`: those that `clap` reads, and their values.
 use Rattle.std.specs.Prelude.{List, [], ◌∷◌, map, Bool, Option, codes, option_map, string_bytes}
-use Rattle.std.specs.Prelude.{unwrap_or}
-use Rattle.clap.specs.Words.{App, Row, Text, all_of, count_of, first_of, new_app}
+use Rattle.clap.specs.Words.{App, Row, Text, count_of, first_of, new_app}
 use Rattle.bsc_words.specs.Options.{counted, flag, is_true_text, option, required, value_at}
-use Rattle.bsc_words.specs.Options.{value_list, with_rules}
+use Rattle.bsc_words.specs.Options.{value_list, values_of, with_rules}
 use Rattle.bsc_asked.specs.StationWords.{AskedWords}
 use Rattle.bsc_words.specs.declared.station_words.Flags.{Flags}
 use Rattle.bsc_words.specs.declared.station_words.Lists.{Lists}
@@ -21,6 +20,8 @@ station_app =
     ∷ value_list (codes "allow")
     ∷ value_list (codes "peer")
     ∷ option (codes "connect")
+    ∷ option (codes "serve")
+    ∷ flag (codes "serve-anyone")
     ∷ flag (codes "shared")
     ∷ flag (codes "raw")
     ∷ option (codes "gap")
@@ -46,10 +47,6 @@ station_app =
 abbrev pub given : Text → List Row → Bool
 given id rows = is_true_text (value_at id rows)
 
--- The values of an option that may be given any number of times.
-abbrev pub values_of : Text → List Row → List Text
-values_of id rows = unwrap_or (all_of id rows) []
-
 -- The arguments in the matches.
 abbrev pub words_in : List Row → AskedWords
 words_in rows = record {
@@ -60,6 +57,8 @@ words_in rows = record {
   allowed = values_of (codes "allow") rows;
   peers = values_of (codes "peer") rows;
   connect = first_of (codes "connect") rows;
+  serve = first_of (codes "serve") rows;
+  serve_anyone = given (codes "serve-anyone") rows;
   shared = given (codes "shared") rows;
   raw = given (codes "raw") rows;
   gap = first_of (codes "gap") rows;
@@ -85,6 +84,7 @@ words_in rows = record {
 abbrev pub flags_in : List Row → Flags
 flags_in rows = record {
   control = given (codes "control") rows;
+  serve_anyone = given (codes "serve-anyone") rows;
   shared = given (codes "shared") rows;
   raw = given (codes "raw") rows;
   until_input_ends = given (codes "until-input-ends") rows;

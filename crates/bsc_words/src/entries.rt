@@ -27,6 +27,9 @@ pub(crate) enum Given {
 
     /// A name and a value, any number of times.
     Values,
+
+    /// Values without a name, any number of them: from the first of them on all words are values.
+    Rest,
 }
 
 /// An argument or an option of a command.
@@ -74,6 +77,7 @@ fn argument<'a>(alloc: Global, entry: &'a Entry) -> Arg<'a>
         Given::Count => argument.long(entry.id).action(ArgAction::Count),
         Given::Value => with_value(argument, entry).action(ArgAction::Set),
         Given::Values => with_value(argument, entry).action(ArgAction::Append),
+        Given::Rest => argument.action(ArgAction::Append).trailing_var_arg(true),
     }
 }
 

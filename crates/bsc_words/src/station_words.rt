@@ -14,6 +14,7 @@ use std::alloc::{AllocError, Global};
 #[derive(Clone, Copy)]
 struct Flags {
     control: bool,
+    serve_anyone: bool,
     shared: bool,
     raw: bool,
     until_input_ends: bool,
@@ -52,6 +53,7 @@ fn flags_of(matches: &ArgMatches<'_>) -> Flags
 {
     Flags {
         control: is_given(matches, "control"),
+        serve_anyone: is_given(matches, "serve-anyone"),
         shared: is_given(matches, "shared"),
         raw: is_given(matches, "raw"),
         until_input_ends: is_given(matches, "until-input-ends"),
@@ -103,6 +105,7 @@ pub(crate) fn station_words(
     let terminal = option_text(alloc, matches, "terminal")?;
     let listen = option_text(alloc, matches, "listen")?;
     let connect = option_text(alloc, matches, "connect")?;
+    let serve = option_text(alloc, matches, "serve")?;
     let store = option_text(alloc, matches, "store")?;
     let lists = lists_of(alloc, matches)?;
     let Lists {
@@ -128,6 +131,8 @@ pub(crate) fn station_words(
         allowed,
         peers,
         connect,
+        serve,
+        serve_anyone: flags.serve_anyone,
         shared: flags.shared,
         raw: flags.raw,
         gap,

@@ -1,6 +1,6 @@
 //! The commands of the program with their arguments and options, as tables.
 
-use crate::entries::Given::{Count, Flag, Optional, Required, Value, Values};
+use crate::entries::Given::{Count, Flag, Optional, Required, Rest, Value, Values};
 use crate::entries::{Entry, Subcommand};
 
 /// Prints the name of one transmission.
@@ -170,6 +170,18 @@ pub(crate) const STATION: Subcommand = Subcommand {
             help: "Connect to a peer at this address",
         },
         Entry {
+            id: "serve",
+            given: Value,
+            value: "ADDRESS",
+            help: "Let programs feed the station at HOST:PORT or unix:PATH",
+        },
+        Entry {
+            id: "serve-anyone",
+            given: Flag,
+            value: "",
+            help: "Let programs of other machines feed it; needs --serve with HOST:PORT",
+        },
+        Entry {
             id: "shared",
             given: Flag,
             value: "",
@@ -209,7 +221,8 @@ pub(crate) const STATION: Subcommand = Subcommand {
             id: "pause",
             given: Value,
             value: "MS",
-            help: "Pause after an idle round, in milliseconds, 0 to 3600000, 20 unless given",
+            help: "Pause after an idle round, in milliseconds, 0 to 3600000, 20 unless given, \
+                with --serve 100",
         },
         Entry {
             id: "rounds",
@@ -221,7 +234,7 @@ pub(crate) const STATION: Subcommand = Subcommand {
             id: "idle-rounds",
             given: Value,
             value: "N",
-            help: "End after N idle rounds in a row, 2 unless given",
+            help: "End after N idle rounds in a row, 2 unless given, with --serve no limit",
         },
         Entry {
             id: "until-input-ends",
@@ -286,6 +299,27 @@ pub(crate) const STATION: Subcommand = Subcommand {
     ],
 };
 
+/// Feeds a running station.
+pub(crate) const FEED: Subcommand = Subcommand {
+    name: "feed",
+    about: "Feed a running station: send commands to it and print its answers",
+    example: "Example: bscline feed unix:line.sock offer to 0 HELLO",
+    entries: &[
+        Entry {
+            id: "ADDRESS",
+            given: Required,
+            value: "",
+            help: "Where the station serves: HOST:PORT or unix:PATH",
+        },
+        Entry {
+            id: "COMMAND",
+            given: Rest,
+            value: "",
+            help: "The command; without it, each line of standard input is one",
+        },
+    ],
+};
+
 /// Does a work on the store of a station.
 pub(crate) const STORE: Subcommand = Subcommand {
     name: "store",
@@ -346,4 +380,4 @@ pub(crate) const STORE: Subcommand = Subcommand {
 };
 
 /// The commands, in the order of the help.
-pub(crate) const COMMANDS: &[Subcommand] = &[NAME, SHOW, CHART, RUN, STATION, STORE];
+pub(crate) const COMMANDS: &[Subcommand] = &[NAME, SHOW, CHART, RUN, STATION, FEED, STORE];

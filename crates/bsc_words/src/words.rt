@@ -2,15 +2,15 @@
 ghost use Rattle.std.specs.Prelude.{◌≡◌, ◌⊎◌, [], map, IfOk, IfErr, OnOk};
 ghost use Rattle.clap.specs.Words.{HasKind, app_of, found_of, kind_of, rows_of, subcommand_rows_of};
 ghost use Rattle.bsc_asked.specs.Asked.{asked};
-ghost use Rattle.bsc_words.specs.CommandLine.{asked_chart, asked_of, asked_run, asked_station};
-ghost use Rattle.bsc_words.specs.CommandLine.{asked_store, asked_sub, bscline_app, faults_at};
-ghost use Rattle.bsc_words.specs.CommandLine.{program_app};
+ghost use Rattle.bsc_words.specs.CommandLine.{asked_chart, asked_feed, asked_of, asked_run};
+ghost use Rattle.bsc_words.specs.CommandLine.{asked_station, asked_store, asked_sub, bscline_app};
+ghost use Rattle.bsc_words.specs.CommandLine.{faults_at, program_app};
 
 use crate::entries::{Subcommand, command_of, with_subcommands};
 use crate::station_words::station_words;
 use crate::store_words::store_words;
-use crate::tables::{CHART, COMMANDS, RUN, STATION, STORE};
-use crate::values::{is_given, option_text, required_text};
+use crate::tables::{CHART, COMMANDS, FEED, RUN, STATION, STORE};
+use crate::values::{is_given, option_text, option_texts, required_text};
 use bsc_asked::{Asked, ChartWords};
 use clap::error::ErrorKind;
 use clap::{ArgMatches, Command, Error};
@@ -69,6 +69,16 @@ fn station_of(alloc: Global, matches: &ArgMatches<'_>) -> Result<Asked, AllocErr
     Ok(Asked::Station(station_words(alloc, matches)?))
 }
 
+/// Returns what the matches of `feed` ask to feed a station.
+fn feed_of(alloc: Global, matches: &ArgMatches<'_>) -> Result<Asked, AllocError>
+    ensures { IfOk result (λ w. asked w ≡ asked_feed (rows_of (found_of matches.now))) }
+{
+    Ok(Asked::Feed {
+        address: required_text(alloc, matches, "ADDRESS")?,
+        command: option_texts(alloc, matches, "COMMAND")?,
+    })
+}
+
 /// Returns the work on a store that the matches of `store` ask for.
 fn store_of(alloc: Global, matches: &ArgMatches<'_>) -> Result<Asked, AllocError>
     ensures { IfOk result (λ w. asked w ≡ asked_store (rows_of (found_of matches.now))) }
@@ -87,6 +97,7 @@ fn work_of(alloc: Global, matches: &ArgMatches<'_>) -> Result<Asked, AllocError>
             "chart" => chart_of(alloc, inner),
             "run" => run_of(alloc, inner),
             "station" => station_of(alloc, inner),
+            "feed" => feed_of(alloc, inner),
             "store" => store_of(alloc, inner),
             _ => Ok(Asked::Show),
         },
@@ -121,6 +132,9 @@ pub enum Shown {
     /// `station`.
     Station,
 
+    /// `feed`.
+    Feed,
+
     /// `store`.
     Store,
 }
@@ -132,6 +146,7 @@ fn shown_command<'a>(alloc: Global, shown: Shown) -> Result<Command<'a>, AllocEr
         Shown::Chart => named_command(alloc, &CHART, "bscline chart"),
         Shown::Run => named_command(alloc, &RUN, "bscline run"),
         Shown::Station => named_command(alloc, &STATION, "bscline station"),
+        Shown::Feed => named_command(alloc, &FEED, "bscline feed"),
         Shown::Store => named_command(alloc, &STORE, "bscline store"),
     }
 }

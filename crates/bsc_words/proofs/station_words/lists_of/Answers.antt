@@ -2,7 +2,7 @@
 use Rattle.std.proofs.Common.{◌≡◌, ◌∙◌, ap, [], option_map, unwrap_or, codes}
 use Rattle.clap.specs.Words.{Text, found_of, matched_of, raw_values, rows_of}
 use Rattle.clap.proofs.WalkLemmas.{raw_values-rows}
-use Rattle.bsc_words.specs.StationWords.{values_of}
+use Rattle.bsc_words.specs.Options.{values_of}
 use Rattle.bsc_words.proofs.station_words.lists_of.Goals as goal
 
 pub returns : goal.returns

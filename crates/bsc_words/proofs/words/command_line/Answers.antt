@@ -1,7 +1,7 @@
 -- Shows that the program has the rows of the table as its commands.
 use Rattle.std.proofs.Common.{◌≡◌, ◌∙◌, ap, List, [], ◌∷◌, Result, Ok, Err, IfOk}
 use Rattle.clap.specs.Words.{App, Shape, app_of}
-use Rattle.bsc_words.specs.CommandLine.{chart_app, name_app, program_app, run_app}
+use Rattle.bsc_words.specs.CommandLine.{chart_app, feed_app, name_app, program_app, run_app}
 use Rattle.bsc_words.specs.CommandLine.{show_app}
 use Rattle.bsc_words.specs.StationWords.{station_app}
 use Rattle.bsc_words.specs.StoreWords.{store_app}
@@ -18,6 +18,6 @@ of_program f (Err error) a b shapes e h = tt
 pub returns : goal.returns
 returns c =
     of_program app_of c.with_subcommands.result (app_of c.program.result) program_app
-    (name_app.top ∷ show_app.top ∷ chart_app.top ∷ run_app.top ∷ station_app.top ∷ store_app.top ∷ [])
+    (name_app.top ∷ show_app.top ∷ chart_app.top ∷ run_app.top ∷ station_app.top ∷ feed_app.top ∷ store_app.top ∷ [])
     c.program.ensures
     c.with_subcommands.ensures
