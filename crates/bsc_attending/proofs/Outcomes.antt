@@ -45,6 +45,7 @@ unended_if_refused error p = absurd p
 -- any station may be cut short
 cut_fits : (r : Role) (e : AttendingError) → IsCutShort e → IsResultOf r (Err e)
 cut_fits r (attending.Connections error) p = tt
+cut_fits r (attending.Programs error) p = tt
 cut_fits r attending.Output p = tt
 cut_fits r attending.Unprinted p = tt
 cut_fits r (attending.Unkept error) p = tt

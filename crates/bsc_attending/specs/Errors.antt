@@ -1,5 +1,7 @@
 -- The errors of a station for those of its parts, and the errors of each part of its work.
 use Rattle.std.specs.Prelude.{Result, Ok, Err, Option, Some, is_some, if◌then◌else◌}
+use Rattle.bsc_clients.specs.declared.error.ClientsError.{ClientsError}
+use Rattle.bsc_clients.specs.declared.error.ClientsError.TheVariants as clients
 use Rattle.bsc_config.specs.declared.error.ConfigError.{ConfigError}
 use Rattle.bsc_config.specs.declared.error.ConfigError.TheVariants as config
 use Rattle.bsc_input.specs.declared.texts.TextError.{TextError}
@@ -44,6 +46,11 @@ IsPrintFault _ = ⊥
 abbrev pub sockets_error : SocketsError → AttendingError
 sockets_error sockets.Memory = attending.Memory
 sockets_error error = attending.Connections error
+
+-- The error for programs that cannot be served.
+abbrev pub clients_error : ClientsError → AttendingError
+clients_error clients.Memory = attending.Memory
+clients_error error = attending.Programs error
 
 -- The error for a store that is refused.
 abbrev pub store_error : StoreFault → AttendingError
@@ -102,10 +109,11 @@ IsStoreError (attending.Store error) = Unit {0}
 IsStoreError attending.Memory = Unit {0}
 IsStoreError _ = ⊥
 
--- The errors that come from making connections on: those of connecting, attending and printing,
--- that of a line that is not trusted, and those of records not delivered.
+-- The errors that come from making connections on: those of connecting, also of programs, attending
+-- and printing, that of a line that is not trusted, and those of records not delivered.
 abbrev pub IsLate : AttendingError → Type 0
 IsLate (attending.Connections error) = Unit {0}
+IsLate (attending.Programs error) = Unit {0}
 IsLate (attending.Closed error) = Unit {0}
 IsLate attending.NotTrusted = Unit {0}
 IsLate attending.InDoubt = Unit {0}
@@ -116,10 +124,11 @@ IsLate (attending.Unkept error) = Unit {0}
 IsLate attending.Memory = Unit {0}
 IsLate _ = ⊥
 
--- The errors that end a station before it has ended by itself: no connections could be made,
--- waiting for them failed, something could not be printed, or memory ran out.
+-- The errors that end a station before it has ended by itself: no connections could be made, also
+-- none of programs, waiting for them failed, something could not be printed, or memory ran out.
 abbrev pub IsCutShort : AttendingError → Type 0
 IsCutShort (attending.Connections error) = Unit {0}
+IsCutShort (attending.Programs error) = Unit {0}
 IsCutShort attending.Output = Unit {0}
 IsCutShort attending.Unprinted = Unit {0}
 IsCutShort (attending.Unkept error) = Unit {0}

@@ -4,5 +4,6 @@ pub mod Framings
 pub mod Offering
 pub mod Outcomes
 pub mod Preparing
+pub mod Serving
 pub mod Wanted
 pub mod Progress

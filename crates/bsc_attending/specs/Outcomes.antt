@@ -19,6 +19,7 @@ use Rattle.bsc_attending.specs.declared.preparing.Prepared.{Prepared}
 abbrev pub IsResultOf : Role → Result (Unit {0}) AttendingError → Type 0
 IsResultOf role (Ok done) = Unit {0}
 IsResultOf role (Err (attending.Connections error)) = Unit {0}
+IsResultOf role (Err (attending.Programs error)) = Unit {0}
 IsResultOf (role.Terminal number) (Err (attending.Closed error)) = Unit {0}
 IsResultOf role.Control (Err attending.NotTrusted) = Unit {0}
 IsResultOf role (Err attending.InDoubt) = Unit {0}

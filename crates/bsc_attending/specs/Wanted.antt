@@ -12,7 +12,8 @@ use Rattle.bsc_attending.specs.declared.wanted.Wanted.{Wanted}
 
 -- The connections: their place and number, whether their octets are raw, from which networks peers
 -- may connect, whether the station ends with standard input, whether other peers may connect later,
--- whether the station begins, its times in milliseconds, and whether what happens is traced.
+-- whether the station begins, its times in milliseconds, whether what happens is traced, and the
+-- descriptor that tells when a program may have to be served.
 pub record WantedValue : Type 0 where
   pub place : PlaceValue
   pub connections : ℕ
@@ -28,6 +29,7 @@ pub record WantedValue : Type 0 where
   pub pause : ℕ
   pub line_time_out : ℕ
   pub trace : Bool
+  pub serves : Option ℤ
 
 abbrev pub wanted_value : Wanted → WantedValue
 wanted_value w = record {
@@ -45,6 +47,7 @@ wanted_value w = record {
   pause = w.pause;
   line_time_out = w.line_time_out;
   trace = w.trace;
+  serves = w.serves;
 }
 
 -- Standard input, if the station is asked to end with it.
@@ -88,6 +91,7 @@ control_wants s allowed terminals tries = record {
   pause = s.times.pause;
   line_time_out = s.times.time_out;
   trace = is_traced s.printing.trace;
+  serves = None;
 }
 
 -- A terminal asks for one connection.
@@ -107,6 +111,7 @@ terminal_wants s allowed = record {
   pause = s.times.pause;
   line_time_out = s.times.time_out;
   trace = is_traced s.printing.trace;
+  serves = None;
 }
 
 -- What a station asks for that is prepared.

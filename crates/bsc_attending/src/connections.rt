@@ -10,9 +10,9 @@ use bsc_bid::Station;
 use bsc_connections::{
     Connection, Framing, Gaps, LiveError, Monitor, SocketRecords, Waiter, attend,
 };
-use bsc_keeping::{Keeper, Keeping, Prints, Sends, attend_kept};
+use bsc_keeping::{Keeper, Keeping, Prints, attend_kept};
 use bsc_kept::Store;
-use bsc_monitor::Party;
+use bsc_serving::Feeds;
 use std::alloc::Global;
 use std::io::{Read, Write};
 use std::net::IpAddr;
@@ -111,7 +111,7 @@ pub(crate) trait Attend {
 
     /// Attends a station over the connections until its monitor ends it, and keeps what it changes
     /// before it sends.
-    fn attend_kept<S: Station + Party + Sends, M: Monitor<S> + Prints, K: Store + Drop>(
+    fn attend_kept<S: Station + Feeds, M: Monitor<S> + Prints, K: Store + Drop>(
         &mut self,
         station: &mut S,
         watch: &mut M,
@@ -120,7 +120,7 @@ pub(crate) trait Attend {
 
     /// Attends a station whose monitor prints the records that arrive. If its records are kept,
     /// they are before it sends, and so is at the end how many were printed.
-    fn attend_watched<S: Station + Party + Sends, M: Monitor<S> + Prints>(
+    fn attend_watched<S: Station + Feeds, M: Monitor<S> + Prints>(
         &mut self,
         station: &mut S,
         watch: &mut M,
@@ -162,7 +162,7 @@ impl<R: Read + Drop, W: Write + Drop, Q: Waiter<R, W> + Drop> Attend for Connect
         }
     }
 
-    fn attend_kept<S: Station + Party + Sends, M: Monitor<S> + Prints, K: Store + Drop>(
+    fn attend_kept<S: Station + Feeds, M: Monitor<S> + Prints, K: Store + Drop>(
         &mut self,
         station: &mut S,
         watch: &mut M,
@@ -179,7 +179,7 @@ impl<R: Read + Drop, W: Write + Drop, Q: Waiter<R, W> + Drop> Attend for Connect
         }
     }
 
-    fn attend_watched<S: Station + Party + Sends, M: Monitor<S> + Prints>(
+    fn attend_watched<S: Station + Feeds, M: Monitor<S> + Prints>(
         &mut self,
         station: &mut S,
         watch: &mut M,

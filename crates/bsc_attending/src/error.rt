@@ -2,6 +2,7 @@
 ghost use Rattle.std.specs.Prelude.{◌≡◌};
 
 use bsc_carrier::CarrierError;
+use bsc_clients::ClientsError;
 use bsc_config::ConfigError;
 use bsc_connections::LiveError;
 use bsc_input::TextError;
@@ -35,6 +36,10 @@ pub enum AttendingError {
     /// The connections of the station could not be made, or waiting for them failed.
     #[error(transparent)]
     Connections { error: SocketsError },
+
+    /// Programs that feed the station cannot reach it.
+    #[error("programs cannot be served: {error}")]
+    Programs { error: ClientsError },
 
     /// The connection of a terminal was closed by this fault.
     #[error("connection closed: {error}")]
@@ -153,6 +158,19 @@ impl From<SocketsError> for AttendingError {
         match error {
             SocketsError::Memory => AttendingError::Memory,
             error => AttendingError::Connections { error },
+        }
+    }
+}
+
+impl From<ClientsError> for AttendingError {
+    ghost use Rattle.bsc_attending.specs.Errors.{clients_error};
+
+    ghost from_gives = { λ error attending. attending ≡ clients_error error };
+
+    fn from(error: ClientsError) -> AttendingError {
+        match error {
+            ClientsError::Memory => AttendingError::Memory,
+            error => AttendingError::Programs { error },
         }
     }
 }

@@ -10,9 +10,9 @@ use crate::preparing::Prepared;
 use crate::{AttendingError, Stores};
 use bsc_bid::Station;
 use bsc_connections::{LiveError, Monitor};
-use bsc_keeping::{Keeper, Own, Prints, Sends, begin_control, begin_terminal};
+use bsc_keeping::{Keeper, Own, Prints, begin_control, begin_terminal};
 use bsc_kept::{Store, StoreFault};
-use bsc_monitor::Party;
+use bsc_serving::Feeds;
 use std::alloc::Global;
 use std::net::IpAddr;
 
@@ -77,7 +77,7 @@ impl<C: Attend + Drop, K: Store + Drop> Attend for Kept<C, K> {
         self.connections.attend(station, monitor)
     }
 
-    fn attend_kept<S: Station + Party + Sends, M: Monitor<S> + Prints, L: Store + Drop>(
+    fn attend_kept<S: Station + Feeds, M: Monitor<S> + Prints, L: Store + Drop>(
         &mut self,
         station: &mut S,
         watch: &mut M,
@@ -86,7 +86,7 @@ impl<C: Attend + Drop, K: Store + Drop> Attend for Kept<C, K> {
         self.connections.attend_kept(station, watch, keeper)
     }
 
-    fn attend_watched<S: Station + Party + Sends, M: Monitor<S> + Prints>(
+    fn attend_watched<S: Station + Feeds, M: Monitor<S> + Prints>(
         &mut self,
         station: &mut S,
         watch: &mut M,

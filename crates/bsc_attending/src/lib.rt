@@ -11,10 +11,12 @@ mod keeping;
 mod network;
 mod offering;
 mod preparing;
+mod serving;
 mod stations;
 mod wanted;
 
 pub use error::AttendingError;
-pub use network::{Network, Opened, Stores};
+pub use network::{Network, Opened, Reachable, Stores};
+pub use serving::served_at;
 pub use stations::station;
 pub use wanted::Wanted;

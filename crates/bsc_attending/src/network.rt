@@ -1,17 +1,28 @@
 //! The connections, the clock, the trace and the store that a station needs from the machine.
 
 use crate::Wanted;
+use bsc_clients::{ClientsError, ServedAt};
 use bsc_connections::Waiter;
 use bsc_kept::{Store, StoreFault};
 use bsc_progress::{Meter, Timer, Work};
+use bsc_serving::Programs;
 use bsc_sockets::SocketsError;
 use std::io::{Read, Write};
+use std::os::fd::RawFd;
 
 /// The connections of a station, in order, and the waiter for them.
 #[derive(Drop)]
 pub struct Opened<R: Drop, W: Drop, Q: Drop> {
     pub waiter: Q,
     pub connections: Vec<(R, W)>,
+}
+
+/// What programs reach that feed a station, and the descriptor that is readable when one of them
+/// may have to be served.
+#[derive(Drop)]
+pub struct Reachable<P: Drop> {
+    pub programs: P,
+    pub descriptor: RawFd,
 }
 
 /// Connections to other processes, a clock, a writer for the trace, and the file that standard
@@ -29,6 +40,9 @@ pub trait Network {
     /// The clock, which also shows how far the station has come.
     type Timer: Timer + Meter + Drop;
 
+    /// The programs that feed a station.
+    type Programs: Programs + Drop;
+
     /// The writer for the trace.
     type Trace: Write + Drop;
 
@@ -37,6 +51,9 @@ pub trait Network {
         &mut self,
         wanted: &Wanted<'_>,
     ) -> Result<Opened<Self::Reader, Self::Writer, Self::Waiter>, SocketsError>;
+
+    /// Lets programs that feed a station reach it here.
+    fn serve(&mut self, at: ServedAt<'_>) -> Result<Reachable<Self::Programs>, ClientsError>;
 
     /// Returns a clock that starts now. Progress is shown of this work, or none; and only if
     /// standard error is a terminal.

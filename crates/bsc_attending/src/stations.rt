@@ -17,6 +17,7 @@ ghost use Rattle.bsc_trust.specs.Trust.{new_trust};
 use crate::connections::{Attend, connect};
 use crate::keeping::{Kept, begin, with_fault};
 use crate::preparing::{Prepared, Ready, prepare};
+use crate::serving::{Fed, descriptor_of, reachable, serving_of};
 use crate::wanted::{listens, wanted_by_control, wanted_by_terminal};
 use crate::{AttendingError, Network, Stores, Wanted};
 use bsc_asked::StationWords;
@@ -211,8 +212,16 @@ fn open<H: Network, K: Store + Drop, W: Write>(
     ensures cut { IfErr result IsCutShort }
     ensures left { IfOk result (λ left. IsLeftBy prepared.old left × IsLeftBy prepared.new left) }
 {
-    let wanted = wanted_by(options, prepared);
-    let mut connections = connect(alloc, &wanted, machine)?;
+    let reachable = reachable(options.settings.serves, machine)?;
+    let wanted = Wanted {
+        serves: descriptor_of(&reachable),
+        ..wanted_by(options, prepared)
+    };
+    let connections = connect(alloc, &wanted, machine)?;
+    let mut connections = Fed {
+        connections,
+        programs: serving_of(alloc, reachable)?,
+    };
     if options.settings.sync {
         machine.sync_output();
     }

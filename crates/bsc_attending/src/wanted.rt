@@ -71,6 +71,10 @@ pub struct Wanted<'a> {
 
     /// Whether what happens is traced.
     pub trace: bool,
+
+    /// The descriptor that is readable when a program that feeds the station may have to be served;
+    /// `None` if no program can reach it.
+    pub serves: Option<RawFd>,
 }
 
 impl Wanted<'_> {
@@ -85,6 +89,7 @@ impl Wanted<'_> {
         ensures begins { result.begins ≡ self.now.begins }
         ensures allowed { result.allowed ≡ self.now.allowed }
         ensures stops { result.stops_with ≡ input_if self.now.stops }
+        ensures serves { result.serves ≡ self.now.serves }
     {
         ConnectionSettings {
             time_out: Duration::from_millis(self.time_out),
@@ -99,6 +104,7 @@ impl Wanted<'_> {
             } else {
                 None
             },
+            serves: self.serves,
         }
     }
 
@@ -147,6 +153,7 @@ pub(crate) fn wanted_by_control<'a>(
         pause: settings.times.pause,
         line_time_out: settings.times.time_out,
         trace: traces(settings.printing.trace),
+        serves: None,
     }
 }
 
@@ -172,6 +179,7 @@ pub(crate) fn wanted_by_terminal<'a>(
         pause: settings.times.pause,
         line_time_out: settings.times.time_out,
         trace: traces(settings.printing.trace),
+        serves: None,
     }
 }
 

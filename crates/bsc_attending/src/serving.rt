@@ -1,0 +1,222 @@
+//! A station that programs feed while it runs.
+
+ghost use Rattle.std.specs.Prelude.{◌≡◌, IfErr, IfOk, is_some, option_map};
+ghost use Rattle.bsc_attending.specs.Errors.{IsCutShort};
+ghost use Rattle.bsc_attending.specs.Serving.{IsPlace};
+ghost use Rattle.bsc_options.specs.Serves.{serves_value};
+
+use crate::connections::Attend;
+use crate::{AttendingError, Network, Reachable};
+use bsc_bid::Station;
+use bsc_clients::ServedAt;
+use bsc_connections::{LiveError, Monitor, Note};
+use bsc_keeping::{Keeper, Prints};
+use bsc_kept::Store;
+use bsc_options::Serves;
+use bsc_serving::{Feeds, KeptBy, Pausing, Programs, Serving, Unkept};
+use std::alloc::Global;
+use std::net::IpAddr;
+use std::os::fd::RawFd;
+
+/// Connections over which a station is attended that programs may feed.
+#[derive(Drop)]
+pub(crate) struct Fed<C: Drop, P: Programs + Drop> {
+    pub(crate) connections: C,
+
+    /// The programs; `None` if none can reach the station.
+    pub(crate) programs: Option<Serving<P>>,
+}
+
+/// Returns the place of the sockets for the place that options or words ask for.
+pub fn served_at(serves: Serves<'_>) -> ServedAt<'_>
+    ensures { IsPlace (serves_value serves.entry) result }
+{
+    match serves {
+        Serves::Address { address, anyone } => ServedAt::Address { address, anyone },
+        Serves::Path { path } => ServedAt::Path { path },
+    }
+}
+
+/// Lets programs reach the station, if it is to serve them.
+pub(crate) fn reachable<H: Network>(
+    serves: Option<Serves<'_>>,
+    machine: &mut H,
+) -> Result<Option<Reachable<H::Programs>>, AttendingError>
+    ensures served { IfOk result (λ reachable. is_some reachable ≡ is_some serves.entry) }
+    ensures cut { IfErr result IsCutShort }
+{
+    match serves {
+        Some(serves) => Ok(Some(machine.serve(served_at(serves))?)),
+        None => Ok(None),
+    }
+}
+
+/// Returns the descriptor that tells when a program may have to be served, if programs can reach
+/// the station.
+pub(crate) fn descriptor_of<P: Drop>(reachable: &Option<Reachable<P>>) -> Option<RawFd>
+    ensures { result ≡ option_map (λ r. r.descriptor) reachable.now }
+{
+    match reachable {
+        Some(reachable) => Some(reachable.descriptor),
+        None => None,
+    }
+}
+
+/// Returns the sessions of the programs that can reach the station, none of which has begun.
+pub(crate) fn serving_of<P: Programs + Drop>(
+    alloc: Global,
+    reachable: Option<Reachable<P>>,
+) -> Result<Option<Serving<P>>, AttendingError>
+    ensures served { IfOk result (λ serving. is_some serving ≡ is_some reachable) }
+    ensures cut { IfErr result IsCutShort }
+{
+    match reachable {
+        Some(Reachable { programs, .. }) => Ok(Some(Serving::new(alloc, programs)?)),
+        None => Ok(None),
+    }
+}
+
+/// Attends a station until its monitor ends it or programs may have to be served. Returns false if
+/// the monitor has ended it.
+fn attend_until_called<C: Attend, S: Station + Feeds, M: Monitor<S> + Prints>(
+    connections: &mut C,
+    station: &mut S,
+    watch: &mut M,
+) -> Result<bool, LiveError> {
+    let mut pausing = Pausing::new(watch);
+    connections.attend_watched(station, &mut pausing)?;
+    Ok(!pausing.is_ended())
+}
+
+/// Does the same with a station whose records are kept.
+fn attend_kept_until_called<C: Attend, S: Station + Feeds, M: Monitor<S> + Prints, K: Store + Drop>(
+    connections: &mut C,
+    station: &mut S,
+    watch: &mut M,
+    keeper: &mut Keeper<K>,
+) -> Result<bool, LiveError> {
+    let mut pausing = Pausing::new(watch);
+    connections.attend_kept(station, &mut pausing, keeper)?;
+    Ok(!pausing.is_ended())
+}
+
+/// Tells the monitor of a station that it was asked to end, once. `told` says whether it was told
+/// before, and then says that it was. Returns false if the monitor has ended the station.
+fn tell_stopped<S, M: Monitor<S>>(
+    station: &S,
+    watch: &mut M,
+    is_asked: bool,
+    told: &mut bool,
+) -> Result<bool, LiveError> {
+    if !is_asked || *told {
+        return Ok(true);
+    }
+    *told = true;
+    watch.note(station, Note::Stopped)
+}
+
+/// Attends a station that programs feed until its monitor ends it.
+fn attend_fed<C: Attend, P: Programs + Drop, S: Station + Feeds, M: Monitor<S> + Prints>(
+    connections: &mut C,
+    programs: &mut Serving<P>,
+    station: &mut S,
+    watch: &mut M,
+) -> Result<(), LiveError> {
+    let mut told = false;
+    'calls: for _ in 0..u64::MAX {
+        if !attend_until_called(connections, station, watch)? {
+            return Ok(());
+        }
+        let is_asked = programs.serve(station, Unkept)?;
+        if !tell_stopped(station, watch, is_asked, &mut told)? {
+            return Ok(());
+        }
+    }
+    Err(LiveError::Count)
+}
+
+/// Attends a station that programs feed and whose records are kept until its monitor ends it.
+fn attend_fed_and_kept<
+    C: Attend,
+    P: Programs + Drop,
+    S: Station + Feeds,
+    M: Monitor<S> + Prints,
+    K: Store + Drop,
+>(
+    connections: &mut C,
+    programs: &mut Serving<P>,
+    station: &mut S,
+    watch: &mut M,
+    keeper: &mut Keeper<K>,
+) -> Result<(), LiveError> {
+    let mut told = false;
+    'calls: for _ in 0..u64::MAX {
+        if !attend_kept_until_called(connections, station, watch, keeper)? {
+            return Ok(());
+        }
+        let is_asked = programs.serve(station, KeptBy::new(keeper, &*watch))?;
+        if !tell_stopped(station, watch, is_asked, &mut told)? {
+            return Ok(());
+        }
+    }
+    Err(LiveError::Count)
+}
+
+impl<C: Attend + Drop, P: Programs + Drop> Attend for Fed<C, P> {
+    ghost places = { λ f. C.places f.connections };
+
+    ghost names = { λ f. C.names f.connections };
+
+    ghost printed_before = { λ f. C.printed_before f.connections };
+
+    fn attend<S: Station, M: Monitor<S>>(
+        &mut self,
+        station: &mut S,
+        monitor: &mut M,
+    ) -> Result<(), LiveError> {
+        self.connections.attend(station, monitor)
+    }
+
+    fn attend_kept<S: Station + Feeds, M: Monitor<S> + Prints, K: Store + Drop>(
+        &mut self,
+        station: &mut S,
+        watch: &mut M,
+        keeper: &mut Keeper<K>,
+    ) -> Result<(), LiveError> {
+        let Fed {
+            connections,
+            programs,
+        } = self;
+        match programs {
+            Some(programs) => { attend_fed_and_kept(connections, programs, station, watch, keeper) }
+            None => connections.attend_kept(station, watch, keeper),
+        }
+    }
+
+    fn attend_watched<S: Station + Feeds, M: Monitor<S> + Prints>(
+        &mut self,
+        station: &mut S,
+        watch: &mut M,
+    ) -> Result<(), LiveError> {
+        let Fed {
+            connections,
+            programs,
+        } = self;
+        match programs {
+            Some(programs) => attend_fed(connections, programs, station, watch),
+            None => connections.attend_watched(station, watch),
+        }
+    }
+
+    fn printed(&self, number: usize) -> usize {
+        self.connections.printed(number)
+    }
+
+    fn count(&self) -> usize {
+        self.connections.count()
+    }
+
+    fn peer(&self, place: usize) -> Option<IpAddr> {
+        self.connections.peer(place)
+    }
+}
