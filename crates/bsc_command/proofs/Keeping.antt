@@ -5,7 +5,7 @@ use Rattle.std.specs.Io.KnownBytes.{Keeps}
 use Rattle.std.proofs.KnownBytes.{Appends-kept, Keeps-trans}
 use Rattle.clap.specs.Words.{Text}
 use Rattle.bsc_asked.specs.ChartWords.{AskedChart}
-use Rattle.bsc_asked.specs.Asked.{AskedValue, names, name, show, chart, run, station, store}
+use Rattle.bsc_asked.specs.Asked.{AskedValue, names, name, show, chart, run, station, feed, store}
 use Rattle.bsc_chart.specs.Asked.{HasFailed as HasFailedDrawing, drawing_of}
 use Rattle.bsc_chart.specs.Inputs.{DrawsInput, HasStopped as HasStoppedDrawing}
 use Rattle.bsc_chart.specs.Inputs.{StopsAt as StopsDrawingAt, is_misspelt as is_misread, values_of}
@@ -40,6 +40,7 @@ use Rattle.bsc_command.specs.declared.fault.Fault.{Fault}
 use Rattle.bsc_command.specs.declared.fault.Fault.TheVariants as fault
 use Rattle.bsc_command.specs.Program.{HasFailedAs, HasFailedChart, HasFailedLines, HasFailedRun}
 use Rattle.bsc_command.specs.Program.{HasFailedWith, IsDone, IsFaultAt, IsObeyed}
+use Rattle.bsc_command.proofs.Feeding.{fed_kept, feed_failed_kept}
 
 prints_kept : (named : Heard → List ℕ) (octets : List ℕ) (a b c : Option (List ℕ))
     → Prints named octets a b → Keeps b c → Prints named octets a c
@@ -103,6 +104,7 @@ lines_kept (fault.Naming error) detail (Some octets) a b c p k =
 lines_kept (fault.Charting error) detail given a b c p k = tt
 lines_kept (fault.Running error) detail given a b c p k = tt
 lines_kept (fault.Attending error) detail given a b c p k = tt
+lines_kept (fault.Feeding error) detail given a b c p k = tt
 lines_kept (fault.Storing error) detail given a b c p k = tt
 lines_kept fault.Output detail given a b c p k = tt
 lines_kept fault.OutOfMemory detail given a b c p k = tt
@@ -208,6 +210,7 @@ chart_kept (fault.Charting error) words given a b c p k = record {
 chart_kept (fault.Naming error) words given a b c p k = tt
 chart_kept (fault.Running error) words given a b c p k = tt
 chart_kept (fault.Attending error) words given a b c p k = tt
+chart_kept (fault.Feeding error) words given a b c p k = tt
 chart_kept (fault.Storing error) words given a b c p k = tt
 chart_kept fault.Output words given a b c p k = tt
 chart_kept fault.OutOfMemory words given a b c p k = tt
@@ -280,6 +283,7 @@ module _ {S : Type 0} (contents remaining : S → Option (List ℕ)) where
         p.told p.tells p.done k;
   }
   done_kept (station words) input a b c p k = p
+  done_kept (feed address command) input a b c p k = fed_kept command input a b c p k
   done_kept (store words) input a b c p k = p
 
   pub obeyed_kept : (words : List Text) (input a b c : Option (List ℕ))
@@ -323,6 +327,7 @@ module _ {S : Type 0} (contents remaining : S → Option (List ℕ)) where
   failed_run_kept (fault.Running error) check trace paths a b c p k =
       failed_with_kept error check trace paths a b c p k
   failed_run_kept (fault.Attending error) check trace paths a b c p k = tt
+  failed_run_kept (fault.Feeding error) check trace paths a b c p k = tt
   failed_run_kept (fault.Storing error) check trace paths a b c p k = tt
   failed_run_kept fault.Output check trace paths a b c p k = tt
   failed_run_kept fault.OutOfMemory check trace paths a b c p k = tt
@@ -340,6 +345,7 @@ module _ {S : Type 0} (contents remaining : S → Option (List ℕ)) where
       failed_run_kept f check trace
       (record { config = config; script = script; input = given }) a b c p k
   work_failed_kept (station words) f given a b c p k = p
+  work_failed_kept (feed address command) f given a b c p k = feed_failed_kept f a b c p k
   work_failed_kept (store words) f given a b c p k = p
 
   pub fault_kept : (words : List Text) (f : Fault) (given a b c : Option (List ℕ))

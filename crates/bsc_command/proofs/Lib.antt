@@ -1,4 +1,5 @@
 pub mod Charts
+pub mod Feeding
 pub mod Keeping
 pub mod Outcomes
 pub mod Stations

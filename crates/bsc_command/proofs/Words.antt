@@ -77,6 +77,10 @@ module _ {S : Type 0} (contents remaining : S → Option (List ℕ)) (words : Li
       let is =
       is_usage error (Err (fault.Attending e)) help memory usage (λ c. absurd cc)
       (λ c. absurd cc) (λ c. absurd cc) in absurd cc
+  words_fault (Err (fault.Feeding e)) kinds help memory usage =
+      let is =
+      is_usage error (Err (fault.Feeding e)) help memory usage (λ c. absurd cc)
+      (λ c. absurd cc) (λ c. absurd cc) in absurd cc
   words_fault (Err (fault.Storing e)) kinds help memory usage =
       let is =
       is_usage error (Err (fault.Storing e)) help memory usage (λ c. absurd cc) (λ c. absurd cc)

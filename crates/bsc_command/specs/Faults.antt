@@ -11,6 +11,8 @@ use Rattle.bsc_chart.specs.declared.error.ChartError.{ChartError}
 use Rattle.bsc_chart.specs.declared.error.ChartError.TheVariants as chart
 use Rattle.bsc_chart.specs.declared.named.TraceError.{TraceError}
 use Rattle.bsc_chart.specs.declared.named.TraceError.TheVariants as trace
+use Rattle.bsc_feeding.specs.declared.error.FeedError.{FeedError}
+use Rattle.bsc_feeding.specs.declared.error.FeedError.TheVariants as feed
 use Rattle.bsc_naming.specs.Errors.{IsLineError, IsNameError}
 use Rattle.bsc_naming.specs.declared.error.NamingError.TheVariants as naming
 use Rattle.bsc_options.specs.Errors.{is_conflict}
@@ -24,7 +26,7 @@ use Rattle.bsc_storing.specs.declared.error.StoringError.{StoringError}
 use Rattle.bsc_storing.specs.declared.error.StoringError.TheVariants as storing
 use Rattle.bsc_command.specs.declared.fault.Fault.{Fault}
 use Rattle.bsc_command.specs.declared.fault.Fault.TheVariants.{Naming, Charting, Running}
-use Rattle.bsc_command.specs.declared.fault.Fault.TheVariants.{Attending, Storing}
+use Rattle.bsc_command.specs.declared.fault.Fault.TheVariants.{Attending, Feeding, Storing}
 use Rattle.bsc_command.specs.declared.fault.Fault.TheVariants.{Output, OutOfMemory, Usage}
 
 -- The exit status for an error of a run: 3 if the line refused an event, otherwise 1.
@@ -124,6 +126,11 @@ abbrev pub IsAttendingFault : AttendingError → Fault → Type 0
 IsAttendingFault (attending.Options error) fault = IsUsageOf (options_kind error) fault
 IsAttendingFault error fault = fault ≡ Attending error
 
+-- The fault for a station that was not fed. Words that are more than one line are wrong usage.
+abbrev pub IsFeedingFault : FeedError → Fault → Type 0
+IsFeedingFault feed.NotOneLine fault = IsUsageOf kind.InvalidValue fault
+IsFeedingFault error fault = fault ≡ Feeding error
+
 -- The faults of naming one transmission.
 abbrev pub IsNameFault : Fault → Type 0
 IsNameFault (Naming error) = IsNameError error
@@ -148,6 +155,11 @@ IsRunFault fault = IsUsageOf kind.ArgumentConflict fault
 abbrev pub IsStationFault : Fault → Type 0
 IsStationFault (Attending error) = Unit {0}
 IsStationFault fault = IsUsageOf kind.InvalidValue fault ⊎ IsUsageOf kind.ArgumentConflict fault
+
+-- The faults of feeding a station.
+abbrev pub IsFeedFault : Fault → Type 0
+IsFeedFault (Feeding error) = Unit {0}
+IsFeedFault fault = IsUsageOf kind.InvalidValue fault
 
 -- The faults of a work on a store.
 abbrev pub IsStoreFault : Fault → Type 0

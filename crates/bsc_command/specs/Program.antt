@@ -6,11 +6,14 @@ use Rattle.clap.specs.declared.error.Error.{Error}
 use Rattle.bsc_asked.specs.ChartWords.{AskedChart}
 use Rattle.bsc_asked.specs.StationWords.{AskedWords}
 use Rattle.bsc_asked.specs.StoreWords.{AskedStore}
-use Rattle.bsc_asked.specs.Asked.{AskedValue, names, name, show, chart, run, station, store}
+use Rattle.bsc_asked.specs.Asked.{AskedValue, names, name, show, chart, run, station, feed, store}
 use Rattle.bsc_attending.specs.Outcomes.{IsAnswer}
 use Rattle.bsc_attending.specs.declared.error.AttendingError.TheVariants as attending
 use Rattle.bsc_chart.specs.Named.{ChartsNamed, FailsChart, HasFailedTrace, IsCharted, file_of}
 use Rattle.bsc_chart.specs.declared.named.TraceError.{TraceError}
+use Rattle.bsc_feeding.specs.Answers.{EndsInFault}
+use Rattle.bsc_feeding.specs.Feeding.{HasFed}
+use Rattle.bsc_feeding.specs.declared.error.FeedError.TheVariants as feed_error
 use Rattle.bsc_input.specs.declared.unreadable.Unreadable.{Unreadable}
 use Rattle.bsc_input.specs.Hexadecimal.{octets_of}
 use Rattle.bsc_print.specs.Names.{Prints, name_line}
@@ -28,11 +31,11 @@ use Rattle.bsc_running.specs.declared.error.RunningError.TheVariants.{BothStanda
 use Rattle.bsc_words.specs.CommandLine.{IsHelp, asked_of, faults_at}
 use Rattle.bsc_command.specs.declared.fault.Fault.{Fault}
 use Rattle.bsc_command.specs.declared.fault.Fault.TheVariants.{Naming, Charting, Running}
-use Rattle.bsc_command.specs.declared.fault.Fault.TheVariants.{Attending, OutOfMemory, Storing}
+use Rattle.bsc_command.specs.declared.fault.Fault.TheVariants.{Attending, Feeding, OutOfMemory, Storing}
 use Rattle.bsc_command.specs.declared.fault.Fault.TheVariants.{Usage}
 use Rattle.bsc_command.specs.Faults.{IsChartingFault, IsNameFault, IsNamesFault}
 use Rattle.bsc_command.specs.Faults.{IsPrintFault, IsRunFault, IsStationFault, IsStoreFault}
-use Rattle.bsc_command.specs.Faults.{IsTraceFault}
+use Rattle.bsc_command.specs.Faults.{IsFeedFault, IsTraceFault}
 use Rattle.bsc_command.specs.Faults.{options_kind}
 
 -- What a fault of naming one transmission says: its text is not hexadecimal.
@@ -57,6 +60,12 @@ HasFailedStation (Usage error) words input =
     (why : OptionError) × (kind_of error ≡ options_kind why)
     × IsAnswer words input (Err (attending.Options why))
 HasFailedStation fault words input = Unit {0}
+
+-- What a fault of feeding a station says: the station refused a command, and the last line that was
+-- printed is its answer.
+abbrev pub HasFailedFeed : Fault → Option (List ℕ) → Option (List ℕ) → Type 0
+HasFailedFeed (Feeding feed_error.Refused) old new = EndsInFault old new
+HasFailedFeed fault old new = Unit {0}
 
 -- The words of `store` are those of a work.
 abbrev pub HasWork : AskedStore → Type 0
@@ -126,6 +135,7 @@ module _ {S : Type 0} (contents remaining : S → Option (List ℕ)) where
   IsDone (run config script check trace quiet) input old new =
       HasDoneRun check trace (record { config = config; script = script; input = input }) old new
   IsDone (station words) input old new = IsAnswer words input (Ok tt)
+  IsDone (feed address command) input old new = HasFed command input old new
   IsDone (store words) input old new = HasWork words
 
   -- The run failed with this error. `told` and `tells` are as above.
@@ -157,6 +167,7 @@ module _ {S : Type 0} (contents remaining : S → Option (List ℕ)) where
       HasFailedRun fault check trace
       (record { config = config; script = script; input = input }) old new
   HasFailedAs (station words) fault input old new = HasFailedStation fault words input
+  HasFailedAs (feed address command) fault input old new = HasFailedFeed fault old new
   HasFailedAs (store words) fault input old new = HasFailedStore fault words
 
 -- The faults of this work.
@@ -167,6 +178,7 @@ IsFaultOf show fault = IsNamesFault fault
 IsFaultOf (chart words) fault = IsChartingFault fault
 IsFaultOf (run config script check trace quiet) fault = IsRunFault fault
 IsFaultOf (station words) fault = IsStationFault fault
+IsFaultOf (feed address command) fault = IsFeedFault fault
 IsFaultOf (store words) fault = IsStoreFault fault
 
 -- The arguments ask for the help or the version.

@@ -1,12 +1,14 @@
 //! The faults that end the command, with the text and the exit status of each.
 ghost use Rattle.std.specs.Prelude.{◌≡◌, ◌≢◌};
-ghost use Rattle.bsc_command.specs.Faults.{IsAttendingFault, IsChartFault, IsRunningFault};
+ghost use Rattle.bsc_command.specs.Faults.{IsAttendingFault, IsChartFault, IsFeedingFault};
+ghost use Rattle.bsc_command.specs.Faults.{IsRunningFault};
 ghost use Rattle.bsc_command.specs.Faults.{IsTraceFault, IsUsageOf, storing_status_of};
 ghost use Rattle.bsc_command.specs.Faults.{attending_status_of, options_kind, running_status_of};
 ghost use Rattle.bsc_command.specs.Faults.{status_of};
 
 use bsc_attending::AttendingError;
 use bsc_chart::{ChartError, TraceError};
+use bsc_feeding::FeedError;
 use bsc_naming::NamingError;
 use bsc_options::OptionError;
 use bsc_run::RunError;
@@ -37,6 +39,10 @@ pub enum Fault {
     /// in doubt.
     #[error(transparent)]
     Attending { error: AttendingError },
+
+    /// A station was not fed with all that was given.
+    #[error(transparent)]
+    Feeding { error: FeedError },
 
     /// A work on a store was not done.
     #[error(transparent)]
@@ -165,6 +171,20 @@ pub(crate) fn attending_fault(alloc: Global, error: AttendingError) -> Fault
     match error {
         AttendingError::Options { error } => options_fault(alloc, Shown::Station, error),
         error => Fault::Attending { error },
+    }
+}
+
+/// Returns the fault for a station that was not fed. Words that are more than one line are wrong
+/// usage.
+pub(crate) fn feeding_fault(alloc: Global, error: FeedError) -> Fault
+    ensures { IsFeedingFault error result }
+{
+    match error {
+        FeedError::NotOneLine => {
+            let why = "COMMAND is more than one line";
+            words_fault(alloc, Shown::Feed, ErrorKind::InvalidValue, why)
+        }
+        error => Fault::Feeding { error },
     }
 }
 

@@ -1,23 +1,27 @@
 //! The work of the program, over any reader, writer and machine.
 ghost use Rattle.std.specs.Prelude.{◌≡◌, ℕ, Bool, OnOk, IfErr, List};
-ghost use Rattle.std.specs.Prelude.{IsTrue, Some, true};
+ghost use Rattle.std.specs.Prelude.{IsTrue, Some, map, string_bytes, true};
 ghost use Rattle.bsc_asked.specs.Asked.{asked as asked_now, name as name_asked, run as run_asked};
 ghost use Rattle.bsc_asked.specs.ChartWords.{chart_words};
 ghost use Rattle.bsc_asked.specs.StoreWords.{store_words};
-ghost use Rattle.bsc_command.specs.Faults.{IsChartingFault, IsEarly, IsStoreFault, IsTraceFault};
+ghost use Rattle.bsc_command.specs.Faults.{IsChartingFault, IsEarly, IsFeedFault, IsStoreFault};
+ghost use Rattle.bsc_command.specs.Faults.{IsTraceFault};
 ghost use Rattle.bsc_command.specs.Program.{HasDoneRun, HasFailedAs, HasFailedOn, HasFailedWith};
 ghost use Rattle.bsc_command.specs.Program.{IfNamed, IsChartedOn, IsDone};
 ghost use Rattle.bsc_chart.specs.Named.{ChartsNamed, FailsChart, IsCharted, file_of};
 ghost use Rattle.bsc_chart.specs.declared.named.TraceError.{TraceError};
-ghost use Rattle.bsc_command.specs.Program.{HasFailedChart, HasFailedStore, HasWork, IsFaultOf};
+ghost use Rattle.bsc_command.specs.Program.{HasFailedChart, HasFailedFeed, HasFailedStore, HasWork};
+ghost use Rattle.bsc_command.specs.Program.{IsFaultOf};
+ghost use Rattle.bsc_feeding.specs.Feeding.{HasFed};
 ghost use Rattle.bsc_running.specs.Errors.{IsEarly as IsEarlyRunning};
 ghost use Rattle.bsc_running.specs.Running.{paths_of};
 
 use crate::Fault;
-use crate::fault::{attending_fault, running_fault, store_words_fault, trace_fault};
+use crate::fault::{attending_fault, feeding_fault, running_fault, store_words_fault, trace_fault};
 use bsc_asked::{Asked, ChartWords, StoreWords};
 use bsc_attending::{Network, Stores, station};
 use bsc_chart::{Traces, draw_named};
+use bsc_feeding::{Stations, feed_at};
 use bsc_input::Files;
 use bsc_naming::{name, names, show};
 use bsc_options::read_store_work;
@@ -32,13 +36,11 @@ use std::io::{Read, Write};
 /// an event is refused, it has printed the output up to that event, and the report. The trace of a
 /// run is written to that of the machine. A station is attended until it ends; `bsc_monitor`
 /// defines its output.
-pub fn perform<R: Read, H: Files + Traces + Cables + Network + Stores + StoreFiles, W: Write>(
-    alloc: Global,
-    asked: &Asked,
-    input: &mut R,
-    machine: &mut H,
-    out: &mut W,
-) -> Result<(), Fault>
+pub fn perform<
+    R: Read,
+    H: Files + Traces + Cables + Network + Stations + Stores + StoreFiles,
+    W: Write,
+>(alloc: Global, asked: &Asked, input: &mut R, machine: &mut H, out: &mut W) -> Result<(), Fault>
     ensures ok { OnOk result
         (IsDone H.Stream.contents H.Stream.remaining (asked_now asked.now) (R.remaining input.old)
         (W.contents out.old) (W.contents out.new)) }
@@ -87,7 +89,32 @@ pub fn perform<R: Read, H: Files + Traces + Cables + Network + Stores + StoreFil
             Ok(()) => Ok(()),
             Err(error) => Err(attending_fault(alloc, error)),
         },
+        Asked::Feed { address, command } => {
+            feed_station(alloc, address.as_str(), command, input, machine, out)
+        }
         Asked::Store(words) => do_store(alloc, words, input, machine, out),
+    }
+}
+
+/// Feeds the station that serves at this address.
+fn feed_station<R: Read, H: Stations, W: Write>(
+    alloc: Global,
+    address: &str,
+    command: &[String],
+    input: &mut R,
+    machine: &mut H,
+    out: &mut W,
+) -> Result<(), Fault>
+    ensures ok { OnOk result (HasFed (map string_bytes command.now) (R.remaining input.old)
+        (W.contents out.old) (W.contents out.new)) }
+    ensures fault { IfErr result IsFeedFault }
+    ensures failed { IfErr result (λ fault.
+        HasFailedFeed fault (W.contents out.old) (W.contents out.new)) }
+    ensures early { IfErr result (λ fault. IsEarly fault → out.new ≡ out.old) }
+{
+    match feed_at(alloc, address, command, input, machine, out) {
+        Ok(()) => Ok(()),
+        Err(error) => Err(feeding_fault(alloc, error)),
     }
 }
 

@@ -12,6 +12,7 @@ use crate::help::help_or_fault;
 use crate::{Fault, perform, status};
 use bsc_attending::{AttendingError, Network, Stores};
 use bsc_chart::Traces;
+use bsc_feeding::Stations;
 use bsc_input::Files;
 use bsc_running::Cables;
 use bsc_storing::StoreFiles;
@@ -31,7 +32,7 @@ fn lent(alloc: Global, words: &[String]) -> Result<Vec<&str>, AllocError>
 }
 
 /// Does the work that the arguments ask for, or prints the help or the version.
-fn obey<R: Read, H: Files + Traces + Cables + Network + Stores + StoreFiles, W: Write>(
+fn obey<R: Read, H: Files + Traces + Cables + Network + Stations + Stores + StoreFiles, W: Write>(
     alloc: Global,
     words: &[String],
     input: &mut R,
@@ -53,7 +54,11 @@ fn obey<R: Read, H: Files + Traces + Cables + Network + Stores + StoreFiles, W: 
 }
 
 /// Does the work that the arguments ask for, if they are available.
-fn obey_given<R: Read, H: Files + Traces + Cables + Network + Stores + StoreFiles, W: Write>(
+fn obey_given<
+    R: Read,
+    H: Files + Traces + Cables + Network + Stations + Stores + StoreFiles,
+    W: Write,
+>(
     alloc: Global,
     words: Result<Vec<String>, Fault>,
     input: &mut R,
@@ -129,7 +134,7 @@ pub fn fail<E: Write>(fault: &Fault, errors: &mut E) -> u8
 /// arguments are not available, `words` is the fault.
 pub fn command<
     R: Read,
-    H: Files + Traces + Cables + Network + Stores + StoreFiles,
+    H: Files + Traces + Cables + Network + Stations + Stores + StoreFiles,
     W: Write + Drop,
     E: Write,
 >(

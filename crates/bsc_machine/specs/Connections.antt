@@ -31,3 +31,4 @@ pub record AreSettings (wanted : Wanted) (settings : ConnectionSettings) : Type 
   pub begins : settings.begins ≡ wanted.begins
   pub allowed : settings.allowed ≡ wanted.allowed
   pub stops : settings.stops_with ≡ input_if wanted.stops
+  pub serves : settings.serves ≡ wanted.serves

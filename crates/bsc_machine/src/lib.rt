@@ -9,6 +9,7 @@
 #![tactic(auto)]
 
 mod connecting;
+mod feeding;
 mod machine;
 mod network;
 mod output;

@@ -8,7 +8,8 @@ use crate::connecting::{PeerAt, connect_within};
 use crate::machine::Machine;
 use crate::receiving::Receiving;
 use crate::screen::{Errors, Progress, Screen, progress};
-use bsc_attending::{Network, Opened, Wanted};
+use bsc_attending::{Network, Opened, Reachable, Wanted};
+use bsc_clients::{Clients, ClientsError, ServedAt};
 use bsc_monitor::Beginning;
 use bsc_options::Place;
 use bsc_progress::Work;
@@ -16,7 +17,9 @@ use bsc_sockets::{
     Begun, ConnectionSettings, Listening, Reading, Sockets, SocketsError, Writing, listen,
 };
 use std::alloc::Global;
+use std::io::Write;
 use std::net::Net;
+use std::rt::Files as Filing;
 use std::time::{Clock, Duration};
 
 /// Returns the settings of the connections that a station asks for.
@@ -24,6 +27,14 @@ fn settings_of(wanted: &Wanted<'_>) -> ConnectionSettings
     ensures { AreSettings wanted.now result }
 {
     wanted.settings()
+}
+
+/// Tells at which address programs can reach the station, if it is one of the network. What is not
+/// written is lost.
+fn tell_address<'a, R: Filing + Net, W: Write>(programs: &Clients<'a, R>, out: &mut W) {
+    if let Some(address) = programs.address() {
+        let _ = writeln!(out, "serving programs at {address}");
+    }
 }
 
 /// Makes the connections that a station asks for.
@@ -70,7 +81,7 @@ fn begin<'a, R: AllocGlobal + Clock + Eprint + Net>(
     }
 }
 
-impl<'a, R: AllocGlobal + Clock + Eprint + Net> Network for Machine<'a, R> {
+impl<'a, R: AllocGlobal + Clock + Eprint + Filing + Net> Network for Machine<'a, R> {
     type Reader = Reading;
 
     type Writer = Writing<'a, R, Global>;
@@ -78,6 +89,8 @@ impl<'a, R: AllocGlobal + Clock + Eprint + Net> Network for Machine<'a, R> {
     type Waiter = Sockets<'a, R, Global>;
 
     type Timer = Progress<'a, R>;
+
+    type Programs = Clients<'a, R>;
 
     type Trace = Errors<'a, R>;
 
@@ -95,6 +108,16 @@ impl<'a, R: AllocGlobal + Clock + Eprint + Net> Network for Machine<'a, R> {
         Ok(Opened {
             waiter: begun.sockets,
             connections: begun.connections,
+        })
+    }
+
+    fn serve(&mut self, at: ServedAt<'_>) -> Result<Reachable<Clients<'a, R>>, ClientsError> {
+        let programs = Clients::listen(self.runtime, self.runtime.alloc(), at)?;
+        tell_address(&programs, &mut self.trace());
+        let descriptor = programs.descriptor();
+        Ok(Reachable {
+            programs,
+            descriptor,
         })
     }
 

@@ -2,16 +2,19 @@
 
 use crate::stores::Forgetful;
 use crate::traces::TraceFile;
-use bsc_attending::{Network, Opened, Stores, Wanted};
+use bsc_attending::{Network, Opened, Reachable, Stores, Wanted};
 use bsc_carrier::Cable;
 use bsc_chart::Traces;
+use bsc_clients::{ClientsError, ServedAt};
 use bsc_command::command;
 use bsc_connections::{Awaited, Handled, LiveError, Pace, Waiter};
+use bsc_feeding::{FeedError, Reached, Stations};
 use bsc_input::{Files, InputError, Unreadable};
 use bsc_kept::StoreFault;
 use bsc_loopback::LoopbackError;
 use bsc_progress::{Counts, Meter, Timer, Unmetered, Work};
 use bsc_running::Cables;
+use bsc_serving::{Called, Programs};
 use bsc_sockets::SocketsError;
 use bsc_storing::{Opened as OpenedStore, StoreFiles};
 use std::alloc::{AllocError, Global};
@@ -292,6 +295,40 @@ impl Write for Duplex {
     }
 }
 
+impl Stations for Machine<'_> {
+    type Heard = Duplex;
+
+    type Said = Duplex;
+
+    fn reach(&mut self, _address: &str) -> Result<Reached<Duplex, Duplex>, FeedError> {
+        Err(FeedError::NobodyThere)
+    }
+}
+
+/// Programs, of which there is none.
+#[derive(Drop)]
+struct NoPrograms;
+
+impl Programs for NoPrograms {
+    type Stream = Duplex;
+
+    fn ask(&mut self) {}
+
+    fn next(&mut self) -> Option<Called> {
+        None
+    }
+
+    fn accept(&mut self, _place: usize) -> Option<Duplex> {
+        None
+    }
+
+    fn turn_away(&mut self) -> bool {
+        false
+    }
+
+    fn call(&mut self) {}
+}
+
 impl<'a> Network for Machine<'a> {
     type Reader = Answering;
 
@@ -300,6 +337,8 @@ impl<'a> Network for Machine<'a> {
     type Waiter = Turns<'a>;
 
     type Timer = Shown<'a>;
+
+    type Programs = NoPrograms;
 
     type Trace = NoTrace;
 
@@ -328,6 +367,10 @@ impl<'a> Network for Machine<'a> {
             },
             connections,
         })
+    }
+
+    fn serve(&mut self, _at: ServedAt<'_>) -> Result<Reachable<NoPrograms>, ClientsError> {
+        Err(ClientsError::InUse)
     }
 
     fn timer(&mut self, _work: Option<Work>) -> Shown<'a> {

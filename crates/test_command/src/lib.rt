@@ -18,6 +18,10 @@ mod failing_traces;
 #[cfg(test)]
 mod faults;
 #[cfg(test)]
+mod fed_stations;
+#[cfg(test)]
+mod feeds;
+#[cfg(test)]
 mod given;
 #[cfg(test)]
 mod growths;
@@ -50,6 +54,8 @@ mod options;
 #[cfg(test)]
 mod pieces;
 #[cfg(test)]
+mod programs;
+#[cfg(test)]
 mod progress;
 #[cfg(test)]
 mod record;
@@ -61,6 +67,8 @@ mod run_traces;
 mod run_words;
 #[cfg(test)]
 mod runs;
+#[cfg(test)]
+mod serving_options;
 #[cfg(test)]
 mod sizes;
 #[cfg(test)]

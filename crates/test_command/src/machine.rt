@@ -2,11 +2,13 @@
 //! in memory and no sockets, and commands that run on it.
 
 use crate::pieces::Pieces;
+use crate::programs::Feeders;
 use crate::record::{Metered, Output, Record, Sending, Tracer};
 use crate::run_files::run_file_at;
 use crate::wires::End;
-use bsc_attending::{Network, Opened, Wanted};
+use bsc_attending::{Network, Opened, Reachable, Wanted};
 use bsc_carrier::Cable;
+use bsc_clients::{ClientsError, ServedAt};
 use bsc_command::{Fault, command};
 use bsc_connections::{Awaited, Handled, LiveError, Pace, Waiter};
 use bsc_input::{Files, InputError, Unreadable};
@@ -30,8 +32,9 @@ fn peer_by(number: u8) -> Option<IpAddr> {
 }
 
 /// Reports octets to read for each `r` of the steps, a gap for each `g`, another peer for each `j`,
-/// a time-out for each `t`, and that the station is asked to end for each `s`, and fails at each
-/// `f`; after the last step there are always octets to read.
+/// a time-out for each `t`, that a program may have to be served for each `c`, and that the station
+/// is asked to end for each `s`, and fails at each `f`; after the last step there are always octets
+/// to read.
 #[derive(Drop)]
 pub(crate) struct Scripted<'a> {
     steps: &'static [u8],
@@ -79,6 +82,9 @@ impl<'a> Waiter<Pieces, Sending<'a>> for Scripted<'a> {
         }
         if step == b'j' {
             return Ok(Awaited::Newcomer);
+        }
+        if step == b'c' {
+            return Ok(Awaited::Client);
         }
         if step == b's' {
             return Ok(Awaited::Stopped);
@@ -148,6 +154,9 @@ pub(crate) struct Asking {
     /// Whether peer 2 may connect, whose address is 10.0.0.2.
     pub(crate) allows_two: bool,
     pub(crate) stops: bool,
+
+    /// Whether programs may feed the station.
+    pub(crate) serves: bool,
 }
 
 /// The octets of a connection and of that of another peer, at most one piece in each read, and the
@@ -167,6 +176,9 @@ pub(crate) struct Scene {
     /// Whether the trace cannot be written.
     pub(crate) trace_fails: bool,
 
+    /// What a program sends that feeds the station.
+    pub(crate) fed: &'static [u8],
+
     /// Why no connections can be made, if they cannot.
     pub(crate) refusal: Option<SocketsError>,
 }
@@ -179,6 +191,7 @@ pub(crate) const SILENT: Scene = Scene {
     peer: 0,
     disk_fails: false,
     trace_fails: false,
+    fed: b"",
     refusal: None,
 };
 
@@ -186,7 +199,7 @@ pub(crate) const SILENT: Scene = Scene {
 #[derive(Drop)]
 pub(crate) struct Machine<'a> {
     pub(crate) alloc: Global,
-    scene: Scene,
+    pub(crate) scene: Scene,
     asking: Option<Asking>,
     pub(crate) record: &'a Record,
 }
@@ -281,6 +294,8 @@ impl<'a> Network for Machine<'a> {
 
     type Timer = Metered<'a>;
 
+    type Programs = Feeders<'a>;
+
     type Trace = Tracer<'a>;
 
     fn open(
@@ -308,6 +323,7 @@ impl<'a> Network for Machine<'a> {
             allows_one: allows(wanted, 1),
             allows_two: allows(wanted, 2),
             stops: wanted.stops,
+            serves: wanted.serves.is_some(),
         });
         if let Some(refusal) = self.scene.refusal {
             return Err(refusal);
@@ -331,6 +347,20 @@ impl<'a> Network for Machine<'a> {
             },
             connections,
         })
+    }
+
+    /// Programs reach a station at `p:1` only.
+    fn serve(&mut self, at: ServedAt<'_>) -> Result<Reachable<Feeders<'a>>, ClientsError> {
+        match at {
+            ServedAt::Address {
+                address: "p:1",
+                anyone: false,
+            } => Ok(Reachable {
+                programs: self.feeders(self.scene.fed),
+                descriptor: 9,
+            }),
+            _ => Err(ClientsError::InUse),
+        }
     }
 
     fn timer(&mut self, work: Option<Work>) -> Metered<'a> {

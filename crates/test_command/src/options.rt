@@ -14,7 +14,7 @@ use std::test::Fail;
 type Row = (&'static [&'static str], OptionError);
 
 /// A command without further options.
-type Front = &'static [&'static str];
+pub(crate) type Front = &'static [&'static str];
 
 /// The commands to which the options of the tables are added.
 const NOTHING: Front = &["bscline", "station", "line.toml"];
@@ -29,7 +29,7 @@ const TERMINAL: Front = &[
     "h:1",
 ];
 
-const CONTROL: Front = &[
+pub(crate) const CONTROL: Front = &[
     "bscline",
     "station",
     "line.toml",
@@ -39,7 +39,7 @@ const CONTROL: Front = &[
 ];
 
 /// Returns these words, one after another.
-fn joined(
+pub(crate) fn joined(
     alloc: Global,
     front: Front,
     options: &[&'static str],
@@ -177,6 +177,11 @@ const TERMINALS: &[Row] = &[
         &["--until-input-ends", "--offer", "-"],
         OptionError::RepeatedInput,
     ),
+    (&["--serve-anyone"], OptionError::ServeAnyoneNeedsServe),
+    (
+        &["--serve-anyone", "--serve", "unix:s"],
+        OptionError::ServeAnyoneNeedsServe,
+    ),
 ];
 
 /// Options that do not fit a control station that listens.
@@ -283,6 +288,10 @@ const REASONS: &[(OptionError, &str)] = &[
         "--store and --offer cannot both be given",
     ),
     (
+        OptionError::ServeAnyoneNeedsServe,
+        "--serve-anyone needs --serve with HOST:PORT",
+    ),
+    (
         OptionError::RepeatedInput,
         "CONFIG, --offer and --until-input-ends cannot use standard input more than once",
     ),
@@ -374,5 +383,8 @@ fn fitting_options_are_accepted(rt: HostRuntime) -> Result<(), Fail> {
         refusal(rt.alloc(), TERMINAL, &["--until-input-ends", "--sync"])?,
         None
     );
+    const SERVING: &[&str] = &["--serve", "h:2", "--serve-anyone"];
+    assert_eq!(rt; refusal(rt.alloc(), TERMINAL, SERVING)?, None);
+    assert_eq!(rt; refusal(rt.alloc(), CONTROL, &["--serve", "unix:s"])?, None);
     Ok(())
 }

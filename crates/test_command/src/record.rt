@@ -22,6 +22,9 @@ pub(crate) struct Record {
 
     pub(crate) trace: RefCell<Vec<u8>>,
 
+    /// What a program that feeds the station was told.
+    pub(crate) told: RefCell<Vec<u8>>,
+
     /// The connections of a run.
     pub(crate) wires: Wires,
 
@@ -36,8 +39,17 @@ impl Record {
             syncs: Cell::new(false),
             shown: Cell::new(None),
             trace: RefCell::new(Vec::new(alloc)),
+            told: RefCell::new(Vec::new(alloc)),
             wires: Wires::new(alloc),
             memory: RefCell::new(Memory::new(alloc)),
+        }
+    }
+
+    /// Whether a program that feeds the station was told this.
+    pub(crate) fn has_told(&self, text: &str) -> bool {
+        match self.told.try_borrow() {
+            Ok(octets) => octets.as_slice() == text.as_bytes(),
+            Err(_) => false,
         }
     }
 

@@ -68,6 +68,7 @@ pub(crate) const CONNECTING: Asking = Asking {
     allows_one: true,
     allows_two: true,
     stops: false,
+    serves: false,
 };
 
 /// What a control station that listens requests, without further options.
@@ -88,6 +89,7 @@ pub(crate) const CONTROLLING: Asking = Asking {
     allows_one: true,
     allows_two: true,
     stops: false,
+    serves: false,
 };
 
 /// The connections of a control station that reaches all terminals by one connection.

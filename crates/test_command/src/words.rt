@@ -42,7 +42,8 @@ const ASKED: &[Row] = &[
             "--trace",
         ],
         "Station(StationWords { config: \"c\", control: true, terminal: None, \
-listen: Some(\"h:1\"), allowed: [], peers: [], connect: None, shared: false, raw: false, \
+listen: Some(\"h:1\"), allowed: [], peers: [], connect: None, serve: None, \
+serve_anyone: false, shared: false, raw: false, \
 gap: None, time_out: None, patience: None, replace_after: None, pause: None, rounds: None, \
 idle_rounds: None, until_input_ends: false, offers: [], store: None, text: false, bytes: false, \
 numbers: false, report_records: false, sync: false, trace: 1, quiet: false })",
@@ -81,6 +82,8 @@ numbers: false, report_records: false, sync: false, trace: 1, quiet: false })",
             "--store",
             "k",
             "--sync",
+            "--serve-anyone",
+            "--serve=h:2",
             "--trace",
             "--trace",
             "--trace",
@@ -88,7 +91,7 @@ numbers: false, report_records: false, sync: false, trace: 1, quiet: false })",
         ],
         "Station(StationWords { config: \"c\", control: false, terminal: Some(\"1\"), \
 listen: None, allowed: [\"d\", \"e\"], peers: [\"f\"], connect: Some(\"h:1\"), \
-shared: true, raw: true, gap: Some(\"9\"), \
+serve: Some(\"h:2\"), serve_anyone: true, shared: true, raw: true, gap: Some(\"9\"), \
 time_out: Some(\"8\"), patience: Some(\"5\"), \
 replace_after: Some(\"4\"), pause: Some(\"3\"), rounds: Some(\"7\"), idle_rounds: Some(\"6\"), \
 until_input_ends: true, offers: [\"a\", \"b\"], store: Some(\"k\"), text: true, \
@@ -126,6 +129,14 @@ width: Some(\"100\"), from: Some(\"2\"), to: Some(\"9\") })",
         &["bscline", "run", "c", "--trace", "s"],
         "Run { config: \"c\", script: \"s\", check: false, trace: true, quiet: false }",
     ),
+    (
+        &["bscline", "feed", "unix:s"],
+        "Feed { address: \"unix:s\", command: [] }",
+    ),
+    (
+        &["bscline", "feed", "h:1", "offer", "to", "0", "-5", "--help"],
+        "Feed { address: \"h:1\", command: [\"offer\", \"to\", \"0\", \"-5\", \"--help\"] }",
+    ),
     (&["bscline", "--version"], "bscline 0.2.0\n"),
 ];
 
@@ -140,6 +151,7 @@ Commands:
   chart    Draw a trace as a ladder of stations
   run      Run a line over loopback sockets, and print what is on it
   station  Run one station of a line over TCP
+  feed     Feed a running station: send commands to it and print its answers
   store    Do a work on the store of a station, while no station runs on it
   help     Print this message or the help of the given subcommand(s)
 
@@ -229,6 +241,8 @@ Options:
       --allow <NETWORK>     Let only peers of this network, ADDRESS/BITS, connect; needs --listen
       --peer <T=ADDRESS>    Hear terminal T from this IP address only; needs --control and --listen
       --connect <ADDRESS>   Connect to a peer at this address
+      --serve <ADDRESS>     Let programs feed the station at HOST:PORT or unix:PATH
+      --serve-anyone        Let programs of other machines feed it; needs --serve with HOST:PORT
       --shared              Reach all terminals by one connection
       --raw                 Send octets as they stand; a gap ends a transmission
       --gap <MS>            The gap in milliseconds, less than the time-out, 50 unless given; \
@@ -238,9 +252,9 @@ needs --raw
       --replace-after <MS>  Let a newcomer replace what has not answered for MS, 3 time-outs \
 unless given
       --pause <MS>          Pause after an idle round, in milliseconds, 0 to 3600000, 20 unless \
-given
+given, with --serve 100
       --rounds <N>          End after N rounds of the poll list
-      --idle-rounds <N>     End after N idle rounds in a row, 2 unless given
+      --idle-rounds <N>     End after N idle rounds in a row, 2 unless given, with --serve no limit
       --until-input-ends    End when standard input ends
       --offer <OFFER>       Offer the lines of PATH: at a terminal PATH, at the control station \
 T.S=PATH
@@ -256,6 +270,21 @@ polls too
   -h, --help                Print help
 
 Example: bscline station examples/lossy_line/line.toml --control --listen 127.0.0.1:2780 --text
+";
+
+/// The help of `feed`.
+const FEED_HELP: &str = "Feed a running station: send commands to it and print its answers
+
+Usage: bscline feed <ADDRESS> [COMMAND]...
+
+Arguments:
+  <ADDRESS>     Where the station serves: HOST:PORT or unix:PATH
+  [COMMAND]...  The command; without it, each line of standard input is one
+
+Options:
+  -h, --help  Print help
+
+Example: bscline feed unix:line.sock offer to 0 HELLO
 ";
 
 /// The help of `store`.
@@ -289,6 +318,7 @@ pub(crate) const HELPED: &[Row] = &[
     (&["bscline", "chart", "--help"], CHART_HELP),
     (&["bscline", "run", "--help"], RUN_HELP),
     (&["bscline", "station", "--help"], STATION_HELP),
+    (&["bscline", "feed", "--help"], FEED_HELP),
     (&["bscline", "store", "--help"], STORE_HELP),
     (&["bscline", "-h"], HELP),
     (&["bscline", "help", "name"], NAME_HELP),
@@ -296,11 +326,12 @@ pub(crate) const HELPED: &[Row] = &[
     (&["bscline", "help", "chart"], CHART_HELP),
     (&["bscline", "help", "run"], RUN_HELP),
     (&["bscline", "help", "station"], STATION_HELP),
+    (&["bscline", "help", "feed"], FEED_HELP),
     (&["bscline", "help", "store"], STORE_HELP),
     (&["bscline", "-V"], "bscline 0.2.0\n"),
 ];
 
-/// A word that is not a command, one word too many, and one too few.
+/// A word that is not a command, one word too many, and words too few.
 pub(crate) const WRONG: &[Row] = &[
     (
         &["bscline", "poll", "c", "s"],
@@ -327,6 +358,16 @@ For more information, try '--help'.
   <HEX>
 
 Usage: bscline name <HEX>
+
+For more information, try '--help'.
+",
+    ),
+    (
+        &["bscline", "feed"],
+        "error: the following required arguments were not provided:
+  <ADDRESS>
+
+Usage: bscline feed <ADDRESS> [COMMAND]...
 
 For more information, try '--help'.
 ",

@@ -9,6 +9,7 @@ use bsc_peers::Networks;
 use bsc_sockets::SocketsError;
 use std::cell::RefCell;
 use std::net::{Net, TcpListener};
+use std::rt::Files;
 use std::test::Fail;
 use std::time::{Clock, Duration};
 
@@ -20,6 +21,7 @@ pub(crate) fn wanted(place: Place<'_>) -> Wanted<'_> {
         raw: false,
         allowed: Networks::new(),
         stops: false,
+        serves: None,
         stays: false,
         begins: false,
         time_out: 1_000,
@@ -33,7 +35,7 @@ pub(crate) fn wanted(place: Place<'_>) -> Wanted<'_> {
 }
 
 /// How many connections a machine makes as it is asked to.
-pub(crate) fn opened<R: AllocGlobal + Clock + Eprint + Net>(
+pub(crate) fn opened<R: AllocGlobal + Clock + Eprint + Files + Net>(
     runtime: &R,
     wanted: &Wanted<'_>,
 ) -> Result<usize, SocketsError> {

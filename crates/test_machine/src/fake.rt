@@ -261,6 +261,10 @@ impl Net for Fake<'_> {
         self.host.connect(address)
     }
 
+    fn connect_timeout(&self, address: SocketAddr, patience: Duration) -> io::Result<TcpStream> {
+        self.host.connect_timeout(address, patience)
+    }
+
     fn lookup_host(&self, host: &str, port: u16, found: &mut [SocketAddr]) -> io::Result<usize> {
         self.host.lookup_host(host, port, found)
     }

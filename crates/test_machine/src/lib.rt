@@ -22,3 +22,5 @@ mod listening;
 mod outputs;
 #[cfg(test)]
 mod screens;
+#[cfg(test)]
+mod serving;
