@@ -36,7 +36,8 @@ impl Model for Calls {
 
     ghost view = { λ c. record { waiting = c.waiting; newcomer = c.newcomer; places = c.places } };
 
-    ghost inverse = { λ v. record { waiting = v.waiting; newcomer = v.newcomer; places = v.places } };
+    ghost inverse = { λ v.
+        record { waiting = v.waiting; newcomer = v.newcomer; places = v.places } };
 }
 
 impl Calls {

@@ -95,7 +95,8 @@ fn send_last<A: Allocator + Copy, B: BufRead, O: Write, W: Write>(
     out: &mut W,
 ) -> Result<bool, FeedError>
     ensures sent { IfOk result (λ follows.
-        SendsSome (Some (commands_after text.now (map strip_carriage_return (unless_empty line.now))))
+        SendsSome (Some (commands_after text.now
+        (map strip_carriage_return (unless_empty line.now))))
         follows (turned (O.contents said.old) (O.contents said.new)
         (W.contents out.old) (W.contents out.new))) }
     ensures refused { IsErrOf result FeedError.Refused →

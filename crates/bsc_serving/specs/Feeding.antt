@@ -45,7 +45,7 @@ pub record IsNoTerminal (c : ControlValue) (result : Result (Unit {0}) Fault) (n
   pub refused : result ≡ Err NotATerminal
   pub same : new ≡ c
 
--- The records that were offered on a channel of a terminal, which knows itself alone: none on one
+-- The records that were offered on a channel of a terminal, which knows only itself: none on one
 -- to it.
 abbrev pub offered_terminal : LineTerminalValue → ℕ → Way → List (List ℕ)
 offered_terminal l zero FromTerminal = l.tributary.queue.offered

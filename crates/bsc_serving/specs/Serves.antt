@@ -35,8 +35,9 @@ abbrev pub served_as : Option LiveError → Bool → Result Bool LiveError
 served_as (Some error) stopped = Err error
 served_as None stopped = Ok stopped
 
--- Programs are served at a station whose records are kept by this. It is asked by steps of programs
--- alone, none of which begins once it has to end; what is returned is what the last of them left.
+-- Programs are served at a station whose records are kept by this. It is asked only by steps of
+-- programs, none of which begins once it has to end; what is returned is what the last of them
+-- left.
 pub record ServesPrograms {S Q : Type 0} (asks : Fed S Q → Fed S Q → Type 0) (station : S)
     (keeps : Q) (result : Result Bool LiveError) : Type 0 where
   pub begun : Fed S Q

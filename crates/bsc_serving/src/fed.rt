@@ -141,7 +141,8 @@ impl<'a, S: Feeds, Q: Keeps<S>> Served for Fed<'a, S, Q> {
 
     ghost releases = { ReleasesAndKeeps S.releases Q.keeps_changes };
 
-    ghost readies = { λ f ready result. ChangesStation (λ old new. S.readies old ready result new) f };
+    ghost readies = { λ f ready result.
+        ChangesStation (λ old new. S.readies old ready result new) f };
 
     ghost urges = { λ f result. ChangesStation (λ old new. S.urges old result new) f };
 

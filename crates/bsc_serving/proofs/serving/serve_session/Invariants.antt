@@ -1,4 +1,4 @@
--- The station was asked by steps of programs alone, and has not failed.
+-- The station was asked only by steps of programs, and has not failed.
 use Rattle.std.proofs.Common.{◌≡◌, None}
 use Rattle.bsc_feed.specs.Answering.{serving}
 use Rattle.bsc_feed.specs.Offering.{OffersRecord}
