@@ -1,6 +1,7 @@
 //! Programs that a station serves which keeps its records.
 
-use crate::{Quiet, Scripted, World, control, line, offered};
+use crate::stations::{Quiet, control, line, offered};
+use crate::world::{Scripted, World};
 use bsc_block::Record;
 use bsc_connections::LiveError;
 use bsc_control::Control;
@@ -40,41 +41,85 @@ fn served(serving: &mut Serving<Scripted<'_>>, kept: &mut Kept) -> Result<bool, 
     serving.serve(&mut kept.station, KeptBy::new(&mut kept.keeper, &watch))
 }
 
-#[test]
-fn what_is_answered_is_kept(rt: HostRuntime) -> Result<(), Fail> {
-    let world = World::new(rt.alloc(), 1)?;
-    let mut kept = begun(rt.alloc(), Memory::new(rt.alloc()))?;
-    let mut serving = Serving::new(rt.alloc(), world.scripted())?;
-    world.connect(1);
-    world
-        .at(0)?
-        .say(b"offer to 0.1 ONE\noffer to 0.1 TWO\nrelease to 0.1 0\n")?;
-    assert!(rt; served(&mut serving, &mut kept) == Ok(false));
-    assert!(rt; world.at(0)?.was_told(b"ok 0\nok 1\nfault not in doubt\n"));
-    let mut store = kept.keeper.into_store();
-    assert_eq!(rt; store.progress(&second()?)?.offered, 2);
-    match store.offered(&second()?, 0, 1)? {
-        Some(found) => assert_eq!(rt; found.record.chars(), b"TWO".as_slice()),
-        None => return Err(Fail::new("no record")),
+/// What one program says, and what it has to be told.
+type Talk = (&'static [u8], &'static [u8]);
+
+/// Lets all programs of a world connect and say what they say.
+fn say(world: &World, talks: &[Talk]) -> Result<(), Fail> {
+    world.connect(talks.len());
+    for (number, (said, _)) in talks.iter().enumerate() {
+        world.at(number)?.say(said)?;
     }
     Ok(())
 }
 
+/// Whether each program of a world was told what it has to be told.
+fn are_told(world: &World, talks: &[Talk]) -> Result<bool, Fail> {
+    for (number, (_, told)) in talks.iter().enumerate() {
+        if !world.at(number)?.was_told(told) {
+            return Ok(false);
+        }
+    }
+    Ok(true)
+}
+
+/// Serves programs once, at a control station over this store. Returns what keeps its records, and
+/// the station, if that gave this and each program was told what it has to be told.
+fn told(
+    alloc: Global,
+    store: Memory,
+    talks: &[Talk],
+    given: Result<bool, LiveError>,
+) -> Result<Kept, Fail> {
+    let world = World::new(alloc, talks.len())?;
+    let mut kept = begun(alloc, store)?;
+    let mut serving = Serving::new(alloc, world.scripted())?;
+    say(&world, talks)?;
+    if served(&mut serving, &mut kept) == given && are_told(&world, talks)? {
+        return Ok(kept);
+    }
+    Err(Fail::new("something else was given or told"))
+}
+
+/// Whether a store has this many records offered on the second channel, and this is the last one.
+fn has_offered(store: &mut Memory, count: u32, chars: &[u8]) -> Result<bool, Fail> {
+    if count == 0 || store.progress(&second()?)?.offered != count {
+        return Ok(false);
+    }
+    match store.offered(&second()?, 0, count - 1)? {
+        Some(found) => Ok(found.record.chars() == chars),
+        None => Ok(false),
+    }
+}
+
+/// Records of one program, and a release that the station refuses.
+const OFFERS: &[Talk] = &[(
+    b"offer to 0.1 ONE\noffer to 0.1 TWO\nrelease to 0.1 0\n",
+    b"ok 0\nok 1\nfault not in doubt\n",
+)];
+
+#[test]
+fn what_is_answered_is_kept(rt: HostRuntime) -> Result<(), Fail> {
+    let kept = told(rt.alloc(), Memory::new(rt.alloc()), OFFERS, Ok(false))?;
+    let mut store = kept.keeper.into_store();
+    assert!(rt; has_offered(&mut store, 2, b"TWO")?);
+    Ok(())
+}
+
+/// Records of one program, of which the store keeps the first only, and a second program.
+const UNKEPT_OFFERS: &[Talk] = &[
+    (
+        b"offer to 0 ONE\noffer to 0 TWO\noffer to 0 THREE\n",
+        b"ok 0\n",
+    ),
+    (b"stop\n", b""),
+];
+
 #[test]
 fn a_record_that_is_not_kept_is_not_answered(rt: HostRuntime) -> Result<(), Fail> {
-    let world = World::new(rt.alloc(), 2)?;
     let mut store = Memory::new(rt.alloc());
     store.left = 1;
-    let mut kept = begun(rt.alloc(), store)?;
-    let mut serving = Serving::new(rt.alloc(), world.scripted())?;
-    world.connect(2);
-    world
-        .at(0)?
-        .say(b"offer to 0 ONE\noffer to 0 TWO\noffer to 0 THREE\n")?;
-    world.at(1)?.say(b"stop\n")?;
-    assert!(rt; served(&mut serving, &mut kept) == Err(LiveError::Unkept));
-    assert!(rt; world.at(0)?.was_told(b"ok 0\n"));
-    assert!(rt; world.at(1)?.was_told(b""));
+    let kept = told(rt.alloc(), store, UNKEPT_OFFERS, Err(LiveError::Unkept))?;
     assert_eq!(rt; offered(&kept.station, 0, 0), 1);
     assert!(rt; kept.keeper.fault() == Some(StoreFault::Full));
     Ok(())
@@ -103,15 +148,15 @@ fn doubtful(alloc: Global) -> Result<Memory, Fail> {
     Ok(store)
 }
 
+/// Two releases, of a count that does not fit and of one that does.
+const RELEASES: &[Talk] = &[(
+    b"release to 0.1 2\nrelease to 0.1 1\n",
+    b"fault count mismatch\nok\n",
+)];
+
 #[test]
 fn a_release_is_kept(rt: HostRuntime) -> Result<(), Fail> {
-    let world = World::new(rt.alloc(), 1)?;
-    let mut kept = begun(rt.alloc(), doubtful(rt.alloc())?)?;
-    let mut serving = Serving::new(rt.alloc(), world.scripted())?;
-    world.connect(1);
-    world.at(0)?.say(b"release to 0.1 2\nrelease to 0.1 1\n")?;
-    assert!(rt; served(&mut serving, &mut kept) == Ok(false));
-    assert!(rt; world.at(0)?.was_told(b"fault count mismatch\nok\n"));
+    let kept = told(rt.alloc(), doubtful(rt.alloc())?, RELEASES, Ok(false))?;
     let mut store = kept.keeper.into_store();
     let progress = store.progress(&second()?)?;
     assert!(rt; progress.known == 1 && progress.in_doubt == 0);
@@ -120,14 +165,10 @@ fn a_release_is_kept(rt: HostRuntime) -> Result<(), Fail> {
 
 #[test]
 fn a_release_that_is_not_kept_is_not_answered(rt: HostRuntime) -> Result<(), Fail> {
-    let world = World::new(rt.alloc(), 1)?;
     let mut store = doubtful(rt.alloc())?;
     store.left = 0;
-    let mut kept = begun(rt.alloc(), store)?;
-    let mut serving = Serving::new(rt.alloc(), world.scripted())?;
-    world.connect(1);
-    world.at(0)?.say(b"release to 0.1 1\n")?;
-    assert!(rt; served(&mut serving, &mut kept) == Err(LiveError::Unkept));
-    assert!(rt; world.at(0)?.was_told(b""));
+    let talks: &[Talk] = &[(b"release to 0.1 1\n", b"")];
+    let kept = told(rt.alloc(), store, talks, Err(LiveError::Unkept))?;
+    assert!(rt; kept.keeper.fault() == Some(StoreFault::Full));
     Ok(())
 }

@@ -7,11 +7,12 @@ mod kept;
 #[cfg(test)]
 mod pausing;
 #[cfg(test)]
+mod scenes;
+#[cfg(test)]
 mod served;
 #[cfg(test)]
 mod slow;
+#[cfg(test)]
 mod stations;
+#[cfg(test)]
 mod world;
-
-pub use stations::{Quiet, control, has_offered, line, offered, terminal};
-pub use world::{End, Program, Scripted, World};

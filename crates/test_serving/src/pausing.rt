@@ -1,6 +1,6 @@
 //! The monitor that ends the attending when programs are to be served.
 
-use crate::{Quiet, control};
+use crate::stations::{Quiet, control};
 use bsc_connections::{Monitor, Note};
 use bsc_control::Control;
 use bsc_keeping::Prints;

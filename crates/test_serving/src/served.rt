@@ -1,16 +1,251 @@
 //! Programs that a station serves, without a store.
 
-use crate::{Scripted, World, control, has_offered, offered, terminal};
-use bsc_block::Record;
-use bsc_control::Control;
-use bsc_serving::{Feeds, MAX_PROGRAMS, Serving, Unkept};
+use crate::scenes::{Act, first_wrong};
+use crate::stations::terminal;
+use crate::world::{Scripted, World};
+use bsc_monitor::LineTerminal;
+use bsc_serving::{MAX_PROGRAMS, Serving, Unkept};
 use std::alloc::Global;
 use std::test::Fail;
 
-/// Serves the programs this many times, and returns whether one asked the station to end.
-fn served<S: Feeds>(
+/// An offer in pieces, of which the last one has no end at first.
+const PIECES: &[Act] = &[
+    Act::Connect { programs: 1 },
+    Act::Piece {
+        program: 0,
+        octets: 3,
+    },
+    Act::Say {
+        program: 0,
+        octets: b"offer to 0 ONE\noffer to 0.1 X\noffer to 0.0 T",
+    },
+    Act::Serve { times: 20 },
+    Act::Told {
+        program: 0,
+        octets: b"ok 0\nok 0\n",
+    },
+    Act::Say {
+        program: 0,
+        octets: b"WO\r\n",
+    },
+    Act::Serve { times: 20 },
+    Act::Told {
+        program: 0,
+        octets: b"ok 0\nok 0\nok 1\n",
+    },
+    Act::Offered {
+        number: 1,
+        chars: b"TWO",
+    },
+    Act::Unread {
+        program: 0,
+        octets: 0,
+    },
+];
+
+#[test]
+fn an_offer_may_come_in_pieces(rt: HostRuntime) -> Result<(), Fail> {
+    assert_eq!(rt; first_wrong(rt.alloc(), 1, PIECES)?, None);
+    Ok(())
+}
+
+/// Offers of two programs, to one channel and to another.
+const TWO_PROGRAMS: &[Act] = &[
+    Act::Connect { programs: 2 },
+    Act::Say {
+        program: 0,
+        octets: b"offer to 0 ONE\n",
+    },
+    Act::Serve { times: 1 },
+    Act::Say {
+        program: 1,
+        octets: b"offer to 0 TWO\noffer to 1 Y\n",
+    },
+    Act::Serve { times: 1 },
+    Act::Told {
+        program: 1,
+        octets: b"ok 1\nok 0\n",
+    },
+    Act::Say {
+        program: 0,
+        octets: b"offer to 0 THREE\n",
+    },
+    Act::Serve { times: 1 },
+    Act::Told {
+        program: 0,
+        octets: b"ok 0\nok 2\n",
+    },
+    Act::Offers {
+        terminal: 0,
+        select: 0,
+        count: 3,
+    },
+    Act::Offered {
+        number: 2,
+        chars: b"THREE",
+    },
+];
+
+#[test]
+fn offers_of_two_programs(rt: HostRuntime) -> Result<(), Fail> {
+    assert_eq!(rt; first_wrong(rt.alloc(), 2, TWO_PROGRAMS)?, None);
+    Ok(())
+}
+
+/// Commands that a control station refuses, and its state.
+const FAULTS: &[Act] = &[
+    Act::Connect { programs: 1 },
+    Act::Say {
+        program: 0,
+        octets: b"offer to 2 A\noffer from 0 A\nready on\nurgent\nrelease to 0 0\n\
+release from 0 0\nsing\nstatus\n",
+    },
+    Act::Serve { times: 20 },
+    Act::Told {
+        program: 0,
+        octets: b"fault no such channel\nfault the station does not send on it\n\
+fault the station is not a terminal\nfault the station is not a terminal\nfault not in doubt\n\
+fault the station does not send on it\nfault not a command\n\
+from 0: spooled 0\nto 0.0: offered 0, known 0\nto 0.1: offered 0, known 0\nfrom 1: spooled 0\n\
+to 1: offered 0, known 0\nok\n",
+    },
+];
+
+#[test]
+fn faults_and_states_of_a_control_station(rt: HostRuntime) -> Result<(), Fail> {
+    assert_eq!(rt; first_wrong(rt.alloc(), 1, FAULTS)?, None);
+    Ok(())
+}
+
+/// Records that arrived before a program follows, and one that arrives after.
+const FOLLOWS: &[Act] = &[
+    Act::Arrive { chars: b"OLD" },
+    Act::Arrive { chars: b"" },
+    Act::Connect { programs: 1 },
+    Act::Say {
+        program: 0,
+        octets: b"follow from 0 0\n",
+    },
+    Act::Serve { times: 4 },
+    Act::Told {
+        program: 0,
+        octets: b"ok\narrived from 0 0 OLD\narrived from 0 1 \n",
+    },
+    Act::Arrive { chars: b"NEW" },
+    Act::Serve { times: 4 },
+    Act::Told {
+        program: 0,
+        octets: b"ok\narrived from 0 0 OLD\narrived from 0 1 \narrived from 0 2 NEW\n",
+    },
+];
+
+#[test]
+fn follows_old_and_new_records(rt: HostRuntime) -> Result<(), Fail> {
+    assert_eq!(rt; first_wrong(rt.alloc(), 1, FOLLOWS)?, None);
+    Ok(())
+}
+
+/// Three programs more than there are places, of which one is freed.
+const TOO_MANY: &[Act] = &[
+    Act::Connect {
+        programs: MAX_PROGRAMS + 1,
+    },
+    Act::Serve { times: 2 },
+    Act::TurnedAway { count: 1 },
+    Act::End { program: 5 },
+    Act::Say {
+        program: MAX_PROGRAMS - 1,
+        octets: b"offer to 1 A\n",
+    },
+    Act::Serve { times: 2 },
+    Act::Told {
+        program: MAX_PROGRAMS - 1,
+        octets: b"ok 0\n",
+    },
+    Act::Connect {
+        programs: MAX_PROGRAMS + 3,
+    },
+    Act::Say {
+        program: MAX_PROGRAMS + 1,
+        octets: b"offer to 1 B\n",
+    },
+    Act::Serve { times: 2 },
+    Act::Told {
+        program: MAX_PROGRAMS + 1,
+        octets: b"ok 1\n",
+    },
+    Act::TurnedAway { count: 2 },
+];
+
+#[test]
+fn the_65th_program_is_turned_away(rt: HostRuntime) -> Result<(), Fail> {
+    let wrong = first_wrong(rt.alloc(), MAX_PROGRAMS + 3, TOO_MANY)?;
+    assert_eq!(rt; wrong, None);
+    Ok(())
+}
+
+/// The place that is served first is another one each time.
+const TURNS: &[Act] = &[
+    Act::Connect { programs: 2 },
+    Act::Say {
+        program: 0,
+        octets: b"offer to 0 A\n",
+    },
+    Act::Say {
+        program: 1,
+        octets: b"offer to 0 B\n",
+    },
+    Act::Serve { times: 1 },
+    Act::Offered {
+        number: 0,
+        chars: b"A",
+    },
+    Act::Say {
+        program: 0,
+        octets: b"offer to 0 C\n",
+    },
+    Act::Say {
+        program: 1,
+        octets: b"offer to 0 D\n",
+    },
+    Act::Serve { times: 1 },
+    Act::Offered {
+        number: 2,
+        chars: b"D",
+    },
+];
+
+#[test]
+fn another_program_is_served_first_each_time(rt: HostRuntime) -> Result<(), Fail> {
+    assert_eq!(rt; first_wrong(rt.alloc(), 2, TURNS)?, None);
+    Ok(())
+}
+
+/// A program that asks the station to end.
+const STOPS: &[Act] = &[
+    Act::Connect { programs: 1 },
+    Act::Say {
+        program: 0,
+        octets: b"offer to 1 A\nstop\n",
+    },
+    Act::Stop,
+    Act::Told {
+        program: 0,
+        octets: b"ok 0\nok\n",
+    },
+    Act::Serve { times: 1 },
+];
+
+#[test]
+fn a_program_stops_the_station(rt: HostRuntime) -> Result<(), Fail> {
+    assert_eq!(rt; first_wrong(rt.alloc(), 1, STOPS)?, None);
+    Ok(())
+}
+
+/// Serves the programs of a terminal this many times, and returns whether one asked it to end.
+fn served(
     serving: &mut Serving<Scripted<'_>>,
-    station: &mut S,
+    station: &mut LineTerminal<Global>,
     times: usize,
 ) -> Result<bool, Fail> {
     let mut stopped = false;
@@ -20,142 +255,24 @@ fn served<S: Feeds>(
     Ok(stopped)
 }
 
-/// Lets a record arrive from terminal 0 of a control station.
-fn arrive(control: &mut Control<Global>, codes: &[u8]) -> Result<(), Fail> {
-    if control.terminals() == 0 {
-        return Err(Fail::new("no terminal"));
-    }
-    match control.keep_arrived(0, Record::read(codes, 80)?) {
-        Ok(()) => Ok(()),
-        Err(_) => Err(Fail::new("out of memory")),
-    }
-}
-
-#[test]
-fn an_offer_may_come_in_pieces(rt: HostRuntime) -> Result<(), Fail> {
-    let world = World::new(rt.alloc(), 1)?;
-    let mut station = control(rt.alloc())?;
-    let mut serving = Serving::new(rt.alloc(), world.scripted())?;
+/// Whether the only program of a terminal, which says this, is told exactly that.
+fn is_told_by_a_terminal(alloc: Global, said: &[u8], told: &[u8]) -> Result<bool, Fail> {
+    let world = World::new(alloc, 1)?;
+    let mut station = terminal(alloc)?;
+    let mut serving = Serving::new(alloc, world.scripted())?;
     world.connect(1);
-    world.at(0)?.piece.set(3);
-    world
-        .at(0)?
-        .say(b"offer to 0 ONE\noffer to 0.1 X\noffer to 0.0 T")?;
-    assert!(rt; !served(&mut serving, &mut station, 20)?);
-    assert!(rt; world.at(0)?.was_told(b"ok 0\nok 0\n"));
-    world.at(0)?.say(b"WO\r\n")?;
-    assert!(rt; !served(&mut serving, &mut station, 20)?);
-    assert!(rt; world.at(0)?.was_told(b"ok 0\nok 0\nok 1\n"));
-    assert!(rt; has_offered(&station, 1, b"TWO"));
-    assert_eq!(rt; world.at(0)?.unread(), 0);
-    Ok(())
-}
-
-#[test]
-fn offers_of_two_programs(rt: HostRuntime) -> Result<(), Fail> {
-    let world = World::new(rt.alloc(), 2)?;
-    let mut station = control(rt.alloc())?;
-    let mut serving = Serving::new(rt.alloc(), world.scripted())?;
-    world.connect(2);
-    world.at(0)?.say(b"offer to 0 ONE\n")?;
-    assert!(rt; !served(&mut serving, &mut station, 1)?);
-    world.at(1)?.say(b"offer to 0 TWO\noffer to 1 Y\n")?;
-    assert!(rt; !served(&mut serving, &mut station, 1)?);
-    assert!(rt; world.at(1)?.was_told(b"ok 1\nok 0\n"));
-    world.at(0)?.say(b"offer to 0 THREE\n")?;
-    assert!(rt; !served(&mut serving, &mut station, 1)?);
-    assert!(rt; world.at(0)?.was_told(b"ok 0\nok 2\n"));
-    assert_eq!(rt; offered(&station, 0, 0), 3);
-    assert!(rt; has_offered(&station, 2, b"THREE"));
-    Ok(())
-}
-
-#[test]
-fn faults_and_states_of_a_control_station(rt: HostRuntime) -> Result<(), Fail> {
-    let world = World::new(rt.alloc(), 1)?;
-    let mut station = control(rt.alloc())?;
-    let mut serving = Serving::new(rt.alloc(), world.scripted())?;
-    world.connect(1);
-    world.at(0)?.say(
-        b"offer to 2 A\noffer from 0 A\nready on\nurgent\nrelease to 0 0\nrelease from 0 0\n\
-sing\nstatus\n",
-    )?;
-    assert!(rt; !served(&mut serving, &mut station, 20)?);
-    let expected: &[u8] = b"fault no such channel\nfault the station does not send on it\n\
-fault the station is not a terminal\nfault the station is not a terminal\nfault not in doubt\n\
-fault the station does not send on it\nfault not a command\n\
-from 0: spooled 0\nto 0.0: offered 0, known 0\nto 0.1: offered 0, known 0\nfrom 1: spooled 0\n\
-to 1: offered 0, known 0\nok\n";
-    assert!(rt; world.at(0)?.was_told(expected));
-    Ok(())
+    let program = world.at(0)?;
+    program.say(said)?;
+    Ok(!served(&mut serving, &mut station, 20)? && program.was_told(told))
 }
 
 #[test]
 fn commands_at_a_terminal(rt: HostRuntime) -> Result<(), Fail> {
-    let world = World::new(rt.alloc(), 1)?;
-    let mut station = terminal(rt.alloc())?;
-    let mut serving = Serving::new(rt.alloc(), world.scripted())?;
-    world.connect(1);
-    world.at(0)?.say(
-        b"offer from 0 A\noffer from 0 B\noffer to 0 A\noffer from 1 A\nready off\nready on\n\
-urgent\nrelease from 0 0\nstatus\n",
-    )?;
-    assert!(rt; !served(&mut serving, &mut station, 20)?);
-    let expected: &[u8] = b"ok 0\nok 1\nfault the station does not send on it\n\
+    let said = b"offer from 0 A\noffer from 0 B\noffer to 0 A\noffer from 1 A\nready off\n\
+ready on\nurgent\nrelease from 0 0\nstatus\n";
+    let told = b"ok 0\nok 1\nfault the station does not send on it\n\
 fault no such channel\nok\nok\nok\nfault not in doubt\nfrom 0: offered 2, known 0\n\
 to 0.0: spooled 0\nto 0.1: spooled 0\nok\n";
-    assert!(rt; world.at(0)?.was_told(expected));
-    Ok(())
-}
-
-#[test]
-fn follows_old_and_new_records(rt: HostRuntime) -> Result<(), Fail> {
-    let world = World::new(rt.alloc(), 1)?;
-    let mut station = control(rt.alloc())?;
-    let mut serving = Serving::new(rt.alloc(), world.scripted())?;
-    arrive(&mut station, b"OLD")?;
-    arrive(&mut station, b"")?;
-    world.connect(1);
-    world.at(0)?.say(b"follow from 0 0\n")?;
-    assert!(rt; !served(&mut serving, &mut station, 4)?);
-    let expected: &[u8] = b"ok\narrived from 0 0 OLD\narrived from 0 1 \n";
-    assert!(rt; world.at(0)?.was_told(expected));
-    arrive(&mut station, b"NEW")?;
-    assert!(rt; !served(&mut serving, &mut station, 4)?);
-    let expected: &[u8] = b"ok\narrived from 0 0 OLD\narrived from 0 1 \narrived from 0 2 NEW\n";
-    assert!(rt; world.at(0)?.was_told(expected));
-    Ok(())
-}
-
-#[test]
-fn the_65th_program_is_turned_away(rt: HostRuntime) -> Result<(), Fail> {
-    let world = World::new(rt.alloc(), MAX_PROGRAMS + 3)?;
-    let mut station = control(rt.alloc())?;
-    let mut serving = Serving::new(rt.alloc(), world.scripted())?;
-    world.connect(MAX_PROGRAMS + 1);
-    assert!(rt; !served(&mut serving, &mut station, 2)?);
-    assert_eq!(rt; world.turned_away.get(), 1);
-    world.at(5)?.end();
-    world.at(MAX_PROGRAMS - 1)?.say(b"offer to 1 A\n")?;
-    assert!(rt; !served(&mut serving, &mut station, 2)?);
-    assert!(rt; world.at(MAX_PROGRAMS - 1)?.was_told(b"ok 0\n"));
-    world.connect(MAX_PROGRAMS + 3);
-    world.at(MAX_PROGRAMS + 1)?.say(b"offer to 1 B\n")?;
-    assert!(rt; !served(&mut serving, &mut station, 2)?);
-    assert!(rt; world.at(MAX_PROGRAMS + 1)?.was_told(b"ok 1\n"));
-    assert_eq!(rt; world.turned_away.get(), 2);
-    Ok(())
-}
-
-#[test]
-fn a_program_stops_the_station(rt: HostRuntime) -> Result<(), Fail> {
-    let world = World::new(rt.alloc(), 1)?;
-    let mut station = control(rt.alloc())?;
-    let mut serving = Serving::new(rt.alloc(), world.scripted())?;
-    world.connect(1);
-    world.at(0)?.say(b"offer to 1 A\nstop\n")?;
-    assert!(rt; served(&mut serving, &mut station, 1)?);
-    assert!(rt; world.at(0)?.was_told(b"ok 0\nok\n"));
-    assert!(rt; !served(&mut serving, &mut station, 1)?);
+    assert!(rt; is_told_by_a_terminal(rt.alloc(), said, told)?);
     Ok(())
 }

@@ -12,17 +12,17 @@ use std::test::Fail;
 use test_fixtures::configurations::THREE_ADDRESSES;
 
 /// Returns the configuration of the tests: terminal 0 has two selection addresses, terminal 1 one.
-pub fn line(alloc: Global) -> Result<Config, Fail> {
+pub(crate) fn line(alloc: Global) -> Result<Config, Fail> {
     Ok(read_config(alloc, THREE_ADDRESSES.as_bytes())?)
 }
 
 /// Returns the control station of the line.
-pub fn control(alloc: Global) -> Result<Control<Global>, Fail> {
+pub(crate) fn control(alloc: Global) -> Result<Control<Global>, Fail> {
     Ok(new_control(alloc, &line(alloc)?)?)
 }
 
 /// Returns terminal 0 of the line.
-pub fn terminal(alloc: Global) -> Result<LineTerminal<Global>, Fail> {
+pub(crate) fn terminal(alloc: Global) -> Result<LineTerminal<Global>, Fail> {
     let config = line(alloc)?;
     if config.terminals() == 0 {
         return Err(Fail::new("no terminal"));
@@ -31,7 +31,7 @@ pub fn terminal(alloc: Global) -> Result<LineTerminal<Global>, Fail> {
 }
 
 /// Returns how many records a control station has to send to this selection address.
-pub fn offered(control: &Control<Global>, terminal: usize, select: usize) -> usize {
+pub(crate) fn offered(control: &Control<Global>, terminal: usize, select: usize) -> usize {
     if terminal < control.terminals() && select < control.addresses(terminal) {
         return control.queue(terminal, select).offered().len();
     }
@@ -39,7 +39,7 @@ pub fn offered(control: &Control<Global>, terminal: usize, select: usize) -> usi
 }
 
 /// Returns whether the record with this number for the first address of terminal 0 is this.
-pub fn has_offered(control: &Control<Global>, number: usize, chars: &[u8]) -> bool {
+pub(crate) fn has_offered(control: &Control<Global>, number: usize, chars: &[u8]) -> bool {
     if control.terminals() == 0 || control.addresses(0) == 0 {
         return false;
     }
@@ -50,17 +50,17 @@ pub fn has_offered(control: &Control<Global>, number: usize, chars: &[u8]) -> bo
 /// A monitor that prints nothing. It ends the attending when the station was asked to end, and
 /// counts what it was told.
 #[derive(Drop)]
-pub struct Quiet {
+pub(crate) struct Quiet {
     /// How much it was told.
-    pub told: usize,
+    pub(crate) told: usize,
 
     /// Whether it has ended the attending.
-    pub ended: bool,
+    pub(crate) ended: bool,
 }
 
 impl Quiet {
     /// Returns a monitor that was told nothing.
-    pub fn new() -> Quiet {
+    pub(crate) fn new() -> Quiet {
         Quiet {
             told: 0,
             ended: false,

@@ -10,7 +10,7 @@ use std::test::Fail;
 
 /// What one program says and was told.
 #[derive(Drop)]
-pub struct Program {
+pub(crate) struct Program {
     said: RefCell<VecDeque<u8>>,
     told: RefCell<Vec<u8>>,
 
@@ -18,10 +18,10 @@ pub struct Program {
     ended: Cell<bool>,
 
     /// How many octets it takes yet.
-    pub room: Cell<usize>,
+    pub(crate) room: Cell<usize>,
 
     /// How many octets a read or a write takes at most.
-    pub piece: Cell<usize>,
+    pub(crate) piece: Cell<usize>,
 
     /// Its place, once it is taken.
     place: Cell<Option<usize>>,
@@ -30,7 +30,7 @@ pub struct Program {
     changed: Cell<bool>,
 
     /// How many reads there were.
-    pub reads: Cell<usize>,
+    pub(crate) reads: Cell<usize>,
 }
 
 impl Program {
@@ -48,26 +48,26 @@ impl Program {
     }
 
     /// Says more.
-    pub fn say(&self, octets: &[u8]) -> Result<(), Fail> {
+    pub(crate) fn say(&self, octets: &[u8]) -> Result<(), Fail> {
         let _ = self.said.try_borrow_mut()?.write(octets)?;
         self.changed.set(true);
         Ok(())
     }
 
     /// Ends its side.
-    pub fn end(&self) {
+    pub(crate) fn end(&self) {
         self.ended.set(true);
         self.changed.set(true);
     }
 
     /// Takes this many octets more.
-    pub fn make_room(&self, count: usize) {
+    pub(crate) fn make_room(&self, count: usize) {
         self.room.set(count);
         self.changed.set(true);
     }
 
     /// Whether it was told exactly this.
-    pub fn was_told(&self, expected: &[u8]) -> bool {
+    pub(crate) fn was_told(&self, expected: &[u8]) -> bool {
         match self.told.try_borrow() {
             Ok(told) => told.as_slice() == expected,
             Err(_) => false,
@@ -75,7 +75,7 @@ impl Program {
     }
 
     /// How many lines it was told.
-    pub fn lines(&self) -> usize {
+    pub(crate) fn lines(&self) -> usize {
         let mut count = 0usize;
         if let Ok(told) = self.told.try_borrow() {
             for octet in told.as_slice() {
@@ -88,7 +88,7 @@ impl Program {
     }
 
     /// How many octets it has said that nobody has read.
-    pub fn unread(&self) -> usize {
+    pub(crate) fn unread(&self) -> usize {
         match self.said.try_borrow() {
             Ok(said) => said.len(),
             Err(_) => 0,
@@ -98,9 +98,9 @@ impl Program {
 
 /// All programs of a test, and what is asked of the system.
 #[derive(Drop)]
-pub struct World {
+pub(crate) struct World {
     /// The programs, in the order in which they connect.
-    pub programs: Vec<Program>,
+    pub(crate) programs: Vec<Program>,
 
     /// How many of them have connected.
     connected: Cell<usize>,
@@ -109,15 +109,15 @@ pub struct World {
     met: Cell<usize>,
 
     /// How many were turned away.
-    pub turned_away: Cell<usize>,
+    pub(crate) turned_away: Cell<usize>,
 
     /// How often the next wait was to end at once.
-    pub calls: Cell<usize>,
+    pub(crate) calls: Cell<usize>,
 }
 
 impl World {
     /// Returns a world of this many programs, none of which has connected.
-    pub fn new(alloc: Global, count: usize) -> Result<World, AllocError> {
+    pub(crate) fn new(alloc: Global, count: usize) -> Result<World, AllocError> {
         let mut programs = Vec::new(alloc);
         for _ in 0..count {
             programs.push(Program::new(alloc))?;
@@ -132,12 +132,12 @@ impl World {
     }
 
     /// Lets the first programs connect, this many in all.
-    pub fn connect(&self, count: usize) {
+    pub(crate) fn connect(&self, count: usize) {
         self.connected.set(count.min(self.programs.len()));
     }
 
     /// Returns the program with this number.
-    pub fn at(&self, number: usize) -> Result<&Program, Fail> {
+    pub(crate) fn at(&self, number: usize) -> Result<&Program, Fail> {
         match self.programs.get(number) {
             Some(program) => Ok(program),
             None => Err(Fail::new("no such program")),
@@ -145,7 +145,7 @@ impl World {
     }
 
     /// Returns the programs as a machine gives them.
-    pub fn scripted(&self) -> Scripted<'_> {
+    pub(crate) fn scripted(&self) -> Scripted<'_> {
         Scripted {
             world: self,
             asked: 0,
@@ -166,7 +166,7 @@ impl World {
 
 /// The programs of a world.
 #[derive(Drop)]
-pub struct Scripted<'a> {
+pub(crate) struct Scripted<'a> {
     world: &'a World,
 
     /// The program of which is told next.
@@ -227,7 +227,7 @@ impl<'a> Programs for Scripted<'a> {
 
 /// The end of a connection at the station.
 #[derive(Drop)]
-pub struct End<'a> {
+pub(crate) struct End<'a> {
     program: &'a Program,
 }
 
