@@ -1,38 +1,52 @@
 //! Unix sockets at paths.
 
-use crate::station::{Station, hears, reads, refused};
-use bsc_clients::{ClientsError, ServedAt};
+use crate::station::{Station, hears, hears_nothing, is_told_why, refused, sends};
+use bsc_clients::{ClientsError, ServedAt, Stream};
 use bsc_serving::Programs;
 use std::fs;
-use std::io::{ErrorKind, Read, Write};
 use std::os::unix::fs::PermissionsExt;
 use std::os::unix::net::{UnixListener, UnixStream};
 use std::test::Fail;
 
+/// Where a program is served.
+const SERVED: ServedAt<'static> = ServedAt::Path { path: "served" };
+
+/// Whether a program at the path is heard once it sends, and is told an answer.
+fn is_heard_and_told(
+    station: &mut Station<'_>,
+    program: &mut UnixStream,
+    stream: &mut Stream,
+) -> Result<bool, Fail> {
+    if !hears_nothing(stream) || !sends(program, b"stop\n") {
+        return Ok(false);
+    }
+    station.waits()?;
+    Ok(hears(stream, b"stop\n") && sends(stream, b"ok\n") && hears(program, b"ok\n"))
+}
+
 #[test]
 fn a_program_is_served_at_a_path(rt: HostRuntime) -> Result<(), Fail> {
-    let at = ServedAt::Path { path: "served" };
-    let mut station = Station::listens(&rt, at)?;
-    assert_eq!(rt; station.clients.address(), None);
+    let mut station = Station::listens(&rt, SERVED)?;
     let mut program = UnixStream::connect(&rt, "served")?;
     let mut stream = station.takes(1)?;
-    assert_eq!(rt;
-        reads(&mut stream, &mut [0u8; 4]),
-        Err(ErrorKind::WouldBlock)
-    );
-    program.write_all(b"stop\n")?;
-    station.waits()?;
-    assert!(rt; hears(&mut stream, b"stop\n"));
-    stream.write_all(b"ok\n")?;
-    stream.flush()?;
-    assert!(rt; hears(&mut program, b"ok\n"));
-    drop(program);
-    let mut other = UnixStream::connect(&rt, "served")?;
+    assert!(rt; is_heard_and_told(&mut station, &mut program, &mut stream)?);
+    Ok(())
+}
+
+#[test]
+fn a_program_is_turned_away_at_a_path(rt: HostRuntime) -> Result<(), Fail> {
+    let mut station = Station::listens(&rt, ServedAt::Path { path: "full" })?;
+    let mut program = UnixStream::connect(&rt, "full")?;
     station.waits()?;
     assert!(rt; station.clients.turn_away());
-    let mut told = Vec::new(rt.alloc());
-    other.read_to_end(&mut told)?;
-    assert_eq!(rt; told.as_slice(), b"fault every place is taken\n".as_slice());
+    assert!(rt; is_told_why(rt.alloc(), &mut program)?);
+    Ok(())
+}
+
+#[test]
+fn a_path_is_no_address(rt: HostRuntime) -> Result<(), Fail> {
+    let station = Station::listens(&rt, ServedAt::Path { path: "path" })?;
+    assert_eq!(rt; station.clients.address(), None);
     Ok(())
 }
 

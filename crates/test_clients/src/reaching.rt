@@ -1,7 +1,7 @@
 //! Programs that reach a station.
 
-use crate::station::{LOCAL, Station, reads, text_of};
-use bsc_clients::{ClientsError, Reached, ServedAt, reach};
+use crate::station::{LOCAL, Station, hears, hears_the_end, sends, text_of};
+use bsc_clients::{ClientsError, Reached, ServedAt, Stream, reach};
 use std::io::{Read, Write};
 use std::net::TcpListener;
 use std::test::Fail;
@@ -18,20 +18,29 @@ fn why(rt: &HostRuntime, at: ServedAt<'_>) -> Option<ClientsError> {
 }
 
 /// Whether the station hears what the program says, and the program what the station tells.
-fn is_told<R: Read, W: Write, S: Read + Write>(
-    hears: &mut R,
+fn is_heard_and_told<R: Read, W: Write>(
+    hears_it: &mut R,
     says: &mut W,
-    stream: &mut S,
+    stream: &mut Stream,
     station: &mut Station<'_>,
 ) -> Result<bool, Fail> {
-    let mut buffer = [0u8; 16];
-    says.write_all(b"urgent\n")?;
-    says.flush()?;
+    if !sends(says, b"urgent\n") {
+        return Ok(false);
+    }
     station.waits()?;
-    let is_heard = reads(stream, &mut buffer) == Ok(7) && &buffer[..7] == b"urgent\n".as_slice();
-    stream.write_all(b"ok\n")?;
-    let is_told = reads(hears, &mut buffer) == Ok(3) && &buffer[..3] == b"ok\n".as_slice();
-    Ok(is_heard && is_told)
+    Ok(hears(stream, b"urgent\n") && sends(stream, b"ok\n") && hears(hears_it, b"ok\n"))
+}
+
+/// Whether a program reaches a station there, is heard and told, and hears the end.
+fn reaches(rt: &HostRuntime, at: ServedAt<'_>, station: &mut Station<'_>) -> Result<bool, Fail> {
+    let Reached {
+        hears: mut hears_it,
+        mut says,
+    } = reach(rt, rt.alloc(), at, patience())?;
+    let mut stream = station.takes(0)?;
+    let is_told = is_heard_and_told(&mut hears_it, &mut says, &mut stream, station)?;
+    drop(stream);
+    Ok(is_told && hears_the_end(&mut hears_it))
 }
 
 #[test]
@@ -42,14 +51,7 @@ fn a_program_reaches_a_station_over_tcp(rt: HostRuntime) -> Result<(), Fail> {
         address: &text,
         anyone: true,
     };
-    let Reached {
-        mut hears,
-        mut says,
-    } = reach(&rt, rt.alloc(), at, patience())?;
-    let mut stream = station.takes(0)?;
-    assert!(rt; is_told(&mut hears, &mut says, &mut stream, &mut station)?);
-    drop(stream);
-    assert_eq!(rt; reads(&mut hears, &mut [0u8; 4]), Ok(0));
+    assert!(rt; reaches(&rt, at, &mut station)?);
     Ok(())
 }
 
@@ -57,14 +59,7 @@ fn a_program_reaches_a_station_over_tcp(rt: HostRuntime) -> Result<(), Fail> {
 fn a_program_reaches_a_station_at_a_path(rt: HostRuntime) -> Result<(), Fail> {
     let at = ServedAt::Path { path: "reached" };
     let mut station = Station::listens(&rt, at)?;
-    let Reached {
-        mut hears,
-        mut says,
-    } = reach(&rt, rt.alloc(), at, patience())?;
-    let mut stream = station.takes(0)?;
-    assert!(rt; is_told(&mut hears, &mut says, &mut stream, &mut station)?);
-    drop(stream);
-    assert_eq!(rt; reads(&mut hears, &mut [0u8; 4]), Ok(0));
+    assert!(rt; reaches(&rt, at, &mut station)?);
     Ok(())
 }
 

@@ -4,9 +4,10 @@ use bsc_clients::{Clients, ClientsError, ServedAt, Stream};
 use bsc_serving::{Called, Programs};
 use mio::unix::SourceFd;
 use mio::{Events, Interest, Poll, Token};
-use std::fmt::Write;
-use std::io::{ErrorKind, Read};
-use std::net::SocketAddr;
+use std::alloc::Global;
+use std::fmt;
+use std::io::{ErrorKind, Read, Write};
+use std::net::{SocketAddr, TcpStream};
 use std::test::Fail;
 use std::time::Duration;
 
@@ -74,6 +75,52 @@ impl<'a> Station<'a> {
             _ => Err(Fail::new("not one newcomer")),
         }
     }
+}
+
+/// A station at any free port, and a program that has connected to it, as the station was told.
+pub(crate) fn connected(rt: &HostRuntime) -> Result<(Station<'_>, TcpStream), Fail> {
+    let mut station = Station::listens(rt, LOCAL)?;
+    let program = TcpStream::connect(rt, station.address()?)?;
+    station.waits()?;
+    Ok((station, program))
+}
+
+/// Whether all that is told of the programs of a station is this.
+pub(crate) fn is_told<P: Programs>(programs: &mut P, called: &[Called]) -> bool {
+    let mut expected = called.iter();
+    for _ in 0..=called.len() {
+        if programs.next() != expected.next().copied() {
+            return false;
+        }
+    }
+    true
+}
+
+/// Whether the only program that has connected can be taken at this place, and no other one.
+pub(crate) fn takes_one<P: Programs>(programs: &mut P, place: usize) -> bool {
+    programs.accept(place).is_some() && programs.accept(place).is_none()
+}
+
+/// Sends these octets, and returns whether they were taken.
+pub(crate) fn sends<W: Write>(stream: &mut W, octets: &[u8]) -> bool {
+    stream.write_all(octets).is_ok() && stream.flush().is_ok()
+}
+
+/// Whether a read finds nothing yet.
+pub(crate) fn hears_nothing<R: Read>(stream: &mut R) -> bool {
+    reads(stream, &mut [0u8; 4]) == Err(ErrorKind::WouldBlock)
+}
+
+/// Whether a read gives the end.
+pub(crate) fn hears_the_end<R: Read>(stream: &mut R) -> bool {
+    reads(stream, &mut [0u8; 4]) == Ok(0)
+}
+
+/// Whether a program that is turned away is told why, and nothing else before its connection ends.
+pub(crate) fn is_told_why<R: Read>(alloc: Global, program: &mut R) -> Result<bool, Fail> {
+    let mut told = Vec::new(alloc);
+    program.read_to_end(&mut told)?;
+    Ok(told.as_slice() == b"fault every place is taken\n".as_slice())
 }
 
 /// What a read gives: how many octets, or the kind of the error.
