@@ -56,6 +56,7 @@ attending_status_of _ = 1
 abbrev pub storing_status_of : StoringError → ℕ
 storing_status_of storing.NoTerminal = 2
 storing_status_of (storing.Release error) = 3
+storing_status_of (storing.Doubt name error) = 3
 storing_status_of _ = 1
 
 -- The exit status of a fault: 2 for wrong usage, that of a run, a station or a work on a store,

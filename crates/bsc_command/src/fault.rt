@@ -255,7 +255,7 @@ fn storing_status(error: &StoringError) -> u8
 {
     match error {
         StoringError::NoTerminal => 2,
-        StoringError::Release { .. } => 3,
+        StoringError::Release { .. } | StoringError::Doubt { .. } => 3,
         _ => 1,
     }
 }

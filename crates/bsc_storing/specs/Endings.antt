@@ -7,11 +7,13 @@ use Rattle.bsc_kept.specs.declared.change.Change.{Change}
 use Rattle.bsc_kept.specs.declared.channel.Channel.{Channel}
 use Rattle.bsc_kept.specs.declared.store.Progress.{Progress}
 use Rattle.bsc_kept.specs.declared.store.Store as store_of
+use Rattle.bsc_storing.specs.declared.error.StoringError.{StoringError}
+use Rattle.bsc_storing.specs.declared.error.StoringError.TheVariants as storing
 use Rattle.bsc_storing.specs.declared.kept_line.KeptLine.{KeptLine}
 use Rattle.bsc_storing.specs.declared.name.ChannelName.{ChannelName}
 use Rattle.bsc_storing.specs.declared.reconciling.Ended.{Ended}
 use Rattle.bsc_storing.specs.Lines.{all_ended_shown}
-use Rattle.bsc_storing.specs.Names.{channel_at, name_at, receives_on, sends_on}
+use Rattle.bsc_storing.specs.Names.{channel_at, name_at, named, receives_on, sends_on}
 use Rattle.bsc_storing.specs.Releases.{release_of}
 
 -- The change that ends the doubt of the channel with this name at a count is that of the sender's
@@ -26,6 +28,11 @@ pub record IsEnding (line : KeptLine) (its : ChannelName) (change : Change) (cou
 abbrev pub IsEndingIfAny : KeptLine → ChannelName → Option (Change × ℕ) → Type 0
 IsEndingIfAny line its None = Unit {0}
 IsEndingIfAny line its (Some p) = IsEnding line its p.0 p.1
+
+-- The error of a doubt that cannot be released names the channel.
+abbrev pub NamesDoubt : KeptLine → ChannelName → StoringError → Type 0
+NamesDoubt line its (storing.Doubt name error) = name ≡ named line its
+NamesDoubt line its error = Unit {0}
 
 -- The changes that are to be kept, and the doubts that they end.
 abbrev pub Endings : Type 0

@@ -12,6 +12,7 @@ use Rattle.bsc_options.specs.declared.store_works.StoreChannel.{StoreChannel}
 use Rattle.bsc_report.specs.Channels.{channel_name}
 use Rattle.bsc_storing.specs.declared.kept_line.KeptLine.{KeptLine}
 use Rattle.bsc_storing.specs.declared.name.ChannelName.{ChannelName}
+use Rattle.bsc_storing.specs.declared.name.ShownName.{ShownName}
 
 -- The name of the channel to a selection address.
 abbrev pub to_terminal : StoreChannel → ChannelName
@@ -79,6 +80,11 @@ named_at line (Some name) = option_map (λ c. (name, c)) (channel_at line name)
 abbrev pub addresses_of : Option TerminalValue → ℕ
 addresses_of None = 0
 addresses_of (Some t) = length t.selects
+
+-- What is needed to print the name of a channel: how many addresses its terminal has.
+abbrev pub named : KeptLine → ChannelName → ShownName
+named line its =
+    record { name = its; addresses = addresses_of (slice_get line.terminals.items its.terminal) }
 
 -- The name of a channel in print.
 abbrev pub name_shown : KeptLine → ChannelName → List ℕ

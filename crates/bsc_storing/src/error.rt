@@ -3,6 +3,7 @@ ghost use Rattle.std.specs.Prelude.{◌≡◌};
 ghost use Rattle.bsc_storing.specs.Errors.{exchanged as exchanged_error};
 ghost use Rattle.bsc_storing.specs.Errors.{other_error, store_error};
 
+use crate::name::ShownName;
 use bsc_bid::ReleaseError;
 use bsc_config::ConfigError;
 use bsc_input::TextError;
@@ -18,20 +19,28 @@ use thiserror::Error;
 pub enum StoringError {
     /// The text of the configuration or of records could not be read.
     #[error(transparent)]
-    Text { error: TextError },
+    Text {
+        error: TextError,
+    },
 
     /// The configuration is refused.
     #[error(transparent)]
-    Config { error: ConfigError },
+    Config {
+        error: ConfigError,
+    },
 
     /// The store is refused, or does not keep the step.
     #[error(transparent)]
-    Store { fault: StoreFault },
+    Store {
+        fault: StoreFault,
+    },
 
     /// The other store is refused, or does not keep its step. The first store may have kept its
     /// own.
     #[error("the other store: {fault}")]
-    Other { fault: StoreFault },
+    Other {
+        fault: StoreFault,
+    },
 
     /// A store is to be made for a terminal that is not in the configuration.
     #[error("--terminal names a terminal that is not in CONFIG")]
@@ -43,11 +52,23 @@ pub enum StoringError {
 
     /// A line of the text at this path is not a record. Nothing is offered.
     #[error("{path} {error}")]
-    Offer { path: String, error: OfferError },
+    Offer {
+        path: String,
+        error: OfferError,
+    },
 
     /// The doubt of the channel is not released.
     #[error(transparent)]
-    Release { error: ReleaseError },
+    Release {
+        error: ReleaseError,
+    },
+
+    /// The doubt of this channel is not released at the count that the other store has.
+    #[error("{name}: {error}")]
+    Doubt {
+        name: ShownName,
+        error: ReleaseError,
+    },
 
     /// The stores are not those of a control station and a terminal of one line.
     #[error("the stores are not of two ends of one line")]

@@ -1,11 +1,11 @@
 //! The line of a store: its stations, as the text of the store names them.
 
 ghost use Rattle.std.specs.Prelude.{◌≡◌};
-ghost use Rattle.bsc_storing.specs.Names.{channel_at, from_terminal as channel_from};
+ghost use Rattle.bsc_storing.specs.Names.{channel_at, from_terminal as channel_from, named};
 ghost use Rattle.bsc_storing.specs.Names.{receives_on, receiving_name, sending_name, sends_on};
 ghost use Rattle.bsc_storing.specs.Names.{to_terminal as channel_to};
 
-use crate::name::ChannelName;
+use crate::name::{ChannelName, ShownName};
 use bsc_bid::Terminal;
 use bsc_bid::limits::MAX_SELECTS;
 use bsc_directory::Way;
@@ -43,6 +43,17 @@ impl KeptLine {
             }),
             Way::ToTerminal(_) => None,
         }
+    }
+
+    /// Returns what is needed to print the name of a channel.
+    pub fn shown(&self, name: ChannelName) -> ShownName
+        ensures { result ≡ named self.now name }
+    {
+        let addresses = match self.terminals.get(name.terminal) {
+            Some(terminal) => terminal.selects(),
+            None => 0,
+        };
+        ShownName { name, addresses }
     }
 
     /// Returns the name of a channel on which the station sends, if it is one: at the control

@@ -22,7 +22,7 @@ mod work;
 pub use command::store;
 pub use error::StoringError;
 pub use kept_line::{KeptLine, read_line_text};
-pub use name::ChannelName;
+pub use name::{ChannelName, ShownName};
 pub use releasing::release;
 pub use stores::{Opened, StoreFiles};
 pub use work::{Work, do_work};

@@ -1,10 +1,10 @@
 //! Ending the doubts between two stores.
 
-ghost use Rattle.std.specs.Prelude.{◌≡◌, ◌<◌, ◌+◌, IfOk, OnOk, codes, length};
+ghost use Rattle.std.specs.Prelude.{◌≡◌, ◌<◌, ◌+◌, IfErr, IfOk, OnOk, codes, length};
 ghost use Rattle.std.specs.Io.KnownBytes.{Appends};
 ghost use Rattle.bsc_report.specs.Channels.{each_below};
 ghost use Rattle.bsc_storing.specs.Endings.{AddsIfAny, AddsPlaces, AddsTerminals, EndsDoubts};
-ghost use Rattle.bsc_storing.specs.Endings.{IsEndingIfAny, KeepsIfAny};
+ghost use Rattle.bsc_storing.specs.Endings.{IsEndingIfAny, KeepsIfAny, NamesDoubt};
 ghost use Rattle.bsc_storing.specs.Lines.{all_ended_shown, ended_at};
 ghost use Rattle.bsc_storing.specs.Names.{are_two_ends};
 
@@ -27,14 +27,15 @@ pub(crate) struct Ended {
 }
 
 /// Returns the change that ends the doubt of a channel by what the other end has; none if there is
-/// no doubt.
+/// no doubt. Fails with `Doubt` if the doubt cannot be released at that count.
 fn ending<S: Store, T: Store>(
     sender: &mut S,
     receiver: &mut T,
     line: &KeptLine,
     name: ChannelName,
 ) -> Result<Option<(Change, u32)>, StoringError>
-    ensures { IfOk result (IsEndingIfAny line.now name) }
+    ensures ending { IfOk result (IsEndingIfAny line.now name) }
+    ensures refused { IfErr result (NamesDoubt line.now name) }
 {
     let Some(channel) = line.channel(name) else {
         return Ok(None);
@@ -46,7 +47,10 @@ fn ending<S: Store, T: Store>(
     let count = receiver.progress(&channel).map_err(of_other)?.arrived;
     match release(channel, progress, count) {
         Ok(change) => Ok(Some((change, count))),
-        Err(error) => Err(StoringError::Release { error }),
+        Err(error) => Err(StoringError::Doubt {
+            name: line.shown(name),
+            error,
+        }),
     }
 }
 

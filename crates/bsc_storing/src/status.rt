@@ -7,7 +7,7 @@ ghost use Rattle.bsc_storing.specs.Names.{name_at, name_shown};
 
 use crate::error::{StoringError, of_store};
 use crate::kept_line::KeptLine;
-use crate::name::ChannelName;
+use crate::name::{ChannelName, ShownName};
 use bsc_bid::limits::MAX_SELECTS;
 use bsc_directory::Way;
 use bsc_kept::{Progress, Store};
@@ -23,10 +23,7 @@ pub(crate) fn write_name<W: Write>(
     ensures { OnOk result
         (Appends (W.contents out.old) (W.contents out.new) (name_shown line.now name)) }
 {
-    let addresses = match line.terminals.get(name.terminal) {
-        Some(terminal) => terminal.selects(),
-        None => 0,
-    };
+    let ShownName { name, addresses } = line.shown(name);
     match write_channel_name(addresses, name.terminal, name.way, out) {
         Ok(()) => Ok(()),
         Err(_) => Err(StoringError::Output),

@@ -57,7 +57,7 @@ fn a_doubt_is_released_by_a_right_count(rt: HostRuntime) -> Result<(), Fail> {
 }
 
 /// Only one of two doubtful records has arrived.
-const UNRECONCILED: &[Row] = &[(RECONCILE, "", "refused: count mismatch")];
+const UNRECONCILED: &[Row] = &[(RECONCILE, "", "refused: from 0: count mismatch")];
 
 /// Both have, and the doubt is ended once.
 const RECONCILED: &[Row] = &[
@@ -117,7 +117,7 @@ const OFFER_BACK: Given = Given {
 
 /// The doubt of the control station fits, that of the terminal does not, and both stay.
 const HELD_BOTH_WAYS: &[Row] = &[
-    (RECONCILE, "", "refused: count mismatch"),
+    (RECONCILE, "", "refused: from 0: count mismatch"),
     (
         Given {
             file: "control",
