@@ -1,7 +1,8 @@
 //! Whole runs by their words: what is printed and traced, what is told on standard error, the exit
 //! status, and what is told of the progress.
 
-use crate::machine::{Case, Due, SILENT, difference};
+use crate::cases::{Case, Due, difference};
+use crate::machine::SILENT;
 use crate::record::Record;
 use crate::run_files::{POLLED, POLLED_PRINTED, POLLED_TRACED};
 use bsc_progress::{Counts, Work};

@@ -1,6 +1,7 @@
 //! Words and standard input of the command, and its results.
 
-use crate::machine::{Case, Due, SILENT, first_wrong};
+use crate::cases::{Case, Due, first_wrong};
+use crate::machine::SILENT;
 use crate::words::NAME_HELP;
 use std::test::Fail;
 

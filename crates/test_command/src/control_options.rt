@@ -1,7 +1,8 @@
 //! What the options change of a control station: its rounds, its output, and what it tells of its
 //! progress. The octets are those of docs/PROTOCOL.md.
 
-use crate::machine::{Asking, Case, Due, SILENT, Scene, Watched, difference, first_unlike};
+use crate::cases::{Case, Due, Watched, difference, first_unlike};
+use crate::machine::{Asking, SILENT, Scene};
 use crate::record::Record;
 use crate::station_options::PROMPT;
 use crate::stations::{CONNECTING, RECORDS, SHARING};

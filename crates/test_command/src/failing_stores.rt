@@ -1,7 +1,8 @@
 //! Stations whose store fails.
 
+use crate::cases::{Case, Due, difference};
 use crate::kept_stations::{ENDED, OFFERED, SELECTED, TERMINAL};
-use crate::machine::{Case, Due, SILENT, Scene, difference};
+use crate::machine::{SILENT, Scene};
 use crate::record::Record;
 use crate::stations::POLLED;
 use std::alloc::Global;

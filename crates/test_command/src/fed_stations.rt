@@ -1,7 +1,8 @@
 //! Stations that a program feeds while they run.
 
+use crate::cases::{Case, Due, difference};
 use crate::kept_stations::{DONE, STATUS};
-use crate::machine::{Asking, Case, Due, SILENT, Scene, difference};
+use crate::machine::{Asking, SILENT, Scene};
 use crate::record::Record;
 use crate::stations::{ANSWERS, CONNECTING, RECORDS, SHARING};
 use std::alloc::Global;

@@ -1,7 +1,8 @@
 //! Stations that are fed by the command, over a scripted connection.
 
+use crate::cases::{Case, Due, difference};
 use crate::kept_stations::DONE;
-use crate::machine::{Case, Due, SILENT, Scene, difference};
+use crate::machine::{SILENT, Scene};
 use crate::record::Record;
 use std::alloc::Global;
 use std::test::Fail;

@@ -1,6 +1,7 @@
 //! What the command prints and tells for words that ask for help, and for wrong ones.
 
-use crate::machine::{SILENT, answer_to};
+use crate::cases::answer_to;
+use crate::machine::SILENT;
 use crate::record::Record;
 use crate::words::{HELPED, Row, WRONG};
 use bsc_command::Fault;

@@ -1,9 +1,10 @@
 //! Stations whose records are kept: of lines with several channels, and with options for their
 //! output. The octets are those of docs/PROTOCOL.md.
 
+use crate::cases::{Case, Due, difference};
 use crate::control_options::EOT;
 use crate::kept_stations::{CALLED, DONE, ENDED, SELECTED, STATUS, TERMINAL, first_wrong_in_turn};
-use crate::machine::{Asking, Case, Due, SILENT, Scene, difference};
+use crate::machine::{Asking, SILENT, Scene};
 use crate::record::Record;
 use crate::stations::{CONNECTING, RECORDS};
 use bsc_progress::Work;

@@ -1,8 +1,9 @@
 //! Stations whose stores have many channels or many records, and stores that do not fit their
 //! stations.
 
+use crate::cases::{Case, Due, answer_to};
 use crate::kept_stations::{DONE, ENDED, STATUS, TERMINAL, first_wrong_on};
-use crate::machine::{Case, Due, SILENT, Scene, answer_to};
+use crate::machine::{SILENT, Scene};
 use crate::most_options::config;
 use crate::record::Record;
 use crate::stations::RECORDS;

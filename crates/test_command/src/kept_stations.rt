@@ -1,6 +1,7 @@
 //! Stations whose records are kept in a store that outlives them.
 
-use crate::machine::{Asking, Case, Due, SILENT, Scene, difference, first_wrong};
+use crate::cases::{Case, Due, difference, first_wrong};
+use crate::machine::{Asking, SILENT, Scene};
 use crate::record::Record;
 use crate::station_options::IDLE;
 use crate::stations::{ANSWERS, CONNECTING, CONTROLLING, HEARD, POLLED, RECORDS, SHARING};

@@ -1,7 +1,8 @@
 //! Works on stores in turn, from the words to what is printed: what one keeps, the next one finds.
 
+use crate::cases::{Case, Due};
 use crate::kept_stations::{DONE, ENDED, OFFERED, STATUS, TERMINAL, first_wrong_in_turn};
-use crate::machine::{Case, Due, SILENT, Scene};
+use crate::machine::{SILENT, Scene};
 use crate::stations::{POLLED, RECORDS};
 use std::test::Fail;
 

@@ -1,7 +1,8 @@
 //! The last call of a control station, which is made after its last round. The octets are those of
 //! docs/PROTOCOL.md.
 
-use crate::machine::{Asking, Case, Due, SILENT, Scene, Watched, first_unlike};
+use crate::cases::{Case, Due, Watched, first_unlike};
+use crate::machine::{Asking, SILENT, Scene};
 use crate::station_options::{IDLE, PROMPT};
 use crate::stations::{CONTROLLING, SHARING};
 use std::test::Fail;

@@ -1,6 +1,7 @@
 //! Runs whose configuration or script, on standard input, is as long as an input may be, or longer.
 
-use crate::machine::{Answer, SILENT, answer_to};
+use crate::cases::{Answer, answer_to};
+use crate::machine::SILENT;
 use crate::record::Record;
 use crate::run_files::POLLED_PRINTED;
 use bsc_command::Fault;

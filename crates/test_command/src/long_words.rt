@@ -1,6 +1,7 @@
 //! Words as long as a system passes them, and what the command does with them.
 
-use crate::machine::{SILENT, answer_to};
+use crate::cases::answer_to;
+use crate::machine::SILENT;
 use crate::record::Record;
 use bsc_command::Fault;
 use std::alloc::{AllocError, Global};

@@ -1,6 +1,7 @@
 //! Stations of a line with the most terminals, which are given options as often as they may be.
 
-use crate::machine::{Answer, Asking, SILENT, Scene, answer_to};
+use crate::cases::{Answer, answer_to};
+use crate::machine::{Asking, SILENT, Scene};
 use crate::record::Record;
 use crate::stations::CONTROLLING;
 use bsc_command::Fault;

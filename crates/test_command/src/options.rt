@@ -1,7 +1,8 @@
 //! The options of a station, and the reasons for refusing them.
 
+use crate::cases::answer_to;
 use crate::faults::has_text;
-use crate::machine::{SILENT, answer_to};
+use crate::machine::SILENT;
 use crate::record::Record;
 use bsc_asked::{Asked, StationWords};
 use bsc_command::Fault;

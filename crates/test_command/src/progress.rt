@@ -1,6 +1,7 @@
 //! What a station tells of its progress.
 
-use crate::machine::{Case, Due, SILENT, Scene, difference};
+use crate::cases::{Case, Due, difference};
+use crate::machine::{SILENT, Scene};
 use crate::record::Record;
 use crate::stations::{CONNECTING, RECORDS};
 use bsc_progress::{Counts, Work};

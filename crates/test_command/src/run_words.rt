@@ -1,7 +1,8 @@
 //! Runs of each combination of their words, of each number of terminals, and with connections that
 //! fail.
 
-use crate::machine::{Answer, SILENT, answer_to};
+use crate::cases::{Answer, answer_to};
+use crate::machine::SILENT;
 use crate::record::Record;
 use crate::run_files::{POLLED, POLLED_PRINTED, POLLED_TRACED};
 use crate::runs::Machine;

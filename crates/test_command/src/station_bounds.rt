@@ -1,7 +1,8 @@
 //! Stations at the bounds of a line: the last terminal with its last selection address, the longest
 //! records, and the most records of an input. The octets are those of docs/PROTOCOL.md.
 
-use crate::machine::{Answer, SILENT, Scene, answer_to};
+use crate::cases::{Answer, answer_to};
+use crate::machine::{SILENT, Scene};
 use crate::most_options::config;
 use crate::record::Record;
 use bsc_command::Fault;
@@ -123,7 +124,8 @@ const TERMINAL: &[&str] = &[
 /// The characters of the longest record, as they are sent.
 const CHARS: &[u8] = &[0xC1; 144];
 
-/// A selection of terminal 0, and texts of seven of the longest records, of which each has this end.
+/// A selection of terminal 0, and texts of seven of the longest records, of which each has this
+/// end.
 macro_rules! texts_of_seven {
     ($($end:literal),*) => {
         &[

@@ -1,7 +1,8 @@
 //! What the options for the end of a station, its framing and its peers change. The octets are
 //! those of docs/PROTOCOL.md.
 
-use crate::machine::{Asking, Case, Due, SILENT, Scene, Watched, first_unlike};
+use crate::cases::{Case, Due, Watched, first_unlike};
+use crate::machine::{Asking, SILENT, Scene};
 use crate::stations::{CONNECTING, CONTROLLING, RECORDS, SHARING};
 use std::test::Fail;
 

@@ -1,6 +1,7 @@
 //! What a station prints. The octets are those of docs/PROTOCOL.md.
 
-use crate::machine::{Asking, Case, Due, SILENT, Scene, Watched, first_unlike};
+use crate::cases::{Case, Due, Watched, first_unlike};
+use crate::machine::{Asking, SILENT, Scene};
 use crate::stations::{CONNECTING, RECORDS, SHARING};
 use std::test::Fail;
 

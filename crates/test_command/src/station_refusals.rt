@@ -1,7 +1,8 @@
 //! Stations that end before they ask their machine for connections: a text cannot be read, a record
 //! is refused, or the options do not fit the configuration.
 
-use crate::machine::{Case, Due, SILENT, Watched, first_unlike};
+use crate::cases::{Case, Due, Watched, first_unlike};
+use crate::machine::SILENT;
 use std::test::Fail;
 
 const EARLY: &[Watched] = &[

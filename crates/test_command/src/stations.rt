@@ -1,7 +1,8 @@
 //! Whole stations run by their words, over a scripted connection. The octets are those of
 //! docs/PROTOCOL.md.
 
-use crate::machine::{Asking, Case, Due, SILENT, Scene, first_wrong};
+use crate::cases::{Case, Due, first_wrong};
+use crate::machine::{Asking, SILENT, Scene};
 use bsc_sockets::SocketsError;
 use std::test::Fail;
 

@@ -1,6 +1,7 @@
 //! Works on a store, from the words to the exit status.
 
-use crate::machine::{Case, Due, SILENT, first_wrong};
+use crate::cases::{Case, Due, first_wrong};
+use crate::machine::SILENT;
 use std::test::Fail;
 
 /// Works that are done.

@@ -1,6 +1,7 @@
 //! Traces in files: those that are drawn, and those that cannot be opened or read.
 
-use crate::machine::{Case, Due, Machine, SILENT, difference};
+use crate::cases::{Case, Due, difference};
+use crate::machine::{Machine, SILENT};
 use crate::record::Record;
 use bsc_chart::Traces;
 use bsc_input::Unreadable;

@@ -241,7 +241,8 @@ fn codes_of(alloc: Global) -> Result<String, AllocError> {
     Ok(script)
 }
 
-/// How many records are known to have arrived at the end of a run of this script, if as many arrived.
+/// How many records are known to have arrived at the end of a run of this script, if as many
+/// arrived.
 fn count_known(
     alloc: Global,
     config: &str,

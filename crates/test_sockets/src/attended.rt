@@ -1,12 +1,12 @@
-//! A station is attended over two connections in memory.
+//! A station is attended over two connections in memory, first of socket records.
 
 use crate::memory::Piece::{Fails, Octets};
 use crate::memory::{Counts, Ends, Expecting, NOT_TOLD, Pieces, Told};
 use crate::watching::{Answers, Expects};
 use bsc_carrier::{CarrierError, DeviceFault};
-use bsc_connections::Awaited::{Gap, Newcomer, NotAccepted, NotAllowed, Stopped, TimeOut};
+use bsc_connections::Awaited::{Newcomer, NotAccepted, NotAllowed, Stopped, TimeOut};
 use bsc_connections::{
-    Awaited, Connection, Framing, Gaps, LiveError, Note, Refusal, SocketRecords, attend,
+    Awaited, Connection, Framing, LiveError, Note, Refusal, SocketRecords, attend,
 };
 use std::alloc::Global;
 use std::io::ErrorKind;
@@ -41,26 +41,20 @@ pub(crate) struct Attended {
 pub(crate) const FIRST: Awaited = Awaited::Octets { connection: 0 };
 
 /// The second connection has octets to read.
-const SECOND: Awaited = Awaited::Octets { connection: 1 };
+pub(crate) const SECOND: Awaited = Awaited::Octets { connection: 1 };
 
 /// The octets of EOT and of ACK0.
-const EOT: &[u8] = &[0x16, 0x16, 0x04, 0xff];
+pub(crate) const EOT: &[u8] = &[0x16, 0x16, 0x04, 0xff];
 
-const ACK0: &[u8] = &[0x16, 0x16, 0x10, 0xb0, 0xff];
+pub(crate) const ACK0: &[u8] = &[0x16, 0x16, 0x10, 0xb0, 0xff];
 
 /// The socket records of EOT and of ACK0.
 const EOT_AND_ACK0: &[u8] = &[
     0x00, 0x04, 0x16, 0x16, 0x04, 0xff, 0x00, 0x05, 0x16, 0x16, 0x10, 0xb0, 0xff,
 ];
 
-/// The octets of ACK0 and of EOT.
-const ACK0_AND_EOT: &[u8] = &[0x16, 0x16, 0x10, 0xb0, 0xff, 0x16, 0x16, 0x04, 0xff];
-
-/// The octets of EOT and of ACK0.
-const EOT_THEN_ACK0: &[u8] = &[0x16, 0x16, 0x04, 0xff, 0x16, 0x16, 0x10, 0xb0, 0xff];
-
 /// The octets of a transmission that the monitor does not admit.
-const STRANGE: &[u8] = &[0x16, 0x16, 0x02, 0x41, 0x83, 0x00, 0xff];
+pub(crate) const STRANGE: &[u8] = &[0x16, 0x16, 0x02, 0x41, 0x83, 0x00, 0xff];
 
 pub(crate) const NONE: Ends = (&[], &[]);
 
@@ -280,162 +274,6 @@ const OVER_RECORDS: &[Attended] = &[
     },
 ];
 
-const OVER_GAPS: &[Attended] = &[
-    Attended {
-        shows: "a gap ends what is begun, and then a time-out is a silence",
-        first: (&[], ACK0_AND_EOT),
-        second: (&[Octets(&[0x16, 0x16]), Octets(&[0x04])], ACK0_AND_EOT),
-        newcomer: NONE,
-        replaceable: None,
-        waits: &[
-            SECOND,
-            SECOND,
-            Gap { connection: 1 },
-            TimeOut,
-            SECOND,
-            FIRST,
-        ],
-        notes: &[
-            Note::Heard {
-                connection: 1,
-                octets: &[0x16, 0x16, 0x04],
-            },
-            Note::Sent { octets: ACK0 },
-            Note::Silence,
-            Note::Sent { octets: EOT },
-            Note::Closed {
-                connection: 1,
-                peer: None,
-                why: None,
-            },
-            Note::Closed {
-                connection: 0,
-                peer: None,
-                why: None,
-            },
-        ],
-        result: Ok(()),
-        counts: Counts {
-            nothing_left: 2,
-            turned_away: 0,
-            handled: 2,
-            answers: 1,
-            pauses: 2,
-            gaps: 2,
-        },
-    },
-    Attended {
-        shows: "a time-out may pass before the gap, and a gap where nothing has begun ends nothing",
-        first: (&[], EOT_THEN_ACK0),
-        second: (&[Octets(&[0x16, 0x16]), Octets(&[0x04])], EOT_THEN_ACK0),
-        newcomer: NONE,
-        replaceable: None,
-        waits: &[
-            Gap { connection: 0 },
-            Gap { connection: 2 },
-            SECOND,
-            TimeOut,
-            SECOND,
-            Gap { connection: 1 },
-            SECOND,
-        ],
-        notes: &[
-            Note::Silence,
-            Note::Sent { octets: EOT },
-            Note::Heard {
-                connection: 1,
-                octets: &[0x16, 0x16, 0x04],
-            },
-            Note::Sent { octets: ACK0 },
-            Note::Closed {
-                connection: 1,
-                peer: None,
-                why: None,
-            },
-        ],
-        result: Ok(()),
-        counts: Counts {
-            nothing_left: 1,
-            turned_away: 0,
-            handled: 2,
-            answers: 1,
-            pauses: 2,
-            gaps: 2,
-        },
-    },
-    Attended {
-        shows: "the end of the input ends what has begun, and is the end after that",
-        first: (&[Octets(&[0x16, 0x16]), Octets(&[0x04, 0xff])], ACK0),
-        second: (&[Octets(STRANGE)], ACK0),
-        newcomer: NONE,
-        replaceable: None,
-        waits: &[
-            SECOND,
-            SECOND,
-            FIRST,
-            FIRST,
-            FIRST,
-            Gap { connection: 0 },
-            FIRST,
-            SECOND,
-        ],
-        notes: &[
-            Note::Ignored {
-                connection: 1,
-                octets: STRANGE,
-            },
-            Note::Heard {
-                connection: 0,
-                octets: EOT,
-            },
-            Note::Sent { octets: ACK0 },
-            Note::Closed {
-                connection: 0,
-                peer: None,
-                why: None,
-            },
-            Note::Closed {
-                connection: 1,
-                peer: None,
-                why: None,
-            },
-        ],
-        result: Ok(()),
-        counts: Counts {
-            nothing_left: 2,
-            turned_away: 0,
-            handled: 1,
-            answers: 1,
-            pauses: 1,
-            gaps: 3,
-        },
-    },
-    Attended {
-        shows: "a read that fails ends a connection",
-        first: (&[Fails(ErrorKind::ConnectionReset)], &[]),
-        second: NONE,
-        newcomer: NONE,
-        replaceable: None,
-        waits: &[FIRST],
-        notes: &[Note::Closed {
-            connection: 0,
-            peer: None,
-            why: Some(CarrierError::Device {
-                why: DeviceFault::Reset,
-            }),
-        }],
-        result: Ok(()),
-        counts: Counts {
-            nothing_left: 1,
-            turned_away: 0,
-            handled: 0,
-            answers: 0,
-            pauses: 0,
-            gaps: 0,
-        },
-    },
-];
-
 /// A new connection with these ends.
 fn connection<F: Framing + Drop>(ends: Ends) -> Connection<Pieces, Expecting, F> {
     let (pieces, rest) = ends;
@@ -483,11 +321,6 @@ pub(crate) fn play<F: Framing + Drop>(alloc: Global, table: &[Attended]) -> Resu
 #[test]
 fn a_station_is_attended_over_records(rt: HostRuntime) -> Result<(), Fail> {
     play::<SocketRecords>(rt.alloc(), OVER_RECORDS)
-}
-
-#[test]
-fn a_station_is_attended_over_gaps(rt: HostRuntime) -> Result<(), Fail> {
-    play::<Gaps>(rt.alloc(), OVER_GAPS)
 }
 
 /// A station is attended for as many steps as its waiter has, here two million.

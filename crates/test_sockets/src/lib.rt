@@ -11,6 +11,8 @@ mod allowed;
 #[cfg(test)]
 mod attended;
 #[cfg(test)]
+mod attended_gaps;
+#[cfg(test)]
 mod beginning;
 #[cfg(test)]
 mod ending;
