@@ -15,8 +15,12 @@ use bsc_monitor::Party;
 use std::alloc::{AllocError, Global};
 use std::io::{Read, Write};
 
-/// The most steps of a session before others have their turn.
+/// The most steps of all sessions in one turn of serving, so that the line is soon attended again,
+/// also if each record that a program offers is kept on a slow disk.
 const MAX_STEPS: usize = 16;
+
+/// The most steps of a session beyond these, in which what it has to tell is written.
+const MAX_WRITES: usize = 4;
 
 /// The programs of a station and their sessions, 64 at most.
 #[derive(Drop)]
@@ -29,8 +33,8 @@ pub struct Serving<P: Programs + Drop> {
     /// The session of the program at each place.
     places: Vec<Option<Session<P::Stream>>>,
 
-    /// The turn of serving, by which another place is served first each time.
-    turn: u8,
+    /// The place that is served first in the next turn.
+    first: usize,
 
     /// Whether programs may have connected that are neither taken nor turned away.
     newcomers: bool,
@@ -50,14 +54,15 @@ impl<P: Programs + Drop> Serving<P> {
             alloc,
             programs,
             places,
-            turn: 0,
+            first: 0,
             newcomers: true,
         })
     }
 
     /// Serves the programs: takes those that have connected, obeys their lines, and writes their
-    /// answers and what happened on the channels that they follow, for a short while: each program
-    /// has a turn of 16 steps at most. Returns whether a program asked the station to end. Fails
+    /// answers and what happened on the channels that they follow, for a short while: 16 steps of
+    /// all sessions, and what they then have to tell. Returns whether a program asked the station
+    /// to end. Fails
     /// with `Unkept` or `Memory` if what a program offered or released could not be kept, or not be
     /// offered after that; its line is then not answered, and no program is served after it.
     pub fn serve<'s, S: Feeds, Q: Keeps<S> + Drop>(
@@ -107,26 +112,39 @@ impl<P: Programs + Drop> Serving<P> {
         }
     }
 
-    /// Serves the program at each place, one after another.
+    /// Serves the programs at one place after another, until all are served or the turn has ended.
     fn serve_all<F: Failing>(&mut self, fed: &mut F) -> Result<(), LiveError>
         requires { F.fails fed.old ≡ None }
         ensures { IsServed F.Party (serving (OffersRecord F.offered F.is_kept) F.full F.releases
             F.readies F.urges F.stops) F.fails fed.old (failure_of result) fed.new }
     {
-        let first = usize::from(self.turn);
-        self.turn = self.turn.wrapping_add(1);
-        let mut more = false;
-        'turns: for turn in 0..MAX_PROGRAMS {
-            let place = (first + turn) % MAX_PROGRAMS;
-            match serve_place(self.alloc, &mut self.places, place, fed) {
-                Ok(again) => more |= again,
+        let mut left = MAX_STEPS;
+        'turns: for _ in 0..MAX_PROGRAMS {
+            let place = self.next_place();
+            match serve_place(self.alloc, &mut self.places, place, fed, &mut left) {
+                Ok(()) => {}
                 Err(failure) => return Err(failure),
             }
-        }
-        if more {
-            self.programs.call();
+            if left == 0 {
+                self.programs.call();
+                return Ok(());
+            }
         }
         Ok(())
+    }
+
+    /// Returns the place that is served next, in turn.
+    fn next_place(&mut self) -> usize
+        ensures place { result ≡ self.old.first }
+        ensures others { self.new ≡ record self.old { first = self.new.first } }
+    {
+        let place = self.first;
+        self.first = if place < MAX_PROGRAMS - 1 {
+            place + 1
+        } else {
+            0
+        };
+        place
     }
 }
 
@@ -161,45 +179,49 @@ fn turn_away<P: Programs>(programs: &mut P) -> bool {
 }
 
 /// Serves the program at a place, if there is one; its place is free once its session has ended.
-/// Returns whether there is more to do.
 fn serve_place<T: Read + Write + Drop, F: Failing>(
     alloc: Global,
     places: &mut Vec<Option<Session<T>>>,
     place: usize,
     fed: &mut F,
-) -> Result<bool, LiveError>
+    left: &mut usize,
+) -> Result<(), LiveError>
     requires { F.fails fed.old ≡ None }
     ensures { IsServed F.Party (serving (OffersRecord F.offered F.is_kept) F.full F.releases
         F.readies F.urges F.stops) F.fails fed.old (failure_of result) fed.new }
 {
     let Some(at) = places.get_mut(place) else {
-        return Ok(false);
+        return Ok(());
     };
     let Some(session) = at else {
-        return Ok(false);
+        return Ok(());
     };
-    match serve_session(alloc, session, fed) {
-        Ok(Step::More) => Ok(true),
-        Ok(Step::Idle) => Ok(false),
+    match serve_session(alloc, session, fed, left) {
         Ok(Step::Closed) => {
             *at = None;
-            Ok(false)
+            Ok(())
         }
+        Ok(_) => Ok(()),
         Err(failure) => Err(failure),
     }
 }
 
-/// Does at most 16 steps of a session, and returns what they leave to do.
+/// Does steps of a session while some are left in the turn, and then writes what it has to tell.
+/// Returns what the last step leaves to do.
 fn serve_session<T: Read + Write + Drop, F: Failing>(
     alloc: Global,
     session: &mut Session<T>,
     fed: &mut F,
+    left: &mut usize,
 ) -> Result<Step, LiveError>
     requires { F.fails fed.old ≡ None }
     ensures { IsServed F.Party (serving (OffersRecord F.offered F.is_kept) F.full F.releases
         F.readies F.urges F.stops) F.fails fed.old (failure_of result) fed.new }
 {
-    'steps: for _ in 0..MAX_STEPS {
+    'steps: for _ in 0..MAX_STEPS + MAX_WRITES {
+        if *left == 0 && !session.has_to_tell() {
+            return Ok(Step::More);
+        }
         let step = session.step(alloc, fed);
         if let Some(failure) = fed.failure() {
             return Err(failure);
@@ -207,6 +229,7 @@ fn serve_session<T: Read + Write + Drop, F: Failing>(
         if step != Step::More {
             return Ok(step);
         }
+        *left = left.saturating_sub(1);
     }
     Ok(Step::More)
 }

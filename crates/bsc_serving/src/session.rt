@@ -1,6 +1,6 @@
 //! The session of one program.
 
-ghost use Rattle.std.specs.Prelude.{◌≡◌, [], true};
+ghost use Rattle.std.specs.Prelude.{◌≡◌, [], length, nat_eq, not, true};
 ghost use Rattle.bsc_feed.specs.Answering.{serving};
 ghost use Rattle.bsc_feed.specs.Clients.{IsNew};
 ghost use Rattle.bsc_feed.specs.Offering.{OffersRecord};
@@ -81,6 +81,13 @@ impl<T: Read + Write + Drop> Session<T> {
     {
         self.readable = true;
         self.writable = true;
+    }
+
+    /// Returns whether something is told to the program that is not written yet.
+    pub(crate) fn has_to_tell(&self) -> bool
+        ensures { result ≡ not (nat_eq (length self.now.outbox) 0) }
+    {
+        !self.outbox.is_empty()
     }
 
     /// Does the next thing of the session, which is one of these: writes what is left of what is

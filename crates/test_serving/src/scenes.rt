@@ -58,8 +58,10 @@ pub(crate) enum Act {
         times: usize,
     },
 
-    /// All are served once, and one asks the station to end.
-    Stop,
+    /// All are served until one asks the station to end, at most this many times.
+    Stop {
+        times: usize,
+    },
 
     /// A record arrives from terminal 0.
     Arrive {
@@ -159,7 +161,7 @@ fn holds(
             Ok(true)
         }
         Act::Serve { times } => Ok(!served(serving, station, times)?),
-        Act::Stop => served(serving, station, 1),
+        Act::Stop { times } => is_stopped(serving, station, times),
         Act::Arrive { chars } => arrives(station, chars),
         Act::Offers {
             terminal,
@@ -182,6 +184,21 @@ fn served(
         stopped |= serving.serve(station, Unkept)?;
     }
     Ok(stopped)
+}
+
+/// Serves the programs until one asks the station to end, at most this many times. Returns whether
+/// one does.
+fn is_stopped(
+    serving: &mut Serving<Scripted<'_>>,
+    station: &mut Control<Global>,
+    times: usize,
+) -> Result<bool, Fail> {
+    for _ in 0..times {
+        if served(serving, station, 1)? {
+            return Ok(true);
+        }
+    }
+    Ok(false)
 }
 
 /// Lets a record arrive from terminal 0 of a control station, and returns whether it did.

@@ -184,39 +184,37 @@ fn the_65th_program_is_turned_away(rt: HostRuntime) -> Result<(), Fail> {
     Ok(())
 }
 
-/// The place that is served first is another one each time.
+/// A program that says more than is obeyed in a turn. The next turn begins with another program.
 const TURNS: &[Act] = &[
     Act::Connect { programs: 2 },
-    Act::Say {
+    Act::SayOften {
         program: 0,
         octets: b"offer to 0 A\n",
+        times: 20,
     },
     Act::Say {
         program: 1,
         octets: b"offer to 0 B\n",
     },
     Act::Serve { times: 1 },
-    Act::Offered {
-        number: 0,
-        chars: b"A",
-    },
-    Act::Say {
+    Act::FewerLines {
         program: 0,
-        octets: b"offer to 0 C\n",
+        than: 6,
     },
-    Act::Say {
+    Act::Told {
         program: 1,
-        octets: b"offer to 0 D\n",
+        octets: b"",
     },
+    Act::Calls { count: 1 },
     Act::Serve { times: 1 },
-    Act::Offered {
-        number: 2,
-        chars: b"D",
+    Act::Lines {
+        program: 1,
+        count: 1,
     },
 ];
 
 #[test]
-fn another_program_is_served_first_each_time(rt: HostRuntime) -> Result<(), Fail> {
+fn a_turn_that_is_used_up_is_followed_by_that_of_another(rt: HostRuntime) -> Result<(), Fail> {
     assert_eq!(rt; first_wrong(rt.alloc(), 2, TURNS)?, None);
     Ok(())
 }
@@ -228,7 +226,7 @@ const STOPS: &[Act] = &[
         program: 0,
         octets: b"offer to 1 A\nstop\n",
     },
-    Act::Stop,
+    Act::Stop { times: 1 },
     Act::Told {
         program: 0,
         octets: b"ok 0\nok\n",
@@ -239,6 +237,39 @@ const STOPS: &[Act] = &[
 #[test]
 fn a_program_stops_the_station(rt: HostRuntime) -> Result<(), Fail> {
     assert_eq!(rt; first_wrong(rt.alloc(), 1, STOPS)?, None);
+    Ok(())
+}
+
+/// The place of the first act that does not hold where a program says this many lines that are
+/// passed over, and then asks the station to end: it is answered before the station ends.
+fn wrong_at_a_stop(alloc: Global, times: usize) -> Result<Option<usize>, Fail> {
+    let say = Act::SayOften {
+        program: 0,
+        octets: b"#\n",
+        times,
+    };
+    let stop = Act::Say {
+        program: 0,
+        octets: b"stop\n",
+    };
+    let told = Act::Told {
+        program: 0,
+        octets: b"ok\n",
+    };
+    let connect = Act::Connect { programs: 1 };
+    first_wrong(
+        alloc,
+        1,
+        &[connect, say, stop, Act::Stop { times: 9 }, told],
+    )
+}
+
+#[test]
+fn a_stop_is_answered_in_whichever_step_it_comes(rt: HostRuntime) -> Result<(), Fail> {
+    for times in 0..40 {
+        let wrong = wrong_at_a_stop(rt.alloc(), times)?;
+        assert_eq!(rt; wrong, None, "{times}");
+    }
     Ok(())
 }
 

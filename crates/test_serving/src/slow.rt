@@ -33,9 +33,10 @@ const SLOW: &[Act] = &[
         select: 0,
         count: 0,
     },
+    Act::Calls { count: 1 },
     Act::Serve { times: 3 },
     // A program that takes nothing is not asked again and again.
-    Act::Calls { count: 0 },
+    Act::Calls { count: 1 },
     Act::Room {
         program: 0,
         octets: 7,
@@ -79,16 +80,16 @@ const MANY_LINES: &[Act] = &[
         program: 1,
         octets: b"offer to 1 A\n",
     },
-    Act::Serve { times: 1 },
+    Act::Serve { times: 2 },
     Act::Told {
         program: 1,
         octets: b"ok 0\n",
     },
     Act::FewerLines {
         program: 0,
-        than: 16,
+        than: 12,
     },
-    Act::Calls { count: 1 },
+    Act::Calls { count: 2 },
     Act::Serve { times: 100 },
     Act::Lines {
         program: 0,

@@ -23,3 +23,10 @@ turns-preserved g c =
     served_after g.F.Party (serving (OffersRecord served.offered served.is_kept) served.full
     served.releases served.readies served.urges served.stops) g.F.Failing.fails
     c.turns.invariant c.in-Ok.ensures
+
+pub returns-then-left-eq0 : goal.returns-then-left-eq0
+returns-then-left-eq0 g c =
+    let served = g.F.Served in
+    served_after g.F.Party (serving (OffersRecord served.offered served.is_kept) served.full
+    served.releases served.readies served.urges served.stops) g.F.Failing.fails
+    c.turns.invariant c.in-Ok.ensures
