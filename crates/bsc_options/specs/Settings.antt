@@ -102,10 +102,10 @@ hour = 3600000
 abbrev pub three_times : ℕ → ℕ
 three_times time = min (time * 3) (2 ^ 64 - 1)
 
--- The pause unless it is given: 20, and for a station that programs feed 100, but no more than half
--- of the time-out.
+-- The pause unless it is given: 20, and for a station that programs feed 100, but no more than a
+-- quarter of the time-out.
 abbrev pub absent_pause : Bool → ℕ → ℕ
-absent_pause serves time_out = if serves then min (time_out / 2) 100 else 20
+absent_pause serves time_out = if serves then min (time_out / 4) 100 else 20
 
 -- The times of a station in milliseconds. The gap is 50 and the time-out 3000 unless given, and the
 -- patience is the time-out, and a connection is replaced after three time-outs.

@@ -25,7 +25,7 @@ const TIME_OUT: u64 = 3_000;
 /// The pause after an idle round in milliseconds, unless given.
 const PAUSE: u64 = 20;
 
-/// The same for a station that programs feed, where it is at most half of the time-out.
+/// The same for a station that programs feed, where it is at most a quarter of the time-out.
 const SERVING_PAUSE: u64 = 100;
 
 /// The number of idle rounds in a row after which a control station ends, unless given.
@@ -175,12 +175,13 @@ fn number(
 }
 
 /// Returns the pause after an idle round unless it is given, for a station that programs feed or
-/// not.
+/// not. A pause counts as time for which an answer may have lain unread, so it is well below half
+/// of the time-out, after which what is called next would be withheld.
 fn absent_pause(serves: bool, time_out: u64) -> u64
     ensures { result ≡ absent_pause serves time_out }
 {
     if serves {
-        (time_out / 2).min(SERVING_PAUSE)
+        (time_out / 4).min(SERVING_PAUSE)
     } else {
         PAUSE
     }

@@ -58,14 +58,14 @@ const WAITS: &[(&[&str], Waits)] = &[
     (&["--serve", "h:2"], (100, u64::MAX, true)),
     (&["--serve", "unix:s"], (100, u64::MAX, true)),
     (
-        &["--serve", "h:2", "--time-out", "200"],
+        &["--serve", "h:2", "--time-out", "400"],
         (100, u64::MAX, true),
     ),
     (
-        &["--serve", "h:2", "--time-out", "199"],
+        &["--serve", "h:2", "--time-out", "399"],
         (99, u64::MAX, true),
     ),
-    (&["--serve", "h:2", "--time-out", "1"], (0, u64::MAX, true)),
+    (&["--serve", "h:2", "--time-out", "3"], (0, u64::MAX, true)),
     (&["--serve", "h:2", "--pause", "7"], (7, u64::MAX, true)),
     (&["--serve", "h:2", "--idle-rounds", "3"], (100, 3, true)),
 ];
