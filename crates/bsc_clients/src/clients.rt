@@ -26,6 +26,9 @@ const FULL: &[u8] = b"fault every place is taken\n";
 /// them. If that is at a path, the socket file is removed when this is dropped.
 #[derive(Drop)]
 pub struct Clients<'a, N: Files> {
+    /// The socket file, if programs connect at a path. It comes before the listener, so that it is
+    /// removed while nobody else can listen there, and not a file that another station has made.
+    file: Option<SocketFile<'a, N>>,
     poll: Poll,
     events: Events,
     /// Has the next wait for the descriptor end.
@@ -34,16 +37,14 @@ pub struct Clients<'a, N: Files> {
     calls: Calls,
     /// The address of the host at which programs connect; None at a path.
     host: Option<SocketAddr>,
-    /// The socket file, if programs connect at a path.
-    file: Option<SocketFile<'a, N>>,
 }
 
-/// Where programs connect: the listener, the address of the host and the socket file.
+/// Where programs connect: the socket file, the listener and the address of the host.
 #[derive(Drop)]
 struct Place<'a, N: Files> {
+    file: Option<SocketFile<'a, N>>,
     listener: Listener,
     host: Option<SocketAddr>,
-    file: Option<SocketFile<'a, N>>,
 }
 
 impl<'a, N: Net + Files> Clients<'a, N> {
