@@ -177,15 +177,20 @@ pub(crate) fn terminal(
     Ok(Kept::new(terminal, keeper))
 }
 
+/// The address of these codes.
+fn address(codes: &[u8]) -> Result<Address, Fail> {
+    Ok(Address::read(codes)?)
+}
+
 /// The channel from terminal 0.
 pub(crate) fn from_terminal() -> Result<Channel, Fail> {
-    let terminal = Address::read(b"A")?;
+    let terminal = address(b"A")?;
     Ok(Channel::From { terminal })
 }
 
 /// The channel to terminal 0 at the selection address of this code.
 pub(crate) fn to_terminal(code: u8) -> Result<Channel, Fail> {
-    let selection = Address::read(&[code])?;
+    let selection = address(&[code])?;
     Ok(Channel::To { selection })
 }
 

@@ -14,12 +14,18 @@ use std::test::Fail;
 /// The text of the line of a store.
 const LINE: &str = "terminal 41 select 61; this is control";
 
-/// Returns the channel from a terminal.
-fn channel() -> Result<Channel, StoreFault> {
-    match Address::read(b"A") {
-        Ok(terminal) => Ok(Channel::From { terminal }),
+/// Returns the address of these codes.
+fn address(codes: &[u8]) -> Result<Address, StoreFault> {
+    match Address::read(codes) {
+        Ok(address) => Ok(address),
         Err(_) => Err(StoreFault::Refused),
     }
+}
+
+/// Returns the channel from a terminal.
+fn channel() -> Result<Channel, StoreFault> {
+    let terminal = address(b"A")?;
+    Ok(Channel::From { terminal })
 }
 
 /// Returns the record of these characters.

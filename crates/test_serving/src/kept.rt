@@ -29,9 +29,19 @@ fn begun(alloc: Global, store: Memory) -> Result<Kept, Fail> {
     Ok(Kept { station, keeper })
 }
 
+/// The address of these codes.
+fn address(codes: &[u8]) -> Result<Address, Fail> {
+    Ok(Address::read(codes)?)
+}
+
+/// The record of these characters.
+fn record(chars: &[u8]) -> Result<Record, Fail> {
+    Ok(Record::read(chars, 80)?)
+}
+
 /// The channel to terminal 0 at its second address.
 fn second() -> Result<Channel, Fail> {
-    let selection = Address::read(b"c")?;
+    let selection = address(b"c")?;
     Ok(Channel::To { selection })
 }
 
@@ -142,8 +152,7 @@ fn in_doubt_on(channel: Channel) -> Change {
 /// Returns a store of a channel that is in doubt.
 fn doubtful(alloc: Global) -> Result<Memory, Fail> {
     let mut store = Memory::new(alloc);
-    let record = Record::read(b"ONE", 80)?;
-    store.commit(&[offered_on(second()?, record)])?;
+    store.commit(&[offered_on(second()?, record(b"ONE")?)])?;
     store.commit(&[in_doubt_on(second()?)])?;
     Ok(store)
 }

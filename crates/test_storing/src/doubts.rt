@@ -1,9 +1,9 @@
 //! Doubts that are ended, by a count and by what both stores have.
 
 use crate::machine::{Given, Machine, keep, told};
-use crate::works::{BARE, OFFER, RECONCILE, Row, channel, first_wrong, hear, two_stores};
-use bsc_block::Record;
-use bsc_frame::Address;
+use crate::works::{
+    BARE, OFFER, RECONCILE, Row, address, channel, first_wrong, hear, record, two_stores,
+};
 use bsc_kept::{Change, Channel, StoreFault};
 use std::rt::HostRuntime;
 use std::test::Fail;
@@ -80,10 +80,8 @@ fn doubts_are_released_by_what_both_have(rt: HostRuntime) -> Result<(), Fail> {
 
 /// Returns the channel to the second selection address of terminal 0.
 fn channel_back() -> Result<Channel, StoreFault> {
-    match Address::read(b"c") {
-        Ok(selection) => Ok(Channel::To { selection }),
-        Err(_) => Err(StoreFault::Refused),
-    }
+    let selection = address(b"c")?;
+    Ok(Channel::To { selection })
 }
 
 /// Keeps at the control station that its first two records are in doubt, and that they arrived at
@@ -101,10 +99,7 @@ fn hold_doubt_back(machine: &mut Machine) -> Result<(), StoreFault> {
 
 /// Keeps at the terminal that a record arrived.
 fn hear_back(machine: &mut Machine) -> Result<(), StoreFault> {
-    let Ok(record) = Record::read(b"BACK", 144) else {
-        return Err(StoreFault::Refused);
-    };
-    let channel = channel_back()?;
+    let (channel, record) = (channel_back()?, record(b"BACK")?);
     keep(machine, "terminal", &[Change::Arrived { channel, record }])
 }
 

@@ -1,10 +1,9 @@
 //! Stores of the longest line, and stores of two lines.
 
 use crate::machine::{Given, Machine, keep, no_stores, told};
-use crate::works::{BARE, RECONCILE, Row, first_wrong};
+use crate::works::{BARE, RECONCILE, Row, address, first_wrong, record};
 use bsc_block::Record;
-use bsc_frame::Address;
-use bsc_kept::{Change, Channel};
+use bsc_kept::{Change, Channel, StoreFault};
 use std::alloc::Global;
 use std::test::Fail;
 
@@ -109,20 +108,25 @@ const SELECTS: &[&[u8]] = &[b"a63", b"b63", b"c63", b"d63"];
 /// The channels between both stations: from the terminal, and to each of its selection addresses.
 fn channels(alloc: Global) -> Result<Vec<Channel>, Fail> {
     let mut channels = Vec::new(alloc);
-    let terminal = Address::read(b"A63")?;
+    let terminal = address(b"A63")?;
     channels.push(Channel::From { terminal })?;
     for select in SELECTS {
-        let selection = Address::read(select)?;
+        let selection = address(select)?;
         channels.push(Channel::To { selection })?;
     }
     Ok(channels)
+}
+
+/// The record HI.
+fn hi() -> Result<Record, StoreFault> {
+    record(b"HI")
 }
 
 /// Keeps at the first station that a record of this channel is in doubt, and at the other one that
 /// it has arrived.
 fn hold_doubt(machine: &mut Machine, ends: (&str, &str), channel: Channel) -> Result<(), Fail> {
     let (sender, receiver) = ends;
-    let record = Record::read(b"HI", 144)?;
+    let record = hi()?;
     keep(machine, sender, &[Change::Offered { channel, record }])?;
     let (known, in_doubt) = (0, 1);
     let doubt = Change::Known {
@@ -131,7 +135,7 @@ fn hold_doubt(machine: &mut Machine, ends: (&str, &str), channel: Channel) -> Re
         in_doubt,
     };
     keep(machine, sender, &[doubt])?;
-    let record = Record::read(b"HI", 144)?;
+    let record = hi()?;
     Ok(keep(machine, receiver, &[Change::Arrived { channel, record }])?)
 }
 

@@ -105,20 +105,31 @@ pub(crate) fn two_stores(alloc: Global) -> Result<Machine, StoreFault> {
     }
 }
 
-/// Returns the channel from terminal 0 by its address.
-pub(crate) fn channel() -> Result<Channel, StoreFault> {
-    match Address::read(b"A") {
-        Ok(terminal) => Ok(Channel::From { terminal }),
+/// Returns the address of these codes.
+pub(crate) fn address(codes: &[u8]) -> Result<Address, StoreFault> {
+    match Address::read(codes) {
+        Ok(address) => Ok(address),
         Err(_) => Err(StoreFault::Refused),
     }
 }
 
+/// Returns the record of these characters.
+pub(crate) fn record(chars: &[u8]) -> Result<Record, StoreFault> {
+    match Record::read(chars, 144) {
+        Ok(record) => Ok(record),
+        Err(_) => Err(StoreFault::Refused),
+    }
+}
+
+/// Returns the channel from terminal 0 by its address.
+pub(crate) fn channel() -> Result<Channel, StoreFault> {
+    let terminal = address(b"A")?;
+    Ok(Channel::From { terminal })
+}
+
 /// Keeps at the control station that a record arrived.
 pub(crate) fn hear(machine: &mut Machine, chars: &str) -> Result<(), StoreFault> {
-    let Ok(record) = Record::read(chars.as_bytes(), 144) else {
-        return Err(StoreFault::Refused);
-    };
-    let channel = channel()?;
+    let (channel, record) = (channel()?, record(chars.as_bytes())?);
     keep(machine, "control", &[Change::Arrived { channel, record }])
 }
 
