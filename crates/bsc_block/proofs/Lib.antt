@@ -4,3 +4,5 @@ pub mod Cutting
 pub mod HeldRecords
 pub mod Pieces
 pub mod Waiting
+pub mod Removing
+pub mod Forgotten

@@ -1,10 +1,9 @@
 -- Lists that are divided by the ends of their parts.
-use Rattle.std.proofs.Common.{◌≡◌, ℕ, zero, suc, ◌+◌, ◌-◌, ◌<◌, ◌≤◌, arith, refl, ap, sym, ◌∙◌}
-use Rattle.std.proofs.Common.{List, [], ◌∷◌, ◌++◌, length, take, drop, slice_get, get_or, Some}
+use Rattle.std.proofs.Common.{◌≡◌, ℕ, zero, suc, ◌+◌, ◌-◌, ◌<◌, ◌≤◌, arith, refl, ap}
+use Rattle.std.proofs.Common.{List, [], ◌∷◌, ◌++◌, length, drop, slice_get, get_or, Some}
 use Rattle.std.proofs.lemmas.List.{drop-append-le, take-append-le, length-drop, length-append}
 use Rattle.std.proofs.lemmas.List.{take_all}
 use Rattle.std.proofs.Math.Seq.{drop-append_seam}
-use Rattle.std.specs.List.{AllByRecursion}
 use Rattle.bsc_block.specs.Records.{IsRecord}
 use Rattle.bsc_block.specs.Pieces.{piece, pieces, start_of, Ascend, AreRecords}
 use Rattle.bsc_frame.proofs.Elements.{all_append, all_slice_get}

@@ -4,9 +4,9 @@ use Rattle.std.specs.Prelude.{◌≡◌, ℕ, zero, suc, ◌-◌, ◌≤◌, Boo
 use Rattle.std.specs.List.{AllByRecursion}
 use Rattle.bsc_block.specs.Records.{IsRecord}
 
--- What contracts see of a list of records: the records in order, and whether seven more of any
--- length fit without allocating memory.
-pub record RecordsValue : Type 0 where
+-- What contracts see of packed records: the records in order, and whether seven more of any length
+-- fit without allocating memory.
+pub record PackedValue : Type 0 where
   pub items : List (List ℕ)
   pub room : Bool
 

@@ -1,6 +1,7 @@
 -- Records: what is offered at one end of a line and arrives at the other, in the manner of the IBM
 -- 2780, whose records are cards and lines of print.
-use Rattle.std.specs.Prelude.{ℕ, ◌≤◌, nat_lt, not, if◌then◌else◌, List, length, position, IsTrue}
+use Rattle.std.specs.Prelude.{ℕ, ◌≤◌, nat_lt, not, if◌then◌else◌, Bool, List, [], ◌++◌, length}
+use Rattle.std.specs.Prelude.{drop, replicate, position, IsTrue}
 use Rattle.std.specs.Prelude.{Option, Some, None, Result, Ok, Err}
 use Rattle.std.specs.List.{AllByRecursion}
 use Rattle.bsc_frame.specs.Octet.{is_record_char}
@@ -24,3 +25,19 @@ abbrev pub record_of : ℕ → List ℕ → Result (List ℕ) RecordError
 record_of full codes =
     if nat_lt full (length codes) then Err TooLong
     else unless_wrong (position (λ c. not (is_record_char c)) codes) codes
+
+-- What contracts see of a list of records: the records in order, whether seven more of any length
+-- fit without allocating memory, and how many are forgotten.
+pub record RecordsValue : Type 0 where
+  pub items : List (List ℕ)
+  pub room : Bool
+  pub forgotten : ℕ
+
+-- This many records that are forgotten, followed by these.
+abbrev pub after_forgotten : ℕ → List (List ℕ) → List (List ℕ)
+after_forgotten count rs = replicate count [] ++ rs
+
+-- These records once the first ones are forgotten, this many: those have no characters any more,
+-- and the places of all stay.
+abbrev pub forgotten : ℕ → List (List ℕ) → List (List ℕ)
+forgotten count rs = after_forgotten count (drop count rs)

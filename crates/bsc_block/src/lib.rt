@@ -9,6 +9,7 @@ mod block;
 mod format;
 pub mod laws;
 pub mod limits;
+mod packed;
 mod packing;
 mod record;
 mod records;

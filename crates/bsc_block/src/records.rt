@@ -1,122 +1,42 @@
-//! A list of records in two allocations, however long it is: all characters, and the end of each
-//! record.
-ghost use Rattle.std.specs.Prelude.{◌≡◌, ◌+◌, ◌*◌, ◌<◌, ◌≤◌, [], ◌∷◌, ◌++◌, true, false, length};
-ghost use Rattle.std.specs.Prelude.{slice_get, vec_len, vec_capacity, Some, IsTrue, ◌↔◌};
-ghost use Rattle.std.specs.Prelude.{OnOk, OnErr};
-ghost use Rattle.bsc_block.specs.Records.{IsRecord};
-ghost use Rattle.bsc_block.specs.Pieces.{pieces, start_of, AreRecords};
+//! A list of records, of which the first ones may be forgotten.
+ghost use Rattle.std.specs.Prelude.{◌≡◌, ◌<◌, ◌≤◌, [], ◌∷◌, ◌++◌, true, false, length, max};
+ghost use Rattle.std.specs.Prelude.{slice_get, Some, OnOk, OnErr};
+ghost use Rattle.bsc_block.specs.Records.{IsRecord, forgotten};
 
+use crate::packed::Packed;
 use crate::{Block, Record};
-use bsc_frame::limits::{MAX_CHARS, MAX_UNITS};
+use bsc_frame::limits::MAX_UNITS;
 use std::alloc::{AllocError, Allocator};
 use std::marker::Model;
 
-/// The most characters that the records of one text have.
-const MAX_TEXT_CHARS: usize = MAX_UNITS * MAX_CHARS;
+/// The most records of which a list has room for those of one more text.
+const MAX_COUNT: usize = usize::MAX - MAX_UNITS;
 
-/// A list is small while it has fewer elements than this many times those for which it makes room.
-/// It then doubles, so that it is copied seldom.
-const SMALL: usize = 1_024;
-
-/// A list that is not small grows by one part in as many.
-const PARTS: usize = 16;
-
-/// A list of records, in two allocations at most. A record takes its characters and 8 octets more;
-/// once there are some seven thousand, at most one part in 16 is not in use, beside the room for a
-/// text.
+/// A list of records. Those that are forgotten have no characters any more; their places stay, so
+/// that the numbers of the others do not change.
 #[derive(Drop)]
 pub struct Records<A: Allocator> {
-    /// The characters of all records, in order.
-    chars: Vec<u8, A>,
+    /// The number of all records.
+    count: usize,
 
-    /// The place in `chars` at which each record ends.
-    ends: Vec<usize, A>,
+    /// Those that are not forgotten, the last ones.
+    rest: Packed<A>,
 }
 
 impl<A: Allocator> Model for Records<A> {
-    ghost use Rattle.std.specs.Prelude.{◌+◌, ◌*◌, ◌&&◌, vec_len, vec_capacity, nat_le};
-    ghost use Rattle.bsc_frame.specs.declared.limits.TheConstants.{MAX_CHARS, MAX_UNITS};
-    ghost use Rattle.bsc_block.specs.Pieces.{RecordsValue, pieces, AreRecords};
+    ghost use Rattle.std.specs.Prelude.{◌-◌, ◌≤◌, ◌&&◌, length, nat_le};
+    ghost use Rattle.bsc_block.specs.Records.{RecordsValue, after_forgotten};
+    ghost use Rattle.bsc_block.specs.declared.records.TheConstants.{MAX_COUNT};
 
     ghost Value = { RecordsValue };
 
     ghost view = { λ r. record {
-      items = pieces 0 r.ends.items r.chars.items;
-      room = nat_le (vec_len r.chars + MAX_UNITS * MAX_CHARS) (vec_capacity r.chars)
-          && nat_le (vec_len r.ends + MAX_UNITS) (vec_capacity r.ends);
+      items = after_forgotten (r.count - length r.rest.items) r.rest.items;
+      room = r.rest.room && nat_le r.count MAX_COUNT;
+      forgotten = r.count - length r.rest.items;
     } };
 
-    ghost invariant = { λ r. AreRecords r.ends.items r.chars.items };
-}
-
-/// Returns for how many more elements a list of this length grows to make room for `more`: for at
-/// least twice as many, for as many as it has while it is small, and for a part of these after.
-fn growth(len: usize, more: usize) -> usize
-    ensures { more ≤ result }
-{
-    let slack = if len / SMALL < more { len } else { len / PARTS };
-    more.saturating_add(slack.max(more))
-}
-
-/// Makes room for `few` elements, without allocating if there is room already, else for `more` and
-/// some. Returns false if there is no memory; then nothing changes.
-fn grow<T, A: Allocator>(list: &mut Vec<T, A>, few: usize, more: usize) -> bool
-    requires { few ≤ more }
-    ensures items { list.new.items ≡ list.old.items }
-    ensures len { vec_len list.new ≡ vec_len list.old }
-    ensures capacity { vec_capacity list.old ≤ vec_capacity list.new }
-    ensures room { IsTrue result ↔ (vec_len list.new + few ≤ vec_capacity list.new) }
-    ensures there { vec_len list.old + few ≤ vec_capacity list.old → IsTrue result }
-    ensures refused { result ≡ false → vec_capacity list.new ≡ vec_capacity list.old }
-{
-    if few <= list.capacity() - list.len() {
-        return true;
-    }
-    list.try_reserve_exact(growth(list.len(), more)).is_ok()
-}
-
-/// Appends a record. There must be room for it; no memory is allocated.
-fn put<A: Allocator>(chars: &mut Vec<u8, A>, ends: &mut Vec<usize, A>, new: &[u8])
-    requires room { vec_len chars.old + length new.now ≤ vec_capacity chars.old }
-    requires end_room { vec_len ends.old < vec_capacity ends.old }
-    requires records { AreRecords ends.old.items chars.old.items }
-    requires new { IsRecord new.now }
-    ensures records { AreRecords ends.new.items chars.new.items }
-    ensures items { pieces 0 ends.new.items chars.new.items
-        ≡ pieces 0 ends.old.items chars.old.items ++ new.now ∷ [] }
-    ensures len { vec_len chars.new ≡ vec_len chars.old + length new.now }
-    ensures end_len { vec_len ends.new ≡ vec_len ends.old + 1 }
-    ensures capacity { vec_capacity chars.old ≤ vec_capacity chars.new }
-    ensures end_capacity { vec_capacity ends.new ≡ vec_capacity ends.old }
-{
-    match chars.extend_from_slice(new) {
-        Ok(()) => {}
-        Err(_) => unreachable!(),
-    }
-    ends.push_reserved(chars.len());
-}
-
-/// Returns where the record at a place starts.
-fn start(ends: &[usize], place: usize) -> usize
-    requires { place < length ends.now }
-    ensures { result ≡ start_of 0 ends.now place }
-{
-    if place == 0 {
-        return 0;
-    }
-    ends[place - 1]
-}
-
-/// Returns the characters of the record at a place.
-fn part<'a>(chars: &'a [u8], ends: &[usize], place: usize) -> &'a [u8]
-    requires records { AreRecords ends.now chars.now }
-    requires place { place < length ends.now }
-    ensures value { slice_get (pieces 0 ends.now chars.now) place ≡ Some result.now }
-    ensures record { IsRecord result.now }
-{
-    let from = start(ends, place);
-    let to = ends[place];
-    &chars[from..to]
+    ghost invariant = { λ r. length r.rest.items ≤ r.count };
 }
 
 impl<A: Allocator> Records<A> {
@@ -126,35 +46,51 @@ impl<A: Allocator> Records<A> {
         A: Copy,
         ensures items { result.items ≡ [] }
         ensures room { result.room ≡ false }
+        ensures forgotten { result.forgotten ≡ 0 }
     {
         Records {
-            chars: Vec::new(alloc),
-            ends: Vec::new(alloc),
+            count: 0,
+            rest: Packed::new(alloc),
         }
     }
 
-    /// Returns the number of records.
+    /// Returns the number of records, with those that are forgotten.
     pub fn len(&self) -> usize
         ensures { result ≡ length self.now.items }
     {
-        self.ends.len()
+        // Reading a field makes the invariant known here.
+        let _ = &self.rest;
+        self.count
     }
 
-    /// Returns the characters of the record at a place below the number of records.
+    /// Returns how many records are forgotten: the first ones.
+    pub fn forgotten(&self) -> usize
+        ensures { result ≡ self.now.forgotten }
+    {
+        self.count - self.rest.len()
+    }
+
+    /// Returns the characters of the record at a place below the number of records; none if it is
+    /// forgotten.
     pub fn chars(&self, place: usize) -> &[u8]
         requires { place < length self.now.items }
         ensures chars { slice_get self.now.items place ≡ Some result.now }
         ensures record { IsRecord result.now }
     {
-        part(self.chars.as_slice(), self.ends.as_slice(), place)
+        // Reading a field makes the invariant known here.
+        let rest = &self.rest;
+        let forgotten = self.forgotten();
+        if place < forgotten {
+            return &[];
+        }
+        rest.chars(place - forgotten)
     }
 
     /// Returns whether there is room for seven more records, each of 144 characters.
     pub fn has_room(&self) -> bool
         ensures { result ≡ self.now.room }
     {
-        self.chars.len() + MAX_TEXT_CHARS <= self.chars.capacity()
-            && self.ends.len() + MAX_UNITS <= self.ends.capacity()
+        self.rest.has_room() && self.count <= MAX_COUNT
     }
 
     /// Makes room for seven more records, each of 144 characters, without allocating if there is
@@ -163,31 +99,47 @@ impl<A: Allocator> Records<A> {
         ensures items { self.new.items ≡ self.old.items }
         ensures room { self.new.room ≡ result }
         ensures there { self.old.room ≡ true → result ≡ true }
+        ensures forgotten { self.new.forgotten ≡ self.old.forgotten }
     {
-        grow(&mut self.chars, MAX_TEXT_CHARS, MAX_TEXT_CHARS)
-            && grow(&mut self.ends, MAX_UNITS, MAX_UNITS)
+        self.rest.make_room() && self.count <= MAX_COUNT
     }
 
     /// Appends a record. Fails if there is no memory for it; nothing is then changed.
     pub fn push(&mut self, record: &Record) -> Result<(), AllocError>
         ensures ok { OnOk result (self.new.items ≡ self.old.items ++ «record».now ∷ []) }
         ensures err { OnErr result (self.new ≡ self.old) }
+        ensures forgotten { self.new.forgotten ≡ self.old.forgotten }
     {
-        let new = record.chars();
-        if !grow(&mut self.chars, new.len(), MAX_CHARS) || !grow(&mut self.ends, 1, MAX_UNITS) {
+        if self.count > MAX_COUNT {
             return Err(AllocError);
         }
-        put(&mut self.chars, &mut self.ends, new);
+        self.rest.push(record)?;
+        self.count += 1;
         Ok(())
     }
 
     /// Appends the records of a text. There must be room for seven records; no memory is allocated.
     pub fn append(&mut self, block: &Block)
         requires { self.old.room ≡ true }
-        ensures { self.new.items ≡ self.old.items ++ block.now }
+        ensures items { self.new.items ≡ self.old.items ++ block.now }
+        ensures forgotten { self.new.forgotten ≡ self.old.forgotten }
     {
-        for place in 0..block.count() {
-            put(&mut self.chars, &mut self.ends, block.chars(place));
+        self.rest.append(block);
+        self.count += block.count();
+    }
+
+    /// Forgets the first records, this many, at most as many as there are. Some or all of them may
+    /// be forgotten already. No memory is allocated or given back: that of their characters is used
+    /// for the records that are appended next. It takes as long as to copy the others.
+    pub fn forget(&mut self, count: usize)
+        requires { count ≤ length self.old.items }
+        ensures items { self.new.items ≡ forgotten count self.old.items }
+        ensures forgotten { self.new.forgotten ≡ max self.old.forgotten count }
+        ensures room { self.old.room ≡ true → self.new.room ≡ true }
+    {
+        let forgotten = self.forgotten();
+        if count > forgotten {
+            self.rest.remove_first(count - forgotten);
         }
     }
 }

@@ -5,6 +5,7 @@ use Rattle.bsc_frame.specs.declared.limits.TheConstants.{MAX_UNITS}
 use Rattle.bsc_frame.specs.declared.text.End.TheVariants.{Etb, Etx}
 use Rattle.bsc_block.specs.Format.{FormatValue, IsFormat}
 use Rattle.bsc_block.specs.Blocks.{AreShort, taken}
+use Rattle.bsc_block.specs.Records.{forgotten}
 use Rattle.bsc_spool.specs.declared.queue.Next.{Next}
 
 -- The format of the blocks, the records that were offered, in order, and how many of them are known
@@ -30,6 +31,10 @@ with_offered q r = queue_of q.format (q.offered ++ r ∷ []) q.known
 -- The queue with k more known records.
 abbrev pub with_known : QueueValue → ℕ → QueueValue
 with_known q k = queue_of q.format q.offered (q.known + k)
+
+-- The queue once its first n records are forgotten.
+abbrev pub with_forgotten : QueueValue → ℕ → QueueValue
+with_forgotten q n = queue_of q.format (forgotten n q.offered) q.known
 
 -- The waiting records: those after the known ones.
 abbrev pub waiting : QueueValue → List (List ℕ)

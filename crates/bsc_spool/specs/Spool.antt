@@ -1,6 +1,7 @@
 -- What contracts see of a spool.
 use Rattle.std.specs.Prelude.{◌≡◌, ℕ, ◌+◌, ◌-◌, ◌^◌, Bool, List, [], ◌∷◌, ◌++◌, min}
-use Rattle.std.specs.Prelude.{if◌then◌else◌}
+use Rattle.std.specs.Prelude.{if◌then◌else◌, true}
+use Rattle.bsc_block.specs.Records.{forgotten}
 
 -- The records that arrived, in order, whether seven more fit without allocating memory, and how
 -- often room was refused. Only contracts read the last one.
@@ -26,4 +27,10 @@ room_asked s answer =
 -- left open.
 pub record GainsRecord (old : SpoolValue) (r : List ℕ) (new : SpoolValue) : Type 0 where
   pub records : new.records ≡ old.records ++ r ∷ []
+  pub delays : new.delays ≡ old.delays
+
+-- The first n records of the spool are forgotten. It has room if it had some, and maybe else.
+pub record ForgetsRecords (old : SpoolValue) (n : ℕ) (new : SpoolValue) : Type 0 where
+  pub records : new.records ≡ forgotten n old.records
+  pub room : old.room ≡ true → new.room ≡ true
   pub delays : new.delays ≡ old.delays

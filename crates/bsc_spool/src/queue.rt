@@ -1,10 +1,11 @@
 //! The sending end of a channel. A record stays in its queue after it is delivered, so that what
-//! was offered can be compared with what was spooled.
+//! was offered can be compared with what was spooled; a station that runs for long forgets it.
 ghost use Rattle.std.specs.Prelude.{◌≡◌, ◌≤◌, [], length, take, nat_eq, not, IsTrue, ◌↔◌, Some};
 ghost use Rattle.std.specs.Prelude.{IfSome, IfErr, OnOk, OnErr};
 ghost use Rattle.bsc_frame.specs.declared.message.Message.TheVariants as m;
 ghost use Rattle.bsc_block.specs.Blocks.{block_text, blocks};
-ghost use Rattle.bsc_spool.specs.Queue.{waiting, next_block, queue_of, with_offered, with_known};
+ghost use Rattle.bsc_spool.specs.Queue.{waiting, next_block, queue_of, with_forgotten, with_known};
+ghost use Rattle.bsc_spool.specs.Queue.{with_offered};
 ghost use Rattle.bsc_spool.specs.Queue.{IsQueue, IsNext};
 
 use bsc_block::laws::cut_into_blocks;
@@ -155,5 +156,14 @@ impl<A: Allocator> Queue<A> {
     {
         prove!(count <= self.records.len() - self.known);
         self.known += count;
+    }
+
+    /// Forgets the first records, this many, at most as many as are known to have been delivered.
+    /// Their places stay, and the waiting records stay as they are. No memory is allocated.
+    pub fn forget(&mut self, count: usize)
+        requires { count ≤ self.old.known }
+        ensures { self.new ≡ with_forgotten self.old count }
+    {
+        self.records.forget(count);
     }
 }

@@ -1,7 +1,8 @@
 //! The receiving end of a channel. Room is made before a text is accepted, so that every accepted
 //! text is stored whole.
-ghost use Rattle.std.specs.Prelude.{◌≡◌, [], ◌++◌, true, false, OnOk, OnErr, IfErr};
-ghost use Rattle.bsc_spool.specs.Spool.{room_asked, GainsRecord};
+ghost use Rattle.std.specs.Prelude.{◌≡◌, ◌≤◌, [], ◌++◌, length, true, false, OnOk, OnErr};
+ghost use Rattle.std.specs.Prelude.{IfErr};
+ghost use Rattle.bsc_spool.specs.Spool.{room_asked, ForgetsRecords, GainsRecord};
 
 use bsc_block::{Block, Record, Records};
 use std::alloc::Allocator;
@@ -92,5 +93,14 @@ impl<A: Allocator> Spool<A> {
         ensures { result.now.items ≡ self.now.records }
     {
         &self.records
+    }
+
+    /// Forgets the first records, this many, at most as many as have arrived. Their places stay. No
+    /// memory is allocated.
+    pub fn forget(&mut self, count: usize)
+        requires { count ≤ length self.old.records }
+        ensures { ForgetsRecords self.old count self.new }
+    {
+        self.records.forget(count);
     }
 }

@@ -35,7 +35,11 @@ fn is_offered<A: Allocator>(queue: &mut Queue<A>, random: &mut Random) -> bool
 }
 
 /// Offers this many records, and returns whether each is accepted.
-fn are_offered<A: Allocator>(queue: &mut Queue<A>, random: &mut Random, count: usize) -> bool
+pub(crate) fn are_offered<A: Allocator>(
+    queue: &mut Queue<A>,
+    random: &mut Random,
+    count: usize,
+) -> bool
     requires { queue.old.format.full ≡ 144 }
     ensures { queue.new.format ≡ queue.old.format }
 {
@@ -48,7 +52,7 @@ fn are_offered<A: Allocator>(queue: &mut Queue<A>, random: &mut Random, count: u
 }
 
 /// Delivers this many blocks, or all that wait, and returns whether there was room for each.
-fn are_delivered(
+pub(crate) fn are_delivered(
     alloc: &Refusing,
     queue: &mut Queue<&Refusing>,
     spool: &mut Spool<&Refusing>,

@@ -9,6 +9,8 @@ mod bids;
 #[cfg(test)]
 mod ends;
 #[cfg(test)]
+mod forgetting;
+#[cfg(test)]
 mod growths;
 #[cfg(test)]
 mod lengths;

@@ -10,7 +10,7 @@ use std::alloc::Allocator;
 use std::test::Fail;
 
 /// A record of 80 letters A, the full length.
-const FULL: &[u8] = &[b'A'; 80];
+pub(crate) const FULL: &[u8] = &[b'A'; 80];
 
 /// The records to offer, the next block after that, and whether it is then reported as arrived.
 type Step<'a> = (&'a [&'a [u8]], Option<Next>, bool);
@@ -43,7 +43,7 @@ const STEPS: &[Step<'static>] = &[
 ];
 
 /// Offers records with these characters.
-fn offer_each<A: Allocator>(queue: &mut Queue<A>, records: &[&[u8]]) -> Result<(), Fail>
+pub(crate) fn offer_each<A: Allocator>(queue: &mut Queue<A>, records: &[&[u8]]) -> Result<(), Fail>
     requires { 80 ≤ queue.old.format.full }
     ensures { queue.new.format ≡ queue.old.format }
 {

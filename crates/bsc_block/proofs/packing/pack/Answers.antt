@@ -1,5 +1,5 @@
 -- `pack` stops at the greatest number of records that a block takes.
-use Rattle.std.proofs.Common.{◌≡◌, ◌∙◌, ◌-◌, ◌⊎◌, ◌+◌, ◌<◌, inl, inr, arith, ap, sym, List, ℕ, drop}
+use Rattle.std.proofs.Common.{◌≡◌, ◌∙◌, ◌-◌, inl, inr, arith, List, ℕ, drop}
 use Rattle.std.proofs.Common.{length}
 use Rattle.std.proofs.lemmas.List.{length-drop}
 use Rattle.bsc_block.proofs.Taking.{stops_there, is_taken_taken}

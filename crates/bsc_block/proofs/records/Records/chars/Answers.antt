@@ -1,11 +1,22 @@
--- A record that is seen has its end.
-use Rattle.std.proofs.Common.{◌≡◌, length, ◌∙◌, ap, arith, sym}
-use Rattle.bsc_block.proofs.Pieces.{length_pieces}
+-- A record is forgotten, or it is the one that many places after the forgotten ones.
+use Rattle.std.proofs.Common.{◌≡◌, ◌-◌, ◌∙◌, ap, arith, sym, length, slice_get}
+use Rattle.bsc_block.proofs.Forgotten.{forgotten_at, kept_at}
 use Rattle.bsc_block.proofs.records.Records.chars.Goals as goal
 
-pub part-requires-clause-place : goal.part-requires-clause-place
-part-requires-clause-place g c =
-    let long : length c.self.inside.ends.items ≡ length c.args.self.now.items =
-    sym (length_pieces 0 c.self.inside.ends.items c.self.inside.chars.items)
-    ∙ ap (λ v. length v.items) c.self.view_is in
-    rw c.as_slice-2.ensures.value (omega (arith, long, c.requires))
+pub returns-then-place-forgotten-clause-chars : goal.returns-then-place-forgotten-clause-chars
+returns-then-place-forgotten-clause-chars g c =
+    let n : c.self.inside.count - length c.self.inside.rest.items ≡ c.forgotten-forgotten.result =
+    ap (λ v. v.forgotten) c.self.view_is ∙ sym c.forgotten-forgotten.ensures in
+    sym (ap (λ v. slice_get v.items c.args.place) c.self.view_is)
+    ∙ forgotten_at (c.self.inside.count - length c.self.inside.rest.items) c.self.inside.rest.items
+    c.args.place (omega (arith, n))
+
+pub returns-clause-chars : goal.returns-clause-chars
+returns-clause-chars g c =
+    let n : c.self.inside.count - length c.self.inside.rest.items ≡ c.forgotten-forgotten.result =
+    ap (λ v. v.forgotten) c.self.view_is ∙ sym c.forgotten-forgotten.ensures in
+    sym (ap (λ v. slice_get v.items c.args.place) c.self.view_is)
+    ∙ kept_at (c.self.inside.count - length c.self.inside.rest.items) c.self.inside.rest.items
+    c.args.place (omega (arith, n))
+    ∙ ap (λ k. slice_get c.self.inside.rest.items (c.args.place - k)) n
+    ∙ c.chars.ensures.chars

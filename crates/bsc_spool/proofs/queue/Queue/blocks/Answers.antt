@@ -1,5 +1,5 @@
 -- Each step of the loop of `blocks` passes one block.
-use Rattle.std.proofs.Common.{◌≡◌, ◌<◌, ℕ, List, length, drop, ◌∙◌, ap, subst, arith}
+use Rattle.std.proofs.Common.{◌≡◌, ◌<◌, ℕ, length, drop, ◌∙◌, ap, subst, arith}
 use Rattle.std.proofs.lemmas.List.{length-drop}
 use Rattle.bsc_block.specs.Blocks.{taken}
 use Rattle.bsc_spool.specs.Queue.{QueueValue, IsQueue}

@@ -1,7 +1,7 @@
 -- There are as many records as ends.
 use Rattle.std.proofs.Common.{◌≡◌, length, ◌∙◌, ap, arith, sym}
 use Rattle.bsc_block.proofs.Pieces.{length_pieces}
-use Rattle.bsc_block.proofs.records.Records.len.Goals as goal
+use Rattle.bsc_block.proofs.packed.Packed.len.Goals as goal
 
 pub returns : goal.returns
 returns g c =

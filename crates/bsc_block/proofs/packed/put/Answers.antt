@@ -1,7 +1,7 @@
 -- `put` appends one record.
-use Rattle.std.proofs.Common.{◌≡◌, ◌+◌, length, ◌∙◌, arith, refl}
+use Rattle.std.proofs.Common.{◌≡◌, ◌+◌, length, arith}
 use Rattle.bsc_block.proofs.Pieces.{pieces_push, are_records_push}
-use Rattle.bsc_block.proofs.records.put.Goals as goal
+use Rattle.bsc_block.proofs.packed.put.Goals as goal
 
 pub returns-clause-records : goal.returns-clause-records
 returns-clause-records g c =

@@ -2,7 +2,7 @@
 use Rattle.std.proofs.Common.{◌≡◌, ◌+◌, ◌*◌, ◌≤◌, ◌++◌, take, vec_len, vec_capacity}
 use Rattle.bsc_frame.specs.declared.limits.TheConstants.{MAX_CHARS, MAX_UNITS}
 use Rattle.bsc_block.specs.Pieces.{pieces, AreRecords}
-use Rattle.bsc_block.proofs.records.Records.append.Given as goal
+use Rattle.bsc_block.proofs.packed.Packed.append.Given as goal
 
 abbrev pub invariant-loop-place : goal.invariant-loop-place
 invariant-loop-place g l = record {

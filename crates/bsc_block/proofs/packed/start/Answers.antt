@@ -2,7 +2,7 @@
 use Rattle.std.proofs.Common.{◌≡◌, suc, ◌-◌, arith, ap, sym, ◌∙◌}
 use Rattle.bsc_block.specs.Pieces.{start_of}
 use Rattle.bsc_block.proofs.Pieces.{start_after}
-use Rattle.bsc_block.proofs.records.start.Goals as goal
+use Rattle.bsc_block.proofs.packed.start.Goals as goal
 
 pub returns : goal.returns
 returns c =

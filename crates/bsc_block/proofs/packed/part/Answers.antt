@@ -1,7 +1,7 @@
 -- The characters from the end before to the end of a record are that record.
 use Rattle.std.proofs.Common.{get_or, arith}
 use Rattle.bsc_block.proofs.Pieces.{IsPart, part_at}
-use Rattle.bsc_block.proofs.records.part.Goals as goal
+use Rattle.bsc_block.proofs.packed.part.Goals as goal
 
 pub slice_bounds-result-count : goal.slice_bounds-result-count
 slice_bounds-result-count c =
