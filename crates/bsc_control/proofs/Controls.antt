@@ -1,13 +1,14 @@
 -- A control station stays one.
 use Rattle.std.proofs.Common.{◌≡◌, ℕ, ◌+◌, ◌≤◌, ◌<◌, ◌==◌, ◌||◌, true, List, [], ◌∷◌, ◌++◌, length}
-use Rattle.std.proofs.Common.{drop, Option, refl, sym, subst, arith, length-drop, length-append}
+use Rattle.std.proofs.Common.{drop, Option, refl, sym, ◌∙◌, ap, subst, arith, length-drop}
+use Rattle.std.proofs.Common.{length-append}
 use Rattle.std.proofs.lemmas.List.{length-set}
 use Rattle.bsc_frame.specs.declared.message.Message.{Message}
 use Rattle.bsc_frame.specs.declared.message.Heard.{Heard}
 use Rattle.bsc_spool.specs.Queue.{QueueValue, waiting}
 use Rattle.bsc_bid.specs.declared.phase.Phase.{Phase}
 use Rattle.bsc_bid.specs.declared.phase.Phase.TheVariants.{Idle, Unanswered, Held, InDoubt}
-use Rattle.bsc_bid.specs.Ready.{IsGoing}
+use Rattle.bsc_bid.specs.Ready.{IsGoing, IsAtRest}
 use Rattle.bsc_bid.specs.Sender.{ReleaseStep, release_in}
 use Rattle.std.specs.Result.{OnOk, OnErr}
 use Rattle.std.specs.Prelude.{Result, Ok, Err}
@@ -19,7 +20,7 @@ use Rattle.bsc_control.specs.Control.{ControlValue, HasEntries, terminals, peer_
 use Rattle.bsc_control.specs.Kept.{IsOrderly, IsControl, Keeps, AfterHearing, AfterSilence}
 use Rattle.bsc_control.specs.Kept.{outbound_of}
 use Rattle.bsc_control.specs.Peer.{OutboundValue, PeerValue, IsOutbound, IsPeer, no_peer}
-use Rattle.bsc_control.specs.Peer.{with_outbound, offered, outbound_released}
+use Rattle.bsc_control.specs.Peer.{with_outbound, offered, sent_forgotten, outbound_released}
 use Rattle.bsc_control.specs.Table.{Hears, ActsOnSilence}
 use Rattle.bsc_directory.specs.Ways.{IsSelection, select_of}
 use Rattle.bsc_control.proofs.Noise.{noise_changes_nothing}
@@ -147,6 +148,23 @@ pub keeps_outbound_offer : {E : Type 0} (answer : Result (Unit {0}) E) (o x : Ou
 keeps_outbound_offer (Ok u) o x r ok err =
     subst (KeepsOutbound o) (sym ok) (keeps_outbound_offered o r)
 keeps_outbound_offer (Err e) o x r ok err = subst (KeepsOutbound o) (sym err) (outbound_keeps_itself o)
+
+-- the first records are forgotten, and the same records wait as before
+pub keeps_outbound_forget : (o x : OutboundValue) (count : ℕ) → x ≡ sent_forgotten o count
+    → waiting x.queue ≡ waiting o.queue → KeepsOutbound o x
+keeps_outbound_forget o x count is waits =
+    let phase : x.sender.phase ≡ o.sender.phase = ap (λ (y : OutboundValue). y.sender.phase) is in
+    record {
+      setup = ap (λ (y : OutboundValue). y.sender.setup) is;
+      format = ap (λ (y : OutboundValue). y.queue.format) is;
+      follows =
+          record {
+            rests = subst IsAtRest (sym phase);
+            goes = subst IsGoing (sym phase);
+            idle = λ h. phase ∙ h;
+            some = λ e h. subst (λ (rs : List (List ℕ)). 1 ≤ length rs) (sym waits) h;
+          };
+    }
 
 -- a release changes only a sending side in doubt
 abbrev pub after_release : ReleaseStep → OutboundValue

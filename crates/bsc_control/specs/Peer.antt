@@ -3,7 +3,7 @@ use Rattle.std.specs.Prelude.{◌≡◌, ℕ, Bool, false, not, nat_eq, List, []
 use Rattle.std.specs.Prelude.{slice_index_or, slice_set, replicate, map, All, if◌then◌else◌}
 use Rattle.std.specs.Prelude.{Option}
 use Rattle.bsc_frame.specs.declared.message.Heard.{Heard}
-use Rattle.bsc_spool.specs.Queue.{QueueValue, waiting}
+use Rattle.bsc_spool.specs.Queue.{QueueValue, waiting, with_forgotten}
 use Rattle.bsc_spool.specs.Spool.{SpoolValue}
 use Rattle.bsc_bid.specs.declared.phase.Phase.TheVariants.{Idle}
 use Rattle.bsc_frame.specs.declared.reply.Reply.{Reply}
@@ -107,6 +107,13 @@ offered o r = record o { queue = record o.queue { offered = o.queue.offered ++ r
 
 abbrev pub offered_to : PeerValue → ℕ → List ℕ → PeerValue
 offered_to p s r = with_outbound p s (offered (outbound_at p s) r)
+
+-- the first records that were offered for a selection address are forgotten, this many
+abbrev pub sent_forgotten : OutboundValue → ℕ → OutboundValue
+sent_forgotten o count = record o { queue = with_forgotten o.queue count }
+
+abbrev pub forgotten_to : PeerValue → ℕ → ℕ → PeerValue
+forgotten_to p s count = with_outbound p s (sent_forgotten (outbound_at p s) count)
 
 -- records wait, and the sender is not in doubt
 abbrev pub is_selectable : OutboundValue → Bool

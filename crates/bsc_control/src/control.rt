@@ -10,8 +10,9 @@ ghost use Rattle.bsc_control.specs.Control.{restarted};
 ghost use Rattle.bsc_control.specs.Kept.{IsControl, IsNewControl, outbound_of};
 ghost use Rattle.bsc_directory.specs.Refusals.{IsAccepted, IsRefused};
 ghost use Rattle.bsc_control.specs.Peer.{with_outbound, outbound_released, offered_to};
+ghost use Rattle.bsc_control.specs.Peer.{forgotten_to};
 ghost use Rattle.bsc_directory.specs.Ways.{IsSelection, select_of};
-ghost use Rattle.bsc_spool.specs.Spool.{GainsRecord};
+ghost use Rattle.bsc_spool.specs.Spool.{GainsRecord, ForgetsRecords};
 ghost use Rattle.bsc_bid.specs.Stored.{FitsOffered};
 ghost use Rattle.bsc_control.specs.Stored.{kept_of_side, recalled_during, answer_during};
 
@@ -171,6 +172,25 @@ impl<A: Allocator> Control<A> {
         outbound.offer(record)
     }
 
+    /// Forgets the first records that the station has sent to a selection address of a terminal,
+    /// this many. Their places stay, and what the station does on the line is the same as if they
+    /// were not forgotten. No memory is allocated. Condition: the address exists, and at most as
+    /// many as are known to have arrived.
+    pub fn forget_sent(&mut self, terminal: usize, select: usize, count: usize)
+        requires terminal { terminal < length self.old.peers }
+        requires select { select < length (peer_at self.old terminal).outbounds }
+        requires count { count ≤ (outbound_of self.old terminal select).queue.known }
+        ensures state { self.new
+            ≡ with_peer self.old terminal
+            (forgotten_to (peer_at self.old terminal) select count) }
+        ensures control { IsControl self.new }
+    {
+        let procedure = &mut self.procedure;
+        let peer = &mut procedure.peers[terminal];
+        let outbound = &mut peer.outbounds[select];
+        outbound.forget(count);
+    }
+
     /// Asks a terminal for the line: the next text taken from it is answered by a reverse
     /// interrupt, unless the last reply was one too. A new selection of the terminal clears the
     /// request. Condition: the terminal exists. (GA27-3004: reverse interrupt.)
@@ -264,6 +284,22 @@ impl<A: Allocator> Control<A> {
         let procedure = &mut self.procedure;
         let peer = &mut procedure.peers[terminal];
         peer.spool.keep(record)
+    }
+
+    /// Forgets the first records that arrived from a terminal, this many. Their places stay. No
+    /// memory is allocated. Condition: the terminal exists, and at most as many as arrived from it.
+    pub fn forget_arrived(&mut self, terminal: usize, count: usize)
+        requires terminal { terminal < length self.old.peers }
+        requires count { count ≤ length (peer_at self.old terminal).spool.records }
+        ensures forgets { ForgetsRecords (peer_at self.old terminal).spool count
+            (peer_at self.new terminal).spool }
+        ensures others { self.new ≡ with_peer self.old terminal
+            (record (peer_at self.old terminal) { spool = (peer_at self.new terminal).spool }) }
+        ensures control { IsControl self.new }
+    {
+        let procedure = &mut self.procedure;
+        let peer = &mut procedure.peers[terminal];
+        peer.spool.forget(count);
     }
 
     /// Recalls what was kept of the sending side of a selection address, once the records that had

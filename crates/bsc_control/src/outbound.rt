@@ -8,6 +8,7 @@ ghost use Rattle.bsc_frame.specs.Replies.{reply_in};
 ghost use Rattle.bsc_bid.specs.Sender.{begin_step, reply_step, silence_step, release_step};
 ghost use Rattle.bsc_control.specs.Peer.{OutboundValue, IsOutbound, outbound_after, new_outbound};
 ghost use Rattle.bsc_control.specs.Peer.{outbound_released, restarted_outbound, is_selectable};
+ghost use Rattle.bsc_control.specs.Peer.{sent_forgotten};
 ghost use Rattle.bsc_bid.specs.Ready.{IsAtRest};
 ghost use Rattle.bsc_bid.specs.Stored.{FitsOffered};
 ghost use Rattle.bsc_control.specs.Stored.{kept_of_side, outbound_recalled, outbound_answer};
@@ -16,6 +17,7 @@ use bsc_bid::{KeptSender, Outcome, RecallError, ReleaseError, Sender, Setup};
 use bsc_block::Record;
 use bsc_frame::{Heard, MessageBuffer};
 use bsc_spool::Queue;
+use bsc_spool::laws::next_blocks;
 use std::alloc::Allocator;
 use std::marker::Model;
 
@@ -114,6 +116,18 @@ impl<A: Allocator> Outbound<A> {
         ensures outbound { IsOutbound self.new }
     {
         self.queue.offer(record)
+    }
+
+    /// Forgets the first records, this many, at most as many as are known to have arrived.
+    pub(crate) fn forget(&mut self, count: usize)
+        requires { count ≤ self.old.queue.known }
+        ensures state { self.new ≡ sent_forgotten self.old count }
+        ensures waits { waiting self.new.queue ≡ waiting self.old.queue }
+        ensures outbound { IsOutbound self.new }
+    {
+        // That the same records wait as before is a law of queues.
+        next_blocks();
+        self.queue.forget(count);
     }
 
     /// Ends the doubt: the other end has `count` records.

@@ -3,7 +3,7 @@
 ghost use Rattle.std.specs.Prelude.{◌≡◌, ◌<◌, ◌≤◌, [], true, length, slice_set, All};
 ghost use Rattle.std.specs.Prelude.{OnOk, OnErr, IfErr};
 ghost use Rattle.bsc_bid.specs.Receiver.{Receives};
-ghost use Rattle.bsc_spool.specs.Spool.{room_asked, GainsRecord};
+ghost use Rattle.bsc_spool.specs.Spool.{room_asked, GainsRecord, ForgetsRecords};
 ghost use Rattle.bsc_tributary.specs.Tributary.{spool_at};
 
 use bsc_bid::Receiver;
@@ -110,6 +110,23 @@ impl<A: Allocator> Spools<A> {
             1 => self.second.keep(record),
             2 => self.third.keep(record),
             _ => self.fourth.keep(record),
+        }
+    }
+
+    /// Forgets the first records of the spool of this number, this many. Condition: the spool is in
+    /// use, and has as many records.
+    pub(crate) fn forget(&mut self, select: usize, count: usize)
+        requires select { select < length self.old }
+        requires count { count ≤ length (spool_at self.old select).records }
+        ensures forgets { ForgetsRecords (spool_at self.old select) count
+            (spool_at self.new select) }
+        ensures spools { self.new ≡ slice_set self.old select (spool_at self.new select) }
+    {
+        match select {
+            0 => self.first.forget(count),
+            1 => self.second.forget(count),
+            2 => self.third.forget(count),
+            _ => self.fourth.forget(count),
         }
     }
 

@@ -2,8 +2,8 @@
 
 ghost use Rattle.std.specs.Prelude.{IsTrue, ◌≡◌, ◌≤◌, ◌<◌, true, false, if◌then◌else◌, None};
 ghost use Rattle.std.specs.Prelude.{length, OnOk, OnErr, IfErr, option_map, slice_set};
-ghost use Rattle.bsc_spool.specs.Queue.{with_offered};
-ghost use Rattle.bsc_spool.specs.Spool.{GainsRecord};
+ghost use Rattle.bsc_spool.specs.Queue.{with_offered, with_forgotten};
+ghost use Rattle.bsc_spool.specs.Spool.{GainsRecord, ForgetsRecords};
 ghost use Rattle.bsc_frame.specs.declared.message.Message.TheVariants as m;
 ghost use Rattle.bsc_bid.specs.Receiver.{sends_interrupt};
 ghost use Rattle.bsc_bid.specs.Terminal.{HasDistinctAddresses};
@@ -24,6 +24,7 @@ use bsc_bid::{
 };
 use bsc_block::Record;
 use bsc_frame::{Address, Heard, Message, MessageBuffer, Reply};
+use bsc_spool::laws::next_blocks;
 use bsc_spool::{Queue, Spool};
 use std::alloc::Allocator;
 use std::marker::Model;
@@ -103,6 +104,20 @@ impl<A: Allocator> Tributary<A> {
         ensures same { KeepsSetupAndMode self.old self.new }
     {
         self.queue.offer(record)
+    }
+
+    /// Forgets the first records that the terminal has sent, this many. Their places stay, and what
+    /// the terminal does on the line is the same as if they were not forgotten. No memory is
+    /// allocated. Condition: at most as many as are known to have arrived.
+    pub fn forget_sent(&mut self, count: usize)
+        requires { count ≤ self.old.queue.known }
+        ensures state { self.new
+            ≡ record self.old { queue = with_forgotten self.old.queue count } }
+        ensures same { KeepsSetupAndMode self.old self.new }
+    {
+        // That the same records wait as before is a law of queues.
+        next_blocks();
+        self.queue.forget(count);
     }
 
     /// Sets whether the terminal accepts selections; if it is not ready, it answers them by NAK. A
@@ -197,6 +212,22 @@ impl<A: Allocator> Tributary<A> {
         ensures same { KeepsSetupAndMode self.old self.new }
     {
         self.spools.keep(select, record)
+    }
+
+    /// Forgets the first records that arrived for the selection address of this number, counted
+    /// from 0, this many. Their places stay. No memory is allocated. Condition: the terminal has
+    /// such an address, and at most as many as arrived for it.
+    pub fn forget_arrived(&mut self, select: usize, count: usize)
+        requires address { select < length self.old.terminal.selects }
+        requires count { count ≤ length (spool_at self.old.spools select).records }
+        ensures forgets { ForgetsRecords (spool_at self.old.spools select) count
+            (spool_at self.new.spools select) }
+        ensures others { self.new ≡ record self.old {
+          spools = slice_set self.old.spools select (spool_at self.new.spools select);
+        } }
+        ensures same { KeepsSetupAndMode self.old self.new }
+    {
+        self.spools.forget(select, count);
     }
 
     /// Recalls what was kept, once the records that had been offered are offered again: how many of

@@ -1,6 +1,7 @@
 //! Tests of a control station by itself.
 
 mod exchange;
+mod forgetting;
 mod made_again;
 
 use crate::control::exchange::Step::{

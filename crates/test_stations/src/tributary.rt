@@ -1,6 +1,7 @@
 //! Tests of a terminal by itself.
 
 mod exchange;
+mod forgetting;
 mod made_again;
 
 ghost use Rattle.std.specs.Prelude.{◌≡◌};

@@ -12,8 +12,8 @@ use std::alloc::Allocator;
 use test_fixtures::lines::two_terminals_by_three;
 use test_fixtures::records::are_records;
 
-/// A step of an exchange. Releases, known records, and what is kept and recalled are those of the
-/// first selection address of terminal 0.
+/// A step of an exchange. Releases, known records, the records offered and forgotten, and what is
+/// kept and recalled are those of the first selection address of terminal 0.
 pub(crate) enum Step<'a> {
     /// The station hears the first octets, or a silence if there are none, and sends the second, or
     /// nothing.
@@ -44,7 +44,16 @@ pub(crate) enum Step<'a> {
     /// The number of records known to have arrived, and whether the last block is in doubt.
     Known(usize, bool),
 
-    /// Exactly these records arrived from terminal 0.
+    /// The first records that were sent are forgotten, this many.
+    ForgetsSent(usize),
+
+    /// The first records that arrived from terminal 0 are forgotten, this many.
+    ForgetsArrived(usize),
+
+    /// Exactly these records were offered; those that are forgotten are empty.
+    Offered(&'a [&'a [u8]]),
+
+    /// Exactly these records arrived from terminal 0; those that are forgotten are empty.
     Spooled(&'a [&'a [u8]]),
 
     /// The present entry of the poll list, and the failures of the present call.
@@ -181,6 +190,32 @@ fn known<A: Allocator>(control: &Control<A>) -> Option<(usize, bool)> {
     Some((known, control.in_doubt(0, Way::ToTerminal(0))))
 }
 
+/// Forgets the first records that were sent to the first selection address of terminal 0, this
+/// many. Returns whether there is such an address and as many are known to have arrived; else
+/// nothing is forgotten.
+fn forgets_sent<A: Allocator>(control: &mut Control<A>, count: usize) -> bool {
+    if !has_address(control, 0, 0) || count > control.queue(0, 0).known() {
+        return false;
+    }
+    control.forget_sent(0, 0, count);
+    true
+}
+
+/// Forgets the first records that arrived from terminal 0, this many. Returns whether there is a
+/// terminal and as many arrived; else nothing is forgotten.
+fn forgets_arrived<A: Allocator>(control: &mut Control<A>, count: usize) -> bool {
+    if control.terminals() == 0 || count > control.spool(0).records().len() {
+        return false;
+    }
+    control.forget_arrived(0, count);
+    true
+}
+
+/// Whether exactly these records were offered for the first selection address of terminal 0.
+fn has_offered<A: Allocator>(control: &Control<A>, records: &[&[u8]]) -> bool {
+    has_address(control, 0, 0) && are_records(control.queue(0, 0).offered(), records)
+}
+
 /// Whether exactly these records arrived from terminal 0.
 fn has_spooled<A: Allocator>(control: &Control<A>, records: &[&[u8]]) -> bool {
     control.terminals() > 0 && are_records(control.spool(0).records(), records)
@@ -216,6 +251,9 @@ fn goes<A: Allocator>(control: &mut Control<A>, step: &Step<'_>) -> bool {
         Step::AsksForLine(terminal) => asks_for_line(control, *terminal),
         Step::Release(count, answer) => released(control, *count) == Some(*answer),
         Step::Known(count, in_doubt) => known(control) == Some((*count, *in_doubt)),
+        Step::ForgetsSent(count) => forgets_sent(control, *count),
+        Step::ForgetsArrived(count) => forgets_arrived(control, *count),
+        Step::Offered(records) => has_offered(control, records),
         Step::Spooled(records) => has_spooled(control, records),
         Step::At(place, failures) => control.place() == *place && control.failures() == *failures,
         Step::Polls => {

@@ -47,7 +47,18 @@ pub(crate) enum Step<'a> {
     /// The number of its records known to have arrived, and whether its last block is in doubt.
     Known(usize, bool),
 
-    /// Exactly these records arrived at the selection address of this number.
+    /// The first records that it sent are forgotten, this many.
+    ForgetsSent(usize),
+
+    /// The first records that arrived at the selection address of this number are forgotten: the
+    /// second number of them.
+    ForgetsArrived(usize, usize),
+
+    /// Exactly these records were offered; those that are forgotten are empty.
+    Offered(&'a [&'a [u8]]),
+
+    /// Exactly these records arrived at the selection address of this number; those that are
+    /// forgotten are empty.
     Spooled(usize, &'a [&'a [u8]]),
 }
 
@@ -126,6 +137,34 @@ fn takes<A: Allocator>(tributary: &mut Tributary<A>, records: &[&[u8]]) -> bool
     true
 }
 
+/// Forgets the first records that the terminal sent, this many. Returns whether as many are known
+/// to have arrived; else nothing is forgotten.
+fn forgets_sent<A: Allocator>(tributary: &mut Tributary<A>, count: usize) -> bool
+    requires { tributary.old.queue.format.full ≡ 80 }
+    ensures terminal { tributary.new.terminal ≡ tributary.old.terminal }
+    ensures full { tributary.new.queue.format.full ≡ 80 }
+{
+    if count > tributary.queue().known() {
+        return false;
+    }
+    tributary.forget_sent(count);
+    true
+}
+
+/// Forgets the first records that arrived at the selection address of this number: `count` of them.
+/// Returns whether there is such an address and as many arrived; else nothing is forgotten.
+fn forgets_arrived<A: Allocator>(tributary: &mut Tributary<A>, select: usize, count: usize) -> bool
+    requires { length tributary.old.terminal.selects ≡ 2 }
+    ensures terminal { tributary.new.terminal ≡ tributary.old.terminal }
+    ensures queue { tributary.new.queue ≡ tributary.old.queue }
+{
+    if select > 1 || count > tributary.spool(select).records().len() {
+        return false;
+    }
+    tributary.forget_arrived(select, count);
+    true
+}
+
 /// Whether exactly these records arrived at the selection address of this number, 0 or 1.
 fn has_spooled<A: Allocator>(tributary: &Tributary<A>, select: usize, records: &[&[u8]]) -> bool
     requires { length tributary.now.terminal.selects ≡ 2 }
@@ -166,6 +205,9 @@ fn goes<A: Allocator>(tributary: &mut Tributary<A>, step: &Step<'_>) -> bool
         Step::Known(known, in_doubt) => {
             (tributary.queue().known(), tributary.in_doubt()) == (*known, *in_doubt)
         }
+        Step::ForgetsSent(count) => forgets_sent(tributary, *count),
+        Step::ForgetsArrived(select, count) => forgets_arrived(tributary, *select, *count),
+        Step::Offered(records) => are_records(tributary.queue().offered(), records),
         Step::Spooled(select, records) => has_spooled(tributary, *select, records),
     }
 }

@@ -1,0 +1,103 @@
+//! A control station that forgets records: what it sends and what it knows of its records stay the
+//! same.
+
+use crate::control::exchange::Step::{
+    ForgetsArrived, ForgetsSent, Hears, KeepsHi, Kept, Known, Offered, Release, Spooled, Takes,
+};
+use crate::control::exchange::{Exchange, play_each};
+use crate::control::made_again::stop_each;
+use crate::control::{EMPTY, HI};
+use crate::hearing::SILENCE;
+use std::test::Fail;
+use test_fixtures::lines::setup;
+use test_fixtures::octets::{
+    ACK0, ACK1, CALL_POLL_A, CALL_POLL_B, CALL_SELECT_A, ENQ, EOT, TEXT_EMPTY, TEXT_FIRST_SEVEN,
+    TEXT_HI, WACK,
+};
+
+/// Records are forgotten during each task.
+const FORGETS: &[Exchange<'static>] = &[
+    Exchange {
+        shows: "records are forgotten, and the next ones are sent and taken as before",
+        poll_list: &[0, 1],
+        steps: &[
+            Takes(0, 0, &[b"HI"]),
+            ForgetsSent(0),
+            Hears(SILENCE, CALL_SELECT_A),
+            Hears(ACK0, TEXT_HI),
+            Hears(ACK1, CALL_POLL_A),
+            Offered(&[HI]),
+            ForgetsSent(1),
+            Known(1, false),
+            Offered(&[EMPTY]),
+            Hears(TEXT_HI, ACK1),
+            ForgetsArrived(1),
+            Spooled(&[EMPTY]),
+            Hears(TEXT_HI, ACK0),
+            Spooled(&[EMPTY, HI]),
+            Hears(EOT, CALL_POLL_B),
+            Takes(0, 0, &[b"HI"]),
+            Hears(EOT, CALL_SELECT_A),
+            ForgetsSent(1),
+            Hears(ACK0, TEXT_HI),
+            ForgetsArrived(2),
+            Hears(ACK1, CALL_POLL_A),
+            Kept(2, None),
+            Offered(&[EMPTY, HI]),
+            KeepsHi(true),
+            Spooled(&[EMPTY, EMPTY, HI]),
+        ],
+    },
+    Exchange {
+        shows: "records are forgotten during a bid",
+        poll_list: &[0, 1],
+        steps: &[
+            Takes(0, 0, &[EMPTY; 8]),
+            Hears(SILENCE, CALL_SELECT_A),
+            Hears(ACK0, TEXT_FIRST_SEVEN),
+            Hears(ACK1, TEXT_EMPTY),
+            ForgetsSent(7),
+            Kept(7, Some(1)),
+            Hears(WACK, ENQ),
+            ForgetsSent(8),
+            Hears(ACK0, CALL_POLL_A),
+            Known(8, false),
+            Offered(&[EMPTY; 8]),
+        ],
+    },
+    Exchange {
+        shows: "a doubt stays when the records before it are forgotten",
+        poll_list: &[0, 1],
+        steps: &[
+            Takes(0, 0, &[b"HI"]),
+            Hears(SILENCE, CALL_SELECT_A),
+            Hears(ACK0, TEXT_HI),
+            Hears(ACK1, CALL_POLL_A),
+            Takes(0, 0, &[b"HI"]),
+            Hears(EOT, CALL_POLL_B),
+            Hears(EOT, CALL_SELECT_A),
+            Hears(ACK0, TEXT_HI),
+            Hears(SILENCE, ENQ),
+            Hears(SILENCE, ENQ),
+            Hears(SILENCE, ENQ),
+            Hears(SILENCE, CALL_POLL_A),
+            ForgetsSent(1),
+            Known(1, true),
+            Release(2, Ok(())),
+            Known(2, false),
+            Offered(&[EMPTY, HI]),
+        ],
+    },
+];
+
+#[test]
+fn a_control_station_forgets_records(rt: HostRuntime) -> Result<(), Fail> {
+    play_each(rt.alloc(), setup(3)?, FORGETS)?;
+    Ok(())
+}
+
+#[test]
+fn a_control_station_that_forgot_records_is_made_again(rt: HostRuntime) -> Result<(), Fail> {
+    stop_each(rt.alloc(), setup(3)?, FORGETS)?;
+    Ok(())
+}
