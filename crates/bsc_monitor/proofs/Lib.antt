@@ -2,5 +2,6 @@ pub mod Firsts
 pub mod Offered
 pub mod Counts
 pub mod Followed
+pub mod Forgotten
 mod Sending
 mod Lines

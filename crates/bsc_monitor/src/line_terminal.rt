@@ -3,8 +3,8 @@
 ghost use Rattle.std.specs.Prelude.{◌≡◌, ◌≤◌, ◌<◌, length, true, IfErr, OnErr, OnOk};
 ghost use Rattle.bsc_monitor.specs.Ends.{IsWay};
 ghost use Rattle.bsc_monitor.specs.LineTerminal.{line_terminal_of, with_own_queue, with_spool};
-ghost use Rattle.bsc_spool.specs.Queue.{with_offered};
-ghost use Rattle.bsc_spool.specs.Spool.{GainsRecord};
+ghost use Rattle.bsc_spool.specs.Queue.{with_forgotten, with_offered};
+ghost use Rattle.bsc_spool.specs.Spool.{ForgetsRecords, GainsRecord};
 ghost use Rattle.bsc_bid.specs.Sender.{release_step};
 ghost use Rattle.bsc_bid.specs.Stored.{kept_of, recall_step};
 ghost use Rattle.bsc_bid.specs.Terminal.{HasDistinctAddresses};
@@ -18,6 +18,7 @@ use bsc_bid::{KeptSender, RecallError, ReleaseError, Setup, Station, Terminal};
 use bsc_block::{Format, Record};
 use bsc_control::Way;
 use bsc_frame::{Heard, MessageBuffer};
+use bsc_spool::Queue;
 use bsc_tributary::Tributary;
 use std::alloc::Allocator;
 use std::marker::Model;
@@ -155,6 +156,38 @@ impl<A: Allocator> LineTerminal<A> {
             (spool_at self.new.tributary.spools select) }
     {
         self.tributary.keep_arrived(select, record)
+    }
+
+    /// Forgets the first records that the terminal has sent, this many, at most as many as are
+    /// known to have arrived, as [`Tributary::forget_sent`] does.
+    pub(crate) fn forget_sent(&mut self, count: usize)
+        requires { count ≤ self.old.tributary.queue.known }
+        ensures { self.new
+            ≡ with_own_queue self.old (with_forgotten self.old.tributary.queue count) }
+    {
+        self.tributary.forget_sent(count);
+    }
+
+    /// Forgets the first records that arrived for the selection address of this number, counted
+    /// from 0, this many, at most as many as have arrived. The terminal must have the address.
+    pub(crate) fn forget_arrived(&mut self, select: usize, count: usize)
+        requires address { select < length self.old.tributary.terminal.selects }
+        requires count { count ≤ length (spool_at self.old.tributary.spools select).records }
+        ensures forgets { ForgetsRecords (spool_at self.old.tributary.spools select) count
+            (spool_at self.new.tributary.spools select) }
+        ensures others { self.new ≡ with_spool self.old select
+            (spool_at self.new.tributary.spools select) }
+    {
+        self.tributary.forget_arrived(select, count);
+    }
+
+    /// Returns the records that it has to send, and how many of them are known to have arrived.
+    pub(crate) fn queue(&self) -> &Queue<A>
+        ensures { result.now ≡ self.now.tributary.queue }
+    {
+        // Reading a field makes the invariant known here.
+        let _ = &self.terminal;
+        self.tributary.queue()
     }
 
     /// Recalls what was kept, once the records that had been offered are offered again. The errors

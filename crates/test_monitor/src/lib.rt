@@ -16,6 +16,8 @@ mod beginning;
 #[cfg(test)]
 mod fakes;
 #[cfg(test)]
+mod forgetting;
+#[cfg(test)]
 mod growths;
 #[cfg(test)]
 mod happenings;
