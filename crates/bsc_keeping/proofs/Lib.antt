@@ -6,3 +6,4 @@ mod Filled
 mod Throughout
 mod AllKept
 mod OffersKept
+mod ForgottenKept

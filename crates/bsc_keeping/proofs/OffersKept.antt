@@ -20,7 +20,7 @@ use Rattle.bsc_keeping.specs.OffersKept.{control_with}
 use Rattle.bsc_keeping.specs.declared.keeper.Keeper.{Keeper}
 
 -- An element is replaced by one that f cannot tell from it: f of each place is as it was.
-same_at : {X Y : Type 0} (f : X → Y) (xs : List X) (i n : ℕ) (x d : X)
+pub same_at : {X Y : Type 0} (f : X → Y) (xs : List X) (i n : ℕ) (x d : X)
     → f x ≡ f (get_or xs i d) → f (get_or (slice_set xs i x) n d) ≡ f (get_or xs n d)
 same_at f [] i n x d e = refl
 same_at f (y ∷ ys) zero zero x d e = e
@@ -35,7 +35,7 @@ same_side p select s chars =
     same_at kept_of_side p.outbounds select s (offered (outbound_at p select) chars) no_outbound
     refl
 
-same_where : (t s a b l m : ℕ) (k j : KeptSender) → a ≡ b → l ≡ m → k ≡ j
+pub same_where : (t s a b l m : ℕ) (k j : KeptSender) → a ≡ b → l ≡ m → k ≡ j
     → (if nat_lt t a && nat_lt s l then Some k else None)
     ≡ (if nat_lt t b && nat_lt s m then Some j else None)
 same_where t s a b l m k j terminals addresses kept = rw terminals (rw addresses (rw kept refl))
@@ -71,8 +71,8 @@ module _ {S M K Z : Type 0} (party : party_of.Ghosts S Z)
     (kept_at : S → ℕ → ℕ → Option KeptSender) (store : store_of.Ghosts K)
     (printed : M → ℕ → Option ℕ) (old new : S)
     (kept : (t s : ℕ) → kept_at new t s ≡ kept_at old t s)
-    (arrived : (n : ℕ)
-    → records_of party new (λ _. None) n ≡ records_of party old (λ _. None) n) where
+    (arrived : (n : ℕ) → length (records_of party new (λ _. None) n)
+    ≡ length (records_of party old (λ _. None) n)) where
   same_sending : (ends : List Sending) → sending_now kept_at new ends ≡ sending_now kept_at old ends
   same_sending [] = refl
   same_sending (end ∷ ends) =
@@ -86,7 +86,7 @@ module _ {S M K Z : Type 0} (party : party_of.Ghosts S Z)
       → AllByRecursion (HasArrived party kept_at store printed new) ends
   same_arrived [] all = tt
   same_arrived (end ∷ ends) (first, rest) = (
-    subst (λ (l : List (List ℕ)). length l ≤ end.arrived) (sym (arrived end.number)) first,
+    subst (λ (count : ℕ). count ≤ end.arrived) (sym (arrived end.number)) first,
     same_arrived ends rest,
   )
 

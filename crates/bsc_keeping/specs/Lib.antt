@@ -8,3 +8,4 @@ pub mod OffersKept
 pub mod Filling
 pub mod OwnText
 pub mod Own
+pub mod ForgottenKept

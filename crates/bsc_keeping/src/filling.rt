@@ -1,15 +1,16 @@
 //! A station that is made again from what is kept.
 
-ghost use Rattle.std.specs.Prelude.{◌≡◌, ◌≤◌, ◌<◌, ℕ, length, IfOk};
+ghost use Rattle.std.specs.Prelude.{◌≡◌, ◌≤◌, ◌<◌, [], ℕ, length, IfOk};
 ghost use Rattle.bsc_keeping.specs.Filling.{apart_from_kept};
 ghost use Rattle.bsc_control.specs.Stored.{apart_from_records};
 
+use crate::changes::record_of;
 use crate::{Keeper, Own};
 use bsc_bid::KeptSender;
 use bsc_block::Record;
 use bsc_control::Control;
 use bsc_kept::{Progress, Receiving, Sending, Store, StoreFault};
-use bsc_monitor::{LineTerminal, Party};
+use bsc_monitor::{Forgets, LineTerminal, Party};
 use std::alloc::{Allocator, Global};
 
 /// A new station that is made again: it takes the records that are kept, and recalls what is kept
@@ -37,6 +38,15 @@ pub(crate) trait Fills {
 
     /// Adds a record that had arrived on the channel with this number.
     fn add_arrived(&mut self, number: usize, record: Record) -> Result<(), StoreFault>
+        ensures { fills self.old self.new };
+
+    /// Forgets the first records that had arrived on the channel with this number, at most this
+    /// many, if they are many.
+    fn forget_added(&mut self, number: usize, count: usize)
+        ensures { fills self.old self.new };
+
+    /// Forgets the records that are known to have arrived, of each channel that has many of them.
+    fn forget_recalled(&mut self)
         ensures { fills self.old self.new };
 
     /// Recalls what is kept of a channel, once its records are offered again.
@@ -88,6 +98,14 @@ impl<A: Allocator> Fills for Control<A> {
             Ok(()) => Ok(()),
             Err(_) => Err(StoreFault::OutOfMemory),
         }
+    }
+
+    fn forget_added(&mut self, number: usize, count: usize) {
+        self.forget_first(number, count);
+    }
+
+    fn forget_recalled(&mut self) {
+        self.forget_known();
     }
 
     fn recall_kept(
@@ -144,6 +162,14 @@ impl<A: Allocator> Fills for LineTerminal<A> {
         }
     }
 
+    fn forget_added(&mut self, number: usize, count: usize) {
+        self.forget_first(number, count);
+    }
+
+    fn forget_recalled(&mut self) {
+        self.forget_known();
+    }
+
     fn recall_kept(
         &mut self,
         _terminal: usize,
@@ -172,19 +198,45 @@ fn kept_in(progress: &Progress) -> KeptSender {
     }
 }
 
-/// Offers the next record of a channel again, and returns its mark.
+/// Returns the empty record, which stands for one whose characters the station does not need.
+fn empty() -> Result<Record, StoreFault>
+    ensures { IfOk result (λ it. it ≡ []) }
+{
+    record_of(&[])
+}
+
+/// Offers this many empty records on a channel.
+fn offer_empty<P: Fills>(
+    station: &mut P,
+    full: u8,
+    end: &Sending,
+    count: u32,
+) -> Result<(), StoreFault>
+    requires { P.takes station.old ≡ full }
+    ensures fills { P.fills station.old station.new }
+    ensures takes { P.takes station.new ≡ full }
+{
+    'records: for _ in 0..count {
+        station.offer_again(end.terminal, end.select, empty()?)?;
+    }
+    Ok(())
+}
+
+/// Offers the record of a channel again that follows `more` others after this mark, and returns its
+/// own mark.
 fn offer_next<P: Fills, K: Store>(
     station: &mut P,
     full: u8,
     store: &mut K,
     end: &Sending,
     mark: i64,
+    more: u32,
 ) -> Result<i64, StoreFault>
     requires { P.takes station.old ≡ full }
     ensures fills { P.fills station.old station.new }
     ensures takes { P.takes station.new ≡ full }
 {
-    let Some(found) = store.offered(&end.channel, mark, 0)? else {
+    let Some(found) = store.offered(&end.channel, mark, more)? else {
         return Err(StoreFault::Damaged);
     };
     if found.record.chars().len() > usize::from(full) {
@@ -194,7 +246,8 @@ fn offer_next<P: Fills, K: Store>(
     Ok(found.mark)
 }
 
-/// Offers the records of a channel again.
+/// Offers the records of a channel again. Those that are known to have arrived are not sent again,
+/// so an empty record stands for each.
 fn offer_all<P: Fills, K: Store>(
     station: &mut P,
     full: u8,
@@ -206,41 +259,68 @@ fn offer_all<P: Fills, K: Store>(
     ensures takes { P.takes station.new ≡ full }
 {
     let progress = store.progress(&end.channel)?;
-    let mut mark = 0;
-    'records: for _ in 0..progress.offered {
-        mark = offer_next(station, full, store, end, mark)?;
+    if progress.known > progress.offered {
+        return Err(StoreFault::Damaged);
+    }
+    offer_empty(station, full, end, progress.known)?;
+    let (mut mark, mut more) = (0, progress.known);
+    'records: for _ in progress.known..progress.offered {
+        mark = offer_next(station, full, store, end, mark, more)?;
+        more = 0;
     }
     Ok(())
 }
 
-/// Adds the next record that arrived on a channel, and returns its mark.
+/// Adds this many empty records to those that arrived on the channel with this number, and forgets
+/// them.
+fn add_forgotten<P: Fills>(station: &mut P, number: usize, count: u32) -> Result<(), StoreFault>
+    ensures { P.fills station.old station.new }
+{
+    'records: for place in 0..count {
+        station.add_arrived(number, empty()?)?;
+        station.forget_added(number, place as usize + 1);
+    }
+    Ok(())
+}
+
+/// Adds the record that arrived on a channel and follows `more` others after this mark, and returns
+/// its own mark.
 fn add_next<P: Fills, K: Store>(
     station: &mut P,
     store: &mut K,
     end: &Receiving,
     mark: i64,
+    more: u32,
 ) -> Result<i64, StoreFault>
     ensures { P.fills station.old station.new }
 {
-    let Some(found) = store.arrived(&end.channel, mark, 0)? else {
+    let Some(found) = store.arrived(&end.channel, mark, more)? else {
         return Err(StoreFault::Damaged);
     };
     station.add_arrived(end.number, found.record)?;
     Ok(found.mark)
 }
 
-/// Adds the records that arrived on a channel.
+/// Adds the records that arrived on a channel. If the station forgets those that it has printed,
+/// the ones that were are forgotten already.
 fn add_all<P: Fills, K: Store>(
     station: &mut P,
     store: &mut K,
     end: &mut Receiving,
+    forgets_printed: bool,
 ) -> Result<(), StoreFault>
     ensures { P.fills station.old station.new }
 {
     let progress = store.progress(&end.channel)?;
-    let mut mark = 0;
-    'records: for _ in 0..progress.arrived {
-        mark = add_next(station, store, end, mark)?;
+    if progress.printed > progress.arrived {
+        return Err(StoreFault::Damaged);
+    }
+    let printed = if forgets_printed { progress.printed } else { 0 };
+    add_forgotten(station, end.number, printed)?;
+    let (mut mark, mut more) = (0, printed);
+    'records: for _ in printed..progress.arrived {
+        mark = add_next(station, store, end, mark, more)?;
+        more = 0;
     }
     end.arrived = progress.arrived as usize;
     end.printed = progress.printed as usize;
@@ -283,11 +363,12 @@ fn add_for_all<P: Fills, K: Store>(
     station: &mut P,
     store: &mut K,
     ends: &mut [Receiving],
+    forgets_printed: bool,
 ) -> Result<(), StoreFault>
     ensures { P.fills station.old station.new }
 {
     'ends: for end in ends.iter_mut() {
-        add_all(station, store, end)?;
+        add_all(station, store, end, forgets_printed)?;
     }
     Ok(())
 }
@@ -315,18 +396,22 @@ fn fill<P: Fills, K: Store + Drop>(
     mut store: K,
     mut sending: Vec<Sending>,
     mut receiving: Vec<Receiving>,
+    forgets_printed: bool,
 ) -> Result<Keeper<K>, StoreFault>
     requires { P.takes station.old ≡ full }
     ensures { P.fills station.old station.new }
 {
     offer_for_all(station, full, &mut store, &sending)?;
-    add_for_all(station, &mut store, &mut receiving)?;
+    add_for_all(station, &mut store, &mut receiving, forgets_printed)?;
     recall_all(station, &mut store, &mut sending)?;
+    station.forget_recalled();
     Ok(Keeper::new(alloc, store, sending, receiving))
 }
 
 /// Fills a new control station with what its store has, and returns what keeps its records from
-/// then on. Nothing of the station changes but its records and what is known of them. Fails with
+/// then on. Nothing of the station changes but its records and what is known of them. Of a record
+/// that is known to have arrived only the place is filled, and so it is of one that was printed, if
+/// the station forgets those. Fails with
 /// `Damaged` if what is kept does not fit the station, with `OutOfMemory`, or with a fault of the
 /// store; the station is then to be dropped.
 pub fn begin_control<A: Allocator, K: Store + Drop>(
@@ -334,11 +419,25 @@ pub fn begin_control<A: Allocator, K: Store + Drop>(
     control: &mut Control<A>,
     own: Own,
     store: K,
+    forgets_printed: bool,
 ) -> Result<Keeper<K>, StoreFault>
     ensures { apart_from_records control.new ≡ apart_from_records control.old }
 {
     let full = control.setup().format().full();
-    fill(alloc, control, full, store, own.sending, own.receiving)
+    let Own {
+        sending,
+        receiving,
+        ..
+    } = own;
+    fill(
+        alloc,
+        control,
+        full,
+        store,
+        sending,
+        receiving,
+        forgets_printed,
+    )
 }
 
 /// Fills a new terminal with what its store has, as [`begin_control`] does. The full length has to
@@ -348,9 +447,24 @@ pub fn begin_terminal<A: Allocator, K: Store + Drop>(
     terminal: &mut LineTerminal<A>,
     own: Own,
     store: K,
+    forgets_printed: bool,
 ) -> Result<Keeper<K>, StoreFault>
     requires { terminal.old.tributary.queue.format.full ≡ own.full }
     ensures { apart_from_kept terminal.new ≡ apart_from_kept terminal.old }
 {
-    fill(alloc, terminal, own.full, store, own.sending, own.receiving)
+    let Own {
+        full,
+        sending,
+        receiving,
+        ..
+    } = own;
+    fill(
+        alloc,
+        terminal,
+        full,
+        store,
+        sending,
+        receiving,
+        forgets_printed,
+    )
 }

@@ -3,6 +3,7 @@
 
 ghost use Rattle.bsc_connections.specs.Parts.{session_parts};
 ghost use Rattle.bsc_keeping.specs.AllKept.{HasAllThroughout, KeepsEachChange};
+ghost use Rattle.bsc_keeping.specs.ForgottenKept.{HasAllOnceForgotten};
 ghost use Rattle.bsc_keeping.specs.OffersKept.{HasAllOnceOffered, control_with, terminal_with};
 ghost use Rattle.bsc_keeping.specs.Sessions.{KeepsBeforeSending};
 
@@ -11,7 +12,7 @@ use bsc_bid::Station;
 use bsc_connections::{Framing, Monitor, Waiter};
 use bsc_control::Control;
 use bsc_kept::Store;
-use bsc_monitor::{LineTerminal, Party};
+use bsc_monitor::{Forgets, LineTerminal, Party};
 use std::alloc::Allocator;
 use std::io::{Read, Write};
 
@@ -59,4 +60,17 @@ pub fn kept_before_offered<A: Allocator, M: Prints, K: Store + Drop>()
         ⟦<LineTerminal<A> as Sends>⟧.kept_at K.Store M.printed terminal_with }
     ensures control { HasAllOnceOffered ⟦<Control<A> as Party>⟧ ⟦<Control<A> as Sends>⟧.kept_at
         K.Store M.printed control_with }
+{}
+
+/// If a store has all that is to be kept of a station, it still has it once the station has
+/// forgotten records that are known to have arrived, or records that arrived. So a station may
+/// forget records between two sessions, too.
+pub fn kept_though_forgotten<A: Allocator, M: Prints, K: Store + Drop>()
+    ensures terminal { HasAllOnceForgotten ⟦<LineTerminal<A> as Party>⟧
+        ⟦<LineTerminal<A> as Sends>⟧.kept_at K.Store M.printed
+        ⟦<LineTerminal<A> as Forgets>⟧.forgets_sent
+        ⟦<LineTerminal<A> as Forgets>⟧.forgets_arrived }
+    ensures control { HasAllOnceForgotten ⟦<Control<A> as Party>⟧ ⟦<Control<A> as Sends>⟧.kept_at
+        K.Store M.printed ⟦<Control<A> as Forgets>⟧.forgets_sent
+        ⟦<Control<A> as Forgets>⟧.forgets_arrived }
 {}

@@ -1,6 +1,6 @@
 //! Keeping a record that is offered while the station runs.
 
-ghost use Rattle.std.specs.Prelude.{◌≡◌, IfOk};
+ghost use Rattle.std.specs.Prelude.{◌≡◌};
 ghost use Rattle.bsc_keeping.specs.Offers.{OffersIf, OffersOn, channel_to, is_end_to};
 
 use crate::changes::record_of;

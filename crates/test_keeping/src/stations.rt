@@ -158,7 +158,7 @@ pub(crate) fn control(
 ) -> Result<Kept<Control<Global>>, Fail> {
     let mut control = new_control(alloc, config)?;
     let own = Own::of(alloc, config, Owner::Control)?;
-    let keeper = begin_control(alloc, &mut control, own, store)?;
+    let keeper = begin_control(alloc, &mut control, own, store, false)?;
     Ok(Kept::new(control, keeper))
 }
 
@@ -173,7 +173,7 @@ pub(crate) fn terminal(
     }
     let mut terminal = new_terminal(alloc, config, 0);
     let own = Own::of(alloc, config, Owner::Terminal { number: 0 })?;
-    let keeper = begin_terminal(alloc, &mut terminal, own, store)?;
+    let keeper = begin_terminal(alloc, &mut terminal, own, store, false)?;
     Ok(Kept::new(terminal, keeper))
 }
 

@@ -25,7 +25,7 @@ fn begun(alloc: Global, store: Memory) -> Result<Kept, Fail> {
     let config = line(alloc)?;
     let mut station = control(alloc)?;
     let own = Own::of(alloc, &config, Owner::Control)?;
-    let keeper = begin_control(alloc, &mut station, own, store)?;
+    let keeper = begin_control(alloc, &mut station, own, store, false)?;
     Ok(Kept { station, keeper })
 }
 
