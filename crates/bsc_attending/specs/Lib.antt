@@ -5,5 +5,6 @@ pub mod Offering
 pub mod Outcomes
 pub mod Preparing
 pub mod Serving
+pub mod Sparing
 pub mod Wanted
 pub mod Progress

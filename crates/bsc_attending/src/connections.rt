@@ -5,6 +5,7 @@ ghost use Rattle.std.specs.declared.net.ip_addr.IpAddr.{IpAddr as Address};
 ghost use Rattle.bsc_attending.specs.Framings.{ends_of, is_raw};
 ghost use Rattle.bsc_attending.specs.Errors.{IsCutShort};
 
+use crate::sparing::{Sparing, forget_unneeded};
 use crate::{AttendingError, Network, Opened, Wanted};
 use bsc_bid::Station;
 use bsc_connections::{
@@ -12,6 +13,7 @@ use bsc_connections::{
 };
 use bsc_keeping::{Keeper, Keeping, Prints, attend_kept};
 use bsc_kept::Store;
+use bsc_monitor::Forgets;
 use bsc_serving::Feeds;
 use std::alloc::Global;
 use std::io::{Read, Write};
@@ -36,15 +38,21 @@ pub(crate) enum Framed<R: Drop, W: Drop> {
 pub(crate) struct Connections<R: Drop, W: Drop, Q: Drop> {
     waiter: Q,
     framed: Framed<R, W>,
+
+    /// Whether the station forgets the records that it has printed.
+    forgets_printed: bool,
 }
 
-/// Makes these connections.
+/// Makes these connections. `forgets_printed` says whether a station that is attended over them
+/// forgets the records that it has printed.
 pub(crate) fn connect<H: Network>(
     alloc: Global,
     wanted: &Wanted<'_>,
+    forgets_printed: bool,
     machine: &mut H,
 ) -> Result<Connections<H::Reader, H::Writer, H::Waiter>, AttendingError>
     ensures framing { IfOk result (λ made. is_raw made.framed ≡ wanted.now.raw) }
+    ensures forgets { IfOk result (λ made. made.forgets_printed ≡ forgets_printed) }
     ensures cut { IfErr result IsCutShort }
 {
     let Opened {
@@ -52,7 +60,11 @@ pub(crate) fn connect<H: Network>(
         connections,
     } = machine.open(wanted)?;
     let framed = in_framing(alloc, wanted.raw, connections)?;
-    Ok(Connections { waiter, framed })
+    Ok(Connections {
+        waiter,
+        framed,
+        forgets_printed,
+    })
 }
 
 /// Returns the connections over these pairs of a reader and a writer.
@@ -110,8 +122,8 @@ pub(crate) trait Attend {
         ensures { OnOk result (M.has_ended monitor.new ≡ true) };
 
     /// Attends a station over the connections until its monitor ends it, and keeps what it changes
-    /// before it sends.
-    fn attend_kept<S: Station + Feeds, M: Monitor<S> + Prints, K: Store + Drop>(
+    /// before it sends. The station forgets what it does not need any more.
+    fn attend_kept<S: Station + Feeds + Forgets, M: Monitor<S> + Prints, K: Store + Drop>(
         &mut self,
         station: &mut S,
         watch: &mut M,
@@ -119,8 +131,9 @@ pub(crate) trait Attend {
     ) -> Result<(), LiveError>;
 
     /// Attends a station whose monitor prints the records that arrive. If its records are kept,
-    /// they are before it sends, and so is at the end how many were printed.
-    fn attend_watched<S: Station + Feeds, M: Monitor<S> + Prints>(
+    /// they are before it sends, and so is at the end how many were printed. The station forgets
+    /// what it does not need any more.
+    fn attend_watched<S: Station + Feeds + Forgets, M: Monitor<S> + Prints>(
         &mut self,
         station: &mut S,
         watch: &mut M,
@@ -138,6 +151,40 @@ pub(crate) trait Attend {
     /// Returns the address of the peer of the connection at this place, if it is known.
     fn peer(&self, place: usize) -> Option<IpAddr>
         ensures { names self.now place result };
+}
+
+impl<R: Read + Drop, W: Write + Drop, Q: Waiter<R, W> + Drop> Connections<R, W, Q> {
+    /// Attends a station until its monitor ends it or many events have happened. Returns false if
+    /// the monitor has ended it.
+    fn attend_for_a_span<S: Station, M: Monitor<S>>(
+        &mut self,
+        station: &mut S,
+        watch: &mut M,
+    ) -> Result<bool, LiveError> {
+        let mut sparing = Sparing::new(watch);
+        self.attend(station, &mut sparing)?;
+        Ok(!sparing.is_ended())
+    }
+
+    /// Does the same with a station whose records are kept.
+    fn attend_and_keep_for_a_span<S: Station + Feeds, M: Monitor<S> + Prints, K: Store + Drop>(
+        &mut self,
+        station: &mut S,
+        watch: &mut M,
+        keeper: &mut Keeper<K>,
+    ) -> Result<bool, LiveError> {
+        let mut sparing = Sparing::new(watch);
+        let keeping = Keeping::new(&mut sparing, keeper);
+        match &mut self.framed {
+            Framed::Records { connections } => {
+                attend_kept(station, connections, &mut self.waiter, keeping)?
+            }
+            Framed::Raw { connections } => {
+                attend_kept(station, connections, &mut self.waiter, keeping)?
+            }
+        }
+        Ok(!sparing.is_ended())
+    }
 }
 
 impl<R: Read + Drop, W: Write + Drop, Q: Waiter<R, W> + Drop> Attend for Connections<R, W, Q> {
@@ -162,29 +209,33 @@ impl<R: Read + Drop, W: Write + Drop, Q: Waiter<R, W> + Drop> Attend for Connect
         }
     }
 
-    fn attend_kept<S: Station + Feeds, M: Monitor<S> + Prints, K: Store + Drop>(
+    fn attend_kept<S: Station + Feeds + Forgets, M: Monitor<S> + Prints, K: Store + Drop>(
         &mut self,
         station: &mut S,
         watch: &mut M,
         keeper: &mut Keeper<K>,
     ) -> Result<(), LiveError> {
-        let keeping = Keeping::new(watch, keeper);
-        match &mut self.framed {
-            Framed::Records { connections } => {
-                attend_kept(station, connections, &mut self.waiter, keeping)
+        'spans: for _ in 0..u64::MAX {
+            if !self.attend_and_keep_for_a_span(station, watch, keeper)? {
+                return Ok(());
             }
-            Framed::Raw { connections } => {
-                attend_kept(station, connections, &mut self.waiter, keeping)
-            }
+            forget_unneeded(station, watch, self.forgets_printed);
         }
+        Err(LiveError::Count)
     }
 
-    fn attend_watched<S: Station + Feeds, M: Monitor<S> + Prints>(
+    fn attend_watched<S: Station + Feeds + Forgets, M: Monitor<S> + Prints>(
         &mut self,
         station: &mut S,
         watch: &mut M,
     ) -> Result<(), LiveError> {
-        self.attend(station, watch)
+        'spans: for _ in 0..u64::MAX {
+            if !self.attend_for_a_span(station, watch)? {
+                return Ok(());
+            }
+            forget_unneeded(station, watch, self.forgets_printed);
+        }
+        Err(LiveError::Count)
     }
 
     fn printed(&self, _number: usize) -> usize {

@@ -1,6 +1,6 @@
 //! A station whose records are kept in a store.
 
-ghost use Rattle.std.specs.Prelude.{◌≡◌, IfErr, IfOk};
+ghost use Rattle.std.specs.Prelude.{◌≡◌, IfErr};
 ghost use Rattle.bsc_attending.specs.Ending.{IsSameKind};
 ghost use Rattle.bsc_attending.specs.Errors.{IsCutShort, IsStoreError, with_fault};
 ghost use Rattle.bsc_attending.specs.Preparing.{Suits};
@@ -12,23 +12,26 @@ use bsc_bid::Station;
 use bsc_connections::{LiveError, Monitor};
 use bsc_keeping::{Keeper, Own, Prints, begin_control, begin_terminal};
 use bsc_kept::{Store, StoreFault};
+use bsc_monitor::Forgets;
 use bsc_serving::Feeds;
 use std::alloc::Global;
 use std::net::IpAddr;
 
 /// Fills the station with what the store at this path has, and returns what keeps its records.
+/// `forgets_printed` says whether the station forgets the records that it has printed.
 pub(crate) fn begin<H: Stores>(
     alloc: Global,
     path: &str,
     own: Own,
     prepared: &mut Prepared,
+    forgets_printed: bool,
     machine: &mut H,
 ) -> Result<Keeper<H::Store>, AttendingError>
     requires { Suits own.full prepared.old }
     ensures kind { IsSameKind prepared.old prepared.new }
     ensures error { IfErr result IsStoreError }
 {
-    match open_and_fill(alloc, path, own, prepared, machine) {
+    match open_and_fill(alloc, path, own, prepared, forgets_printed, machine) {
         Ok(keeper) => Ok(keeper),
         Err(error) => Err(AttendingError::from(error)),
     }
@@ -40,6 +43,7 @@ fn open_and_fill<H: Stores>(
     path: &str,
     own: Own,
     prepared: &mut Prepared,
+    forgets_printed: bool,
     machine: &mut H,
 ) -> Result<Keeper<H::Store>, StoreFault>
     requires { Suits own.full prepared.old }
@@ -47,8 +51,12 @@ fn open_and_fill<H: Stores>(
 {
     let store = machine.open_store(path, own.text())?;
     match prepared {
-        Prepared::Control { control } => begin_control(alloc, control, own, store),
-        Prepared::Terminal { terminal } => begin_terminal(alloc, terminal, own, store),
+        Prepared::Control { control } => {
+            begin_control(alloc, control, own, store, forgets_printed)
+        }
+        Prepared::Terminal { terminal } => {
+            begin_terminal(alloc, terminal, own, store, forgets_printed)
+        }
     }
 }
 
@@ -77,7 +85,7 @@ impl<C: Attend + Drop, K: Store + Drop> Attend for Kept<C, K> {
         self.connections.attend(station, monitor)
     }
 
-    fn attend_kept<S: Station + Feeds, M: Monitor<S> + Prints, L: Store + Drop>(
+    fn attend_kept<S: Station + Feeds + Forgets, M: Monitor<S> + Prints, L: Store + Drop>(
         &mut self,
         station: &mut S,
         watch: &mut M,
@@ -86,7 +94,7 @@ impl<C: Attend + Drop, K: Store + Drop> Attend for Kept<C, K> {
         self.connections.attend_kept(station, watch, keeper)
     }
 
-    fn attend_watched<S: Station + Feeds, M: Monitor<S> + Prints>(
+    fn attend_watched<S: Station + Feeds + Forgets, M: Monitor<S> + Prints>(
         &mut self,
         station: &mut S,
         watch: &mut M,

@@ -5,6 +5,7 @@
 //! own.
 #![tactic(auto)]
 
+mod concluding;
 mod connections;
 mod error;
 mod keeping;
@@ -12,6 +13,7 @@ mod network;
 mod offering;
 mod preparing;
 mod serving;
+mod sparing;
 mod stations;
 mod wanted;
 

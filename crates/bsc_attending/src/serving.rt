@@ -3,15 +3,18 @@
 ghost use Rattle.std.specs.Prelude.{◌≡◌, IfErr, IfOk, is_some, option_map};
 ghost use Rattle.bsc_attending.specs.Errors.{IsCutShort};
 ghost use Rattle.bsc_attending.specs.Serving.{IsPlace};
+ghost use Rattle.bsc_attending.specs.Sparing.{ForgetsAtTimes};
 ghost use Rattle.bsc_options.specs.Serves.{serves_value};
 
 use crate::connections::Attend;
+use crate::sparing::{EVENTS, forget_unneeded};
 use crate::{AttendingError, Network, Reachable};
 use bsc_bid::Station;
 use bsc_clients::ServedAt;
 use bsc_connections::{LiveError, Monitor, Note};
 use bsc_keeping::{Keeper, Prints};
 use bsc_kept::Store;
+use bsc_monitor::Forgets;
 use bsc_options::Serves;
 use bsc_serving::{Feeds, KeptBy, Pausing, Programs, Serving, Unkept};
 use std::alloc::Global;
@@ -78,7 +81,7 @@ pub(crate) fn serving_of<P: Programs + Drop>(
 
 /// Attends a station until its monitor ends it or programs may have to be served. Returns false if
 /// the monitor has ended it.
-fn attend_until_called<C: Attend, S: Station + Feeds, M: Monitor<S> + Prints>(
+fn attend_until_called<C: Attend, S: Station + Feeds + Forgets, M: Monitor<S> + Prints>(
     connections: &mut C,
     station: &mut S,
     watch: &mut M,
@@ -89,7 +92,12 @@ fn attend_until_called<C: Attend, S: Station + Feeds, M: Monitor<S> + Prints>(
 }
 
 /// Does the same with a station whose records are kept.
-fn attend_kept_until_called<C: Attend, S: Station + Feeds, M: Monitor<S> + Prints, K: Store + Drop>(
+fn attend_kept_until_called<
+    C: Attend,
+    S: Station + Feeds + Forgets,
+    M: Monitor<S> + Prints,
+    K: Store + Drop,
+>(
     connections: &mut C,
     station: &mut S,
     watch: &mut M,
@@ -115,15 +123,26 @@ fn tell_stopped<S, M: Monitor<S>>(
     watch.note(station, Note::Stopped)
 }
 
+/// Forgets what a station that programs feed does not need any more, once in many turns, of which
+/// this is the number. A record that arrived stays, since a program may ask for it.
+fn forget_at_times<S: Forgets, M: Prints>(station: &mut S, watch: &M, count: u64)
+    ensures { ForgetsAtTimes S.forgets_sent count station.old station.new }
+{
+    if count % EVENTS == 0 {
+        forget_unneeded(station, watch, false);
+    }
+}
+
 /// Attends a station that programs feed until its monitor ends it.
-fn attend_fed<C: Attend, P: Programs + Drop, S: Station + Feeds, M: Monitor<S> + Prints>(
+fn attend_fed<C: Attend, P: Programs + Drop, S: Station + Feeds + Forgets, M: Monitor<S> + Prints>(
     connections: &mut C,
     programs: &mut Serving<P>,
     station: &mut S,
     watch: &mut M,
 ) -> Result<(), LiveError> {
     let mut told = false;
-    'calls: for _ in 0..u64::MAX {
+    'calls: for count in 0..u64::MAX {
+        forget_at_times(station, watch, count);
         if !attend_until_called(connections, station, watch)? {
             return Ok(());
         }
@@ -139,7 +158,7 @@ fn attend_fed<C: Attend, P: Programs + Drop, S: Station + Feeds, M: Monitor<S> +
 fn attend_fed_and_kept<
     C: Attend,
     P: Programs + Drop,
-    S: Station + Feeds,
+    S: Station + Feeds + Forgets,
     M: Monitor<S> + Prints,
     K: Store + Drop,
 >(
@@ -150,7 +169,8 @@ fn attend_fed_and_kept<
     keeper: &mut Keeper<K>,
 ) -> Result<(), LiveError> {
     let mut told = false;
-    'calls: for _ in 0..u64::MAX {
+    'calls: for count in 0..u64::MAX {
+        forget_at_times(station, watch, count);
         if !attend_kept_until_called(connections, station, watch, keeper)? {
             return Ok(());
         }
@@ -177,7 +197,7 @@ impl<C: Attend + Drop, P: Programs + Drop> Attend for Fed<C, P> {
         self.connections.attend(station, monitor)
     }
 
-    fn attend_kept<S: Station + Feeds, M: Monitor<S> + Prints, K: Store + Drop>(
+    fn attend_kept<S: Station + Feeds + Forgets, M: Monitor<S> + Prints, K: Store + Drop>(
         &mut self,
         station: &mut S,
         watch: &mut M,
@@ -193,7 +213,7 @@ impl<C: Attend + Drop, P: Programs + Drop> Attend for Fed<C, P> {
         }
     }
 
-    fn attend_watched<S: Station + Feeds, M: Monitor<S> + Prints>(
+    fn attend_watched<S: Station + Feeds + Forgets, M: Monitor<S> + Prints>(
         &mut self,
         station: &mut S,
         watch: &mut M,

@@ -3,17 +3,17 @@
 ghost use Rattle.std.specs.Prelude.{◌≡◌, IfErr, IfOk, IsSome};
 ghost use Rattle.bsc_asked.specs.StationWords.{asked_words};
 ghost use Rattle.bsc_options.specs.Settings.{place_value, settings_value};
-ghost use Rattle.bsc_attending.specs.Ending.{HasBegunAndRun, HasRun, IsConcluded, IsLeftBy};
-ghost use Rattle.bsc_attending.specs.Ending.{IsSameKind, JoinsFirst, ReportsIn, counted_before};
-ghost use Rattle.bsc_attending.specs.Errors.{IsCutShort, IsEarly, IsLate, IsPrintFault};
-ghost use Rattle.bsc_attending.specs.Errors.{IsStoreError};
-ghost use Rattle.bsc_attending.specs.Errors.{control_outcome_of, outcome_of};
+ghost use Rattle.bsc_attending.specs.Ending.{HasBegunAndRun, HasRun, IsLeftBy, IsSameKind};
+ghost use Rattle.bsc_attending.specs.Ending.{JoinsFirst, counted_before};
+ghost use Rattle.bsc_attending.specs.Errors.{IsCutShort, IsEarly, IsLate, IsStoreError};
 ghost use Rattle.bsc_attending.specs.Progress.{progress_in, work_in};
 ghost use Rattle.bsc_attending.specs.Outcomes.{IsAnswer, IsAnswerFor, IsReported, IsReportedFor};
 ghost use Rattle.bsc_attending.specs.Preparing.{SuitsOwn};
+ghost use Rattle.bsc_attending.specs.Sparing.{forgets_printed_in};
 ghost use Rattle.bsc_attending.specs.Wanted.{is_listening, wanted_value, wants};
 ghost use Rattle.bsc_trust.specs.Trust.{new_trust};
 
+use crate::concluding::{conclude, report};
 use crate::connections::{Attend, connect};
 use crate::keeping::{Kept, begin, with_fault};
 use crate::preparing::{Prepared, Ready, prepare};
@@ -28,11 +28,9 @@ use bsc_input::Files;
 use bsc_keeping::{Keeper, Own};
 use bsc_kept::Store;
 use bsc_monitor::{
-    ControlWatch, Ended, Limits, LineTerminal, Party, Printing, Standing, TerminalWatch, Tracing,
-    Watch, station_standing, write_report, write_trust,
+    ControlWatch, Ended, Limits, LineTerminal, Party, Printing, TerminalWatch, Tracing, Watch,
 };
 use bsc_options::{Admission, Role, StationSettings, read_admission, read_settings};
-use bsc_print::Form;
 use bsc_progress::{Meter, Timer, Work};
 use bsc_trust::Trust;
 use std::alloc::Global;
@@ -62,7 +60,7 @@ struct Ending {
 
 /// What a station leaves when it ends.
 #[derive(Clone, Copy)]
-enum Left {
+pub(crate) enum Left {
     /// What the control station can tell of its line.
     Control { trust: Trust },
 
@@ -145,17 +143,19 @@ fn begin_and_run<H: Network + Stores, W: Write>(
     ensures ran { HasBegunAndRun W.contents options.now.settings.reported prepared.old
         prepared.new result out.new }
 {
-    let keeper = keeper_of(alloc, words, own, prepared, machine)?;
+    let forgets = forgets_printed(&options.settings);
+    let keeper = keeper_of(alloc, words, own, prepared, forgets, machine)?;
     run(alloc, options, prepared, keeper, machine, out)
 }
 
 /// Fills a station with what its store has, if its records are to be kept, and returns what keeps
-/// them from then on.
+/// them from then on. `forgets` says whether the station forgets the records that it has printed.
 fn keeper_of<H: Stores>(
     alloc: Global,
     words: &StationWords,
     own: Option<Own>,
     prepared: &mut Prepared,
+    forgets: bool,
     machine: &mut H,
 ) -> Result<Option<Keeper<H::Store>>, AttendingError>
     requires { SuitsOwn own prepared.old }
@@ -166,7 +166,7 @@ fn keeper_of<H: Stores>(
 {
     match (&words.store, own) {
         (Some(path), Some(own)) => {
-            let keeper = begin(alloc, path.as_str(), own, prepared, machine)?;
+            let keeper = begin(alloc, path.as_str(), own, prepared, forgets, machine)?;
             Ok(Some(keeper))
         }
         _ => Ok(None),
@@ -217,7 +217,8 @@ fn open<H: Network, K: Store + Drop, W: Write>(
         serves: descriptor_of(&reachable),
         ..wanted_by(options, prepared)
     };
-    let connections = connect(alloc, &wanted, machine)?;
+    let forgets = forgets_printed(&options.settings);
+    let connections = connect(alloc, &wanted, forgets, machine)?;
     let mut connections = Fed {
         connections,
         programs: serving_of(alloc, reachable)?,
@@ -263,6 +264,14 @@ fn attend_kept<C: Attend + Drop, K: Store + Drop, T: Timer + Meter + Drop, O: Wr
         Ok(left) => Ok(left),
         Err(error) => Err(with_fault(&kept.keeper, error)),
     }
+}
+
+/// Returns whether a station of these options forgets the records that it has printed: if they are
+/// not printed again with the report, and no program can ask for them.
+fn forgets_printed(settings: &StationSettings<'_>) -> bool
+    ensures { result ≡ forgets_printed_in (settings_value settings.now) }
+{
+    settings.reported.is_none() && settings.serves.is_none()
 }
 
 /// Returns of what work the progress is shown: the rounds of the control station or the events of a
@@ -426,77 +435,4 @@ fn attend_terminal<C: Attend, T: Timer + Meter + Drop, O: Write, D: Write>(
     let mut watch = TerminalWatch::new(watch);
     connections.attend_watched(terminal, &mut watch)?;
     Ok(watch.closed())
-}
-
-/// Prints the report of a station that has ended, and returns its result: a fault that closed its
-/// connection comes first, or that its line is not trusted.
-fn conclude<W: Write>(
-    alloc: Global,
-    reported: Option<Form>,
-    prepared: &Prepared,
-    left: Left,
-    out: &mut W,
-) -> Result<(), AttendingError>
-    ensures late { IfErr result IsLate }
-    ensures concluded { IsConcluded reported prepared.now left result
-        (W.contents out.old) (W.contents out.new) }
-{
-    let standing = report(alloc, reported, prepared, out)?;
-    match left {
-        Left::Control { trust } => {
-            write_trust(&trust, out)?;
-            control_outcome(&trust, standing)
-        }
-        Left::Terminal {
-            closed: Some(error),
-        } => Err(AttendingError::Closed { error }),
-        Left::Terminal { closed: None } => outcome(standing),
-    }
-}
-
-/// Prints the report of a station, and returns the state of the channels on which it sends.
-fn report<W: Write>(
-    alloc: Global,
-    reported: Option<Form>,
-    prepared: &Prepared,
-    out: &mut W,
-) -> Result<Standing, AttendingError>
-    ensures fault { IfErr result IsPrintFault }
-    ensures reported { IfOk result
-        (ReportsIn reported prepared.now (W.contents out.old) (W.contents out.new)) }
-{
-    match prepared {
-        Prepared::Control { control } => {
-            write_report(alloc, reported, control, out)?;
-            Ok(station_standing(control))
-        }
-        Prepared::Terminal { terminal } => {
-            write_report(alloc, reported, terminal, out)?;
-            Ok(station_standing(terminal))
-        }
-    }
-}
-
-/// Returns the result of a control station that ended in this state, with what it can tell of its
-/// line.
-fn control_outcome(trust: &Trust, standing: Standing) -> Result<(), AttendingError>
-    ensures { result ≡ control_outcome_of trust.now standing }
-{
-    match trust.distrust() {
-        Some(_) => Err(AttendingError::NotTrusted),
-        None => outcome(standing),
-    }
-}
-
-/// Returns the result of a station that ended in this state.
-fn outcome(standing: Standing) -> Result<(), AttendingError>
-    ensures { result ≡ outcome_of standing }
-{
-    if standing.doubt {
-        return Err(AttendingError::InDoubt);
-    }
-    if standing.waiting {
-        return Err(AttendingError::Undelivered);
-    }
-    Ok(())
 }

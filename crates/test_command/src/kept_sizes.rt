@@ -22,7 +22,7 @@ fn from(address: &[u8]) -> Result<Channel, Fail> {
 }
 
 /// The channel to this selection address.
-fn to(address: &[u8]) -> Result<Channel, Fail> {
+pub(crate) fn to(address: &[u8]) -> Result<Channel, Fail> {
     let selection = Address::read(address)?;
     Ok(Channel::To { selection })
 }
@@ -34,13 +34,13 @@ fn offered(channel: Channel, chars: &[u8]) -> Result<Change, Fail> {
 }
 
 /// The change by which it has arrived.
-fn arrived(channel: Channel, chars: &[u8]) -> Result<Change, Fail> {
+pub(crate) fn arrived(channel: Channel, chars: &[u8]) -> Result<Change, Fail> {
     let record = Card::read(chars, 144)?;
     Ok(Change::Arrived { channel, record })
 }
 
 /// Keeps a step in the stores of a machine this many times.
-fn keep(record: &Record, count: usize, step: &[Change]) -> Result<(), Fail> {
+pub(crate) fn keep(record: &Record, count: usize, step: &[Change]) -> Result<(), Fail> {
     let mut memory = record.memory.try_borrow_mut()?;
     for _ in 0..count {
         memory.commit(step)?;
@@ -117,7 +117,7 @@ fn owned(alloc: Global, words: &[&str]) -> Result<Vec<String>, AllocError> {
 }
 
 /// Whether a command with these words prints this on a machine, and ends with this status.
-fn is_due(
+pub(crate) fn is_due(
     alloc: Global,
     words: &[&str],
     input: &str,

@@ -24,6 +24,8 @@ mod fed_stations;
 #[cfg(test)]
 mod feeds;
 #[cfg(test)]
+mod forgotten;
+#[cfg(test)]
 mod given;
 #[cfg(test)]
 mod growths;

@@ -1,0 +1,64 @@
+-- What a station forgets while it is attended, and the monitor that has the attending ended for it.
+use Rattle.std.specs.Prelude.{◌≡◌, ℕ, zero, suc, ◌-◌, ◌%◌, ◌==◌, nat_eq, Bool, true, false, not}
+use Rattle.std.specs.Prelude.{◌&&◌, is_none, Option, Some, None, Result, Ok, Err}
+use Rattle.bsc_connections.specs.declared.awaited.LiveError.{LiveError}
+use Rattle.bsc_connections.specs.Histories.{Happening}
+use Rattle.bsc_options.specs.Settings.{SettingsValue}
+use Rattle.bsc_attending.specs.declared.sparing.Sparing.{Sparing}
+use Rattle.bsc_attending.specs.declared.sparing.TheConstants.{EVENTS}
+
+-- Whether a station with these settings forgets the records that it has printed: if they are not
+-- printed again with the report, and no program can ask for them.
+abbrev pub forgets_printed_in : SettingsValue → Bool
+forgets_printed_in s = is_none s.reported && is_none s.serves
+
+-- What a monitor does when it is told of something.
+module _ {M S : Type 0} (is_told : M → S → Happening → Result Bool LiveError → M → Type 0) where
+  -- The attending goes on if the inner monitor says so and events are left; whether the inner one
+  -- has ended it is what it said last.
+  abbrev pub GoesOnBy : Result Bool LiveError → Sparing M → Result Bool LiveError → Sparing M
+      → Type 0
+  GoesOnBy (Ok goes_on) old result new =
+      (result ≡ Ok (goes_on && not (nat_eq new.left 0))) × (new.ended ≡ not goes_on)
+  GoesOnBy (Err error) old result new = (result ≡ Err error) × (new.ended ≡ old.ended)
+
+  -- The inner monitor is told, and one event less is left.
+  pub record TellsAndCounts (old : Sparing M) (station : S) (happening : Happening)
+      (result : Result Bool LiveError) (new : Sparing M) : Type 0 where
+    pub answer : Result Bool LiveError
+    pub tells : is_told old.monitor.now station happening answer new.monitor.now
+    pub counts : new.left ≡ old.left - 1
+    pub goes_on : GoesOnBy answer old result new
+
+-- What it means that the first records of a channel are forgotten, at most this many.
+module _ {S : Type 0} (forgets_arrived : S → ℕ → ℕ → S → Type 0) where
+  -- Of a channel those that were printed are, if there is such a channel.
+  abbrev pub ForgetsIf : Option ℕ → ℕ → S → S → Type 0
+  ForgetsIf None number old new = new ≡ old
+  ForgetsIf (Some printed) number old new = forgets_arrived old number printed new
+
+  -- Of each of the first channels, this many, in order.
+  abbrev pub ForgetsEach : (ℕ → Option ℕ) → ℕ → S → S → Type 0
+  ForgetsEach printed zero old new = new ≡ old
+  ForgetsEach printed (suc number) old new =
+      (mid : S) × ForgetsEach printed number old mid × ForgetsIf (printed number) number mid new
+
+-- What it means that records are forgotten that are known to have arrived.
+module _ {S : Type 0} (forgets_sent : S → S → Type 0)
+    (forgets_arrived : S → ℕ → ℕ → S → Type 0) (receives : S → ℕ) (printed : ℕ → Option ℕ) where
+  -- Those are, and then, if so asked, those of each channel that arrived and were printed.
+  abbrev pub ForgetsUnneeded : Bool → S → S → Type 0
+  ForgetsUnneeded false old new = forgets_sent old new
+  ForgetsUnneeded true old new =
+      (mid : S) × forgets_sent old mid
+      × ForgetsEach forgets_arrived printed (receives mid) mid new
+
+-- What a station that programs feed forgets in a turn, as the flag says: nothing, or records that
+-- are known to have arrived.
+abbrev pub ForgetsIfSo : {S : Type 0} → (S → S → Type 0) → Bool → S → S → Type 0
+ForgetsIfSo forgets_sent true old new = forgets_sent old new
+ForgetsIfSo forgets_sent false old new = new ≡ old
+
+-- That is so once in many turns, of which this is the number.
+abbrev pub ForgetsAtTimes : {S : Type 0} → (S → S → Type 0) → ℕ → S → S → Type 0
+ForgetsAtTimes forgets_sent count = ForgetsIfSo forgets_sent (count % EVENTS == 0)

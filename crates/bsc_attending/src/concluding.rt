@@ -1,0 +1,87 @@
+//! What a station prints at its end, and its result.
+
+ghost use Rattle.std.specs.Prelude.{◌≡◌, IfErr, IfOk};
+ghost use Rattle.bsc_attending.specs.Ending.{IsConcluded, ReportsIn};
+ghost use Rattle.bsc_attending.specs.Errors.{IsLate, IsPrintFault, control_outcome_of, outcome_of};
+
+use crate::AttendingError;
+use crate::preparing::Prepared;
+use crate::stations::Left;
+use bsc_monitor::{Standing, station_standing, write_report, write_trust};
+use bsc_print::Form;
+use bsc_trust::Trust;
+use std::alloc::Global;
+use std::io::Write;
+
+/// Prints the report of a station that has ended, and returns its result: a fault that closed its
+/// connection comes first, or that its line is not trusted.
+pub(crate) fn conclude<W: Write>(
+    alloc: Global,
+    reported: Option<Form>,
+    prepared: &Prepared,
+    left: Left,
+    out: &mut W,
+) -> Result<(), AttendingError>
+    ensures late { IfErr result IsLate }
+    ensures concluded { IsConcluded reported prepared.now left result
+        (W.contents out.old) (W.contents out.new) }
+{
+    let standing = report(alloc, reported, prepared, out)?;
+    match left {
+        Left::Control { trust } => {
+            write_trust(&trust, out)?;
+            control_outcome(&trust, standing)
+        }
+        Left::Terminal {
+            closed: Some(error),
+        } => Err(AttendingError::Closed { error }),
+        Left::Terminal { closed: None } => outcome(standing),
+    }
+}
+
+/// Prints the report of a station, and returns the state of the channels on which it sends.
+pub(crate) fn report<W: Write>(
+    alloc: Global,
+    reported: Option<Form>,
+    prepared: &Prepared,
+    out: &mut W,
+) -> Result<Standing, AttendingError>
+    ensures fault { IfErr result IsPrintFault }
+    ensures reported { IfOk result
+        (ReportsIn reported prepared.now (W.contents out.old) (W.contents out.new)) }
+{
+    match prepared {
+        Prepared::Control { control } => {
+            write_report(alloc, reported, control, out)?;
+            Ok(station_standing(control))
+        }
+        Prepared::Terminal { terminal } => {
+            write_report(alloc, reported, terminal, out)?;
+            Ok(station_standing(terminal))
+        }
+    }
+}
+
+/// Returns the result of a control station that ended in this state, with what it can tell of its
+/// line.
+fn control_outcome(trust: &Trust, standing: Standing) -> Result<(), AttendingError>
+    ensures { result ≡ control_outcome_of trust.now standing }
+{
+    match trust.distrust() {
+        Some(_) => Err(AttendingError::NotTrusted),
+        None => outcome(standing),
+    }
+}
+
+/// Returns the result of a station that ended in this state.
+fn outcome(standing: Standing) -> Result<(), AttendingError>
+    ensures { result ≡ outcome_of standing }
+{
+    if standing.doubt {
+        return Err(AttendingError::InDoubt);
+    }
+    if standing.waiting {
+        return Err(AttendingError::Undelivered);
+    }
+    Ok(())
+}
