@@ -4,7 +4,7 @@ use crate::lines::{address, setup, two_terminals, two_terminals_by_three};
 use crate::records::{are_front, are_records};
 use crate::{Full, octets};
 use bsc_block::{Record, Records, unpack};
-use bsc_frame::{Address, End, Heard, Message, Reply, Text, TextBuffer, Wire, decode, encode};
+use bsc_frame::{End, Heard, Message, Reply, Text, TextBuffer, Wire, decode, encode};
 use std::io::{ErrorKind, Write};
 use std::test::Fail;
 
@@ -97,7 +97,7 @@ fn settings_and_terminals(rt: HostRuntime) -> Result<(), Fail> {
     );
     let [first, second] = two_terminals();
     let [first_by_two, same] = two_terminals_by_three();
-    assert_eq!(rt; first.poll(), Address::read(b"A")?);
+    assert_eq!(rt; first.poll(), address(b'A'));
     assert_eq!(rt; (first.selects(), first_by_two.selects()), (1, 2));
     assert_eq!(rt; second, same);
     Ok(())

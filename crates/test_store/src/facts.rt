@@ -48,20 +48,24 @@ pub(crate) enum Fact {
     },
 }
 
-/// Returns the channel from the terminal of the tests.
-pub(crate) fn from_terminal() -> Result<Channel, StoreFault> {
-    match Address::read(b"A") {
-        Ok(terminal) => Ok(Channel::From { terminal }),
+/// Returns the address of these codes.
+fn address(codes: &[u8]) -> Result<Address, StoreFault> {
+    match Address::read(codes) {
+        Ok(address) => Ok(address),
         Err(_) => Err(StoreFault::Refused),
     }
 }
 
+/// Returns the channel from the terminal of the tests.
+pub(crate) fn from_terminal() -> Result<Channel, StoreFault> {
+    let terminal = address(b"A")?;
+    Ok(Channel::From { terminal })
+}
+
 /// Returns the channel to it. Its address is the same.
 pub(crate) fn to_terminal() -> Result<Channel, StoreFault> {
-    match Address::read(b"A") {
-        Ok(selection) => Ok(Channel::To { selection }),
-        Err(_) => Err(StoreFault::Refused),
-    }
+    let selection = address(b"A")?;
+    Ok(Channel::To { selection })
 }
 
 /// The change by which a record is offered.
