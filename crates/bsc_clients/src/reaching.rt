@@ -1,6 +1,6 @@
 //! The connection of a program to a station.
 
-ghost use Rattle.std.specs.Prelude.{◌≡◌, IfErr};
+ghost use Rattle.std.specs.Prelude.{IfErr};
 ghost use Rattle.bsc_clients.specs.Listening.{IsConnectError, IsReachError};
 
 use crate::listener::addresses;

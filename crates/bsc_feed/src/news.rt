@@ -1,6 +1,6 @@
 //! What has happened on a channel that is followed.
 
-ghost use Rattle.std.specs.Prelude.{◌≡◌, ◌<◌, ◌≤◌, ℕ, None, length, option_map, slice_get};
+ghost use Rattle.std.specs.Prelude.{◌≡◌, ◌<◌, ◌≤◌, None, length};
 ghost use Rattle.bsc_feed.specs.News.{IsFirstNews, news_at as at_place, news_of as of_end};
 ghost use Rattle.bsc_monitor.specs.EndValues.{end_of};
 

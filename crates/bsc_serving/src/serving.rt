@@ -62,9 +62,9 @@ impl<P: Programs + Drop> Serving<P> {
     /// Serves the programs: takes those that have connected, obeys their lines, and writes their
     /// answers and what happened on the channels that they follow, for a short while: 16 steps of
     /// all sessions, and what they then have to tell. Returns whether a program asked the station
-    /// to end. Fails
-    /// with `Unkept` or `Memory` if what a program offered or released could not be kept, or not be
-    /// offered after that; its line is then not answered, and no program is served after it.
+    /// to end. Fails with `Unkept` or `Memory` if what a program offered or released could not be
+    /// kept, or not be offered after that; its line is then not answered, and no program is served
+    /// after it.
     pub fn serve<'s, S: Feeds, Q: Keeps<S> + Drop>(
         &mut self,
         station: &'s mut S,

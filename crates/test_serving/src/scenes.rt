@@ -4,7 +4,7 @@ use crate::stations::{control, has_offered, offered};
 use crate::world::{Scripted, World};
 use bsc_block::Record;
 use bsc_control::Control;
-use bsc_serving::{Serving, Unkept};
+use bsc_serving::{Feeds, Serving, Unkept};
 use std::alloc::Global;
 use std::test::Fail;
 
@@ -174,9 +174,9 @@ fn holds(
 }
 
 /// Serves the programs this many times, and returns whether one asked the station to end.
-fn served(
+pub(crate) fn served<S: Feeds>(
     serving: &mut Serving<Scripted<'_>>,
-    station: &mut Control<Global>,
+    station: &mut S,
     times: usize,
 ) -> Result<bool, Fail> {
     let mut stopped = false;

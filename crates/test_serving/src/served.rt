@@ -1,10 +1,9 @@
 //! Programs that a station serves, without a store.
 
-use crate::scenes::{Act, first_wrong};
+use crate::scenes::{Act, first_wrong, served};
 use crate::stations::terminal;
-use crate::world::{Scripted, World};
-use bsc_monitor::LineTerminal;
-use bsc_serving::{MAX_PROGRAMS, Serving, Unkept};
+use crate::world::World;
+use bsc_serving::{MAX_PROGRAMS, Serving};
 use std::alloc::Global;
 use std::test::Fail;
 
@@ -271,19 +270,6 @@ fn a_stop_is_answered_in_whichever_step_it_comes(rt: HostRuntime) -> Result<(), 
         assert_eq!(rt; wrong, None, "{times}");
     }
     Ok(())
-}
-
-/// Serves the programs of a terminal this many times, and returns whether one asked it to end.
-fn served(
-    serving: &mut Serving<Scripted<'_>>,
-    station: &mut LineTerminal<Global>,
-    times: usize,
-) -> Result<bool, Fail> {
-    let mut stopped = false;
-    for _ in 0..times {
-        stopped |= serving.serve(station, Unkept)?;
-    }
-    Ok(stopped)
 }
 
 /// Whether the only program of a terminal, which says this, is told exactly that.
