@@ -1,5 +1,5 @@
-//! A terminal that forgets records while it runs, since it has printed them, and terminals that keep
-//! them, for their report or for programs.
+//! A terminal that forgets records while it runs, since it has printed them, and terminals that
+//! keep them, for their report or for programs.
 
 use crate::kept_sizes::{arrived, is_due, keep, to};
 use crate::machine::{SILENT, Scene};
@@ -24,9 +24,9 @@ const SCENE: Scene = Scene {
     ..SILENT
 };
 
-/// The words of terminal 0, with another option.
+/// The words of terminal 0, with other options.
 macro_rules! terminal {
-    ($option:literal) => {
+    ($($option:literal),*) => {
         &[
             "bscline",
             "station",
@@ -36,7 +36,7 @@ macro_rules! terminal {
             "--connect",
             "h:1",
             "--text",
-            $option,
+            $($option,)*
         ]
     };
 }
@@ -75,37 +75,11 @@ fn a_terminal_repeats_all_records_in_its_report(rt: HostRuntime) -> Result<(), F
 /// The number of records that had arrived and were printed before.
 const BEFORE: usize = 1_500;
 
-/// The words of a terminal with a store that repeats its records in its report, and of one that
-/// programs may feed.
-const KEPT: [&[&str]; 2] = [
-    &[
-        "bscline",
-        "station",
-        "line.toml",
-        "--terminal",
-        "0",
-        "--connect",
-        "h:1",
-        "--store",
-        "kept",
-        "--text",
-        "--report-records",
-    ],
-    &[
-        "bscline",
-        "station",
-        "line.toml",
-        "--terminal",
-        "0",
-        "--connect",
-        "h:1",
-        "--store",
-        "kept",
-        "--text",
-        "--serve",
-        "p:1",
-    ],
-];
+/// A terminal with a store that repeats its records in its report.
+const KEPT_REPEATS: &[&str] = terminal!("--store", "kept", "--report-records");
+
+/// A terminal with a store that programs may feed.
+const KEPT_SERVES: &[&str] = terminal!("--store", "kept", "--serve", "p:1");
 
 /// Keeps that records had arrived at terminal 0, and were printed.
 fn keep_before(record: &Record) -> Result<(), Fail> {
@@ -129,7 +103,7 @@ fn a_terminal_with_a_store_repeats_all_records_in_its_report(rt: HostRuntime) ->
     let record = Record::new(rt.alloc());
     keep_before(&record)?;
     let out = printed_after(rt.alloc(), "  HI\n")?;
-    assert!(rt; is_due(rt.alloc(), KEPT[0], "", (SCENE, &record), (&out, 0))?);
+    assert!(rt; is_due(rt.alloc(), KEPT_REPEATS, "", (SCENE, &record), (&out, 0))?);
     Ok(())
 }
 
@@ -154,7 +128,7 @@ fn a_terminal_that_is_fed_tells_all_records(rt: HostRuntime) -> Result<(), Fail>
     let record = Record::new(rt.alloc());
     keep_before(&record)?;
     let out = printed_after(rt.alloc(), "")?;
-    assert!(rt; is_due(rt.alloc(), KEPT[1], "", (FOLLOWED, &record), (&out, 0))?);
+    assert!(rt; is_due(rt.alloc(), KEPT_SERVES, "", (FOLLOWED, &record), (&out, 0))?);
     assert!(rt; record.has_told(&told(rt.alloc())?));
     Ok(())
 }
