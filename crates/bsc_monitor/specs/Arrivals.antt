@@ -1,6 +1,8 @@
 -- The records that arrive at a station are printed once each.
 use Rattle.std.specs.Prelude.{◌≡◌, ℕ, ◌<◌, List, length, max, slice_index}
+use Rattle.bsc_directory.specs.declared.way.Way.{Way}
 use Rattle.bsc_report.specs.Channels.{channel_name}
+use Rattle.bsc_monitor.specs.declared.arrivals.Channel.{Channel}
 use Rattle.bsc_monitor.specs.Printed.{arrival_lines, records_at}
 use Rattle.bsc_monitor.specs.declared.record_lines.RecordLines.{RecordLines}
 use Rattle.bsc_monitor.specs.declared.party.Party as party_of
@@ -11,6 +13,11 @@ module _ {P M : Type 0} (party : party_of.Ghosts P M) (station : P) where
   -- The records that have arrived on a channel.
   abbrev pub arrived_on : ℕ → List (List ℕ)
   arrived_on n = records_at (party.ends station (party.terminal_of n) (party.way_of n))
+
+  -- The parts of the name of the channel of this terminal in this direction.
+  abbrev pub channel_at : ℕ → Way → Channel
+  channel_at t way =
+      record { addresses = party.selects station t; number = party.numbers station t; way = way }
 
   -- The lines for the records of a channel after those that were printed before.
   abbrev pub channel_arrivals : RecordLines → ℕ → ℕ → List ℕ

@@ -9,7 +9,7 @@ use Rattle.bsc_spool.specs.Queue.{with_forgotten}
 use Rattle.bsc_spool.specs.Spool.{ForgetsRecords}
 use Rattle.bsc_tributary.specs.Tributary.{spool_at}
 
--- Whether it is worth to forget the first records, this many, of those of a list with this length,
+-- Whether it is worth forgetting the first records, this many, of those of a list with this length,
 -- of which some are forgotten: at least as many more as the fewest, and as are left.
 abbrev pub is_worth : ℕ → ℕ → ℕ → Bool
 is_worth forgotten length count =

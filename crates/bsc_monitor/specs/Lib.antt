@@ -3,6 +3,7 @@ pub mod Arrivals
 pub mod EndValues
 pub mod Counting
 pub mod Ends
+pub mod Following
 pub mod Forgetting
 pub mod Holding
 pub mod LineTerminal

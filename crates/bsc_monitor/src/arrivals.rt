@@ -1,12 +1,12 @@
 //! Prints the records that arrive at a station.
 
-ghost use Rattle.std.specs.Prelude.{◌≡◌, ◌<◌, length, drop, Ok, OnOk, false, true};
+ghost use Rattle.std.specs.Prelude.{◌≡◌, ◌<◌, ◌≤◌, ◌-◌, length, drop, take, Ok, OnOk, false, true};
 ghost use Rattle.std.specs.Io.KnownBytes.{Appends};
 ghost use Rattle.bsc_report.specs.Channels.{channel_name, each_below};
 ghost use Rattle.bsc_monitor.specs.Printed.{arrival_line, lines_from, number_shown};
 ghost use Rattle.bsc_monitor.specs.Arrivals.{AreCounted, AsManyArePrinted, MoreArePrinted};
 ghost use Rattle.bsc_monitor.specs.Arrivals.{arrivals_of};
-ghost use Rattle.bsc_monitor.specs.Arrivals.{channel_arrivals, counted};
+ghost use Rattle.bsc_monitor.specs.Arrivals.{channel_arrivals, channel_at, counted};
 
 use crate::{Party, Received, RecordLines};
 use bsc_block::Records;
@@ -18,10 +18,22 @@ use std::io::Write;
 
 /// The parts of the name of a channel.
 #[derive(Clone, Copy)]
-struct Channel {
+pub(crate) struct Channel {
     addresses: usize,
     number: usize,
     way: Way,
+}
+
+/// Returns the parts of the name of a channel on which this station receives.
+pub(crate) fn channel_of<P: Party>(station: &P, terminal: usize, way: Way) -> Channel
+    requires { terminal < P.count station.now }
+    ensures { result ≡ channel_at P.Party station.now terminal way }
+{
+    Channel {
+        addresses: station.addresses(terminal),
+        number: station.number(terminal),
+        way,
+    }
 }
 
 /// Prints the records that arrived at a station after those that were printed before, in order, one
@@ -74,30 +86,29 @@ fn print_channel<A: Allocator + Copy, P: Party, W: Write>(
     if records.len() <= *printed {
         return Ok(false);
     }
-    let channel = Channel {
-        addresses: station.addresses(received.terminal),
-        number: station.number(received.terminal),
-        way: received.way,
-    };
-    print_records(alloc, lines, channel, records, *printed, out)?;
+    let channel = channel_of(station, received.terminal, received.way);
+    print_records(alloc, lines, channel, records, *printed, records.len(), out)?;
     *printed = records.len();
     Ok(true)
 }
 
-/// Prints a line for each of these records from a place on.
-fn print_records<A: Allocator + Copy, B: Allocator, W: Write>(
+/// Prints a line for each of these records from one place up to another, which is not counted in.
+pub(crate) fn print_records<A: Allocator + Copy, B: Allocator, W: Write>(
     alloc: A,
     lines: RecordLines,
     channel: Channel,
     records: &Records<B>,
     from: usize,
+    to: usize,
     out: &mut W,
 ) -> Result<(), PrintError>
+    requires ordered { from ≤ to }
+    requires within { to ≤ length records.now.items }
     ensures { OnOk result (Appends (W.contents out.old) (W.contents out.new)
         (lines_from lines (channel_name channel.addresses channel.number channel.way) from
-        (drop from records.now.items))) }
+        (take (to - from) (drop from records.now.items)))) }
 {
-    'records: for place in from..records.len() {
+    'records: for place in from..to {
         print_record(alloc, lines, channel, place, records.chars(place), out)?;
     }
     Ok(())

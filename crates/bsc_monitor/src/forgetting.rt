@@ -34,7 +34,7 @@ pub trait Forgets: Party {
         ensures { forgets_arrived self.old number count self.new };
 }
 
-/// Returns whether the first records, this many, are worth to be forgotten: if by that at least
+/// Returns whether the first records, this many, are worth forgetting: if by that at least
 /// 1,024 more are, and no more are left to be copied. So a record is copied once on average.
 fn is_worth<A: Allocator>(records: &Records<A>, count: usize) -> bool
     ensures { result ≡ is_worth records.now.forgotten (length records.now.items) count }

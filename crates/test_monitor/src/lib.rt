@@ -30,6 +30,8 @@ mod printed;
 #[cfg(test)]
 mod progress;
 #[cfg(test)]
+mod some_printed;
+#[cfg(test)]
 mod stations;
 #[cfg(test)]
 mod trusted;

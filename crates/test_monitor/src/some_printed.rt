@@ -1,0 +1,163 @@
+//! Records that are printed a few at a time.
+
+use crate::stations::control_of;
+use bsc_block::Record;
+use bsc_control::Control;
+use bsc_monitor::{Party, RecordLines, print_some};
+use bsc_print::{Form, PrintError};
+use std::alloc::Global;
+use std::test::Fail;
+use test_fixtures::Full;
+use test_fixtures::configurations::TWO_TERMINALS;
+
+/// The lines of records as text, with their numbers.
+const LINES: RecordLines = RecordLines {
+    form: Form::Text,
+    numbers: true,
+};
+
+/// How many records may be printed, in turn; how many more could have been, and what is printed.
+struct Turn {
+    most: usize,
+    left: usize,
+    text: &'static str,
+}
+
+/// The turns of a station at which two records arrived on the first channel, and three on the
+/// other.
+const TURNS: &[Turn] = &[
+    Turn {
+        most: 0,
+        left: 0,
+        text: "",
+    },
+    Turn {
+        most: 1,
+        left: 0,
+        text: "from 0 0: A\n",
+    },
+    Turn {
+        most: 2,
+        left: 0,
+        text: "from 0 1: A\nfrom 1 0: B\n",
+    },
+    Turn {
+        most: 2,
+        left: 0,
+        text: "from 1 1: B\nfrom 1 2: B\n",
+    },
+    Turn {
+        most: 5,
+        left: 5,
+        text: "",
+    },
+];
+
+/// The same, all at once, and one more could have been printed.
+const AT_ONCE: &[Turn] = &[Turn {
+    most: 6,
+    left: 1,
+    text: "from 0 0: A\nfrom 0 1: A\nfrom 1 0: B\nfrom 1 1: B\nfrom 1 2: B\n",
+}];
+
+/// The record of these characters, if they are one.
+fn card(chars: &[u8]) -> Option<Record> {
+    Record::read(chars, 144).ok()
+}
+
+/// Adds this many of these records to those that arrived from this terminal.
+fn add(control: &mut Control<Global>, terminal: usize, chars: &[u8], count: usize) -> Option<()> {
+    for _ in 0..count {
+        if control.terminals() <= terminal {
+            return None;
+        }
+        control.keep_arrived(terminal, card(chars)?).ok()?;
+    }
+    Some(())
+}
+
+/// The same records, two on the first channel and three on the other.
+fn add_five(control: &mut Control<Global>) -> Option<()> {
+    add(control, 0, b"A", 2)?;
+    add(control, 1, b"B", 3)
+}
+
+/// Prints in a turn; `None` if it cannot be.
+fn print_turn(
+    alloc: Global,
+    control: &Control<Global>,
+    printed: &mut [usize],
+    most: usize,
+    out: &mut Vec<u8>,
+) -> Option<usize> {
+    if printed.len() != control.spools() {
+        return None;
+    }
+    print_some(alloc, LINES, control, printed, most, out).ok()
+}
+
+/// The number of the first turn that prints or leaves something else.
+fn first_wrong(alloc: Global, control: &Control<Global>, turns: &[Turn]) -> Option<usize> {
+    let mut printed = [0; 2];
+    for (number, turn) in turns.iter().enumerate() {
+        let mut out = Vec::new(alloc);
+        let left = print_turn(alloc, control, &mut printed, turn.most, &mut out);
+        if left != Some(turn.left) || out.as_slice() != turn.text.as_bytes() {
+            return Some(number);
+        }
+    }
+    None
+}
+
+#[test]
+fn records_are_printed_in_turns(rt: HostRuntime) -> Result<(), Fail> {
+    let mut control = control_of(rt.alloc(), TWO_TERMINALS)?;
+    assert!(rt; add_five(&mut control).is_some());
+    assert_eq!(rt; first_wrong(rt.alloc(), &control, TURNS), None);
+    assert_eq!(rt; first_wrong(rt.alloc(), &control, AT_ONCE), None);
+    Ok(())
+}
+
+/// The octets of the line of a record of 144 characters each of which is printed as four.
+const LONGEST: usize = "from 0 0: \n".len() + 4 * 144;
+
+#[test]
+fn the_longest_line_has_less_than_640_octets(rt: HostRuntime) -> Result<(), Fail> {
+    let mut control = control_of(rt.alloc(), TWO_TERMINALS)?;
+    assert!(rt; add(&mut control, 0, &[0x07; 144], 1).is_some());
+    let mut out = Vec::new(rt.alloc());
+    let left = print_turn(rt.alloc(), &control, &mut [0; 2], 1, &mut out);
+    assert_eq!(rt; left, Some(0));
+    assert_eq!(rt; out.len(), LONGEST);
+    // The longest number has 19 digits more, and the longest name of a channel two characters.
+    assert!(rt; LONGEST + 19 + 2 <= 640);
+    Ok(())
+}
+
+/// How printing fails with room for this many octets.
+fn fault_with_room_for(
+    alloc: Global,
+    control: &Control<Global>,
+    left: usize,
+) -> Option<PrintError> {
+    if control.spools() != 2 {
+        return None;
+    }
+    print_some(alloc, LINES, control, &mut [0; 2], 2, &mut Full { left }).err()
+}
+
+#[test]
+fn records_that_are_not_taken_are_told(rt: HostRuntime) -> Result<(), Fail> {
+    let mut control = control_of(rt.alloc(), TWO_TERMINALS)?;
+    assert!(rt; add_five(&mut control).is_some());
+    assert_eq!(rt;
+        fault_with_room_for(rt.alloc(), &control, 0),
+        Some(PrintError::Output)
+    );
+    assert_eq!(rt;
+        fault_with_room_for(rt.alloc(), &control, 1),
+        Some(PrintError::Output)
+    );
+    assert_eq!(rt; fault_with_room_for(rt.alloc(), &control, 99), None);
+    Ok(())
+}
