@@ -411,9 +411,8 @@ fn fill<P: Fills, K: Store + Drop>(
 /// Fills a new control station with what its store has, and returns what keeps its records from
 /// then on. Nothing of the station changes but its records and what is known of them. Of a record
 /// that is known to have arrived only the place is filled, and so it is of one that was printed, if
-/// the station forgets those. Fails with
-/// `Damaged` if what is kept does not fit the station, with `OutOfMemory`, or with a fault of the
-/// store; the station is then to be dropped.
+/// the station forgets those. Fails with `Damaged` if what is kept does not fit the station, with
+/// `OutOfMemory`, or with a fault of the store; the station is then to be dropped.
 pub fn begin_control<A: Allocator, K: Store + Drop>(
     alloc: Global,
     control: &mut Control<A>,
