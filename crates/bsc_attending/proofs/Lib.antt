@@ -1,3 +1,4 @@
+mod AllPrinted
 mod InTurn
 mod Prepared
 mod Outcomes

@@ -36,6 +36,12 @@ counted_before printed zero counts = counts
 counted_before printed (suc number) counts =
     slice_set (counted_before printed number counts) number (printed number)
 
+-- The number of channels on which a station receives: of a control station one from each terminal,
+-- of a terminal one for each of its selection addresses.
+abbrev pub channels_of : Prepared → ℕ
+channels_of (prepared.Control c) = length c.peers
+channels_of (prepared.Terminal l) = length l.tributary.terminal.selects
+
 -- A station leaves what one of its kind leaves.
 abbrev pub IsLeftBy : Prepared → Left → Type 0
 IsLeftBy (prepared.Control control) (Control trust) = Unit {0}

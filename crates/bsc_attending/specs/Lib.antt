@@ -7,4 +7,5 @@ pub mod Preparing
 pub mod Serving
 pub mod Sparing
 pub mod Wanted
+pub mod Printer
 pub mod Progress

@@ -1,5 +1,5 @@
--- Where programs reach a station.
-use Rattle.std.specs.Prelude.{◌≡◌}
+-- Where programs reach a station, and what ends its waits.
+use Rattle.std.specs.Prelude.{◌≡◌, ℤ, Bool, true, false, Option, Some, None}
 use Rattle.bsc_clients.specs.declared.served_at.ServedAt.{ServedAt}
 use Rattle.bsc_clients.specs.declared.served_at.ServedAt.TheVariants as served
 use Rattle.bsc_options.specs.Serves.{ServesValue, at_address, at_path}
@@ -10,3 +10,10 @@ IsPlace (at_address address anyone) (served.Address text from_anyone) =
     (text.now ≡ address) × (from_anyone ≡ anyone)
 IsPlace (at_path path) (served.Path text) = text.now ≡ path
 IsPlace asked place = ⊥
+
+-- The descriptor that ends a wait of a station, beside those of its connections: that of its
+-- programs, if there is one, or else, if its records are kept, that of standard output.
+abbrev pub IsCalledBy : Option ℤ → Bool → (Option ℤ → Type 0) → Option ℤ → Type 0
+IsCalledBy (Some programs) is_kept tells result = result ≡ Some programs
+IsCalledBy None true tells result = tells result
+IsCalledBy None false tells result = result ≡ None

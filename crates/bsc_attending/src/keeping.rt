@@ -1,21 +1,29 @@
 //! A station whose records are kept in a store.
 
-ghost use Rattle.std.specs.Prelude.{◌≡◌, IfErr};
+ghost use Rattle.std.specs.Prelude.{◌≡◌, IfErr, IfOk, slice_get};
+ghost use Rattle.bsc_keeping.specs.Changes.{printed_of};
 ghost use Rattle.bsc_attending.specs.Ending.{IsSameKind};
 ghost use Rattle.bsc_attending.specs.Errors.{IsCutShort, IsStoreError, with_fault};
 ghost use Rattle.bsc_attending.specs.Preparing.{Suits};
+ghost use Rattle.bsc_attending.specs.Printer.{AreAllPrinted, counts_below, followed_of};
 
 use crate::connections::Attend;
+use crate::following::Following;
 use crate::preparing::Prepared;
-use crate::{AttendingError, Stores};
+use crate::printer::Printer;
+use crate::{AttendingError, Readiness, Stores};
 use bsc_bid::Station;
 use bsc_connections::{LiveError, Monitor};
-use bsc_keeping::{Keeper, Own, Prints, begin_control, begin_terminal};
+use bsc_keeping::{Keeper, Own, Prints, Sends, begin_control, begin_terminal};
 use bsc_kept::{Store, StoreFault};
-use bsc_monitor::Forgets;
+use bsc_monitor::{Forgets, Party};
 use bsc_serving::Feeds;
 use std::alloc::Global;
+use std::io::Write;
 use std::net::IpAddr;
+
+/// How many records are printed at once, at most, when a station has ended.
+const AT_END: usize = 1_024;
 
 /// Fills the station with what the store at this path has, and returns what keeps its records.
 /// `forgets_printed` says whether the station forgets the records that it has printed.
@@ -62,12 +70,16 @@ fn open_and_fill<H: Stores>(
 
 /// Connections over which a station is attended whose records are kept.
 #[derive(Drop)]
-pub(crate) struct Kept<C: Drop, K: Drop> {
+pub(crate) struct Kept<'a, C: Drop, K: Drop, W, D: Drop, R: Drop> {
     pub(crate) connections: C,
     pub(crate) keeper: Keeper<K>,
+
+    /// Prints the records that arrive, after they are kept.
+    pub(crate) printer: Printer<'a, W, D, R>,
 }
 
-impl<C: Attend + Drop, K: Store + Drop> Attend for Kept<C, K> {
+impl<'a, C: Attend + Drop, K: Store + Drop, W: Write, D: Write + Drop, R: Readiness + Drop> Attend
+    for Kept<'a, C, K, W, D, R> {
     ghost use Rattle.std.specs.Prelude.{slice_get};
     ghost use Rattle.bsc_keeping.specs.Changes.{printed_of};
 
@@ -99,9 +111,10 @@ impl<C: Attend + Drop, K: Store + Drop> Attend for Kept<C, K> {
         station: &mut S,
         watch: &mut M,
     ) -> Result<(), LiveError> {
+        let mut following = Following::new(watch, &mut self.printer);
         self.connections
-            .attend_kept(station, watch, &mut self.keeper)?;
-        match self.keeper.keep(station, watch) {
+            .attend_kept(station, &mut following, &mut self.keeper)?;
+        match self.keeper.keep(station, &following) {
             Ok(()) => Ok(()),
             Err(_) => Err(LiveError::Unkept),
         }
@@ -117,6 +130,62 @@ impl<C: Attend + Drop, K: Store + Drop> Attend for Kept<C, K> {
 
     fn peer(&self, place: usize) -> Option<IpAddr> {
         self.connections.peer(place)
+    }
+}
+
+/// Returns how many records of each of the first channels, this many, were printed before the
+/// station began.
+pub(crate) fn printed_before<K: Store + Drop>(
+    alloc: Global,
+    keeper: &Keeper<K>,
+    channels: usize,
+) -> Result<Vec<usize>, AttendingError>
+    ensures printed { IfOk result (λ counts. counts.items
+        ≡ counts_below (λ number.
+        printed_of (slice_get keeper.now.receiving.items number)) channels) }
+    ensures cut { IfErr result IsCutShort }
+{
+    let mut counts = Vec::new(alloc);
+    'channels: for number in 0..channels {
+        counts.push(keeper.printed(number))?;
+    }
+    Ok(counts)
+}
+
+/// Prints all records that arrived at a station and are not printed yet, and keeps how many were.
+/// It waits for standard output. `Unprinted` says that this does not accept them.
+fn print_all<S: Party + Sends, K: Store + Drop, W: Write, D: Write + Drop, R: Readiness + Drop>(
+    station: &S,
+    printer: &mut Printer<'_, W, D, R>,
+    keeper: &mut Keeper<K>,
+) -> Result<(), AttendingError>
+    ensures printed { IfOk result (λ _.
+        AreAllPrinted S.Party station.now (followed_of W.contents printer.new)) }
+    ensures cut { IfErr result IsCutShort }
+{
+    'turns: for _ in 0..u64::MAX {
+        let more = printer.print_turn(station, AT_END);
+        if keeper.keep(station, &*printer).is_err() {
+            return Err(with_fault(keeper, AttendingError::from(LiveError::Unkept)));
+        }
+        if !more {
+            return printer.outcome();
+        }
+    }
+    Err(AttendingError::from(LiveError::Count))
+}
+
+/// Prints what is left of the records that arrived at a station that has ended.
+pub(crate) fn print_rest<K: Store + Drop, W: Write, D: Write + Drop, R: Readiness + Drop>(
+    prepared: &Prepared,
+    printer: &mut Printer<'_, W, D, R>,
+    keeper: &mut Keeper<K>,
+) -> Result<(), AttendingError>
+    ensures { IfErr result IsCutShort }
+{
+    match prepared {
+        Prepared::Control { control } => print_all(control, printer, keeper),
+        Prepared::Terminal { terminal } => print_all(terminal, printer, keeper),
     }
 }
 

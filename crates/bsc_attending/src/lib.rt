@@ -8,17 +8,19 @@
 mod concluding;
 mod connections;
 mod error;
+mod following;
 mod keeping;
 mod network;
 mod offering;
 mod preparing;
+mod printer;
 mod serving;
 mod sparing;
 mod stations;
 mod wanted;
 
 pub use error::AttendingError;
-pub use network::{Network, Opened, Reachable, Stores};
+pub use network::{Network, Opened, Reachable, Readiness, Stores};
 pub use serving::served_at;
 pub use stations::station;
 pub use wanted::Wanted;

@@ -1,5 +1,7 @@
 //! The connections, the clock, the trace and the store that a station needs from the machine.
 
+ghost use Rattle.std.specs.Prelude.{◌≡◌, ◌≤◌, ◌⊎◌, ℤ, Option};
+
 use crate::Wanted;
 use bsc_clients::{ClientsError, ServedAt};
 use bsc_connections::Waiter;
@@ -25,8 +27,27 @@ pub struct Reachable<P: Drop> {
     pub descriptor: RawFd,
 }
 
-/// Connections to other processes, a clock, a writer for the trace, and the file that standard
-/// output may be.
+/// Tells whether standard output takes more without waiting for its reader.
+pub trait Readiness {
+    /// Whether this may be the descriptor.
+    ghost tells: { Self → Option ℤ → Type 0 };
+
+    /// Returns how many octets standard output takes now without waiting: at least 4,096, or 0. If
+    /// it cannot be asked, or fails, it is taken to be ready, and what is written to it tells.
+    fn room(&mut self) -> usize
+        ensures { (result ≡ 0) ⊎ (4096 ≤ result) };
+
+    /// Has the descriptor become readable once standard output takes more, at once if it does now.
+    fn call_when_ready(&mut self);
+
+    /// Returns the descriptor that is readable when standard output may take more again; `None` if
+    /// it never has to be waited for.
+    fn descriptor(&self) -> Option<RawFd>
+        ensures { tells self.now result };
+}
+
+/// Connections to other processes, a clock, a writer for the trace, and standard output beside what
+/// is written to it.
 pub trait Network {
     /// The receiving side of a connection to another process.
     type Reader: Read + Drop;
@@ -46,6 +67,9 @@ pub trait Network {
     /// The writer for the trace.
     type Trace: Write + Drop;
 
+    /// What tells whether standard output takes more.
+    type Readiness: Readiness + Drop;
+
     /// Makes the connections that a station asks for.
     fn open(
         &mut self,
@@ -61,6 +85,9 @@ pub trait Network {
 
     /// Returns the writer for the trace, which is standard error.
     fn trace(&mut self) -> Self::Trace;
+
+    /// Returns what tells whether standard output takes more.
+    fn readiness(&mut self) -> Self::Readiness;
 
     /// From now on each flush of standard output also syncs it, if it is a regular file. The flush
     /// fails if that does.

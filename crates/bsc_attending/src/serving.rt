@@ -2,13 +2,13 @@
 
 ghost use Rattle.std.specs.Prelude.{◌≡◌, IfErr, IfOk, is_some, option_map};
 ghost use Rattle.bsc_attending.specs.Errors.{IsCutShort};
-ghost use Rattle.bsc_attending.specs.Serving.{IsPlace};
+ghost use Rattle.bsc_attending.specs.Serving.{IsCalledBy, IsPlace};
 ghost use Rattle.bsc_attending.specs.Sparing.{ForgetsAtTimes};
 ghost use Rattle.bsc_options.specs.Serves.{serves_value};
 
 use crate::connections::Attend;
 use crate::sparing::{EVENTS, forget_unneeded};
-use crate::{AttendingError, Network, Reachable};
+use crate::{AttendingError, Network, Reachable, Readiness};
 use bsc_bid::Station;
 use bsc_clients::ServedAt;
 use bsc_connections::{LiveError, Monitor, Note};
@@ -54,14 +54,20 @@ pub(crate) fn reachable<H: Network>(
     }
 }
 
-/// Returns the descriptor that tells when a program may have to be served, if programs can reach
-/// the station.
-pub(crate) fn descriptor_of<P: Drop>(reachable: &Option<Reachable<P>>) -> Option<RawFd>
-    ensures { result ≡ option_map (λ r. r.descriptor) reachable.now }
+/// Returns the descriptor that ends a wait of the station, beside those of its connections: that of
+/// its programs if they can reach it, or else, if its records are kept, that of standard output.
+pub(crate) fn called_by<P: Drop, K: Drop, R: Readiness>(
+    reachable: &Option<Reachable<P>>,
+    keeper: &Option<Keeper<K>>,
+    readiness: &R,
+) -> Option<RawFd>
+    ensures { IsCalledBy (option_map (λ r. r.descriptor) reachable.now) (is_some keeper.now)
+        (R.tells readiness.now) result }
 {
-    match reachable {
-        Some(reachable) => Some(reachable.descriptor),
-        None => None,
+    match (reachable, keeper) {
+        (Some(reachable), _) => Some(reachable.descriptor),
+        (None, Some(_)) => readiness.descriptor(),
+        (None, None) => None,
     }
 }
 

@@ -4,7 +4,7 @@ ghost use Rattle.std.specs.Prelude.{◌≡◌, IfErr, IfOk, IsSome};
 ghost use Rattle.bsc_asked.specs.StationWords.{asked_words};
 ghost use Rattle.bsc_options.specs.Settings.{place_value, settings_value};
 ghost use Rattle.bsc_attending.specs.Ending.{HasBegunAndRun, HasRun, IsLeftBy, IsSameKind};
-ghost use Rattle.bsc_attending.specs.Ending.{JoinsFirst, counted_before};
+ghost use Rattle.bsc_attending.specs.Ending.{JoinsFirst, channels_of, counted_before};
 ghost use Rattle.bsc_attending.specs.Errors.{IsCutShort, IsEarly, IsLate, IsStoreError};
 ghost use Rattle.bsc_attending.specs.Progress.{progress_in, work_in};
 ghost use Rattle.bsc_attending.specs.Outcomes.{IsAnswer, IsAnswerFor, IsReported, IsReportedFor};
@@ -15,11 +15,12 @@ ghost use Rattle.bsc_trust.specs.Trust.{new_trust};
 
 use crate::concluding::{conclude, report};
 use crate::connections::{Attend, connect};
-use crate::keeping::{Kept, begin, with_fault};
+use crate::keeping::{Kept, begin, print_rest, printed_before, with_fault};
 use crate::preparing::{Prepared, Ready, prepare};
-use crate::serving::{Fed, descriptor_of, reachable, serving_of};
+use crate::printer::Printer;
+use crate::serving::{Fed, called_by, reachable, serving_of};
 use crate::wanted::{listens, wanted_by_control, wanted_by_terminal};
-use crate::{AttendingError, Network, Stores, Wanted};
+use crate::{AttendingError, Network, Readiness, Stores, Wanted};
 use bsc_asked::StationWords;
 use bsc_carrier::CarrierError;
 use bsc_connections::LiveError;
@@ -34,7 +35,7 @@ use bsc_options::{Admission, Role, StationSettings, read_admission, read_setting
 use bsc_progress::{Meter, Timer, Work};
 use bsc_trust::Trust;
 use std::alloc::Global;
-use std::io::{Read, Write};
+use std::io::{Read, Write, sink};
 
 /// The options of a station, as they were read.
 #[derive(Clone, Copy)]
@@ -213,8 +214,9 @@ fn open<H: Network, K: Store + Drop, W: Write>(
     ensures left { IfOk result (λ left. IsLeftBy prepared.old left × IsLeftBy prepared.new left) }
 {
     let reachable = reachable(options.settings.serves, machine)?;
+    let readiness = machine.readiness();
     let wanted = Wanted {
-        serves: descriptor_of(&reachable),
+        serves: called_by(&reachable, &keeper, &readiness),
         ..wanted_by(options, prepared)
     };
     let forgets = forgets_printed(&options.settings);
@@ -226,6 +228,45 @@ fn open<H: Network, K: Store + Drop, W: Write>(
     if options.settings.sync {
         machine.sync_output();
     }
+    match keeper {
+        None => attend_with(alloc, options, prepared, &mut connections, machine, out),
+        Some(keeper) => {
+            let counts = printed_before(alloc, &keeper, channels_of(prepared))?;
+            let lines = options.settings.printing.records;
+            let notices = machine.trace();
+            let kept = Kept {
+                connections,
+                keeper,
+                printer: Printer::new(alloc, lines, counts, out, readiness, notices),
+            };
+            attend_kept(alloc, options, prepared, kept, machine)
+        }
+    }
+}
+
+/// Returns the number of channels on which a station receives.
+fn channels_of(prepared: &Prepared) -> usize
+    ensures { result ≡ channels_of prepared.now }
+{
+    match prepared {
+        Prepared::Control { control } => control.spools(),
+        Prepared::Terminal { terminal } => terminal.spools(),
+    }
+}
+
+/// Attends a station over its connections until it ends, and returns what it leaves. What arrives
+/// is printed to this writer, and nothing is sent before it is.
+fn attend_with<C: Attend, H: Network, O: Write>(
+    alloc: Global,
+    options: &Options<'_>,
+    prepared: &mut Prepared,
+    connections: &mut C,
+    machine: &mut H,
+    out: &mut O,
+) -> Result<Left, AttendingError>
+    ensures cut { IfErr result IsCutShort }
+    ensures left { IfOk result (λ left. IsLeftBy prepared.old left × IsLeftBy prepared.new left) }
+{
     let timer = machine.timer(progress_of(&options.settings));
     let mut trace = machine.trace();
     let watching = Watching {
@@ -234,35 +275,44 @@ fn open<H: Network, K: Store + Drop, W: Write>(
         out,
         trace: &mut trace,
     };
-    let ending = ending_of(options);
-    match keeper {
-        None => attend(alloc, ending, prepared, &mut connections, watching),
-        Some(keeper) => {
-            let kept = Kept {
-                connections,
-                keeper,
-            };
-            attend_kept(alloc, ending, prepared, kept, watching)
-        }
-    }
+    attend(alloc, ending_of(options), prepared, connections, watching)
 }
 
 /// Attends a station whose records are kept over its connections until it ends, and returns what it
-/// leaves.
-fn attend_kept<C: Attend + Drop, K: Store + Drop, T: Timer + Meter + Drop, O: Write, D: Write>(
+/// leaves. What arrives is printed after it is kept, as standard output takes it; once the station
+/// has ended, all that is left.
+fn attend_kept<
+    C: Attend + Drop,
+    K: Store + Drop,
+    O: Write,
+    D: Write + Drop,
+    R: Readiness + Drop,
+    H: Network,
+>(
     alloc: Global,
-    ending: Ending,
+    options: &Options<'_>,
     prepared: &mut Prepared,
-    kept: Kept<C, K>,
-    watching: Watching<'_, T, O, D>,
+    kept: Kept<'_, C, K, O, D, R>,
+    machine: &mut H,
 ) -> Result<Left, AttendingError>
     ensures cut { IfErr result IsCutShort }
     ensures left { IfOk result (λ left. IsLeftBy prepared.old left × IsLeftBy prepared.new left) }
 {
     let mut kept = kept;
-    match attend(alloc, ending, prepared, &mut kept, watching) {
-        Ok(left) => Ok(left),
-        Err(error) => Err(with_fault(&kept.keeper, error)),
+    let attended = attend_with(alloc, options, prepared, &mut kept, machine, &mut sink());
+    let Kept {
+        connections,
+        mut keeper,
+        mut printer,
+    } = kept;
+    // No peer has to wait for the reader of the output.
+    drop(connections);
+    match attended {
+        Ok(left) => {
+            print_rest(prepared, &mut printer, &mut keeper)?;
+            Ok(left)
+        }
+        Err(error) => Err(with_fault(&keeper, error)),
     }
 }
 

@@ -72,8 +72,8 @@ pub struct Wanted<'a> {
     /// Whether what happens is traced.
     pub trace: bool,
 
-    /// The descriptor that is readable when a program that feeds the station may have to be served;
-    /// `None` if no program can reach it.
+    /// A descriptor that is readable when there may be work beside the line: a program that feeds
+    /// the station is to be served, or standard output takes more; `None` if there is none.
     pub serves: Option<RawFd>,
 }
 

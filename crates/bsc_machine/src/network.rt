@@ -6,6 +6,7 @@ ghost use Rattle.bsc_machine.specs.Showing.{is_shown, shows};
 
 use crate::connecting::{PeerAt, connect_within};
 use crate::machine::Machine;
+use crate::readiness::OutputReadiness;
 use crate::receiving::Receiving;
 use crate::screen::{Errors, Progress, Screen, progress};
 use bsc_attending::{Network, Opened, Reachable, Wanted};
@@ -94,6 +95,8 @@ impl<'a, R: AllocGlobal + Clock + Eprint + Filing + Net> Network for Machine<'a,
 
     type Trace = Errors<'a, R>;
 
+    type Readiness = OutputReadiness;
+
     fn open(
         &mut self,
         wanted: &Wanted<'_>,
@@ -132,6 +135,10 @@ impl<'a, R: AllocGlobal + Clock + Eprint + Filing + Net> Network for Machine<'a,
             runtime: self.runtime,
             screen: self.screen,
         }
+    }
+
+    fn readiness(&mut self) -> OutputReadiness {
+        OutputReadiness::new(self.runtime)
     }
 
     fn sync_output(&mut self) {
