@@ -2,7 +2,7 @@
 
 use crate::stores::Forgetful;
 use crate::traces::TraceFile;
-use bsc_attending::{Network, Opened, Reachable, Stores, Wanted};
+use bsc_attending::{Network, Opened, Reachable, Readiness, Stores, Wanted};
 use bsc_carrier::Cable;
 use bsc_chart::Traces;
 use bsc_clients::{ClientsError, ServedAt};
@@ -22,6 +22,7 @@ use std::cell::Cell;
 use std::io;
 use std::io::{BufWriter, Read, Write};
 use std::net::{IpAddr, Ipv4Addr, SocketAddr};
+use std::os::fd::RawFd;
 use std::test::Fail;
 
 /// The number of terminals.
@@ -329,6 +330,24 @@ impl Programs for NoPrograms {
     fn call(&mut self) {}
 }
 
+/// Standard output always takes more.
+#[derive(Drop)]
+struct Ready;
+
+impl Readiness for Ready {
+    ghost tells = { λ _ _. Unit {0} };
+
+    fn room(&mut self) -> usize {
+        4_096
+    }
+
+    fn call_when_ready(&mut self) {}
+
+    fn descriptor(&self) -> Option<RawFd> {
+        None
+    }
+}
+
 impl<'a> Network for Machine<'a> {
     type Reader = Answering;
 
@@ -341,6 +360,8 @@ impl<'a> Network for Machine<'a> {
     type Programs = NoPrograms;
 
     type Trace = NoTrace;
+
+    type Readiness = Ready;
 
     fn open(
         &mut self,
@@ -380,6 +401,10 @@ impl<'a> Network for Machine<'a> {
 
     fn trace(&mut self) -> NoTrace {
         NoTrace
+    }
+
+    fn readiness(&mut self) -> Ready {
+        Ready
     }
 
     fn sync_output(&mut self) {}

@@ -92,6 +92,8 @@ mod stores;
 #[cfg(test)]
 mod traces;
 #[cfg(test)]
+mod unready;
+#[cfg(test)]
 mod usage;
 #[cfg(test)]
 mod wires;

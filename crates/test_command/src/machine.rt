@@ -6,7 +6,7 @@ use crate::programs::Feeders;
 use crate::record::{Metered, Record, Sending, Tracer};
 use crate::run_files::run_file_at;
 use crate::wires::End;
-use bsc_attending::{Network, Opened, Reachable, Wanted};
+use bsc_attending::{Network, Opened, Reachable, Readiness, Wanted};
 use bsc_carrier::Cable;
 use bsc_clients::{ClientsError, ServedAt};
 use bsc_connections::{Awaited, Handled, LiveError, Pace, Waiter};
@@ -18,6 +18,7 @@ use bsc_running::Cables;
 use bsc_sockets::SocketsError;
 use std::alloc::Global;
 use std::net::{IpAddr, Ipv4Addr, SocketAddr};
+use std::os::fd::RawFd;
 use test_fixtures::configurations::{THREE_ADDRESSES, TWO_TERMINALS};
 
 /// Returns the address of the peer with this number; `None` for 0.
@@ -170,6 +171,9 @@ pub(crate) struct Scene {
     /// Whether the disk of standard output fails.
     pub(crate) disk_fails: bool,
 
+    /// How often standard output takes nothing when it is asked whether it does.
+    pub(crate) unready: u32,
+
     /// Whether the trace cannot be written.
     pub(crate) trace_fails: bool,
 
@@ -187,10 +191,38 @@ pub(crate) const SILENT: Scene = Scene {
     steps: b"",
     peer: 0,
     disk_fails: false,
+    unready: 0,
     trace_fails: false,
     fed: b"",
     refusal: None,
 };
+
+/// Whether standard output takes more: at first not, this many times.
+#[derive(Drop)]
+pub(crate) struct Rooms {
+    unready: u32,
+}
+
+impl Readiness for Rooms {
+    ghost tells = { λ _ _. Unit {0} };
+
+    fn room(&mut self) -> usize {
+        if self.unready == 0 {
+            return 4_096;
+        }
+        self.unready -= 1;
+        0
+    }
+
+    fn call_when_ready(&mut self) {}
+
+    fn descriptor(&self) -> Option<RawFd> {
+        match self.unready {
+            0 => None,
+            _ => Some(8),
+        }
+    }
+}
 
 /// A machine with the files of tests and one connection to another process.
 #[derive(Drop)]
@@ -295,6 +327,8 @@ impl<'a> Network for Machine<'a> {
 
     type Trace = Tracer<'a>;
 
+    type Readiness = Rooms;
+
     fn open(
         &mut self,
         wanted: &Wanted<'_>,
@@ -369,6 +403,12 @@ impl<'a> Network for Machine<'a> {
         Tracer {
             fails: self.scene.trace_fails,
             record: self.record,
+        }
+    }
+
+    fn readiness(&mut self) -> Rooms {
+        Rooms {
+            unready: self.scene.unready,
         }
     }
 
