@@ -1,6 +1,6 @@
 //! Each growth of a queue and of a spool is refused in turn.
 
-ghost use Rattle.std.specs.Prelude.{◌≡◌, ◌≤◌};
+ghost use Rattle.std.specs.Prelude.{◌≡◌, ◌≤◌, length, IfSome};
 
 use bsc_block::{Format, Record, unpack};
 use bsc_frame::{Message, MessageBuffer};
@@ -9,6 +9,13 @@ use std::test::Fail;
 use test_alloc::{Refusal, Refusing};
 
 const RECORDS: usize = 420;
+
+/// The record of these characters, at most 80, if they are one.
+fn card(chars: &[u8]) -> Option<Record>
+    ensures { IfSome result (λ r. length r ≤ 80) }
+{
+    Record::read(chars, 80).ok()
+}
 
 /// Offers records until `RECORDS` were accepted, with at most twice as many offers. Returns how
 /// many offers were refused.
@@ -21,7 +28,7 @@ fn offer_all(queue: &mut Queue<&Refusing>) -> usize
         if queue.offered().len() == RECORDS {
             return back;
         }
-        let Ok(record) = Record::read(b"HI", 80) else {
+        let Some(record) = card(b"HI") else {
             return back;
         };
         if queue.offer(record).is_err() {

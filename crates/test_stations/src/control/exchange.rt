@@ -124,10 +124,15 @@ fn takes<A: Allocator>(
     true
 }
 
+/// The record of these characters, if they are one.
+fn card(chars: &[u8]) -> Option<Record> {
+    Record::read(chars, 80).ok()
+}
+
 /// Adds the record HI to those that arrived from terminal 0. Returns whether it is accepted or
 /// returned unchanged; None if there is no terminal, or another record is returned.
 fn keeps_hi<A: Allocator>(control: &mut Control<A>) -> Option<bool> {
-    let record = Record::read(b"HI", 80).ok()?;
+    let record = card(b"HI")?;
     if control.terminals() == 0 {
         return None;
     }

@@ -1,6 +1,6 @@
 //! Exchanges of a terminal as tables.
 
-ghost use Rattle.std.specs.Prelude.{◌≡◌, length};
+ghost use Rattle.std.specs.Prelude.{◌≡◌, ◌≤◌, length, IfSome};
 
 use crate::hearing::sends;
 use bsc_bid::{KeptSender, RecallError, ReleaseError, Setup, Station};
@@ -72,6 +72,13 @@ pub(crate) struct Exchange<'a> {
     pub(crate) steps: &'a [Step<'a>],
 }
 
+/// The record of these characters, at most 80, if they are one.
+fn card(chars: &[u8]) -> Option<Record>
+    ensures { IfSome result (λ r. length r ≤ 80) }
+{
+    Record::read(chars, 80).ok()
+}
+
 /// Offers the record HI. Returns whether it is accepted or returned unchanged; None if another
 /// record is returned.
 fn offers_hi<A: Allocator>(tributary: &mut Tributary<A>) -> Option<bool>
@@ -79,7 +86,7 @@ fn offers_hi<A: Allocator>(tributary: &mut Tributary<A>) -> Option<bool>
     ensures terminal { tributary.new.terminal ≡ tributary.old.terminal }
     ensures full { tributary.new.queue.format.full ≡ 80 }
 {
-    let record = Record::read(b"HI", 80).ok()?;
+    let record = card(b"HI")?;
     match tributary.offer(record) {
         Ok(()) => Some(true),
         Err(record) if record.chars() == b"HI".as_slice() => Some(false),
@@ -95,7 +102,7 @@ fn keeps_hi<A: Allocator>(tributary: &mut Tributary<A>, select: usize) -> Option
     ensures terminal { tributary.new.terminal ≡ tributary.old.terminal }
     ensures queue { tributary.new.queue ≡ tributary.old.queue }
 {
-    let record = Record::read(b"HI", 80).ok()?;
+    let record = card(b"HI")?;
     if select > 1 {
         return None;
     }
