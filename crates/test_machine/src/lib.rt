@@ -21,6 +21,8 @@ mod listening;
 #[cfg(test)]
 mod outputs;
 #[cfg(test)]
+mod readiness;
+#[cfg(test)]
 mod screens;
 #[cfg(test)]
 mod serving;
