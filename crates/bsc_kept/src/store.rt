@@ -1,7 +1,10 @@
 //! Stores.
 
-ghost use Rattle.std.specs.Prelude.{List, OnOk, OnErr};
+ghost use Rattle.std.specs.Prelude.{ℕ, ℤ, List, Option, IfOk, OnOk, OnErr};
 ghost use Rattle.bsc_kept.specs.declared.change.Change.{Change as ChangeValue};
+ghost use Rattle.bsc_kept.specs.declared.channel.Channel.{Channel as ChannelValue};
+ghost use Rattle.bsc_kept.specs.declared.store.Found.{Found as FoundValue};
+ghost use Rattle.bsc_kept.specs.declared.store.Progress.{Progress as ProgressValue};
 
 use crate::{Change, Channel, StoreFault};
 use bsc_block::Record;
@@ -45,6 +48,23 @@ pub trait Store {
     /// kept with all changes of the step, in order: the step, the store before, the store after.
     ghost survives: { List ChangeValue → Self → Self → Type 0 };
 
+    /// The store has given back what was written to it, so far.
+    ghost sound: { Self → Type 0 };
+
+    /// The store was only read: the store before, the store after.
+    ghost reads: { Self → Self → Type 0 };
+
+    /// Reading gives these numbers of a channel: the channel, the numbers, the store before, the
+    /// store after.
+    ghost counts: { ChannelValue → ProgressValue → Self → Self → Type 0 };
+
+    /// Reading gives this record that was offered on a channel, or none: the channel, the mark, how
+    /// many others are passed over, the record, the store before, the store after.
+    ghost finds_offered: { ChannelValue → ℤ → ℕ → Option FoundValue → Self → Self → Type 0 };
+
+    /// The same of the records that arrived.
+    ghost finds_arrived: { ChannelValue → ℤ → ℕ → Option FoundValue → Self → Self → Type 0 };
+
     /// Keeps the changes of a step, all or none. Each change must fit what is kept and the changes
     /// before it: no more records are known and in doubt than were offered, and no more are printed
     /// than arrived.
@@ -55,7 +75,9 @@ pub trait Store {
 
     /// Returns what is kept of a channel, in numbers. They are all 0 for a channel of which nothing
     /// is kept.
-    fn progress(&mut self, channel: &Channel) -> Result<Progress, StoreFault>;
+    fn progress(&mut self, channel: &Channel) -> Result<Progress, StoreFault>
+        ensures reads { reads self.old self.new }
+        ensures counts { IfOk result (λ it. counts channel.now it self.old self.new) };
 
     /// Returns a record that was offered on a channel, or `None` if there is none: of those after
     /// `mark`, which is 0 before the first record, the one that follows `more` others.
@@ -64,7 +86,10 @@ pub trait Store {
         channel: &Channel,
         mark: i64,
         more: u32,
-    ) -> Result<Option<Found>, StoreFault>;
+    ) -> Result<Option<Found>, StoreFault>
+        ensures reads { reads self.old self.new }
+        ensures finds { IfOk result (λ it.
+            finds_offered channel.now mark more it self.old self.new) };
 
     /// Returns a record that arrived on a channel, as `offered` does.
     fn arrived(
@@ -72,5 +97,8 @@ pub trait Store {
         channel: &Channel,
         mark: i64,
         more: u32,
-    ) -> Result<Option<Found>, StoreFault>;
+    ) -> Result<Option<Found>, StoreFault>
+        ensures reads { reads self.old self.new }
+        ensures finds { IfOk result (λ it.
+            finds_arrived channel.now mark more it self.old self.new) };
 }

@@ -25,6 +25,22 @@ impl Store for KeptFile {
     ghost survives = { λ step old new.
         ⟦<TableStore<FileStore<File>> as Store>⟧.survives step old.table new.table };
 
+    ghost sound = { λ it. ⟦<TableStore<FileStore<File>> as Store>⟧.sound it.table };
+
+    ghost reads = { λ old new.
+        ⟦<TableStore<FileStore<File>> as Store>⟧.reads old.table new.table };
+
+    ghost counts = { λ channel it old new.
+        ⟦<TableStore<FileStore<File>> as Store>⟧.counts channel it old.table new.table };
+
+    ghost finds_offered = { λ channel mark more it old new.
+        ⟦<TableStore<FileStore<File>> as Store>⟧.finds_offered channel mark more it old.table
+        new.table };
+
+    ghost finds_arrived = { λ channel mark more it old new.
+        ⟦<TableStore<FileStore<File>> as Store>⟧.finds_arrived channel mark more it old.table
+        new.table };
+
     fn commit(&mut self, step: &[Change]) -> Result<(), StoreFault> {
         self.table.commit(step)
     }

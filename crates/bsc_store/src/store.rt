@@ -177,6 +177,21 @@ impl<S: Alter> Store for TableStore<S> {
 
     ghost survives = { λ step old new. SurvivesStep S.Store step old.conn new.conn };
 
+    ghost sound = { λ it. HasCleanDisk (state S.Store it.conn) };
+
+    ghost reads = { λ old new. OnlyRead S.Store old.conn new.conn };
+
+    ghost counts = { λ channel it old new. HasCleanDisk (state S.Store new.conn)
+        → IsProgress S.Store channel old.conn new.conn it };
+
+    ghost finds_offered = { λ channel mark more it old new. HasCleanDisk (state S.Store new.conn)
+        → IsFound S.Store (query_text query.NextOffered) (place_values channel mark more)
+        old.conn new.conn it };
+
+    ghost finds_arrived = { λ channel mark more it old new. HasCleanDisk (state S.Store new.conn)
+        → IsFound S.Store (query_text query.NextArrived) (place_values channel mark more)
+        old.conn new.conn it };
+
     fn commit(&mut self, step: &[Change]) -> Result<(), StoreFault> {
         self.keep(step)
     }

@@ -18,6 +18,16 @@ impl Store for Forgetful {
 
     ghost survives = { λ _ _ _. Unit {0} };
 
+    ghost sound = { λ _. Unit {0} };
+
+    ghost reads = { λ _ _. Unit {0} };
+
+    ghost counts = { λ _ _ _ _. Unit {0} };
+
+    ghost finds_offered = { λ _ _ _ _ _ _. Unit {0} };
+
+    ghost finds_arrived = { λ _ _ _ _ _ _. Unit {0} };
+
     fn commit(&mut self, _step: &[Change]) -> Result<(), StoreFault> {
         Ok(())
     }
@@ -63,6 +73,16 @@ impl Store for Lent<'_> {
     ghost stays = { λ _ _. Unit {0} };
 
     ghost survives = { λ _ _ _. Unit {0} };
+
+    ghost sound = { λ _. Unit {0} };
+
+    ghost reads = { λ _ _. Unit {0} };
+
+    ghost counts = { λ _ _ _ _. Unit {0} };
+
+    ghost finds_offered = { λ _ _ _ _ _ _. Unit {0} };
+
+    ghost finds_arrived = { λ _ _ _ _ _ _. Unit {0} };
 
     fn commit(&mut self, step: &[Change]) -> Result<(), StoreFault> {
         match self.record.memory.try_borrow_mut() {

@@ -152,6 +152,16 @@ impl Store for Memory {
 
     ghost survives = { λ _ _ _. Unit {0} };
 
+    ghost sound = { λ _. Unit {0} };
+
+    ghost reads = { λ _ _. Unit {0} };
+
+    ghost counts = { λ _ _ _ _. Unit {0} };
+
+    ghost finds_offered = { λ _ _ _ _ _ _. Unit {0} };
+
+    ghost finds_arrived = { λ _ _ _ _ _ _. Unit {0} };
+
     fn commit(&mut self, step: &[Change]) -> Result<(), StoreFault> {
         if self.left == 0 {
             return Err(StoreFault::Full);
