@@ -2,6 +2,8 @@ mod Owns
 mod Tellings
 mod Kept
 mod Lists
+mod FilledFrom
+mod Reading
 mod Filled
 mod Throughout
 mod AllKept

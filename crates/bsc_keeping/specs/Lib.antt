@@ -6,6 +6,7 @@ pub mod Sessions
 pub mod AllKept
 pub mod OffersKept
 pub mod Filling
+pub mod Filled
 pub mod OwnText
 pub mod Own
 pub mod ForgottenKept

@@ -1,194 +1,32 @@
 //! A station that is made again from what is kept.
 
-ghost use Rattle.std.specs.Prelude.{◌≡◌, ◌≤◌, ◌<◌, [], ℕ, length, IfOk};
+ghost use Rattle.std.specs.Prelude.{◌≡◌, [], map, replicate, Some};
+ghost use Rattle.std.specs.Prelude.{IfOk, OnOk, if◌then◌else◌};
+ghost use Rattle.bsc_kept.specs.Contents.{Contents, GivesBack, IsRead};
+ghost use Rattle.bsc_kept.specs.declared.channel.Channel.{Channel as ChannelValue};
+ghost use Rattle.bsc_kept.specs.declared.store.Found.{Found as FoundValue};
 ghost use Rattle.bsc_keeping.specs.Filling.{apart_from_kept};
+ghost use Rattle.bsc_keeping.specs.Filled.{AddsChannel, AddsEach, AddsForgotten, IsFilledFrom};
+ghost use Rattle.bsc_keeping.specs.Filled.{IsControlFilledFrom, IsTerminalFilledFrom, KeepsFrom};
+ghost use Rattle.bsc_keeping.specs.Filled.{doubt_of, offered_all, offered_each, recalled_each};
+ghost use Rattle.bsc_keeping.specs.Filled.{recalled_of, receiving_from, sending_from, sent_again};
 ghost use Rattle.bsc_control.specs.Stored.{apart_from_records};
 
 use crate::changes::record_of;
+use crate::fills::Fills;
 use crate::{Keeper, Own};
 use bsc_bid::KeptSender;
 use bsc_block::Record;
 use bsc_control::Control;
 use bsc_kept::{Progress, Receiving, Sending, Store, StoreFault};
-use bsc_monitor::{Forgets, LineTerminal, Party};
+use bsc_monitor::LineTerminal;
 use std::alloc::{Allocator, Global};
 
-/// A new station that is made again: it takes the records that are kept, and recalls what is kept
-/// of the channels on which it sends. `Damaged` says that what is kept does not fit it, and
-/// `OutOfMemory` that an allocation failed; nothing is changed by either.
-pub(crate) trait Fills {
-    /// Only records, and what is known of them, differ between both stations.
-    ghost fills: { Self → Self → Type 0 };
-
-    /// The full length of a record.
-    ghost takes: { Self → ℕ };
-
-    /// Offers a record again on the channel to this selection address of this terminal; at a
-    /// terminal, on the one channel on which it sends. The record must not be longer than the full
-    /// length.
-    fn offer_again(
-        &mut self,
-        terminal: usize,
-        select: usize,
-        record: Record,
-    ) -> Result<(), StoreFault>
-        requires { length «record» ≤ takes self.old }
-        ensures fills { fills self.old self.new }
-        ensures takes { takes self.new ≡ takes self.old };
-
-    /// Adds a record that had arrived on the channel with this number.
-    fn add_arrived(&mut self, number: usize, record: Record) -> Result<(), StoreFault>
-        ensures { fills self.old self.new };
-
-    /// Forgets the first records that had arrived on the channel with this number, at most this
-    /// many, if they are many.
-    fn forget_added(&mut self, number: usize, count: usize)
-        ensures { fills self.old self.new };
-
-    /// Forgets the records that are known to have arrived, of each channel that has many of them.
-    fn forget_recalled(&mut self)
-        ensures { fills self.old self.new };
-
-    /// Recalls what is kept of a channel, once its records are offered again.
-    fn recall_kept(
-        &mut self,
-        terminal: usize,
-        select: usize,
-        kept: KeptSender,
-    ) -> Result<(), StoreFault>
-        ensures { fills self.old self.new };
-
-    ghost unchanged: { (x : Self) → fills x x };
-
-    ghost further: { (x y z : Self) → fills x y → fills y z → fills x z };
-}
-
-impl<A: Allocator> Fills for Control<A> {
-    ghost use Rattle.std.specs.Prelude.{◌≡◌, refl};
-    ghost use Rattle.std.proofs.Common.{◌∙◌};
-    ghost use Rattle.bsc_control.specs.Stored.{apart_from_records};
-
-    ghost fills = { λ old new. apart_from_records new ≡ apart_from_records old };
-
-    ghost takes = { λ c. c.setup.format.full };
-
-    fn offer_again(
-        &mut self,
-        terminal: usize,
-        select: usize,
-        record: Record,
-    ) -> Result<(), StoreFault> {
-        if terminal >= self.terminals() {
-            return Err(StoreFault::Damaged);
-        }
-        if select >= self.addresses(terminal) {
-            return Err(StoreFault::Damaged);
-        }
-        match self.offer(terminal, select, record) {
-            Ok(()) => Ok(()),
-            Err(_) => Err(StoreFault::OutOfMemory),
-        }
-    }
-
-    fn add_arrived(&mut self, number: usize, record: Record) -> Result<(), StoreFault> {
-        if number >= self.terminals() {
-            return Err(StoreFault::Damaged);
-        }
-        match self.keep_arrived(number, record) {
-            Ok(()) => Ok(()),
-            Err(_) => Err(StoreFault::OutOfMemory),
-        }
-    }
-
-    fn forget_added(&mut self, number: usize, count: usize) {
-        self.forget_first(number, count);
-    }
-
-    fn forget_recalled(&mut self) {
-        self.forget_known();
-    }
-
-    fn recall_kept(
-        &mut self,
-        terminal: usize,
-        select: usize,
-        kept: KeptSender,
-    ) -> Result<(), StoreFault> {
-        if terminal >= self.terminals() {
-            return Err(StoreFault::Damaged);
-        }
-        if select >= self.addresses(terminal) {
-            return Err(StoreFault::Damaged);
-        }
-        match self.recall(terminal, select, kept) {
-            Ok(()) => Ok(()),
-            Err(_) => Err(StoreFault::Damaged),
-        }
-    }
-
-    ghost unchanged = { λ x. refl };
-
-    ghost further = { λ x y z first second. second ∙ first };
-}
-
-impl<A: Allocator> Fills for LineTerminal<A> {
-    ghost use Rattle.std.specs.Prelude.{◌≡◌, refl};
-    ghost use Rattle.std.proofs.Common.{◌∙◌};
-    ghost use Rattle.bsc_keeping.specs.Filling.{apart_from_kept};
-
-    ghost fills = { λ old new. apart_from_kept new ≡ apart_from_kept old };
-
-    ghost takes = { λ l. l.tributary.queue.format.full };
-
-    fn offer_again(
-        &mut self,
-        _terminal: usize,
-        _select: usize,
-        record: Record,
-    ) -> Result<(), StoreFault> {
-        match self.offer(record) {
-            Ok(()) => Ok(()),
-            Err(_) => Err(StoreFault::OutOfMemory),
-        }
-    }
-
-    fn add_arrived(&mut self, number: usize, record: Record) -> Result<(), StoreFault> {
-        if number >= Party::addresses(self, 0) {
-            return Err(StoreFault::Damaged);
-        }
-        match self.keep_arrived(number, record) {
-            Ok(()) => Ok(()),
-            Err(_) => Err(StoreFault::OutOfMemory),
-        }
-    }
-
-    fn forget_added(&mut self, number: usize, count: usize) {
-        self.forget_first(number, count);
-    }
-
-    fn forget_recalled(&mut self) {
-        self.forget_known();
-    }
-
-    fn recall_kept(
-        &mut self,
-        _terminal: usize,
-        _select: usize,
-        kept: KeptSender,
-    ) -> Result<(), StoreFault> {
-        match self.recall(kept) {
-            Ok(()) => Ok(()),
-            Err(_) => Err(StoreFault::Damaged),
-        }
-    }
-
-    ghost unchanged = { λ x. refl };
-
-    ghost further = { λ x y z first second. second ∙ first };
-}
-
 /// Returns what a sender recalls.
-fn kept_in(progress: &Progress) -> KeptSender {
+fn kept_in(progress: &Progress) -> KeptSender
+    ensures { result
+        ≡ record { known = progress.now.known; doubt = doubt_of progress.now.in_doubt } }
+{
     KeptSender {
         known: progress.known as usize,
         doubt: match progress.in_doubt {
@@ -215,6 +53,8 @@ fn offer_empty<P: Fills>(
     requires { P.takes station.old ≡ full }
     ensures fills { P.fills station.old station.new }
     ensures takes { P.takes station.new ≡ full }
+    ensures offered { OnOk result (station.new
+        ≡ offered_all P.offered end.now.terminal end.now.select (replicate count []) station.old) }
 {
     'records: for _ in 0..count {
         station.offer_again(end.terminal, end.select, empty()?)?;
@@ -235,6 +75,10 @@ fn offer_next<P: Fills, K: Store>(
     requires { P.takes station.old ≡ full }
     ensures fills { P.fills station.old station.new }
     ensures takes { P.takes station.new ≡ full }
+    ensures reads { K.reads store.old store.new }
+    ensures offered { IfOk result (λ next. (found : FoundValue) × (found.mark ≡ next)
+        × K.finds_offered end.now.channel mark more (Some found) store.old store.new
+        × (station.new ≡ P.offered station.old end.now.terminal end.now.select found.«record»)) }
 {
     let Some(found) = store.offered(&end.channel, mark, more)? else {
         return Err(StoreFault::Damaged);
@@ -257,6 +101,11 @@ fn offer_all<P: Fills, K: Store>(
     requires { P.takes station.old ≡ full }
     ensures fills { P.fills station.old station.new }
     ensures takes { P.takes station.new ≡ full }
+    ensures reads { IsRead K.Store store.old store.new }
+    ensures offered { (has : K → ChannelValue → Contents) → GivesBack K.Store has
+        → K.sound store.new → OnOk result (station.new
+        ≡ offered_all P.offered end.now.terminal end.now.select
+        (sent_again (has store.old end.now.channel)) station.old) }
 {
     let progress = store.progress(&end.channel)?;
     if progress.known > progress.offered {
@@ -274,7 +123,9 @@ fn offer_all<P: Fills, K: Store>(
 /// Adds this many empty records to those that arrived on the channel with this number, and forgets
 /// them.
 fn add_forgotten<P: Fills>(station: &mut P, number: usize, count: u32) -> Result<(), StoreFault>
-    ensures { P.fills station.old station.new }
+    ensures fills { P.fills station.old station.new }
+    ensures adds { OnOk result
+        (AddsForgotten P.gains P.forgets number count station.old station.new) }
 {
     'records: for place in 0..count {
         station.add_arrived(number, empty()?)?;
@@ -292,13 +143,24 @@ fn add_next<P: Fills, K: Store>(
     mark: i64,
     more: u32,
 ) -> Result<i64, StoreFault>
-    ensures { P.fills station.old station.new }
+    ensures fills { P.fills station.old station.new }
+    ensures reads { K.reads store.old store.new }
+    ensures gains { IfOk result (λ next. (found : FoundValue) × (found.mark ≡ next)
+        × K.finds_arrived end.now.channel mark more (Some found) store.old store.new
+        × P.gains station.old end.now.number found.«record» station.new) }
 {
     let Some(found) = store.arrived(&end.channel, mark, more)? else {
         return Err(StoreFault::Damaged);
     };
     station.add_arrived(end.number, found.record)?;
     Ok(found.mark)
+}
+
+/// Returns how many of the first records that arrived on a channel are forgotten already.
+fn forgotten(progress: &Progress, forgets_printed: bool) -> u32
+    ensures { result ≡ (if forgets_printed then progress.now.printed else 0) }
+{
+    if forgets_printed { progress.printed } else { 0 }
 }
 
 /// Adds the records that arrived on a channel. If the station forgets those that it has printed,
@@ -309,16 +171,22 @@ fn add_all<P: Fills, K: Store>(
     end: &mut Receiving,
     forgets_printed: bool,
 ) -> Result<(), StoreFault>
-    ensures { P.fills station.old station.new }
+    ensures fills { P.fills station.old station.new }
+    ensures reads { IsRead K.Store store.old store.new }
+    ensures adds { (has : K → ChannelValue → Contents) → GivesBack K.Store has
+        → K.sound store.new → OnOk result (AddsChannel P.gains P.forgets forgets_printed
+        (has store.old end.old.channel) end.old.number station.old station.new) }
+    ensures end { (has : K → ChannelValue → Contents) → GivesBack K.Store has
+        → K.sound store.new → OnOk result (end.new ≡ receiving_from (has store.old) end.old) }
 {
     let progress = store.progress(&end.channel)?;
     if progress.printed > progress.arrived {
         return Err(StoreFault::Damaged);
     }
-    let printed = if forgets_printed { progress.printed } else { 0 };
-    add_forgotten(station, end.number, printed)?;
-    let (mut mark, mut more) = (0, printed);
-    'records: for _ in printed..progress.arrived {
+    let forgotten = forgotten(&progress, forgets_printed);
+    add_forgotten(station, end.number, forgotten)?;
+    let (mut mark, mut more) = (0, forgotten);
+    'records: for _ in forgotten..progress.arrived {
         mark = add_next(station, store, end, mark, more)?;
         more = 0;
     }
@@ -333,7 +201,14 @@ fn recall_one<P: Fills, K: Store>(
     store: &mut K,
     end: &mut Sending,
 ) -> Result<(), StoreFault>
-    ensures { P.fills station.old station.new }
+    ensures fills { P.fills station.old station.new }
+    ensures reads { K.reads store.old store.new }
+    ensures recalled { (has : K → ChannelValue → Contents) → GivesBack K.Store has
+        → K.sound store.new → OnOk result (station.new
+        ≡ P.recalled station.old end.old.terminal end.old.select
+        (recalled_of (has store.old end.old.channel))) }
+    ensures end { (has : K → ChannelValue → Contents) → GivesBack K.Store has
+        → K.sound store.new → OnOk result (end.new ≡ sending_from (has store.old) end.old) }
 {
     let progress = store.progress(&end.channel)?;
     station.recall_kept(end.terminal, end.select, kept_in(&progress))?;
@@ -350,7 +225,11 @@ fn offer_for_all<P: Fills, K: Store>(
     ends: &[Sending],
 ) -> Result<(), StoreFault>
     requires { P.takes station.old ≡ full }
-    ensures { P.fills station.old station.new }
+    ensures fills { P.fills station.old station.new }
+    ensures reads { IsRead K.Store store.old store.new }
+    ensures offered { (has : K → ChannelValue → Contents) → GivesBack K.Store has
+        → K.sound store.new → OnOk result (station.new
+        ≡ offered_each P.offered (has store.old) ends.now station.old) }
 {
     'ends: for end in ends {
         offer_all(station, full, store, end)?;
@@ -362,10 +241,17 @@ fn offer_for_all<P: Fills, K: Store>(
 fn add_for_all<P: Fills, K: Store>(
     station: &mut P,
     store: &mut K,
-    ends: &mut [Receiving],
+    ends: &mut Vec<Receiving>,
     forgets_printed: bool,
 ) -> Result<(), StoreFault>
-    ensures { P.fills station.old station.new }
+    ensures fills { P.fills station.old station.new }
+    ensures reads { IsRead K.Store store.old store.new }
+    ensures adds { (has : K → ChannelValue → Contents) → GivesBack K.Store has
+        → K.sound store.new → OnOk result (AddsEach P.gains P.forgets forgets_printed
+        (has store.old) ends.old.items station.old station.new) }
+    ensures ends { (has : K → ChannelValue → Contents) → GivesBack K.Store has
+        → K.sound store.new → OnOk result (ends.new.items
+        ≡ map (receiving_from (has store.old)) ends.old.items) }
 {
     'ends: for end in ends.iter_mut() {
         add_all(station, store, end, forgets_printed)?;
@@ -377,9 +263,16 @@ fn add_for_all<P: Fills, K: Store>(
 fn recall_all<P: Fills, K: Store>(
     station: &mut P,
     store: &mut K,
-    ends: &mut [Sending],
+    ends: &mut Vec<Sending>,
 ) -> Result<(), StoreFault>
-    ensures { P.fills station.old station.new }
+    ensures fills { P.fills station.old station.new }
+    ensures reads { IsRead K.Store store.old store.new }
+    ensures recalled { (has : K → ChannelValue → Contents) → GivesBack K.Store has
+        → K.sound store.new → OnOk result (station.new
+        ≡ recalled_each P.recalled (has store.old) ends.old.items station.old) }
+    ensures ends { (has : K → ChannelValue → Contents) → GivesBack K.Store has
+        → K.sound store.new → OnOk result (ends.new.items
+        ≡ map (sending_from (has store.old)) ends.old.items) }
 {
     'ends: for end in ends.iter_mut() {
         recall_one(station, store, end)?;
@@ -399,7 +292,15 @@ fn fill<P: Fills, K: Store + Drop>(
     forgets_printed: bool,
 ) -> Result<Keeper<K>, StoreFault>
     requires { P.takes station.old ≡ full }
-    ensures { P.fills station.old station.new }
+    ensures fills { P.fills station.old station.new }
+    ensures reads { IfOk result (λ keeper. IsRead K.Store store keeper.store) }
+    ensures filled { (has : K → ChannelValue → Contents) → GivesBack K.Store has
+        → IfOk result (λ keeper. K.sound keeper.store
+        → IsFilledFrom P.offered P.gains P.forgets P.recalled P.forgets_known (has store)
+        forgets_printed sending.items receiving.items station.old station.new) }
+    ensures keeps { (has : K → ChannelValue → Contents) → GivesBack K.Store has
+        → IfOk result (λ keeper. K.sound keeper.store
+        → KeepsFrom (has store) sending.items receiving.items keeper) }
 {
     offer_for_all(station, full, &mut store, &sending)?;
     add_for_all(station, &mut store, &mut receiving, forgets_printed)?;
@@ -420,7 +321,15 @@ pub fn begin_control<A: Allocator, K: Store + Drop>(
     store: K,
     forgets_printed: bool,
 ) -> Result<Keeper<K>, StoreFault>
-    ensures { apart_from_records control.new ≡ apart_from_records control.old }
+    ensures others { apart_from_records control.new ≡ apart_from_records control.old }
+    ensures reads { IfOk result (λ keeper. IsRead K.Store store keeper.store) }
+    ensures filled { (has : K → ChannelValue → Contents) → GivesBack K.Store has
+        → IfOk result (λ keeper. K.sound keeper.store
+        → IsControlFilledFrom (has store) forgets_printed own.sending.items own.receiving.items
+        control.old control.new) }
+    ensures keeps { (has : K → ChannelValue → Contents) → GivesBack K.Store has
+        → IfOk result (λ keeper. K.sound keeper.store
+        → KeepsFrom (has store) own.sending.items own.receiving.items keeper) }
 {
     let full = control.setup().format().full();
     let Own {
@@ -449,7 +358,15 @@ pub fn begin_terminal<A: Allocator, K: Store + Drop>(
     forgets_printed: bool,
 ) -> Result<Keeper<K>, StoreFault>
     requires { terminal.old.tributary.queue.format.full ≡ own.full }
-    ensures { apart_from_kept terminal.new ≡ apart_from_kept terminal.old }
+    ensures others { apart_from_kept terminal.new ≡ apart_from_kept terminal.old }
+    ensures reads { IfOk result (λ keeper. IsRead K.Store store keeper.store) }
+    ensures filled { (has : K → ChannelValue → Contents) → GivesBack K.Store has
+        → IfOk result (λ keeper. K.sound keeper.store
+        → IsTerminalFilledFrom (has store) forgets_printed own.sending.items own.receiving.items
+        terminal.old terminal.new) }
+    ensures keeps { (has : K → ChannelValue → Contents) → GivesBack K.Store has
+        → IfOk result (λ keeper. K.sound keeper.store
+        → KeepsFrom (has store) own.sending.items own.receiving.items keeper) }
 {
     let Own {
         full,

@@ -13,6 +13,7 @@ mod attending;
 mod changes;
 mod ends;
 mod filling;
+mod fills;
 mod keeper;
 mod keeping;
 pub mod laws;

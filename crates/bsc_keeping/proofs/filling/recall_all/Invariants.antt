@@ -1,5 +1,23 @@
--- The channels so far are filled.
+-- What is kept of the channels so far is recalled.
+use Rattle.std.proofs.Common.{◌≡◌, ◌++◌, drop, map, take}
+use Rattle.bsc_kept.specs.Contents.{Contents, GivesBack, IsRead}
+use Rattle.bsc_kept.specs.declared.channel.Channel.{Channel}
+use Rattle.bsc_keeping.specs.Filled.{recalled_each, sending_from}
 use Rattle.bsc_keeping.proofs.filling.recall_all.Given as goal
 
 abbrev pub invariant-ends : goal.invariant-ends
-invariant-ends g l = g.P.Fills.fills l.initial.station l.station
+invariant-ends g l = record {
+  fills : g.P.Fills.fills l.initial.station l.station;
+  reads : IsRead g.K.Store l.initial.store l.store;
+  recalled : (has : g.row.K.Denot → Channel → Contents) → GivesBack g.K.Store has
+      → g.K.Store.sound l.store
+      → recalled_each g.P.Fills.recalled (has l.initial.store) (drop l.end-index l.fn.ends.items)
+      l.station
+      ≡ recalled_each g.P.Fills.recalled (has l.initial.store) l.fn.ends.items l.initial.station;
+  ends : (has : g.row.K.Denot → Channel → Contents) → GivesBack g.K.Store has
+      → g.K.Store.sound l.store
+      → l.end-items
+      ≡ map (sending_from (has l.initial.store)) (take l.end-index l.fn.ends.items)
+      ++ drop l.end-index l.fn.ends.items;
+  rest : drop l.end-index l.end-items ≡ drop l.end-index l.fn.ends.items;
+}

@@ -2,7 +2,7 @@
 use Rattle.std.proofs.Common.{ap, refl, ◌∙◌}
 use Rattle.bsc_control.specs.Stored.{apart_from_records}
 use Rattle.bsc_keeping.proofs.Filled.{peer_filled}
-use Rattle.bsc_keeping.proofs.filling.ControlFills.offer_again.Goals as goal
+use Rattle.bsc_keeping.proofs.fills.ControlFills.offer_again.Goals as goal
 
 pub returns-in-Ok-clause-fills : goal.returns-in-Ok-clause-fills
 returns-in-Ok-clause-fills g c =

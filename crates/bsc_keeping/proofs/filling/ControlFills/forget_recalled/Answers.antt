@@ -1,6 +1,0 @@
--- A queue that forgets is part of the records.
-use Rattle.bsc_keeping.proofs.Filled.{all_sent_forgotten}
-use Rattle.bsc_keeping.proofs.filling.ControlFills.forget_recalled.Goals as goal
-
-pub returns : goal.returns
-returns g c = all_sent_forgotten c.forget_known.ensures
