@@ -1,3 +1,2 @@
 pub mod Doubts
 pub mod OfferedLines
-pub mod Printing

@@ -8,6 +8,7 @@ use Rattle.std.specs.Io.KnownBytes.{Appends}
 use Rattle.bsc_bid.specs.declared.limits.TheConstants.{MAX_SELECTS}
 use Rattle.bsc_kept.specs.declared.channel.Channel.{Channel}
 use Rattle.bsc_kept.specs.declared.store.Progress.{Progress}
+use Rattle.bsc_kept.specs.declared.store.Store as store_of
 use Rattle.bsc_options.specs.declared.settings.Role.{Role}
 use Rattle.bsc_options.specs.declared.settings.Role.TheVariants.{Control, Terminal}
 use Rattle.bsc_print.specs.Forms.{in_form}
@@ -31,40 +32,48 @@ receiving_shown it =
     codes ": arrived " ++ decimal it.arrived ++ codes ", printed " ++ decimal it.printed
     ++ codes "\n"
 
--- The line of a channel that has this name is printed, with some numbers: for its sending end, for
--- its receiving end, or none if neither is at the station.
-abbrev pub ShowsEnd : Bool → Bool → List ℕ → Option (List ℕ) → Option (List ℕ) → Type 0
-ShowsEnd true receives name before after =
-    (it : Progress) × Appends before after (name ++ (offered_shown it ++ doubt_shown it))
-ShowsEnd false true name before after =
-    (it : Progress) × Appends before after (name ++ receiving_shown it)
-ShowsEnd false false name before after = after ≡ before
+-- What is known of a store.
+module _ {S : Type 0} (store : store_of.Ghosts S) where
+  -- The line of a channel that has this name is printed, with the numbers that the store gives: for
+  -- its sending end, for its receiving end, or none if neither is at the station.
+  abbrev pub ShowsEnd : Channel → Bool → Bool → List ℕ → S → S → Option (List ℕ)
+      → Option (List ℕ) → Type 0
+  ShowsEnd channel true receives name old new before after =
+      (it : Progress) × store.counts channel it old new
+      × Appends before after (name ++ (offered_shown it ++ doubt_shown it))
+  ShowsEnd channel false true name old new before after =
+      (it : Progress) × store.counts channel it old new
+      × Appends before after (name ++ receiving_shown it)
+  ShowsEnd channel false false name old new before after = (new ≡ old) × (after ≡ before)
 
--- The line of the channel with this name is printed, if the line has it.
-abbrev pub ShowsIfThere : Option Channel → KeptLine → ChannelName → Option (List ℕ)
-    → Option (List ℕ) → Type 0
-ShowsIfThere None line name before after = after ≡ before
-ShowsIfThere (Some channel) line name before after =
-    ShowsEnd (sends_on line.station name name.way) (receives_on line.station name name.way)
-    (name_shown line name) before after
+  -- The line of the channel with this name is printed, if the line has it.
+  abbrev pub ShowsIfThere : Option Channel → KeptLine → ChannelName → S → S → Option (List ℕ)
+      → Option (List ℕ) → Type 0
+  ShowsIfThere None line name old new before after = (new ≡ old) × (after ≡ before)
+  ShowsIfThere (Some channel) line name old new before after =
+      ShowsEnd channel (sends_on line.station name name.way)
+      (receives_on line.station name name.way) (name_shown line name) old new before after
 
-abbrev pub ShowsChannel : KeptLine → ChannelName → Option (List ℕ) → Option (List ℕ) → Type 0
-ShowsChannel line name before after = ShowsIfThere (channel_at line name) line name before after
+  abbrev pub ShowsChannel : KeptLine → ChannelName → S → S → Option (List ℕ)
+      → Option (List ℕ) → Type 0
+  ShowsChannel line name old new before after =
+      ShowsIfThere (channel_at line name) line name old new before after
 
--- The lines of the channels at the first places of a terminal are printed, in order.
-abbrev pub ShowsPlaces : KeptLine → ℕ → ℕ → Option (List ℕ) → Option (List ℕ) → Type 0
-ShowsPlaces line terminal zero before after = after ≡ before
-ShowsPlaces line terminal (suc place) before after =
-    (mid : Option (List ℕ)) × ShowsPlaces line terminal place before mid
-    × ShowsChannel line (name_at terminal place) mid after
+  -- The lines of the channels at the first places of a terminal are printed, in order.
+  abbrev pub ShowsPlaces : KeptLine → ℕ → ℕ → S → S → Option (List ℕ) → Option (List ℕ)
+      → Type 0
+  ShowsPlaces line terminal zero old new before after = (new ≡ old) × (after ≡ before)
+  ShowsPlaces line terminal (suc place) old new before after =
+      (mid : S) × (out : Option (List ℕ)) × ShowsPlaces line terminal place old mid before out
+      × ShowsChannel line (name_at terminal place) mid new out after
 
--- The lines of the channels of the first terminals are printed, in order: of each the channel from
--- it and those to its selection addresses.
-abbrev pub ShowsTerminals : KeptLine → ℕ → Option (List ℕ) → Option (List ℕ) → Type 0
-ShowsTerminals line zero before after = after ≡ before
-ShowsTerminals line (suc terminal) before after =
-    (mid : Option (List ℕ)) × ShowsTerminals line terminal before mid
-    × ShowsPlaces line terminal (MAX_SELECTS + 1) mid after
+  -- The lines of the channels of the first terminals are printed, in order: of each the channel
+  -- from it and those to its selection addresses.
+  abbrev pub ShowsTerminals : KeptLine → ℕ → S → S → Option (List ℕ) → Option (List ℕ) → Type 0
+  ShowsTerminals line zero old new before after = (new ≡ old) × (after ≡ before)
+  ShowsTerminals line (suc terminal) old new before after =
+      (mid : S) × (out : Option (List ℕ)) × ShowsTerminals line terminal old mid before out
+      × ShowsPlaces line terminal (MAX_SELECTS + 1) mid new out after
 
 -- The line for a doubt that was ended at a count, for the one at this place, and for all of them,
 -- or that there was none.

@@ -1,13 +1,13 @@
 -- What a work does with an open store, and what it prints.
 use Rattle.std.specs.Prelude.{◌≡◌, ℕ, List, [], ◌∷◌, ◌++◌, map, length, codes, Option, Some}
-use Rattle.std.specs.Prelude.{None, Ok, Err, Result, IsSomeAnd, ℤ, Bool, nat_lt, if◌then◌else◌}
-use Rattle.std.specs.List.{flat_map}
+use Rattle.std.specs.Prelude.{None, Ok, Err, Result, IsSomeAnd, ℤ, pos, Bool, nat_lt, if◌then◌else◌}
 use Rattle.std.specs.Fmt.{decimal}
 use Rattle.std.specs.Str.Lines.{lines}
 use Rattle.std.specs.Io.KnownBytes.{Appends}
 use Rattle.bsc_kept.specs.declared.channel.Channel.{Channel}
 use Rattle.bsc_kept.specs.declared.change.Change.{Change}
 use Rattle.bsc_kept.specs.declared.change.Change.TheVariants.{Offered}
+use Rattle.bsc_kept.specs.declared.store.Found.{Found}
 use Rattle.bsc_kept.specs.declared.store.Progress.{Progress}
 use Rattle.bsc_kept.specs.declared.store.Store as store_of
 use Rattle.bsc_options.specs.declared.store_works.StoreChannel.{StoreChannel}
@@ -32,26 +32,43 @@ abbrev pub told : KeptLine → ChannelName → List ℕ → ℕ → List ℕ
 told line name what count =
     name_shown line name ++ codes ": " ++ what ++ codes " " ++ decimal count ++ codes "\n"
 
--- The line of one more record is printed; or, where there is none, nothing.
-abbrev pub PrintsNext : Form → Option (List ℕ) → Option (List ℕ) → Option ℤ → Type 0
-PrintsNext form before after (Some mark) =
-    (it : List ℕ) × Appends before after (arrived_line form it)
-PrintsNext form before after None = after ≡ before
-
--- The lines of some records are printed.
-abbrev pub PrintsLines : Form → Option (List ℕ) → Option (List ℕ) → Type 0
-PrintsLines form before after =
-    (records : List (List ℕ)) × Appends before after (flat_map (arrived_line form) records)
-
--- The lines of records are printed of a channel on which the station receives.
-abbrev pub PrintsArrived : KeptLine → StoreChannel → Form → Option (List ℕ) → Option (List ℕ)
-    → Type 0
-PrintsArrived line channel form before after =
-    IsSomeAnd (named_at line (receiving_name line.station channel))
-    (λ its. PrintsLines form before after)
-
 -- What is known of a store.
 module _ {S : Type 0} (store : store_of.Ghosts S) where
+  -- The record that the store gives next is printed, and its mark is known; or there is none.
+  abbrev pub PrintsNext : Channel → Form → ℤ → ℕ → S → S → Option (List ℕ) → Option (List ℕ)
+      → Option ℤ → Type 0
+  PrintsNext channel form mark more old new before after (Some next) =
+      (it : Found) × (it.mark ≡ next)
+      × store.finds_arrived channel mark more (Some it) old new
+      × Appends before after (arrived_line form it.«record»)
+  PrintsNext channel form mark more old new before after None =
+      store.finds_arrived channel mark more None old new × (after ≡ before)
+
+  -- These records are the ones that the store gives, one after another up to the last, and their
+  -- lines are printed.
+  abbrev pub PrintsFrom : Channel → Form → ℤ → ℕ → List Found → S → S → Option (List ℕ)
+      → Option (List ℕ) → Type 0
+  PrintsFrom channel form mark more [] old new before after =
+      store.finds_arrived channel mark more None old new × (after ≡ before)
+  PrintsFrom channel form mark more (it ∷ its) old new before after =
+      (mid : S) × (out : Option (List ℕ))
+      × store.finds_arrived channel mark more (Some it) old mid
+      × Appends before out (arrived_line form it.«record»)
+      × PrintsFrom channel form it.mark 0 its mid new out after
+
+  -- All are printed but this many first ones.
+  abbrev pub PrintsLines : Channel → ℕ → Form → S → S → Option (List ℕ) → Option (List ℕ)
+      → Type 0
+  PrintsLines channel first form old new before after =
+      (its : List Found) × PrintsFrom channel form (pos 0) first its old new before after
+
+  -- So they are of the channel that the words name, on which the station receives.
+  abbrev pub PrintsArrived : KeptLine → StoreChannel → ℕ → Form → S → S → Option (List ℕ)
+      → Option (List ℕ) → Type 0
+  PrintsArrived line channel first form old new before after =
+      IsSomeAnd (named_at line (receiving_name line.station channel))
+      (λ its. PrintsLines its.1 first form old new before after)
+
   -- Exactly these records are offered on the channel that the words name, in order and in one step,
   -- and that is said.
   abbrev pub OffersAll : KeptLine → StoreChannel → List (List ℕ) → S → S → Option (List ℕ)
@@ -61,11 +78,13 @@ module _ {S : Type 0} (store : store_of.Ghosts S) where
       (λ its. store.keeps (map (Offered its.1) records) old new
       × Appends before after (told line its.0 (codes "offered") (length records)))
 
-  -- The doubt of a channel ends, by numbers of it and by the count of the other end.
+  -- The doubt of a channel ends, by the numbers that the store gives of it and by the count of the
+  -- other end.
   pub record EndsDoubt (channel : Channel) (count : ℕ) (old new : S) : Type 0 where
     pub numbers : Progress
     pub mid : S
     pub change : Change
+    pub counts : store.counts channel numbers old mid
     pub release : release_of channel numbers count ≡ Ok change
     pub kept : store.keeps (change ∷ []) mid new
 
@@ -82,9 +101,9 @@ module _ {S : Type 0} (store : store_of.Ghosts S) where
   Does line (work.Offer channel path text) old new before after =
       OffersAll line channel (lines text.now) old new before after
   Does line (work.Arrived channel first form) old new before after =
-      PrintsArrived line channel form before after
+      PrintsArrived line channel first form old new before after
   Does line work.Status old new before after =
-      ShowsTerminals line (length line.terminals.items) before after
+      ShowsTerminals store line (length line.terminals.items) old new before after
   Does line (work.Release channel count) old new before after =
       EndsOne line channel count old new before after
   Does line (work.Reconcile other) old new before after = (new ≡ old) × (after ≡ before)

@@ -46,7 +46,8 @@ fn write_next<S: Store, W: Write>(
     form: Form,
     out: &mut W,
 ) -> Result<Option<i64>, StoringError>
-    ensures { IfOk result (λ next. PrintsNext form (W.contents out.old) (W.contents out.new) next) }
+    ensures { IfOk result (PrintsNext S.Store channel.now form place.0 place.1
+        store.old store.new (W.contents out.old) (W.contents out.new)) }
 {
     match store.arrived(channel, place.0, place.1) {
         Ok(Some(found)) => match write_record(alloc, form, &found.record, out) {
@@ -68,7 +69,8 @@ pub(crate) fn write_arrived<S: Store, W: Write>(
     form: Form,
     out: &mut W,
 ) -> Result<(), StoringError>
-    ensures { OnOk result (PrintsLines form (W.contents out.old) (W.contents out.new)) }
+    ensures { OnOk result (PrintsLines S.Store channel.now first form store.old store.new
+        (W.contents out.old) (W.contents out.new)) }
 {
     let mut place = (0i64, first);
     'records: for _ in 0..u64::MAX {

@@ -34,7 +34,8 @@ fn ending<S: Store, T: Store>(
     line: &KeptLine,
     name: ChannelName,
 ) -> Result<Option<(Change, u32)>, StoringError>
-    ensures ending { IfOk result (IsEndingIfAny line.now name) }
+    ensures ending { IfOk result (IsEndingIfAny S.Store T.Store line.now name
+        sender.old sender.new receiver.old receiver.new) }
     ensures refused { IfErr result (NamesDoubt line.now name) }
 {
     let Some(channel) = line.channel(name) else {
@@ -65,8 +66,9 @@ fn add_ending<S: Store, T: Store>(
     step: &mut Vec<Change>,
     ended: &mut Vec<Ended>,
 ) -> Result<(), StoringError>
-    ensures { OnOk result (AddsIfAny line.now other.now name (step.old.items, ended.old.items)
-        (step.new.items, ended.new.items)) }
+    ensures { OnOk result (AddsIfAny S.Store T.Store line.now other.now name
+        (step.old.items, ended.old.items) (step.new.items, ended.new.items)
+        sender.old sender.new receiver.old receiver.new) }
 {
     if !line.sends(name) || !other.receives(name) {
         return Ok(());
@@ -90,8 +92,9 @@ fn add_endings_at<S: Store, T: Store>(
     step: &mut Vec<Change>,
     ended: &mut Vec<Ended>,
 ) -> Result<(), StoringError>
-    ensures { OnOk result (AddsPlaces line.now other.now terminal (MAX_SELECTS + 1)
-        (step.old.items, ended.old.items) (step.new.items, ended.new.items)) }
+    ensures { OnOk result (AddsPlaces S.Store T.Store line.now other.now terminal
+        (MAX_SELECTS + 1) (step.old.items, ended.old.items) (step.new.items, ended.new.items)
+        sender.old sender.new receiver.old receiver.new) }
 {
     'places: for place in 0..MAX_SELECTS + 1 {
         let name = name_at(terminal, place);
@@ -109,8 +112,9 @@ pub(crate) fn add_endings<S: Store, T: Store>(
     step: &mut Vec<Change>,
     ended: &mut Vec<Ended>,
 ) -> Result<(), StoringError>
-    ensures { OnOk result (AddsTerminals line.now other.now (length line.now.terminals.items)
-        (step.old.items, ended.old.items) (step.new.items, ended.new.items)) }
+    ensures { OnOk result (AddsTerminals S.Store T.Store line.now other.now
+        (length line.now.terminals.items) (step.old.items, ended.old.items)
+        (step.new.items, ended.new.items) sender.old sender.new receiver.old receiver.new) }
 {
     'terminals: for terminal in 0..line.terminals.len() {
         add_endings_at(sender, receiver, line, other, terminal, step, ended)?;
@@ -197,8 +201,8 @@ pub(crate) fn reconcile<S: Store, T: Store, W: Write>(
     other: &KeptLine,
     out: &mut W,
 ) -> Result<(), StoringError>
-    ensures { OnOk result (EndsDoubts S.Store T.Store line.now other.now one.new two.new
-        (W.contents out.old) (W.contents out.new)) }
+    ensures { OnOk result (EndsDoubts S.Store T.Store line.now other.now one.old one.new
+        two.old two.new (W.contents out.old) (W.contents out.new)) }
 {
     let mut ended = Vec::new(alloc);
     let (mut first, mut second) = (Vec::new(alloc), Vec::new(alloc));

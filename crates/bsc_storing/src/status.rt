@@ -82,8 +82,8 @@ fn write_channel<S: Store, W: Write>(
     name: ChannelName,
     out: &mut W,
 ) -> Result<(), StoringError>
-    ensures { OnOk result
-        (ShowsChannel line.now name (W.contents out.old) (W.contents out.new)) }
+    ensures { OnOk result (ShowsChannel S.Store line.now name store.old store.new
+        (W.contents out.old) (W.contents out.new)) }
 {
     let Some(channel) = line.channel(name) else {
         return Ok(());
@@ -121,8 +121,8 @@ fn write_terminal<S: Store, W: Write>(
     terminal: usize,
     out: &mut W,
 ) -> Result<(), StoringError>
-    ensures { OnOk result (ShowsPlaces line.now terminal (MAX_SELECTS + 1)
-        (W.contents out.old) (W.contents out.new)) }
+    ensures { OnOk result (ShowsPlaces S.Store line.now terminal (MAX_SELECTS + 1)
+        store.old store.new (W.contents out.old) (W.contents out.new)) }
 {
     'places: for place in 0..MAX_SELECTS + 1 {
         write_channel(store, line, name_at(terminal, place), out)?;
@@ -136,8 +136,8 @@ pub(crate) fn write_status<S: Store, W: Write>(
     line: &KeptLine,
     out: &mut W,
 ) -> Result<(), StoringError>
-    ensures { OnOk result (ShowsTerminals line.now (length line.now.terminals.items)
-        (W.contents out.old) (W.contents out.new)) }
+    ensures { OnOk result (ShowsTerminals S.Store line.now (length line.now.terminals.items)
+        store.old store.new (W.contents out.old) (W.contents out.new)) }
 {
     'terminals: for terminal in 0..line.terminals.len() {
         write_terminal(store, line, terminal, out)?;

@@ -6,7 +6,7 @@ ghost use Rattle.std.specs.Io.KnownBytes.{Appends};
 ghost use Rattle.std.specs.Str.Lines.{lines};
 ghost use Rattle.bsc_storing.specs.declared.error.StoringError.TheVariants.{NoChannel};
 ghost use Rattle.bsc_storing.specs.Names.{named_at};
-ghost use Rattle.bsc_storing.specs.Works.{Does, EndsOne, OffersAll, PrintsArrived, told};
+ghost use Rattle.bsc_storing.specs.Works.{Does, EndsDoubt, EndsOne, OffersAll, PrintsArrived, told};
 
 use crate::arrived::write_arrived;
 use crate::error::{StoringError, of_other, of_store};
@@ -160,6 +160,17 @@ fn offer_lines<S: Store, W: Write>(
     Ok(())
 }
 
+/// Ends the doubt of a channel.
+fn end_doubt<S: Store>(store: &mut S, channel: Channel, count: u32) -> Result<(), StoringError>
+    ensures { OnOk result (EndsDoubt S.Store channel count store.old store.new) }
+{
+    let progress = store.progress(&channel).map_err(of_store)?;
+    match release(channel, progress, count) {
+        Ok(change) => store.commit(&[change]).map_err(of_store),
+        Err(error) => Err(StoringError::Release { error }),
+    }
+}
+
 /// Ends the doubt of a channel, and says at which count.
 fn release_at<S: Store, W: Write>(
     store: &mut S,
@@ -172,12 +183,7 @@ fn release_at<S: Store, W: Write>(
         store.old store.new (W.contents out.old) (W.contents out.new)) }
 {
     let (name, channel) = with_name(line, line.sending(channel))?;
-    let progress = store.progress(&channel).map_err(of_store)?;
-    let change = match release(channel, progress, count) {
-        Ok(change) => change,
-        Err(error) => return Err(StoringError::Release { error }),
-    };
-    store.commit(&[change]).map_err(of_store)?;
+    end_doubt(store, channel, count)?;
     tell(line, name, "released at", count as usize, out)
 }
 
@@ -191,8 +197,8 @@ fn print_arrived<S: Store, W: Write>(
     form: Form,
     out: &mut W,
 ) -> Result<(), StoringError>
-    ensures { OnOk result
-        (PrintsArrived line.now channel form (W.contents out.old) (W.contents out.new)) }
+    ensures { OnOk result (PrintsArrived S.Store line.now channel first form
+        store.old store.new (W.contents out.old) (W.contents out.new)) }
 {
     let (_, channel) = with_name(line, line.receiving(channel))?;
     write_arrived(alloc, store, &channel, first, form, out)

@@ -6,6 +6,8 @@ pub terminals-preserved : goal.terminals-preserved
 terminals-preserved g c =
     rw add-one (
       (c.terminals.step.items, c.terminals.ended.items),
+      c.terminals.sender,
+      c.terminals.receiver,
       c.terminals.invariant,
       c.in_ok-add_endings_at.ensures,
     )

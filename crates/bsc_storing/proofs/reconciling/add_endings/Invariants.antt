@@ -4,5 +4,6 @@ use Rattle.bsc_storing.proofs.reconciling.add_endings.Given as goal
 
 abbrev pub invariant-terminals : goal.invariant-terminals
 invariant-terminals g l =
-    AddsTerminals l.line l.other l.terminal (l.initial.step.items, l.initial.ended.items)
-    (l.step.items, l.ended.items)
+    AddsTerminals g.S.Store g.T.Store l.line l.other l.terminal
+    (l.initial.step.items, l.initial.ended.items) (l.step.items, l.ended.items)
+    l.initial.sender l.sender l.initial.receiver l.receiver

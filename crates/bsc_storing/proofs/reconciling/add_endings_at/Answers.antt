@@ -7,8 +7,15 @@ use Rattle.bsc_storing.proofs.reconciling.add_endings_at.Goals as goal
 pub places-preserved : goal.places-preserved
 places-preserved g c =
     let adds = subst
-    (λ (name : ChannelName). AddsIfAny c.args.line.now c.args.other.now name
+    (λ (name : ChannelName). AddsIfAny g.S.Store g.T.Store c.args.line.now c.args.other.now name
     (c.places.step.items, c.places.ended.items)
-    (c.add_ending.new.step.items, c.add_ending.new.ended.items))
+    (c.add_ending.new.step.items, c.add_ending.new.ended.items) c.places.sender
+    c.add_ending.new.sender c.places.receiver c.add_ending.new.receiver)
     c.name_at-name.ensures c.in_ok-add_ending.ensures in
-    rw add-one ((c.places.step.items, c.places.ended.items), c.places.invariant, adds)
+    rw add-one (
+      (c.places.step.items, c.places.ended.items),
+      c.places.sender,
+      c.places.receiver,
+      c.places.invariant,
+      adds,
+    )

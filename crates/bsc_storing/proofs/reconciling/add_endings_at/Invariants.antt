@@ -4,5 +4,6 @@ use Rattle.bsc_storing.proofs.reconciling.add_endings_at.Given as goal
 
 abbrev pub invariant-places : goal.invariant-places
 invariant-places g l =
-    AddsPlaces l.line l.other l.terminal l.place (l.initial.step.items, l.initial.ended.items)
-    (l.step.items, l.ended.items)
+    AddsPlaces g.S.Store g.T.Store l.line l.other l.terminal l.place
+    (l.initial.step.items, l.initial.ended.items) (l.step.items, l.ended.items)
+    l.initial.sender l.sender l.initial.receiver l.receiver

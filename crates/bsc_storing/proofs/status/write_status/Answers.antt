@@ -5,6 +5,7 @@ use Rattle.bsc_storing.proofs.status.write_status.Goals as goal
 pub terminals-preserved : goal.terminals-preserved
 terminals-preserved g c =
     rw add-one (
+      c.terminals.store,
       g.W.Write.contents c.terminals.out,
       c.terminals.invariant,
       c.in_ok-write_terminal.ensures,

@@ -4,4 +4,5 @@ use Rattle.bsc_storing.proofs.status.write_status.Given as goal
 
 abbrev pub invariant-terminals : goal.invariant-terminals
 invariant-terminals g l =
-    ShowsTerminals l.line l.terminal (g.W.Write.contents l.initial.out) (g.W.Write.contents l.out)
+    ShowsTerminals g.S.Store l.line l.terminal l.initial.store l.store
+    (g.W.Write.contents l.initial.out) (g.W.Write.contents l.out)

@@ -8,6 +8,8 @@ pub places-preserved : goal.places-preserved
 places-preserved g c =
     let before = g.W.Write.contents c.places.out in
     let after = g.W.Write.contents c.write_channel.new.out in
-    let shown = subst (λ (name : ChannelName). ShowsChannel c.args.line.now name before after)
+    let shown = subst
+    (λ (name : ChannelName). ShowsChannel g.S.Store c.args.line.now name c.places.store
+    c.write_channel.new.store before after)
     c.name_at.ensures c.in_ok-write_channel.ensures in
-    rw add-one (before, c.places.invariant, shown)
+    rw add-one (c.places.store, before, c.places.invariant, shown)

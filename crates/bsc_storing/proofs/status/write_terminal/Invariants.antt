@@ -4,5 +4,5 @@ use Rattle.bsc_storing.proofs.status.write_terminal.Given as goal
 
 abbrev pub invariant-places : goal.invariant-places
 invariant-places g l =
-    ShowsPlaces l.line l.terminal l.place (g.W.Write.contents l.initial.out)
-    (g.W.Write.contents l.out)
+    ShowsPlaces g.S.Store l.line l.terminal l.place l.initial.store l.store
+    (g.W.Write.contents l.initial.out) (g.W.Write.contents l.out)
