@@ -1,5 +1,6 @@
 //! The records that arrive at a station whose records are kept are printed as standard output takes
-//! them. The station never waits for its reader: what is not printed yet is kept.
+//! them. A station that runs never waits for its reader: what is not printed yet is kept. Once it
+//! has ended, the rest is printed.
 
 ghost use Rattle.std.specs.Prelude.{◌≡◌, None, IfErr, IfOk, slice_index};
 ghost use Rattle.bsc_attending.specs.Errors.{IsCutShort};

@@ -1,5 +1,6 @@
 //! A control station with the most terminals, each on a connection of its own.
 
+use crate::shown::Shown;
 use crate::stores::Forgetful;
 use crate::traces::TraceFile;
 use bsc_attending::{Network, Opened, Reachable, Readiness, Stores, Wanted};
@@ -12,7 +13,7 @@ use bsc_feeding::{FeedError, Reached, Stations};
 use bsc_input::{Files, InputError, Unreadable};
 use bsc_kept::StoreFault;
 use bsc_loopback::LoopbackError;
-use bsc_progress::{Counts, Meter, Timer, Unmetered, Work};
+use bsc_progress::{Counts, Unmetered, Work};
 use bsc_running::Cables;
 use bsc_serving::{Called, Programs};
 use bsc_sockets::SocketsError;
@@ -164,28 +165,6 @@ impl<'a> Waiter<Answering, Sending<'a>> for Turns<'a> {
     }
 
     fn turn_away(&mut self) {}
-}
-
-/// A clock that stands still, and shows how far the station has come.
-#[derive(Drop)]
-struct Shown<'a> {
-    shown: &'a Cell<Option<Counts>>,
-}
-
-impl Timer for Shown<'_> {
-    fn milliseconds(&mut self) -> u64 {
-        0
-    }
-}
-
-impl Meter for Shown<'_> {
-    fn is_due(&mut self) -> bool {
-        true
-    }
-
-    fn show(&mut self, counts: Counts) {
-        self.shown.set(Some(counts));
-    }
 }
 
 /// Standard error of a station, which takes nothing.

@@ -74,6 +74,8 @@ mod runs;
 #[cfg(test)]
 mod serving_options;
 #[cfg(test)]
+mod shown;
+#[cfg(test)]
 mod sizes;
 #[cfg(test)]
 mod station_bounds;
