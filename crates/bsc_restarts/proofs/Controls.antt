@@ -44,7 +44,7 @@ index_of_same (suc n) zero x d within = refl
 index_of_same (suc n) (suc i) x d within = index_of_same n i x d (omega (arith, within))
 
 -- a station has a terminal for each of its sending sides
-peer_of_side : (c : ControlValue) (t s : ℕ) → s < length (peer_at c t).outbounds
+pub peer_of_side : (c : ControlValue) (t s : ℕ) → s < length (peer_at c t).outbounds
     → t < length c.peers
 peer_of_side c t s within = elim (cases_lt t (length c.peers)) [
   | inl less ↦ less

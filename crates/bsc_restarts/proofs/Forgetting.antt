@@ -9,7 +9,7 @@ use Rattle.bsc_monitor.specs.Forgetting.{ForgetsSent, ForgetsSentTo, nothing, fu
 use Rattle.bsc_restarts.proofs.Sides.{HasSide, OnlySides, no_side, only_set, other_side, set_side}
 use Rattle.bsc_restarts.proofs.Sides.{sides_then, this_side}
 
-same_or_other : (i j : ℕ) → (i ≡ j) ⊎ (i ≢ j)
+pub same_or_other : (i j : ℕ) → (i ≡ j) ⊎ (i ≢ j)
 same_or_other i j = elim (cases_lt i j) [
   | inl less ↦ inr (λ e. absurd (omega (arith, less, e)))
   | inr from ↦ elim (cases_lt j i) [

@@ -1,8 +1,12 @@
 -- Elements of lists of which one is set.
-use Rattle.std.proofs.Common.{◌≡◌, ◌≢◌, ◌∙◌, ◌≤◌, ◌<◌, ℕ, zero, suc, List, [], ◌∷◌, ◌++◌, replicate, length}
-use Rattle.std.proofs.Common.{slice_index_or, slice_set, refl, sym, ap, append-nil, arith}
+use Rattle.std.proofs.Common.{◌≡◌, ◌≢◌, ◌∙◌, ◌≤◌, ◌<◌, ℕ, zero, suc, List, [], ◌∷◌, ◌++◌, replicate}
+use Rattle.std.proofs.Common.{length, slice_index_or, slice_set, refl, sym, ap, subst, append-nil}
+use Rattle.std.proofs.Common.{arith, inl, inr}
+use Rattle.std.proofs.lemmas.Bool.{cases_lt}
+use Rattle.std.specs.List.{AllByRecursion}
 use Rattle.bsc_block.specs.Records.{forgotten}
 use Rattle.bsc_block.proofs.Forgotten.{forgotten_fewer}
+use Rattle.bsc_keeping.specs.Own.{each_of}
 
 -- the others stay
 pub other_of_set : {X : Type 0} (xs : List X) (i j : ℕ) (x d : X) → j ≢ i
@@ -43,3 +47,35 @@ pub empty_forgotten : (n k : ℕ) → k ≤ n → forgotten k (replicate n []) �
 empty_forgotten n k few =
     ap (forgotten k) (sym (append-nil (replicate n [])))
     ∙ forgotten_fewer n k [] few ∙ append-nil (replicate n [])
+
+-- what holds of each element of two lists holds of those of both, and the other way round
+pub all_both : {X : Type 0} (P : X → Type 0) (xs ys : List X) → AllByRecursion P xs
+    → AllByRecursion P ys → AllByRecursion P (xs ++ ys)
+all_both P [] ys first second = second
+all_both P (x ∷ xs) ys (one, first) second = (one, all_both P xs ys first second)
+
+pub all_parts : {X : Type 0} (P : X → Type 0) (xs ys : List X) → AllByRecursion P (xs ++ ys)
+    → AllByRecursion P xs × AllByRecursion P ys
+all_parts P [] ys all = (tt, all)
+all_parts P (x ∷ xs) ys (one, all) =
+    let rest = all_parts P xs ys all in ((one, rest.0), rest.1)
+
+-- what holds of each element of lists that are made place by place holds of those of each place
+pub all_each : {X : Type 0} (P : X → Type 0) (f : ℕ → List X) (n i : ℕ) → i < n
+    → AllByRecursion P (each_of f n) → AllByRecursion P (f i)
+all_each P f zero i few all = absurd (omega (arith, few))
+all_each P f (suc n) i few all =
+    let parts = all_parts P (each_of f n) (f n) all in
+    elim (cases_lt i n) [
+      | inl before ↦ all_each P f n i before parts.0
+      | inr from ↦
+          let same : n ≡ i = omega (arith, few, from) in
+          subst (λ k. AllByRecursion P (f k)) same parts.1
+    ]
+
+pub all_of_each : {X : Type 0} (P : X → Type 0) (f : ℕ → List X) (n : ℕ)
+    → ((i : ℕ) → i < n → AllByRecursion P (f i)) → AllByRecursion P (each_of f n)
+all_of_each P f zero each = tt
+all_of_each P f (suc n) each =
+    all_both P (each_of f n) (f n)
+    (all_of_each P f n (λ i few. each i (omega (arith, few)))) (each n (omega arith))

@@ -1,1 +1,9 @@
 pub mod BegunAgain
+pub mod Crashes
+pub mod Kept
+pub mod Sessions
+pub mod AfterCrash
+pub mod Begun
+pub mod Between
+pub mod Ideal
+pub mod StoreWorks

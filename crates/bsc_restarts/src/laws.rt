@@ -1,10 +1,46 @@
 //! The laws of stations that begin again from their stores, stated over the definitions that the
 //! contracts cite.
 
+ghost use Rattle.std.specs.Prelude.{List, Some};
+ghost use Rattle.bsc_bid.specs.Terminal.{HasDistinctAddresses, TerminalValue};
+ghost use Rattle.bsc_tributary.specs.Kept.{IsTributary};
+ghost use Rattle.bsc_directory.specs.Addresses.{AreDistinct};
+ghost use Rattle.bsc_control.specs.Control.{restarted};
+ghost use Rattle.bsc_connections.specs.Parts.{session_parts};
+ghost use Rattle.bsc_kept.specs.Contents.{Contents, GivesBack};
+ghost use Rattle.bsc_kept.specs.declared.channel.Channel.{Channel as ChannelValue};
+ghost use Rattle.bsc_monitor.specs.LineTerminal.{LineTerminalValue};
+ghost use Rattle.bsc_keeping.specs.Ends.{kept_at_control};
+ghost use Rattle.bsc_keeping.specs.OffersKept.{control_with, terminal_with};
+ghost use Rattle.bsc_keeping.specs.Own.{receiving_of, sending_of, sends_from, spools_of};
+ghost use Rattle.bsc_keeping.specs.declared.own_text.Owner.TheVariants.{Control as ControlOwner};
+ghost use Rattle.bsc_restarts.specs.AfterCrash.{ControlBeginsAfterCrash, TerminalBeginsAfterCrash};
+ghost use Rattle.bsc_restarts.specs.AfterCrash.{arrived_at_control, arrived_at_terminal};
+ghost use Rattle.bsc_restarts.specs.AfterCrash.{kept_at_terminal, waiting_at_control};
+ghost use Rattle.bsc_restarts.specs.AfterCrash.{waiting_at_terminal};
+ghost use Rattle.bsc_restarts.specs.Begun.{ControlKeptOnceBegun, KnownOnceBegun};
+ghost use Rattle.bsc_restarts.specs.Begun.{TerminalKeptOnceBegun};
 ghost use Rattle.bsc_restarts.specs.BegunAgain.{ControlBeginsAgain, TerminalBeginsAgain};
+ghost use Rattle.bsc_restarts.specs.Between.{IsControlOf, OutlivesForgetting, OutlivesKeeping};
+ghost use Rattle.bsc_restarts.specs.Between.{OutlivesOffers};
+ghost use Rattle.bsc_restarts.specs.Crashes.{CrashLeaves, KeepsGiven};
+ghost use Rattle.bsc_restarts.specs.Ideal.{ideal_store, what_it_has};
+ghost use Rattle.bsc_restarts.specs.Sessions.{OutlivesCrashes};
+ghost use Rattle.bsc_restarts.specs.StoreWorks.{ControlReleases, FollowsWorks, TerminalReleases};
+ghost use Rattle.bsc_restarts.specs.StoreWorks.{control_released, terminal_released};
+ghost use Rattle.bsc_restarts.specs.StoreWorks.{terminal_restarted};
 
+use bsc_bid::Station;
 use bsc_bid::laws::recalls;
+use bsc_connections::{Framing, Monitor, Waiter};
+use bsc_control::Control;
 use bsc_control::laws::made_again;
+use bsc_keeping::laws::kept_before_sent;
+use bsc_keeping::{Keeping, Prints};
+use bsc_kept::Store;
+use bsc_monitor::{Forgets, LineTerminal, Party};
+use std::alloc::Allocator;
+use std::io::{Read, Write};
 
 /// A new station that is filled from a store that has all that is to be kept of a station is that
 /// station after a restart, apart from the room in its spools. Of its records only the places are
@@ -19,3 +55,122 @@ pub fn begun_again()
     recalls();
     made_again();
 }
+
+/// The process of a terminal may end at any moment of a session. Whatever that leaves in its store
+/// is all that is to be kept of the terminal as it is before the step of that moment or after it.
+/// Once something is sent, and before each wait of the session, all is kept that is to be kept. The
+/// store is any that keeps what it is given, and it had all at the beginning.
+pub fn terminal_outlives_crashes<
+    A: Allocator,
+    R: Read + Drop,
+    W: Write + Drop,
+    F: Framing + Drop,
+    T: Waiter<R, W>,
+    M: Monitor<LineTerminal<A>> + Prints + 'static,
+    K: Store + Drop + 'static,
+>()
+    ensures { (terminal : TerminalValue) → HasDistinctAddresses terminal
+        → OutlivesCrashes kept_at_terminal waiting_at_terminal arrived_at_terminal K.Store
+        (sends_from (Some terminal)) (spools_of terminal)
+        (session_parts ⟦<LineTerminal<A> as Station>⟧ R.Read W.Write F.Framing
+        ⟦<Keeping<'static, M, K> as Monitor<LineTerminal<A>>>⟧.is_told
+        ⟦<Keeping<'static, M, K> as Monitor<LineTerminal<A>>>⟧.admits
+        ⟦<Keeping<'static, M, K> as Monitor<LineTerminal<A>>>⟧.paces
+        T.Waiter) }
+{
+    kept_before_sent::<LineTerminal<A>, R, W, F, T, M, K>();
+}
+
+/// The same of a control station.
+pub fn control_outlives_crashes<
+    A: Allocator,
+    R: Read + Drop,
+    W: Write + Drop,
+    F: Framing + Drop,
+    T: Waiter<R, W>,
+    M: Monitor<Control<A>> + Prints + 'static,
+    K: Store + Drop + 'static,
+>()
+    ensures { (terminals : List TerminalValue) → AreDistinct terminals
+        → OutlivesCrashes kept_at_control waiting_at_control arrived_at_control K.Store
+        (sending_of terminals ControlOwner) (receiving_of terminals ControlOwner)
+        (session_parts ⟦<Control<A> as Station>⟧ R.Read W.Write F.Framing
+        ⟦<Keeping<'static, M, K> as Monitor<Control<A>>>⟧.is_told
+        ⟦<Keeping<'static, M, K> as Monitor<Control<A>>>⟧.admits
+        ⟦<Keeping<'static, M, K> as Monitor<Control<A>>>⟧.paces
+        T.Waiter) }
+{
+    kept_before_sent::<Control<A>, R, W, F, T, M, K>();
+}
+
+/// A station that begins again from what a crash left is the one of which it was left, after a
+/// restart. Of the records that arrived it has all that are not printed, also those that the other
+/// had forgotten.
+pub fn begins_after_crash()
+    ensures terminal { TerminalBeginsAfterCrash }
+    ensures control { ControlBeginsAfterCrash }
+{
+    begun_again();
+}
+
+/// What a crash left is all that is to be kept of the station that begins again from it, and what
+/// keeps its records knows how much of each channel that is. So all that is said of a session holds
+/// of the sessions of that station, too.
+pub fn kept_once_begun<K: Store + Drop>()
+    ensures terminal { TerminalKeptOnceBegun }
+    ensures control { ControlKeptOnceBegun }
+    ensures known { KnownOnceBegun K }
+{
+    begins_after_crash();
+}
+
+/// Between two sessions, too, the store of a station has all that is to be kept of it: when the
+/// station forgets records, and when it is offered one. At the end, while all that the station has
+/// changed is kept once more, a crash leaves no less.
+pub fn kept_between_sessions<A: Allocator, K: Store + Drop>()
+    ensures terminal_forgets { OutlivesForgetting kept_at_terminal waiting_at_terminal
+        arrived_at_terminal ⟦<LineTerminal<A> as Forgets>⟧.forgets_sent
+        ⟦<LineTerminal<A> as Forgets>⟧.forgets_arrived }
+    ensures terminal_keeps { OutlivesKeeping kept_at_terminal waiting_at_terminal
+        arrived_at_terminal ⟦<LineTerminal<A> as Party>⟧ K.Store }
+    ensures terminal_offers { (terminal : TerminalValue) → HasDistinctAddresses terminal
+        → OutlivesOffers kept_at_terminal waiting_at_terminal arrived_at_terminal K.Store
+        (sends_from (Some terminal)) (spools_of terminal)
+        (λ (l : LineTerminalValue). IsTributary l.tributary) terminal_with }
+    ensures control_forgets { OutlivesForgetting kept_at_control waiting_at_control
+        arrived_at_control ⟦<Control<A> as Forgets>⟧.forgets_sent
+        ⟦<Control<A> as Forgets>⟧.forgets_arrived }
+    ensures control_keeps { OutlivesKeeping kept_at_control waiting_at_control arrived_at_control
+        ⟦<Control<A> as Party>⟧ K.Store }
+    ensures control_offers { (terminals : List TerminalValue) → AreDistinct terminals
+        → OutlivesOffers kept_at_control waiting_at_control arrived_at_control K.Store
+        (sending_of terminals ControlOwner) (receiving_of terminals ControlOwner)
+        (IsControlOf terminals) control_with }
+{}
+
+/// The works of an operator on a store, between two runs of its station, are followed, too. What is
+/// left is all that is to be kept of the station after a restart, whose unanswered block is in
+/// doubt. Once the release of a doubt is kept, it is that of the station that released it, and once
+/// a record is kept as offered, that of the station with one more record to send.
+pub fn works_followed()
+    ensures terminal { (terminal : TerminalValue) → HasDistinctAddresses terminal
+        → FollowsWorks kept_at_terminal waiting_at_terminal arrived_at_terminal
+        (sends_from (Some terminal)) (spools_of terminal)
+        (λ (l : LineTerminalValue). IsTributary l.tributary) terminal_restarted TerminalReleases
+        terminal_released terminal_with }
+    ensures control { (terminals : List TerminalValue) → AreDistinct terminals
+        → FollowsWorks kept_at_control waiting_at_control arrived_at_control
+        (sending_of terminals ControlOwner) (receiving_of terminals ControlOwner)
+        (IsControlOf terminals) restarted ControlReleases control_released control_with }
+{}
+
+/// What these laws ask of a store can be met: one that is nothing but what it has keeps what it is
+/// given and gives it back, and a crash may leave what it had before a step or has after it.
+pub fn ideal_store_is_one()
+    ensures keeps { KeepsGiven ideal_store what_it_has }
+    ensures gives_back { GivesBack ideal_store what_it_has }
+    ensures before { (old new : ChannelValue → Contents)
+        → CrashLeaves ideal_store what_it_has old new old }
+    ensures after { (old new : ChannelValue → Contents)
+        → CrashLeaves ideal_store what_it_has old new new }
+{}

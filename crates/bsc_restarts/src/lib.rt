@@ -1,4 +1,5 @@
-//! A station that is begun again from its store is the one that ended, after a restart.
+//! A station whose process ends at any moment and that begins again from its store is the one that
+//! ended, after a restart.
 //!
 //! This is the project's own; GA27-3004 has nothing of it.
 #![tactic(auto)]
