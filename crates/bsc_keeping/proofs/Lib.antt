@@ -6,6 +6,9 @@ mod FilledFrom
 mod Reading
 mod Filled
 mod Throughout
+mod Names
+mod Moving
+mod Stepping
 mod AllKept
 mod OffersKept
 mod ForgottenKept

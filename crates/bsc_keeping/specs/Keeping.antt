@@ -52,6 +52,14 @@ module _ {S K Z : Type 0} (party : party_of.Ghosts S Z) (kept_at : S → ℕ →
         ≡ receiving_now party station printed old.receiving.items)
     pub named : IfErr result (λ fault. new.fault ≡ Some fault)
 
+  -- All that the station has changed is kept, and known to be kept.
+  pub record KeepsChanged (printed : ℕ → Option ℕ) (station : S) (old new : Keeper K) : Type 0
+    where
+      pub changes : KeepsAll store (step_of printed station old) old.store new.store
+      pub sending : new.sending.items ≡ sending_now kept_at station old.sending.items
+      pub receiving : new.receiving.items
+          ≡ receiving_now party station printed old.receiving.items
+
   -- It is so if the station heard something, or acted on a silence; nothing else changes what a
   -- station has to keep.
   abbrev pub KeepsIfStep : Happening → (ℕ → Option ℕ) → S → Result (Unit {0}) StoreFault
@@ -76,10 +84,13 @@ module _ {S M K Z : Type 0} (party : party_of.Ghosts S Z)
   TellsIfKept (Err fault) before station happening result after =
       (result ≡ Err Unkept) × (after ≡ before)
 
-  -- What the station has changed is kept, and then the inner monitor is told.
+  -- What the station has changed is kept, and then the inner monitor is told. Both stay the same
+  -- ones, whatever becomes of them.
   pub record KeepsAndTells (old : Keeping M K) (station : S) (happening : Happening)
       (result : Result Bool LiveError) (new : Keeping M K) : Type 0 where
     pub kept : Result (Unit {0}) StoreFault
     pub keeps : KeepsIfStep party kept_at store happening (printed old.watch.now) station kept
         old.keeper.now new.keeper.now
     pub tells : TellsIfKept kept old.watch.now station happening result new.watch.now
+    pub same_watch : new.watch.ghost_name ≡ old.watch.ghost_name
+    pub same_keeper : new.keeper.ghost_name ≡ old.keeper.ghost_name

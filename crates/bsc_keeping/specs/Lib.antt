@@ -3,6 +3,7 @@ pub mod Changes
 pub mod Keeping
 pub mod Offers
 pub mod Sessions
+pub mod Runs
 pub mod AllKept
 pub mod OffersKept
 pub mod Filling

@@ -9,9 +9,7 @@ use Rattle.bsc_connections.specs.Connections.{ConnectionValue}
 use Rattle.bsc_connections.specs.Histories.{Happening, all_sent}
 use Rattle.bsc_connections.specs.Attending.{Session, Steps, FailsToWait}
 use Rattle.bsc_monitor.specs.declared.party.Party as party_of
-use Rattle.bsc_keeping.specs.Changes.{sending_now, receiving_now}
-use Rattle.bsc_keeping.specs.Keeping.{KeepsAll, SurvivesAll, step_of}
-use Rattle.bsc_keeping.specs.declared.keeper.Keeper.{Keeper}
+use Rattle.bsc_keeping.specs.Keeping.{KeepsChanged, SurvivesAll, step_of}
 use Rattle.bsc_keeping.specs.declared.keeping.Keeping.{Keeping}
 
 -- What is known of a station with memory of type Z, what it says of the channels on which it sends,
@@ -27,14 +25,10 @@ module _ {S M K Z : Type 0} (party : party_of.Ghosts S Z)
       old.keeper.now.store new.keeper.now.store
 
   -- All that the station has changed is kept, and known to be kept.
-  pub record IsKept (station : S) (old new : Keeping M K) : Type 0 where
-    pub changes : KeepsAll store
-        (step_of party kept_at store (printed old.watch.now) station old.keeper.now)
-        old.keeper.now.store new.keeper.now.store
-    pub sending : new.keeper.now.sending.items
-        ≡ sending_now kept_at station old.keeper.now.sending.items
-    pub receiving : new.keeper.now.receiving.items
-        ≡ receiving_now party station (printed old.watch.now) old.keeper.now.receiving.items
+  abbrev pub IsKept : S → Keeping M K → Keeping M K → Type 0
+  IsKept station old new =
+      KeepsChanged party kept_at store (printed old.watch.now) station old.keeper.now
+      new.keeper.now
 
   -- In a step of a session a crash at any moment leaves what was kept before it or all of it. If
   -- the station sends something in it, all that it has changed is kept.
@@ -72,20 +66,17 @@ module _ {S M K Z : Type 0} (party : party_of.Ghosts S Z)
         {result : Result Bool LiveError} → FailsToWait parts old result new
         → KeepsThroughout parts old [] new
 
-  -- A station is attended from one state to another, with a monitor that begins with this inner
-  -- monitor and this keeper, and in each step it is so. Without an error the inner monitor has
-  -- ended it.
+  -- A station is attended from one state to another, and with it its monitor, and in each step it
+  -- is so. Without an error the inner monitor has ended it.
   pub record IsKeptThroughout {R W F T : Type 0} (parts : SessionParts S R W F (Keeping M K) T)
-      (has_ended : M → Bool) (result : Result (Unit {0}) LiveError) (watch : M)
-      (keeper : Keeper K) (old new : S) (before after : List (ConnectionValue R W F))
-      (waiter waited : T) : Type 0 where
-    pub first : Keeping M K
-    pub watches : first.watch.now ≡ watch
-    pub keeps : first.keeper.now ≡ keeper
-    pub history : List Happening
-    pub last : Keeping M K
-    pub throughout : KeepsThroughout parts
-        (record { station = old; connections = before; monitor = first; waiter = waiter })
-        history
-        (record { station = new; connections = after; monitor = last; waiter = waited })
-    pub ended : OnOk result (has_ended last.watch.now ≡ true)
+      (has_ended : M → Bool) (result : Result (Unit {0}) LiveError) (first last : Keeping M K)
+      (old new : S) (before after : List (ConnectionValue R W F)) (waiter waited : T) : Type 0
+    where
+      pub history : List Happening
+      pub throughout : KeepsThroughout parts
+          (record { station = old; connections = before; monitor = first; waiter = waiter })
+          history
+          (record { station = new; connections = after; monitor = last; waiter = waited })
+      pub same_watch : last.watch.ghost_name ≡ first.watch.ghost_name
+      pub same_keeper : last.keeper.ghost_name ≡ first.keeper.ghost_name
+      pub ended : OnOk result (has_ended last.watch.now ≡ true)

@@ -36,6 +36,8 @@ impl<'a, M: Prints, K: Store + Drop> Keeping<'a, M, K> {
             (M.printed self.old.watch.now) station.now result self.old.keeper.now
             self.new.keeper.now }
         ensures watch { self.new.watch.now ≡ self.old.watch.now }
+        ensures same_watch { self.new.watch.ghost_name ≡ self.old.watch.ghost_name }
+        ensures same_keeper { self.new.keeper.ghost_name ≡ self.old.keeper.ghost_name }
     {
         match note {
             Note::Heard { .. } | Note::Silence => self.keeper.keep(station, &*self.watch),

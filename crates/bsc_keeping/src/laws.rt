@@ -5,6 +5,7 @@ ghost use Rattle.bsc_connections.specs.Parts.{session_parts};
 ghost use Rattle.bsc_keeping.specs.AllKept.{HasAllThroughout, KeepsEachChange};
 ghost use Rattle.bsc_keeping.specs.ForgottenKept.{HasAllOnceForgotten};
 ghost use Rattle.bsc_keeping.specs.OffersKept.{HasAllOnceOffered, control_with, terminal_with};
+ghost use Rattle.bsc_keeping.specs.Runs.{EachStepIsKept};
 ghost use Rattle.bsc_keeping.specs.Sessions.{KeepsBeforeSending};
 
 use crate::{Keeping, Prints, Sends};
@@ -21,7 +22,8 @@ use std::io::{Read, Write};
 /// before are kept at once. A crash at any moment of any step leaves what was kept before the step,
 /// or all of the step. So whatever a peer was sent rests on what a store has. And a step that is
 /// not refused keeps all that the station has changed in it; so before each wait of a session the
-/// store has all that is to be kept of the station, if it had it at the beginning.
+/// store has all that is to be kept of the station, if it had it at the beginning. In each step the
+/// station stays as it is, hears a transmission or acts on a silence, and no more.
 pub fn kept_before_sent<
     S: Station + Party + Sends,
     R: Read + Drop,
@@ -44,6 +46,12 @@ pub fn kept_before_sent<
         ⟦<Keeping<'static, M, K> as Monitor<S>>⟧.paces
         T.Waiter) }
     ensures throughout { HasAllThroughout S.Party S.kept_at K.Store M.printed
+        (session_parts S.Station R.Read W.Write F.Framing
+        ⟦<Keeping<'static, M, K> as Monitor<S>>⟧.is_told
+        ⟦<Keeping<'static, M, K> as Monitor<S>>⟧.admits
+        ⟦<Keeping<'static, M, K> as Monitor<S>>⟧.paces
+        T.Waiter) }
+    ensures steps { EachStepIsKept S.Station S.Party S.kept_at K.Store
         (session_parts S.Station R.Read W.Write F.Framing
         ⟦<Keeping<'static, M, K> as Monitor<S>>⟧.is_told
         ⟦<Keeping<'static, M, K> as Monitor<S>>⟧.admits

@@ -1,18 +1,18 @@
 -- Each step of the session is kept before it sends.
-use Rattle.std.proofs.Common.{refl}
 use Rattle.bsc_keeping.proofs.Kept.{shown_by}
+use Rattle.bsc_keeping.proofs.Names.{names_throughout}
+use Rattle.bsc_keeping.proofs.Stepping.{reaches}
 use Rattle.bsc_keeping.proofs.Throughout.{keeps_throughout}
 use Rattle.bsc_keeping.proofs.attending.attend_kept.Goals as goal
 
-pub returns : goal.returns
-returns g c =
-    let (history, monitor, attends, ends) = c.attend_with.ensures in
+pub returns-clause-kept : goal.returns-clause-kept
+returns-clause-kept g c =
+    let (history, attends) = c.attend.ensures.attends in
+    let names =
+    names_throughout g.S.Party g.S.Sends.kept_at g.K.Store g.M.Prints.printed g.M.Monitor.is_told
+    g.S.Station g.R.Read g.W.Write g.F.Framing _ _ g.T.Waiter _ history _ attends in
     record {
-      first = _;
-      watches = refl;
-      keeps = refl;
       history = history;
-      last = monitor;
       throughout =
           keeps_throughout g.S.Party g.S.Sends.kept_at g.K.Store g.M.Prints.printed _
           (λ old new happened result steps.
@@ -21,5 +21,12 @@ returns g c =
           g.S.Station g.R.Read g.W.Write g.F.Framing _ _ g.T.Waiter old new happened result steps in
           (shown.always, shown.sent))
           _ history _ attends;
-      ended = ends;
+      same_watch = names.watch;
+      same_keeper = names.keeper;
+      ended = c.attend.ensures.ended;
     }
+
+pub returns-clause-steps : goal.returns-clause-steps
+returns-clause-steps g c =
+    reaches g.S.Party g.S.Sends.kept_at g.K.Store g.M.Prints.printed g.M.Monitor.is_told
+    g.S.Station g.R.Read g.W.Write g.F.Framing _ _ g.T.Waiter _ _ _ c.attend.ensures.by
