@@ -1,14 +1,10 @@
 -- A store has all that is to be kept of a station throughout a session, whatever a crash leaves.
-use Rattle.std.proofs.Common.{drop, arith, ◌-◌, ◌≡◌, ◌∙◌, ℕ, Bool, true, List, [], ◌∷◌, ◌++◌, map}
+use Rattle.std.proofs.Common.{drop, arith, ◌-◌, ◌≡◌, ◌∙◌, ℕ, Bool, true, false, List, [], ◌∷◌, ◌++◌, map}
 use Rattle.std.proofs.Common.{Option, None, Some, Result, Ok, Err, ◌⊎◌, inl, inr, refl, sym, ap}
 use Rattle.std.proofs.Common.{subst}
 use Rattle.std.specs.List.{AllByRecursion}
 use Rattle.bsc_bid.specs.declared.kept.KeptSender.{KeptSender}
-use Rattle.bsc_connections.specs.declared.awaited.LiveError.{LiveError}
-use Rattle.bsc_connections.specs.Attending.{GoesOn, Session, Steps, not_begun, one_more}
-use Rattle.bsc_connections.specs.Connections.{ConnectionValue}
-use Rattle.bsc_connections.specs.Histories.{Happening}
-use Rattle.bsc_connections.specs.Parts.{SessionParts}
+use Rattle.bsc_bid.specs.declared.station.Station as station_of
 use Rattle.bsc_kept.specs.Contents.{Contents}
 use Rattle.bsc_kept.specs.declared.change.Change.{Change}
 use Rattle.bsc_kept.specs.declared.channel.Channel.{Channel}
@@ -16,18 +12,17 @@ use Rattle.bsc_kept.specs.declared.ends.Receiving.{Receiving}
 use Rattle.bsc_kept.specs.declared.ends.Sending.{Sending}
 use Rattle.bsc_kept.specs.declared.store.Store as store_of
 use Rattle.bsc_monitor.specs.declared.party.Party as party_of
-use Rattle.bsc_keeping.specs.AllKept.{IsKeptOrSame, KeepsEachChange}
 use Rattle.bsc_keeping.specs.Changes.{known_now, receiving_now, sending_now}
-use Rattle.bsc_keeping.specs.Keeping.{KeepsAll, SurvivesAll, step_of}
-use Rattle.bsc_keeping.specs.Sessions.{IsKept, KeepsBeforeSending}
+use Rattle.bsc_keeping.specs.Keeping.{KeepsAll, KeepsChanged, SurvivesAll, step_of}
+use Rattle.bsc_keeping.specs.Runs.{IsEvent, KeptRun, KeptStep, KeptSteps, Moment, attended, begins}
+use Rattle.bsc_keeping.specs.Runs.{begun, forgot_arrived, forgot_sent, kept, one_more}
 use Rattle.bsc_keeping.specs.declared.keeper.Keeper.{Keeper}
-use Rattle.bsc_keeping.specs.declared.keeping.Keeping.{Keeping}
-use Rattle.bsc_restarts.specs.Between.{OutlivesKeeping}
+use Rattle.bsc_restarts.specs.Between.{OutlivesForgetting, OutlivesKeeping}
 use Rattle.bsc_restarts.specs.Crashes.{AllDiffer, CrashLeaves, IsSame, KeepsEach, KeepsGiven}
 use Rattle.bsc_restarts.specs.Kept.{ChannelsDiffer, HasReceivedOn, HasSentOn, HasStation, Knows}
 use Rattle.bsc_restarts.specs.Kept.{KnowsReceived, KnowsSent, receiving_channels, bare_receiving}
 use Rattle.bsc_restarts.specs.Kept.{sending_channels, bare_sending}
-use Rattle.bsc_restarts.specs.Sessions.{IsKeptIn, LeavesEither, OutlivesCrashes, store_in}
+use Rattle.bsc_restarts.specs.Sessions.{IsKeptIn, LeavesEither, OutlivesCrashes}
 use Rattle.bsc_restarts.proofs.Ends.{SentGrowsIf, grows_not}
 use Rattle.bsc_restarts.proofs.Stepping.{HasAfter, StationGrows, arrived_of, has_after, has_same}
 
@@ -135,156 +130,212 @@ module _ {K : Type 0} (store : store_of.Ghosts K) (has : K → Channel → Conte
   all_left changes old new (inl same) left leaves = inl (leaves.same same)
   all_left changes old new (inr survives) left leaves = leaves.step changes survives
 
-module _ {S M K Z R W F T : Type 0} (party : party_of.Ghosts S Z)
+module _ {S K Z : Type 0} (station : station_of.Ghosts S) (party : party_of.Ghosts S Z)
     (kept_at : S → ℕ → ℕ → Option KeptSender) (waits : S → ℕ → ℕ → List (List ℕ))
-    (store : store_of.Ghosts K) (printed : M → ℕ → Option ℕ) (sending : List Sending)
-    (receiving : List Receiving) (parts : SessionParts S R W F (Keeping M K) T)
-    (grows : (old new : Session S (ConnectionValue R W F) (Keeping M K) T)
-    (happened : List Happening) (result : Result Bool LiveError)
-    → Steps parts old happened result new
-    → StationGrows party kept_at waits old.station new.station)
-    (before_sending : KeepsBeforeSending party kept_at store printed parts)
-    (each_change : KeepsEachChange party kept_at store printed parts)
-    (has : K → Channel → Contents) (given : KeepsGiven store has)
-    (differ : ChannelsDiffer sending receiving) where
-  abbrev Now : Type 0
-  Now = Session S (ConnectionValue R W F) (Keeping M K) T
-
-  abbrev Kept : Now → Type 0
+    (store : store_of.Ghosts K) (sending : List Sending) (receiving : List Receiving)
+    (forgets_sent : S → S → Type 0) (forgets_arrived : S → ℕ → ℕ → S → Type 0)
+    (grows : (old new : S) → IsEvent station party kept_at store old new
+    → StationGrows party kept_at waits old new)
+    (forgetting : OutlivesForgetting kept_at waits (arrived_of party) forgets_sent forgets_arrived)
+    (differ : ChannelsDiffer sending receiving)
+    (has : K → Channel → Contents) (given : KeepsGiven store has) where
+  abbrev Kept : Moment S K → Type 0
   Kept now = IsKeptIn kept_at waits (arrived_of party) store sending receiving has now
 
-  -- what the station has changed since what is kept
-  abbrev changes_in_step : Now → Now → List Change
-  changes_in_step old new =
-      step_of party kept_at store (printed old.monitor.watch.now) new.station old.monitor.keeper.now
+  abbrev Holds : (Channel → Contents) → S → Type 0
+  Holds left it = HasStation kept_at waits (arrived_of party) left sending receiving it
+
+  abbrev Step : List (List ℕ) → Bool → Moment S K → Moment S K → Type 0
+  Step = KeptStep station party kept_at store
+
+  abbrev changes_in : (ℕ → Option ℕ) → S → Keeper K → List Change
+  changes_in = step_of party kept_at store
 
   -- all that is to be kept of the station after a step, once all of it was kept
-  stepped : (old new : Now) (happened : List Happening) (result : Result Bool LiveError)
-      → Steps parts old happened result new → Kept old → (left : Channel → Contents)
-      → KeepsEach (changes_in_step old new) (has (store_in old)) left
-      → HasAfter party kept_at waits (printed old.monitor.watch.now) new.station left
-      old.monitor.keeper.now.sending.items
-      old.monitor.keeper.now.receiving.items
-  stepped old new happened result steps kept left keeps =
-      let ss = old.monitor.keeper.now.sending.items in
-      let rs = old.monitor.keeper.now.receiving.items in
-      has_after party kept_at waits (printed old.monitor.watch.now) old.station new.station
-      (grows old new happened result steps) ss rs (has (store_in old)) left
+  stepped : (old : Moment S K) (printed : ℕ → Option ℕ) (new : S)
+      → StationGrows party kept_at waits old.station new → Kept old → (left : Channel → Contents)
+      → KeepsEach (changes_in printed new old.keeper) (has old.keeper.store) left
+      → HasAfter party kept_at waits printed new left old.keeper.sending.items
+      old.keeper.receiving.items
+  stepped old printed new growth whole left keeps =
+      let ss = old.keeper.sending.items in
+      let rs = old.keeper.receiving.items in
+      has_after party kept_at waits printed old.station new growth ss rs (has old.keeper.store) left
       (differ_kept ss rs
-      (subst (λ es. ChannelsDiffer es (map bare_receiving rs)) (sym kept.knows.sends)
-      (subst (λ es. ChannelsDiffer sending es) (sym kept.knows.receives) differ)))
+      (subst (λ es. ChannelsDiffer es (map bare_receiving rs)) (sym whole.knows.sends)
+      (subst (λ es. ChannelsDiffer sending es) (sym whole.knows.receives) differ)))
       keeps
-      (has_with kept_at waits (arrived_of party) (has (store_in old)) old.station sending ss receiving rs
-      kept.knows.sends kept.knows.receives kept.has_all)
-      kept.knows.sent kept.knows.received
+      (has_with kept_at waits (arrived_of party) (has old.keeper.store) old.station sending ss
+      receiving rs whole.knows.sends whole.knows.receives whole.has_all)
+      whole.knows.sent whole.knows.received
 
   -- what was kept in a step
-  after_step : (old new : Now) (happened : List Happening) (result : Result Bool LiveError)
-      → Steps parts old happened result new → Kept old
-      → IsKept party kept_at store printed new.station old.monitor new.monitor
-      → store.sound (store_in new) → Kept new
-  after_step old new happened result steps kept is sound =
-      let ss = old.monitor.keeper.now.sending.items in
-      let rs = old.monitor.keeper.now.receiving.items in
+  after_step : (old : Moment S K) (printed : ℕ → Option ℕ) (new : S) (keeper : Keeper K)
+      → StationGrows party kept_at waits old.station new → Kept old
+      → KeepsChanged party kept_at store printed new old.keeper keeper
+      → store.sound keeper.store → Kept (record { station = new; keeper = keeper })
+  after_step old printed new keeper growth whole is sound =
+      let ss = old.keeper.sending.items in
+      let rs = old.keeper.receiving.items in
       let after =
-      stepped old new happened result steps kept (has (store_in new))
-      (all_kept store has given (changes_in_step old new) (store_in old) (store_in new) is.changes
-      sound) in
+      stepped old printed new growth whole (has keeper.store)
+      (all_kept store has given (changes_in printed new old.keeper) old.keeper.store keeper.store
+      is.changes sound) in
       record {
         knows = record {
           sends =
-              ap (map bare_sending) is.sending ∙ sending_after kept_at new.station ss
-              ∙ kept.knows.sends;
+              ap (map bare_sending) is.sending ∙ sending_after kept_at new ss ∙ whole.knows.sends;
           receives =
-              ap (map bare_receiving) is.receiving
-              ∙ receiving_after party new.station (printed old.monitor.watch.now) rs
-              ∙ kept.knows.receives;
-          sent =
-              subst (AllByRecursion (KnowsSent (has (store_in new)))) (sym is.sending) after.sent;
+              ap (map bare_receiving) is.receiving ∙ receiving_after party new printed rs
+              ∙ whole.knows.receives;
+          sent = subst (AllByRecursion (KnowsSent (has keeper.store))) (sym is.sending) after.sent;
           received =
-              subst (AllByRecursion (KnowsReceived (has (store_in new)))) (sym is.receiving)
+              subst (AllByRecursion (KnowsReceived (has keeper.store))) (sym is.receiving)
               after.received;
         };
         has_all =
-            has_without kept_at waits (arrived_of party) (has (store_in new)) new.station sending ss receiving
-            rs kept.knows.sends kept.knows.receives after.has_all;
+            has_without kept_at waits (arrived_of party) (has keeper.store) new sending ss
+            receiving rs whole.knows.sends whole.knows.receives after.has_all;
       }
 
-  pub leaves_either : (old new : Now) (happened : List Happening) (result : Result Bool LiveError)
-      → Kept old → Steps parts old happened result new → store.sound (store_in new)
-      → LeavesEither kept_at waits (arrived_of party) store sending receiving has old happened new
-  leaves_either old new happened result kept steps sound =
-      let shown = before_sending old new happened result steps in
+  growing : (old new : Moment S K) (sent : List (List ℕ)) (goes_on : Bool)
+      → Step sent goes_on old new → StationGrows party kept_at waits old.station new.station
+  growing old new sent goes_on step = grows old.station new.station step.event
+
+  pub leaves_either : (old new : Moment S K) (sent : List (List ℕ)) (goes_on : Bool) → Kept old
+      → Step sent goes_on old new → store.sound new.keeper.store
+      → LeavesEither kept_at waits (arrived_of party) store sending receiving has old sent new
+  leaves_either old new sent goes_on whole step sound =
       record {
         crash = λ left leaves. elim
-            (all_left store has given (changes_in_step old new) (store_in old) (store_in new) shown.0
-            left leaves) [
+            (all_left store has given (changes_in step.printed new.station old.keeper)
+            old.keeper.store new.keeper.store step.crash left leaves) [
               | inl same ↦
                   inl
-                  (has_same kept_at waits (arrived_of party) sending receiving old.station (has (store_in old)) left
-                  same kept.has_all)
+                  (has_same kept_at waits (arrived_of party) sending receiving old.station
+                  (has old.keeper.store) left same whole.has_all)
               | inr keeps ↦
                   inr
                   (has_without kept_at waits (arrived_of party) left new.station sending
-                  old.monitor.keeper.now.sending.items receiving
-                  old.monitor.keeper.now.receiving.items kept.knows.sends kept.knows.receives
-                  (stepped old new happened result steps kept left keeps).has_all)
+                  old.keeper.sending.items receiving old.keeper.receiving.items whole.knows.sends
+                  whole.knows.receives
+                  (stepped old step.printed new.station (growing old new sent goes_on step) whole
+                  left keeps).has_all)
             ];
-        sent = λ some. after_step old new happened result steps kept (shown.1 some) sound;
+        before_sent = λ some.
+            after_step old step.printed new.station new.keeper
+            (growing old new sent goes_on step) whole (step.before_sent some) sound;
+      }
+
+  -- the store of another keeper of the same station
+  with_same : (old new : Moment S K) → new.station ≡ old.station → new.keeper ≡ old.keeper
+      → Kept old → Kept new
+  with_same old new station_is keeper_is whole =
+      record {
+        knows =
+            subst (λ (k : Keeper K). Knows (has k.store) sending receiving k) (sym keeper_is)
+            whole.knows;
+        has_all =
+            subst (λ (k : Keeper K). Holds (has k.store) new.station) (sym keeper_is)
+            (subst (Holds (has old.keeper.store)) (sym station_is) whole.has_all);
       }
 
   -- after a step the store has all of the station, whether it has changed or not
-  after_any : (old new : Now) (happened : List Happening) (goes_on : Bool)
-      → Steps parts old happened (Ok goes_on) new → Kept old
-      → IsKeptOrSame party kept_at store printed old new → store.sound (store_in new) → Kept new
-  after_any old new happened goes_on steps kept (inl is) sound =
-      after_step old new happened (Ok goes_on) steps kept is sound
-  after_any old new happened goes_on steps kept (inr (station, keeper)) sound =
-      record {
-        knows =
-            subst (λ (k : Keeper K). Knows (has k.store) sending receiving k) (sym keeper)
-            kept.knows;
-        has_all =
-            subst (λ (k : Keeper K). HasStation kept_at waits (arrived_of party) (has k.store) sending receiving
-            new.station) (sym keeper)
-            (subst (λ s. HasStation kept_at waits (arrived_of party) (has (store_in old)) sending receiving s)
-            (sym station) kept.has_all);
-      }
+  after_any : (old new : Moment S K) (sent : List (List ℕ)) → Step sent true old new → Kept old
+      → store.sound new.keeper.store → Kept new
+  after_any old new sent step whole sound = elim (step.before_next refl) [
+    | inl is ↦
+        after_step old step.printed new.station new.keeper (growing old new sent true step) whole is
+        sound
+    | inr (station_is, keeper_is) ↦ with_same old new station_is keeper_is whole
+  ]
 
-  pub kept_before_waits : (steps : ℕ) (first now : Now) → Kept first
-      → GoesOn parts steps first now → store.sound (store_in now) → Kept now
-  kept_before_waits steps first now kept (not_begun same) sound =
-      subst Kept (sym same) kept
-  kept_before_waits steps first now kept (one_more {mid = mid} before (inl (happened, step)))
+  was_sound : (old new : Moment S K) (sent : List (List ℕ)) (goes_on : Bool)
+      → Step sent goes_on old new → store.sound new.keeper.store → store.sound old.keeper.store
+  was_sound old new sent goes_on step sound =
+      all_sound store has given (changes_in step.printed new.station old.keeper) old.keeper.store
+      new.keeper.store step.crash sound
+
+  -- the steps of a session
+  steps_sound : (fine : Bool) → fine ≡ true → (first now : Moment S K)
+      → KeptSteps station party kept_at store fine first now → store.sound now.keeper.store
+      → store.sound first.keeper.store
+  steps_sound true fine first now (begun same) sound =
+      subst (λ (m : Moment S K). store.sound m.keeper.store) same sound
+  steps_sound true fine first now (one_more {old = mid} {sent = sent} before step) sound =
+      steps_sound true refl first mid before (was_sound mid now sent true step sound)
+  steps_sound false fine first now steps sound =
+      let clash : false ≡ true = fine in absurd cc
+
+  after_steps : (fine : Bool) → fine ≡ true → (first now : Moment S K) → Kept first
+      → KeptSteps station party kept_at store fine first now → store.sound now.keeper.store
+      → Kept now
+  after_steps true fine first now whole (begun same) sound = subst Kept (sym same) whole
+  after_steps true fine first now whole (one_more {old = mid} {sent = sent} before step) sound =
+      after_any mid now sent step
+      (after_steps true refl first mid whole before (was_sound mid now sent true step sound)) sound
+  after_steps false fine first now whole steps sound =
+      let clash : false ≡ true = fine in absurd cc
+
+  -- a run
+  pub after_run : (fine : Bool) → fine ≡ true → (first now : Moment S K) → Kept first
+      → KeptRun station party kept_at store forgets_sent forgets_arrived fine first now
+      → store.sound now.keeper.store → Kept now
+  after_run true fine first now kept_first (begins same) sound = subst Kept (sym same) kept_first
+  after_run true fine first now kept_first (attended {old = mid} before steps) sound =
+      after_steps true refl mid now
+      (after_run true refl first mid kept_first before
+      (steps_sound true refl mid now steps sound))
+      steps sound
+  after_run true fine first now kept_first (forgot_sent {old = mid} before forgets) sound =
+      let was = after_run true refl first mid kept_first before sound in
+      record {
+        knows = was.knows;
+        has_all = forgetting.sent _ sending receiving mid.station _ was.has_all forgets;
+      }
+  after_run true fine first now kept_first
+      (forgot_arrived {old = mid} {number = number} {count = count} before forgets) sound =
+      let was = after_run true refl first mid kept_first before sound in
+      record {
+        knows = was.knows;
+        has_all =
+            forgetting.arrived _ sending receiving number count mid.station _ was.has_all forgets;
+      }
+  after_run true fine first now kept_first (kept {old = mid} {printed = printed} before keeps)
       sound =
       let was =
-      all_sound store has given (changes_in_step mid now) (store_in mid) (store_in now)
-      (before_sending mid now happened (Ok true) step).0 sound in
-      after_any mid now happened true step (kept_before_waits _ first mid kept before was)
-      (each_change mid now happened true step) sound
-  kept_before_waits steps first now kept (one_more {mid = mid} before (inr failed)) sound =
-      let clash : Ok true ≡ Err failed.error = failed.result_is in absurd cc
+      after_run true refl first mid kept_first before
+      (all_sound store has given (changes_in printed mid.station mid.keeper) mid.keeper.store
+      now.keeper.store keeps.commits.crash sound) in
+      after_step mid printed mid.station now.keeper
+      (grows mid.station mid.station (inl refl)) was
+      (record {
+        changes = keeps.commits.kept;
+        sending = keeps.sending;
+        receiving = keeps.receiving;
+      })
+      sound
+  after_run false fine first now kept_first run sound =
+      let clash : false ≡ true = fine in absurd cc
 
-module _ {S M K Z R W F T : Type 0} (party : party_of.Ghosts S Z)
+module _ {S K Z : Type 0} (station : station_of.Ghosts S) (party : party_of.Ghosts S Z)
     (kept_at : S → ℕ → ℕ → Option KeptSender) (waits : S → ℕ → ℕ → List (List ℕ))
-    (store : store_of.Ghosts K) (printed : M → ℕ → Option ℕ) (sending : List Sending)
-    (receiving : List Receiving) (parts : SessionParts S R W F (Keeping M K) T)
-    (grows : (old new : Session S (ConnectionValue R W F) (Keeping M K) T)
-    (happened : List Happening) (result : Result Bool LiveError)
-    → Steps parts old happened result new
-    → StationGrows party kept_at waits old.station new.station)
-    (before_sending : KeepsBeforeSending party kept_at store printed parts)
-    (each_change : KeepsEachChange party kept_at store printed parts)
+    (store : store_of.Ghosts K) (sending : List Sending) (receiving : List Receiving)
+    (forgets_sent : S → S → Type 0) (forgets_arrived : S → ℕ → ℕ → S → Type 0)
+    (grows : (old new : S) → IsEvent station party kept_at store old new
+    → StationGrows party kept_at waits old new)
+    (forgetting : OutlivesForgetting kept_at waits (arrived_of party) forgets_sent forgets_arrived)
     (differ : ChannelsDiffer sending receiving) where
-  pub outlives : OutlivesCrashes kept_at waits (arrived_of party) store sending receiving parts
+  pub outlives : OutlivesCrashes kept_at waits (arrived_of party) store sending receiving station
+      party forgets_sent forgets_arrived
   outlives =
       record {
-        between = λ has given steps first now kept goes sound.
-            kept_before_waits party kept_at waits store printed sending receiving parts grows
-            before_sending each_change has given differ steps first now kept goes sound;
-        within = λ has given old new happened result kept steps sound.
-            leaves_either party kept_at waits store printed sending receiving parts grows
-            before_sending each_change has given differ old new happened result kept steps sound;
+        between = λ has given first now whole run sound.
+            after_run station party kept_at waits store sending receiving forgets_sent
+            forgets_arrived grows forgetting differ has given true refl first now whole run sound;
+        within = λ has given old new sent goes_on whole step sound.
+            leaves_either station party kept_at waits store sending receiving forgets_sent
+            forgets_arrived grows forgetting differ has given old new sent goes_on whole step sound;
       }
 
 -- what is kept at the end of a station, which does not change any more

@@ -6,7 +6,6 @@ ghost use Rattle.bsc_bid.specs.Terminal.{HasDistinctAddresses, TerminalValue};
 ghost use Rattle.bsc_tributary.specs.Kept.{IsTributary};
 ghost use Rattle.bsc_directory.specs.Addresses.{AreDistinct};
 ghost use Rattle.bsc_control.specs.Control.{restarted};
-ghost use Rattle.bsc_connections.specs.Parts.{session_parts};
 ghost use Rattle.bsc_kept.specs.Contents.{Contents, GivesBack};
 ghost use Rattle.bsc_kept.specs.declared.channel.Channel.{Channel as ChannelValue};
 ghost use Rattle.bsc_monitor.specs.LineTerminal.{LineTerminalValue};
@@ -32,15 +31,11 @@ ghost use Rattle.bsc_restarts.specs.StoreWorks.{terminal_restarted};
 
 use bsc_bid::Station;
 use bsc_bid::laws::recalls;
-use bsc_connections::{Framing, Monitor, Waiter};
 use bsc_control::Control;
 use bsc_control::laws::made_again;
-use bsc_keeping::laws::kept_before_sent;
-use bsc_keeping::{Keeping, Prints};
 use bsc_kept::Store;
 use bsc_monitor::{Forgets, LineTerminal, Party};
 use std::alloc::Allocator;
-use std::io::{Read, Write};
 
 /// A new station that is filled from a store that has all that is to be kept of a station is that
 /// station after a restart, apart from the room in its spools. Of its records only the places are
@@ -56,52 +51,29 @@ pub fn begun_again()
     made_again();
 }
 
-/// The process of a terminal may end at any moment of a session. Whatever that leaves in its store
-/// is all that is to be kept of the terminal as it is before the step of that moment or after it.
-/// Once something is sent, and before each wait of the session, all is kept that is to be kept. The
+/// The process of a terminal may end at any moment of its run. Whatever that leaves in its store is
+/// all that is to be kept of the terminal as it is before the step of that moment or after it. Once
+/// something is sent, and at each moment between the steps, all is kept that is to be kept. The
 /// store is any that keeps what it is given, and it had all at the beginning.
-pub fn terminal_outlives_crashes<
-    A: Allocator,
-    R: Read + Drop,
-    W: Write + Drop,
-    F: Framing + Drop,
-    T: Waiter<R, W>,
-    M: Monitor<LineTerminal<A>> + Prints + 'static,
-    K: Store + Drop + 'static,
->()
+/// [`attend_kept`](bsc_keeping::attend_kept) is part of such a run, and the program runs so each
+/// station whose records are kept and that no program feeds.
+pub fn terminal_outlives_crashes<A: Allocator, K: Store + Drop>()
     ensures { (terminal : TerminalValue) → HasDistinctAddresses terminal
         → OutlivesCrashes kept_at_terminal waiting_at_terminal arrived_at_terminal K.Store
         (sends_from (Some terminal)) (spools_of terminal)
-        (session_parts ⟦<LineTerminal<A> as Station>⟧ R.Read W.Write F.Framing
-        ⟦<Keeping<'static, M, K> as Monitor<LineTerminal<A>>>⟧.is_told
-        ⟦<Keeping<'static, M, K> as Monitor<LineTerminal<A>>>⟧.admits
-        ⟦<Keeping<'static, M, K> as Monitor<LineTerminal<A>>>⟧.paces
-        T.Waiter) }
-{
-    kept_before_sent::<LineTerminal<A>, R, W, F, T, M, K>();
-}
+        ⟦<LineTerminal<A> as Station>⟧ ⟦<LineTerminal<A> as Party>⟧
+        ⟦<LineTerminal<A> as Forgets>⟧.forgets_sent
+        ⟦<LineTerminal<A> as Forgets>⟧.forgets_arrived }
+{}
 
 /// The same of a control station.
-pub fn control_outlives_crashes<
-    A: Allocator,
-    R: Read + Drop,
-    W: Write + Drop,
-    F: Framing + Drop,
-    T: Waiter<R, W>,
-    M: Monitor<Control<A>> + Prints + 'static,
-    K: Store + Drop + 'static,
->()
+pub fn control_outlives_crashes<A: Allocator, K: Store + Drop>()
     ensures { (terminals : List TerminalValue) → AreDistinct terminals
         → OutlivesCrashes kept_at_control waiting_at_control arrived_at_control K.Store
         (sending_of terminals ControlOwner) (receiving_of terminals ControlOwner)
-        (session_parts ⟦<Control<A> as Station>⟧ R.Read W.Write F.Framing
-        ⟦<Keeping<'static, M, K> as Monitor<Control<A>>>⟧.is_told
-        ⟦<Keeping<'static, M, K> as Monitor<Control<A>>>⟧.admits
-        ⟦<Keeping<'static, M, K> as Monitor<Control<A>>>⟧.paces
-        T.Waiter) }
-{
-    kept_before_sent::<Control<A>, R, W, F, T, M, K>();
-}
+        ⟦<Control<A> as Station>⟧ ⟦<Control<A> as Party>⟧ ⟦<Control<A> as Forgets>⟧.forgets_sent
+        ⟦<Control<A> as Forgets>⟧.forgets_arrived }
+{}
 
 /// A station that begins again from what a crash left is the one of which it was left, after a
 /// restart. Of the records that arrived it has all that are not printed, also those that the other

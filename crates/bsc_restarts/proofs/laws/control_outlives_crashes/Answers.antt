@@ -2,20 +2,17 @@
 use Rattle.bsc_restarts.proofs.ControlGrowth.{ControlGrows, control_acts, control_grows_itself}
 use Rattle.bsc_restarts.proofs.ControlGrowth.{control_hears, side_grows}
 use Rattle.bsc_restarts.proofs.Differing.{control_channels_differ}
+use Rattle.bsc_restarts.proofs.Forgotten.{control_outlives_forgetting}
 use Rattle.bsc_restarts.proofs.Moving.{moves}
 use Rattle.bsc_restarts.proofs.Outliving.{outlives}
 use Rattle.bsc_restarts.proofs.laws.control_outlives_crashes.Goals as goal
 
 pub returns : goal.returns
 returns g c terminals distinct =
-    outlives _ _ _ g.K.Store g.M.Prints.printed _ _ _
-    (λ old new happened result step.
+    outlives _ _ _ _ g.K.Store _ _ _ _
+    (λ old new event.
     let grows =
-    moves _ ControlGrows control_grows_itself control_hears control_acts old new happened result
-    step in
-    record {
-      sent = side_grows old.station new.station grows;
-      received = grows.received;
-    })
-    c.kept_before_sent.ensures.sent c.kept_before_sent.ensures.changed
-    (control_channels_differ terminals distinct)
+    moves _ _ ControlGrows control_grows_itself control_hears control_acts old new event
+    in
+    record { sent = side_grows old new grows; received = grows.received })
+    control_outlives_forgetting (control_channels_differ terminals distinct)

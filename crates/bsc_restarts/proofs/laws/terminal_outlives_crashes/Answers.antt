@@ -1,5 +1,6 @@
 -- A terminal outlives its process.
 use Rattle.bsc_restarts.proofs.Differing.{terminal_channels_differ}
+use Rattle.bsc_restarts.proofs.Forgotten.{terminal_outlives_forgetting}
 use Rattle.bsc_restarts.proofs.Growing.{grows_if_knows}
 use Rattle.bsc_restarts.proofs.Moving.{moves}
 use Rattle.bsc_restarts.proofs.Outliving.{outlives}
@@ -9,16 +10,15 @@ use Rattle.bsc_restarts.proofs.laws.terminal_outlives_crashes.Goals as goal
 
 pub returns : goal.returns
 returns g c terminal distinct =
-    outlives _ _ _ g.K.Store g.M.Prints.printed _ _ _
-    (λ old new happened result step.
+    outlives _ _ _ _ g.K.Store _ _ _ _
+    (λ old new event.
     let grows =
-    moves _ TerminalGrows terminal_grows_itself terminal_hears terminal_acts old new happened
-    result step in
+    moves _ _ TerminalGrows terminal_grows_itself terminal_hears terminal_acts old new
+    event in
     record {
       sent = λ t s.
-          grows_if_knows old.station.tributary.sender new.station.tributary.sender
-          old.station.tributary.queue new.station.tributary.queue grows.knows grows.there;
+          grows_if_knows old.tributary.sender new.tributary.sender old.tributary.queue
+          new.tributary.queue grows.knows grows.there;
       received = grows.received;
     })
-    c.kept_before_sent.ensures.sent c.kept_before_sent.ensures.changed
-    (terminal_channels_differ terminal distinct)
+    terminal_outlives_forgetting (terminal_channels_differ terminal distinct)
