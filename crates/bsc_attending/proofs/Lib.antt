@@ -2,3 +2,4 @@ mod AllPrinted
 mod InTurn
 mod Prepared
 mod Outcomes
+mod GoingOn

@@ -1,8 +1,13 @@
 -- What a station answers, by how it was prepared and how it ran.
 use Rattle.std.proofs.Common.{◌≡◌, ℕ, Bool, true, false, List, Option, Some, None, is_some}
-use Rattle.std.proofs.Common.{if◌then◌else◌, Result, Ok, Err, inl, inr, subst, sym}
+use Rattle.std.proofs.Common.{if◌then◌else◌, Result, Ok, Err, inl, inr, subst, sym, is_none}
+use Rattle.std.proofs.Common.{IfSome, IsSome, IsSomeAnd, IsErrAnd, option_map}
 use Rattle.bsc_asked.specs.StationWords.{AskedWords}
 use Rattle.bsc_config.specs.Settings.{ConfigValue}
+use Rattle.bsc_kept.specs.declared.store.Store as store_of
+use Rattle.bsc_keeping.specs.Own.{receiving_of}
+use Rattle.bsc_keeping.specs.declared.keeper.Keeper.{Keeper}
+use Rattle.bsc_keeping.specs.declared.own.Own.{Own}
 use Rattle.bsc_monitor.specs.declared.standing.Standing.{Standing}
 use Rattle.bsc_options.specs.Settings.{SettingsValue, settings_in}
 use Rattle.bsc_options.specs.declared.settings.Role.{Role}
@@ -10,9 +15,11 @@ use Rattle.bsc_options.specs.declared.settings.Role.TheVariants as role
 use Rattle.bsc_print.specs.declared.form.Form.{Form}
 use Rattle.bsc_trust.specs.declared.distrust.Distrust.{Distrust}
 use Rattle.bsc_attending.specs.Ending.{HasBegunAndRun, HasRun, IsLeftBy, IsSameKind, result_of}
-use Rattle.bsc_attending.specs.Errors.{IsCutShort, IsPreparingError, IsStoreError, IsUnended}
+use Rattle.bsc_attending.specs.Errors.{IsCutShort, IsPreparingError, IsStoreError, IsUnbegun}
+use Rattle.bsc_attending.specs.Errors.{IsUnended}
 use Rattle.bsc_attending.specs.Outcomes.{IsAnswerFor, IsReported, IsReportedFor, IsResultOf}
-use Rattle.bsc_attending.specs.Preparing.{IsPrepared, IsStationOf}
+use Rattle.bsc_attending.specs.Preparing.{IsPrepared, IsReady, IsStationOf, owner_of}
+use Rattle.bsc_attending.specs.Runs.{BeginsAndRuns, BeginsFrom, HasRunKept, RunsAsked}
 use Rattle.bsc_attending.specs.declared.error.AttendingError.{AttendingError}
 use Rattle.bsc_attending.specs.declared.error.AttendingError.TheVariants as attending
 use Rattle.bsc_attending.specs.declared.preparing.Prepared.{Prepared}
@@ -177,3 +184,93 @@ pub reported_by : (w : AskedWords) (input : Option (List ℕ)) (settings : Setti
 reported_by w input settings read contents new result (inl unended) = inl unended
 reported_by w input settings read contents new result (inr report) =
     inr (record { settings = settings; read = read; report = report })
+
+-- a station whose store is refused has not begun
+unbegun_if_refused : (e : AttendingError) → IsStoreError e → IsUnbegun e
+unbegun_if_refused (attending.Store error) p = tt
+unbegun_if_refused attending.Memory p = tt
+unbegun_if_refused error p = absurd p
+
+-- nor has one that could not be prepared
+pub unbegun_if_unprepared : (e : AttendingError) → IsPreparingError e → IsUnbegun e
+unbegun_if_unprepared (attending.Config error) p = tt
+unbegun_if_unprepared (attending.Options error) p = tt
+unbegun_if_unprepared (attending.Offer path error) p = tt
+unbegun_if_unprepared (attending.Text error) p = tt
+unbegun_if_unprepared attending.Memory p = tt
+unbegun_if_unprepared error p = absurd p
+
+-- what keeps the records of a station is there, and was filled
+module _ {K W : Type 0} (store : store_of.Ghosts K)
+    (runs : Prepared → Keeper K → Type 0 → Prepared → Type 0) (contents : W → Option (List ℕ))
+    (form : Option Form) (forgets_printed asked : Bool) (as_asked : forgets_printed ≡ asked)
+    (begun filled ended : Prepared) (result : Result (Unit {0}) AttendingError) (new : W) where
+  abbrev Begins : Own → Keeper K → Type 0
+  Begins own =
+      BeginsFrom store forgets_printed own.sending.items own.receiving.items begun filled
+
+  abbrev Ran : Own → Type 0
+  Ran own =
+      BeginsAndRuns store runs contents form asked own.sending.items own.receiving.items begun
+      ended result new
+
+  pub ran_kept : (own : Option Own) (keeper : Option (Keeper K))
+      → IfSome own (λ it. IsSomeAnd keeper (Begins it))
+      → IfSome keeper (λ k. runs filled k (IsErrAnd result IsCutShort) ended)
+      → HasRun contents form filled ended result new → IfSome own Ran
+  ran_kept None keeper begins ran ends = tt
+  ran_kept (Some own) None begins ran ends = absurd begins
+  ran_kept (Some own) (Some keeper) begins ran ends =
+      inr (record {
+        filled = filled;
+        keeper = keeper;
+        begins =
+            subst (λ (forgets : Bool). BeginsFrom store forgets own.sending.items
+            own.receiving.items begun filled keeper) as_asked begins;
+        ran = ran;
+        ends = ends;
+      })
+
+-- it was prepared before
+module _ {K W : Type 0} (store : store_of.Ghosts K)
+    (runs : Prepared → Keeper K → Type 0 → Prepared → Type 0) (contents : W → Option (List ℕ))
+    (w : AskedWords) (role : Role) (form : Option Form) (forgets_printed : Bool)
+    (input after : Option (List ℕ)) (begun ended : Prepared) (new : W) where
+  abbrev Asked : Result (Unit {0}) AttendingError → Type 0
+  Asked result = RunsAsked store runs contents w role form forgets_printed input result new
+
+  asked_by : (own : Own) (result : Result (Unit {0}) AttendingError)
+      → IsReady w role input after begun (Some own)
+      → BeginsAndRuns store runs contents form forgets_printed own.sending.items
+      own.receiving.items begun ended result new
+      → Asked result
+  asked_by own (Ok done) ready (inl refused) = absurd refused
+  asked_by own (Err error) ready (inl refused) = inl (unbegun_if_refused error refused)
+  asked_by own result ready (inr ran) =
+      inr (record {
+        after = after;
+        begun = begun;
+        prepared = ready.prepared;
+        ended = ended;
+        ran =
+            subst (λ sending. HasRunKept store runs contents form forgets_printed sending
+            (receiving_of ready.prepared.config.terminals (owner_of role)) begun ended result new)
+            ready.sending
+            (subst (λ receiving. HasRunKept store runs contents form forgets_printed
+            own.sending.items receiving begun ended result new) ready.receiving ran);
+      })
+
+  pub asked_after : (own : Option Own) (result : Result (Unit {0}) AttendingError)
+      → IsReady w role input after begun own → IsSome own
+      → IfSome own (λ it. BeginsAndRuns store runs contents form forgets_printed it.sending.items
+      it.receiving.items begun ended result new)
+      → Asked result
+  asked_after None result ready is_some ran =
+      let clash : false ≡ true = is_some in absurd cc
+  asked_after (Some own) result ready is_some ran = asked_by own result ready ran
+
+-- settings have no place of programs if the options have none
+pub none_asked : {A B : Type 0} (f : A → B) (it : Option A)
+    → is_none (option_map f it) ≡ true → is_none it ≡ true
+none_asked f None is = is
+none_asked f (Some a) is = is

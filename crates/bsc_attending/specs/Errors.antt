@@ -103,6 +103,12 @@ IsEarly (attending.Offer path error) = Unit {0}
 IsEarly (attending.Store error) = Unit {0}
 IsEarly _ = ⊥
 
+-- The errors that come before a station begins: those before connections are made, and out of
+-- memory.
+abbrev pub IsUnbegun : AttendingError → Type 0
+IsUnbegun attending.Memory = Unit {0}
+IsUnbegun error = IsEarly error
+
 -- The errors of a store that is refused.
 abbrev pub IsStoreError : AttendingError → Type 0
 IsStoreError (attending.Store error) = Unit {0}

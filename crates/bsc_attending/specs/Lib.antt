@@ -9,3 +9,4 @@ pub mod Sparing
 pub mod Wanted
 pub mod Printer
 pub mod Progress
+pub mod Runs

@@ -1,7 +1,7 @@
 -- What is read before a station makes its connections: the options, and its station of the
 -- configuration, with its records; and what an error says of that.
 use Rattle.std.specs.Prelude.{◌≡◌, ◌≢◌, ◌⊎◌, ◌≤◌, ◌<◌, ℕ, List, length, slice_index_or, Option}
-use Rattle.std.specs.Prelude.{Ok, Err, None, Some, codes}
+use Rattle.std.specs.Prelude.{Ok, Err, None, Some, IfSome, codes}
 use Rattle.bsc_asked.specs.StationWords.{AskedWords}
 use Rattle.bsc_config.specs.Answers.{IsRefusedFor, Says}
 use Rattle.bsc_config.specs.Settings.{ConfigValue}
@@ -9,6 +9,7 @@ use Rattle.bsc_control.specs.Control.{ControlValue}
 use Rattle.bsc_control.specs.Kept.{IsNewControl}
 use Rattle.bsc_control.specs.Peer.{no_peer}
 use Rattle.bsc_input.specs.Texts.{IsReadError, IsTextAt}
+use Rattle.bsc_keeping.specs.Own.{receiving_of, sending_of}
 use Rattle.bsc_keeping.specs.declared.own.Own.{Own}
 use Rattle.bsc_keeping.specs.declared.own_text.Owner.{Owner}
 use Rattle.bsc_keeping.specs.declared.own_text.Owner.TheVariants as owner
@@ -137,6 +138,16 @@ pub record IsPrepared (w : AskedWords) (role : Role) (input after : Option (List
   pub middle : Option (List ℕ)
   pub reads : ReadsConfig w.config input middle config
   pub station : IsStationOf config role w.offers middle after prepared
+
+-- The same, and if its records are to be kept, what is known of it has the channels of the
+-- configuration.
+pub record IsReady (w : AskedWords) (role : Role) (input after : Option (List ℕ))
+    (begun : Prepared) (own : Option Own) : Type 0 where
+  pub prepared : IsPrepared w role input after begun
+  pub sending : IfSome own (λ it.
+      it.sending.items ≡ sending_of prepared.config.terminals (owner_of role))
+  pub receiving : IfSome own (λ it.
+      it.receiving.items ≡ receiving_of prepared.config.terminals (owner_of role))
 
 -- The configuration was read, and then the station was refused, with this error.
 pub record IsStationRefused (w : AskedWords) (role : Role) (peers : ℕ) (input : Option (List ℕ))

@@ -1,9 +1,12 @@
 //! The connections of a station, and attending the station over them.
 
-ghost use Rattle.std.specs.Prelude.{◌≡◌, IfErr, IfOk, OnOk, Option, Some, map, true, ℕ};
+ghost use Rattle.std.specs.Prelude.{◌≡◌, Bool, IfErr, IfOk, OnOk, Option, Some, false, is_ok};
+ghost use Rattle.std.specs.Prelude.{map, true, ℕ};
 ghost use Rattle.std.specs.declared.net.ip_addr.IpAddr.{IpAddr as Address};
 ghost use Rattle.bsc_attending.specs.Framings.{ends_of, is_raw};
 ghost use Rattle.bsc_attending.specs.Errors.{IsCutShort};
+ghost use Rattle.bsc_attending.specs.Runs.{Runs, StationParts, at, station_parts};
+ghost use Rattle.bsc_keeping.specs.Runs.{KeptSteps};
 
 use crate::sparing::{Sparing, forget_unneeded};
 use crate::{AttendingError, Network, Opened, Wanted};
@@ -113,6 +116,14 @@ pub(crate) trait Attend {
     /// How many records of the channel with this number were printed before the station began.
     ghost printed_before: { Self → ℕ → ℕ };
 
+    /// Whether programs reach a station that is attended over the connections.
+    ghost reached: { Self → Bool };
+
+    /// How a station runs that is attended over the connections until its monitor ends it, if its
+    /// records are kept with them: what is known of the station, the connections and the station
+    /// before, whether it ended without an error, the connections and the station after.
+    ghost runs: { {S Z : Type 0} → StationParts S Z → Self → S → Bool → Self → S → Type 0 };
+
     /// Attends a station over the connections until the monitor ends it.
     fn attend<S: Station, M: Monitor<S>>(
         &mut self,
@@ -128,7 +139,10 @@ pub(crate) trait Attend {
         station: &mut S,
         watch: &mut M,
         keeper: &mut Keeper<K>,
-    ) -> Result<(), LiveError>;
+    ) -> Result<(), LiveError>
+        ensures { reached self.old ≡ false →
+            Runs (station_parts S.Station S.Party S.kept_at S.forgets_sent S.forgets_arrived)
+            K.Store (is_ok result) (at station.old keeper.old) (at station.new keeper.new) };
 
     /// Attends a station whose monitor prints the records that arrive. If its records are kept,
     /// they are before it sends, and so is at the end how many were printed. The station forgets
@@ -137,7 +151,9 @@ pub(crate) trait Attend {
         &mut self,
         station: &mut S,
         watch: &mut M,
-    ) -> Result<(), LiveError>;
+    ) -> Result<(), LiveError>
+        ensures { runs (station_parts S.Station S.Party S.kept_at S.forgets_sent S.forgets_arrived)
+            self.old station.old (is_ok result) self.new station.new };
 
     /// Returns how many records of the channel with this number were printed before the station
     /// began, among those on which it receives.
@@ -172,15 +188,18 @@ impl<R: Read + Drop, W: Write + Drop, Q: Waiter<R, W> + Drop> Connections<R, W, 
         station: &mut S,
         watch: &mut M,
         keeper: &mut Keeper<K>,
-    ) -> Result<bool, LiveError> {
+    ) -> Result<bool, LiveError>
+        ensures { KeptSteps S.Station S.Party S.kept_at K.Store (is_ok result)
+            (at station.old keeper.old) (at station.new keeper.new) }
+    {
         let mut sparing = Sparing::new(watch);
-        let keeping = Keeping::new(&mut sparing, keeper);
+        let mut keeping = Keeping::new(&mut sparing, keeper);
         match &mut self.framed {
             Framed::Records { connections } => {
-                attend_kept(station, connections, &mut self.waiter, keeping)?
+                attend_kept(station, connections, &mut self.waiter, &mut keeping)?
             }
             Framed::Raw { connections } => {
-                attend_kept(station, connections, &mut self.waiter, keeping)?
+                attend_kept(station, connections, &mut self.waiter, &mut keeping)?
             }
         }
         Ok(!sparing.is_ended())
@@ -188,6 +207,7 @@ impl<R: Read + Drop, W: Write + Drop, Q: Waiter<R, W> + Drop> Connections<R, W, 
 }
 
 impl<R: Read + Drop, W: Write + Drop, Q: Waiter<R, W> + Drop> Attend for Connections<R, W, Q> {
+    ghost use Rattle.std.specs.Prelude.{false};
     ghost use Rattle.bsc_attending.specs.Framings.{NamesAddress, connection_count};
 
     ghost places = { λ c. connection_count c.framed };
@@ -195,6 +215,10 @@ impl<R: Read + Drop, W: Write + Drop, Q: Waiter<R, W> + Drop> Attend for Connect
     ghost names = { λ c place named. NamesAddress (Q.names c.waiter place) named };
 
     ghost printed_before = { λ _ _. 0 };
+
+    ghost reached = { λ _. false };
+
+    ghost runs = { λ _ _ _ _ _ _. Unit {0} };
 
     fn attend<S: Station, M: Monitor<S>>(
         &mut self,

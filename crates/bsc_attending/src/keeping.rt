@@ -6,6 +6,7 @@ ghost use Rattle.bsc_attending.specs.Ending.{IsSameKind};
 ghost use Rattle.bsc_attending.specs.Errors.{IsCutShort, IsStoreError, with_fault};
 ghost use Rattle.bsc_attending.specs.Preparing.{Suits};
 ghost use Rattle.bsc_attending.specs.Printer.{AreAllPrinted, counts_below, followed_of};
+ghost use Rattle.bsc_attending.specs.Runs.{BeginsFrom};
 
 use crate::connections::Attend;
 use crate::following::Following;
@@ -38,6 +39,8 @@ pub(crate) fn begin<H: Stores>(
     requires { Suits own.full prepared.old }
     ensures kind { IsSameKind prepared.old prepared.new }
     ensures error { IfErr result IsStoreError }
+    ensures begins { IfOk result (BeginsFrom H.Store.Store forgets_printed own.sending.items
+        own.receiving.items prepared.old prepared.new) }
 {
     match open_and_fill(alloc, path, own, prepared, forgets_printed, machine) {
         Ok(keeper) => Ok(keeper),
@@ -55,7 +58,9 @@ fn open_and_fill<H: Stores>(
     machine: &mut H,
 ) -> Result<Keeper<H::Store>, StoreFault>
     requires { Suits own.full prepared.old }
-    ensures { IsSameKind prepared.old prepared.new }
+    ensures kind { IsSameKind prepared.old prepared.new }
+    ensures begins { IfOk result (BeginsFrom H.Store.Store forgets_printed own.sending.items
+        own.receiving.items prepared.old prepared.new) }
 {
     let store = machine.open_store(path, own.text())?;
     match prepared {
@@ -80,7 +85,8 @@ pub(crate) struct Kept<'a, C: Drop, K: Drop, W, D: Drop, R: Drop> {
 
 impl<'a, C: Attend + Drop, K: Store + Drop, W: Write, D: Write + Drop, R: Readiness + Drop> Attend
     for Kept<'a, C, K, W, D, R> {
-    ghost use Rattle.std.specs.Prelude.{slice_get};
+    ghost use Rattle.std.specs.Prelude.{◌≡◌, false, slice_get};
+    ghost use Rattle.bsc_attending.specs.Runs.{Runs, at};
     ghost use Rattle.bsc_keeping.specs.Changes.{printed_of};
 
     ghost places = { λ k. C.places k.connections };
@@ -88,6 +94,11 @@ impl<'a, C: Attend + Drop, K: Store + Drop, W: Write, D: Write + Drop, R: Readin
     ghost names = { λ k. C.names k.connections };
 
     ghost printed_before = { λ k number. printed_of (slice_get k.keeper.receiving.items number) };
+
+    ghost reached = { λ k. C.reached k.connections };
+
+    ghost runs = { λ parts old station fine new after. C.reached old.connections ≡ false
+        → Runs parts K.Store fine (at station old.keeper) (at after new.keeper) };
 
     fn attend<S: Station, M: Monitor<S>>(
         &mut self,

@@ -14,6 +14,7 @@ mod network;
 mod offering;
 mod preparing;
 mod printer;
+mod running;
 mod serving;
 mod sparing;
 mod stations;

@@ -6,7 +6,7 @@ ghost use Rattle.std.specs.Prelude.{length, map, string_bytes};
 ghost use Rattle.bsc_asked.specs.StationWords.{asked_words};
 ghost use Rattle.bsc_attending.specs.Errors.{IsPreparingError};
 ghost use Rattle.bsc_attending.specs.Preparing.{HasConfig, HasNoConfig, HasNoControl};
-ghost use Rattle.bsc_attending.specs.Preparing.{HasNoStation, HasNoTerminal, IsPrepared};
+ghost use Rattle.bsc_attending.specs.Preparing.{HasNoStation, HasNoTerminal, IsPrepared, IsReady};
 ghost use Rattle.bsc_attending.specs.Preparing.{IsStationOf, IsUnprepared, Suits, SuitsOwn};
 ghost use Rattle.bsc_attending.specs.Preparing.{owner_of};
 ghost use Rattle.bsc_keeping.specs.Own.{receiving_of, sending_of};
@@ -57,6 +57,8 @@ pub(crate) fn prepare<R: Read, F: Files>(
         (R.remaining input.old)) }
     ensures suits { IfOk result (λ ready. SuitsOwn ready.own ready.prepared) }
     ensures kept { IfOk result (λ ready. IsSome words.now.store → IsSome ready.own) }
+    ensures ready { IfOk result (λ ready. IsReady (asked_words words.now) role
+        (R.remaining input.old) (R.remaining input.new) ready.prepared ready.own) }
 {
     let config = config_at(alloc, words.config.as_str(), input, files)?;
     let own = own_of(alloc, words, role, &config)?;

@@ -189,11 +189,17 @@ fn attend_fed_and_kept<
 }
 
 impl<C: Attend + Drop, P: Programs + Drop> Attend for Fed<C, P> {
+    ghost use Rattle.std.specs.Prelude.{◌||◌, is_some};
+
     ghost places = { λ f. C.places f.connections };
 
     ghost names = { λ f. C.names f.connections };
 
     ghost printed_before = { λ f. C.printed_before f.connections };
+
+    ghost reached = { λ f. is_some f.programs || C.reached f.connections };
+
+    ghost runs = { λ _ _ _ _ _ _. Unit {0} };
 
     fn attend<S: Station, M: Monitor<S>>(
         &mut self,

@@ -1,6 +1,7 @@
 //! One station of a line: prepares it, makes its connections, and attends it until it ends.
 
-ghost use Rattle.std.specs.Prelude.{◌≡◌, IfErr, IfOk, IsSome};
+ghost use Rattle.std.specs.Prelude.{◌≡◌, IfErr, IfOk, IfSome, IsErr, IsErrAnd, IsSome, is_none};
+ghost use Rattle.std.specs.Prelude.{IsSomeAnd, false, true};
 ghost use Rattle.bsc_asked.specs.StationWords.{asked_words};
 ghost use Rattle.bsc_options.specs.Settings.{place_value, settings_value};
 ghost use Rattle.bsc_attending.specs.Ending.{HasBegunAndRun, HasRun, IsLeftBy, IsSameKind};
@@ -9,6 +10,8 @@ ghost use Rattle.bsc_attending.specs.Errors.{IsCutShort, IsEarly, IsLate, IsStor
 ghost use Rattle.bsc_attending.specs.Progress.{progress_in, work_in};
 ghost use Rattle.bsc_attending.specs.Outcomes.{IsAnswer, IsAnswerFor, IsReported, IsReportedFor};
 ghost use Rattle.bsc_attending.specs.Preparing.{SuitsOwn};
+ghost use Rattle.bsc_attending.specs.Runs.{BeginsAndRuns, BeginsFrom, HasRunOver, IsKeptRun};
+ghost use Rattle.bsc_attending.specs.Runs.{RunsAsked, station_parts};
 ghost use Rattle.bsc_attending.specs.Sparing.{forgets_printed_in};
 ghost use Rattle.bsc_attending.specs.Wanted.{is_listening, wanted_value, wants};
 ghost use Rattle.bsc_trust.specs.Trust.{new_trust};
@@ -18,18 +21,21 @@ use crate::connections::{Attend, connect};
 use crate::keeping::{Kept, begin, print_rest, printed_before, with_fault};
 use crate::preparing::{Prepared, Ready, prepare};
 use crate::printer::Printer;
+use crate::running::Running;
 use crate::serving::{Fed, called_by, reachable, serving_of};
 use crate::wanted::{listens, wanted_by_control, wanted_by_terminal};
 use crate::{AttendingError, Network, Readiness, Stores, Wanted};
 use bsc_asked::StationWords;
+use bsc_bid::Station;
 use bsc_carrier::CarrierError;
 use bsc_connections::LiveError;
 use bsc_control::Control;
 use bsc_input::Files;
-use bsc_keeping::{Keeper, Own};
+use bsc_keeping::{Keeper, Own, Sends};
 use bsc_kept::Store;
 use bsc_monitor::{
-    ControlWatch, Ended, Limits, LineTerminal, Party, Printing, TerminalWatch, Tracing, Watch,
+    ControlWatch, Ended, Forgets, Limits, LineTerminal, Party, Printing, TerminalWatch, Tracing,
+    Watch,
 };
 use bsc_options::{Admission, Role, StationSettings, read_admission, read_settings};
 use bsc_progress::{Meter, Timer, Work};
@@ -84,7 +90,8 @@ struct Watching<'a, T: Drop, O, D> {
 /// station ends. `NotTrusted`, `InDoubt` and `Undelivered` are returned after the report is
 /// printed, and so is `Closed`, when a fault closed the connection of a terminal. `Unprinted` is
 /// returned when records that arrived could not be printed; they were not acknowledged, and the
-/// report is tried.
+/// report is tried. A station whose records are to be kept begins with what its store has, and what
+/// it changes is kept before it sends.
 pub fn station<R: Read, H: Files + Network + Stores, W: Write>(
     alloc: Global,
     words: &StationWords,
@@ -96,6 +103,9 @@ pub fn station<R: Read, H: Files + Network + Stores, W: Write>(
     ensures answers { IsAnswer (asked_words words.now) (R.remaining input.old) result }
     ensures reported { IsReported W.contents (asked_words words.now) (R.remaining input.old) result
         out.new }
+    ensures kept { IsSome words.now.store
+        → IsKeptRun H.Store.Store (⟦<Prepared as Running>⟧.runs_kept _ H.Store.Store) W.contents
+        (asked_words words.now) (R.remaining input.old) result out.new }
 {
     let settings = read_settings(words)?;
     let admission = read_admission(words)?;
@@ -121,6 +131,11 @@ fn prepare_and_run<R: Read, H: Files + Network + Stores, W: Write>(
     ensures reported { IsReportedFor W.contents (asked_words words.now)
         options.entry.settings.role options.entry.settings.reported (R.remaining input.old) result
         out.new }
+    ensures kept { IsSome words.now.store → is_none options.entry.settings.serves ≡ true
+        → RunsAsked H.Store.Store (⟦<Prepared as Running>⟧.runs_kept _ H.Store.Store) W.contents
+        (asked_words words.now) options.entry.settings.role options.entry.settings.reported
+        (forgets_printed_in (settings_value options.entry.settings)) (R.remaining input.old) result
+        out.new }
 {
     let (role, peers) = (options.settings.role, options.admission.peers);
     let ready = prepare(alloc, words, role, peers, input, machine)?;
@@ -143,6 +158,11 @@ fn begin_and_run<H: Network + Stores, W: Write>(
     ensures early { IfErr result (λ error. IsEarly error → out.new ≡ out.old) }
     ensures ran { HasBegunAndRun W.contents options.now.settings.reported prepared.old
         prepared.new result out.new }
+    ensures kept { IsSome words.now.store → is_none options.now.settings.serves ≡ true
+        → IfSome own (λ own. BeginsAndRuns H.Store.Store
+        (⟦<Prepared as Running>⟧.runs_kept _ H.Store.Store) W.contents options.now.settings.reported
+        (forgets_printed_in (settings_value options.now.settings)) own.sending.items
+        own.receiving.items prepared.old prepared.new result out.new) }
 {
     let forgets = forgets_printed(&options.settings);
     let keeper = keeper_of(alloc, words, own, prepared, forgets, machine)?;
@@ -161,8 +181,9 @@ fn keeper_of<H: Stores>(
 ) -> Result<Option<Keeper<H::Store>>, AttendingError>
     requires { SuitsOwn own prepared.old }
     ensures kind { IsSameKind prepared.old prepared.new }
-    ensures kept { IfOk result (λ keeper.
-        IsSome words.now.store → IsSome own → IsSome keeper) }
+    ensures begins { IfOk result (λ keeper. IsSome words.now.store → IfSome own (λ own.
+        IsSomeAnd keeper (BeginsFrom H.Store.Store forgets own.sending.items own.receiving.items
+        prepared.old prepared.new))) }
     ensures error { IfErr result IsStoreError }
 {
     match (&words.store, own) {
@@ -186,6 +207,9 @@ fn run<H: Network, K: Store + Drop, W: Write>(
     ensures late { IfErr result IsLate }
     ensures ran { HasRun W.contents options.now.settings.reported prepared.old prepared.new result
         out.new }
+    ensures kept { is_none options.now.settings.serves ≡ true → IfSome keeper (λ keeper.
+        ⟦<Prepared as Running>⟧.runs_kept _ K.Store prepared.old keeper
+        (IsErrAnd result IsCutShort) prepared.new) }
 {
     let reported = options.settings.reported;
     match open(alloc, options, prepared, keeper, machine, out) {
@@ -212,6 +236,9 @@ fn open<H: Network, K: Store + Drop, W: Write>(
 ) -> Result<Left, AttendingError>
     ensures cut { IfErr result IsCutShort }
     ensures left { IfOk result (λ left. IsLeftBy prepared.old left × IsLeftBy prepared.new left) }
+    ensures ran { is_none options.now.settings.serves ≡ true → IfSome keeper (λ keeper.
+        ⟦<Prepared as Running>⟧.runs_kept _ K.Store prepared.old keeper
+        (IsErrAnd result IsCutShort) prepared.new) }
 {
     let reachable = reachable(options.settings.serves, machine)?;
     let readiness = machine.readiness();
@@ -266,6 +293,9 @@ fn attend_with<C: Attend, H: Network, O: Write>(
 ) -> Result<Left, AttendingError>
     ensures cut { IfErr result IsCutShort }
     ensures left { IfOk result (λ left. IsLeftBy prepared.old left × IsLeftBy prepared.new left) }
+    ensures ran { ⟦<Prepared as Running>⟧.runs_over _ (λ S Z parts. C.runs parts) connections.old
+        prepared.old
+        (IsErr result) prepared.new }
 {
     let timer = machine.timer(progress_of(&options.settings));
     let mut trace = machine.trace();
@@ -297,6 +327,9 @@ fn attend_kept<
 ) -> Result<Left, AttendingError>
     ensures cut { IfErr result IsCutShort }
     ensures left { IfOk result (λ left. IsLeftBy prepared.old left × IsLeftBy prepared.new left) }
+    ensures ran { C.reached kept.entry.connections ≡ false →
+        ⟦<Prepared as Running>⟧.runs_kept _ K.Store prepared.old kept.entry.keeper
+        (IsErrAnd result IsCutShort) prepared.new }
 {
     let mut kept = kept;
     let attended = attend_with(alloc, options, prepared, &mut kept, machine, &mut sink());
@@ -387,6 +420,9 @@ fn attend<C: Attend, T: Timer + Meter + Drop, O: Write, D: Write>(
 ) -> Result<Left, AttendingError>
     ensures cut { IfErr result IsCutShort }
     ensures left { IfOk result (λ left. IsLeftBy prepared.old left × IsLeftBy prepared.new left) }
+    ensures ran { ⟦<Prepared as Running>⟧.runs_over _ (λ S Z parts. C.runs parts) connections.old
+        prepared.old
+        (IsErr result) prepared.new }
 {
     match prepared {
         Prepared::Control { control } => {
@@ -409,7 +445,11 @@ fn attend_control<C: Attend, T: Timer + Meter + Drop, O: Write, D: Write>(
     connections: &mut C,
     watching: Watching<'_, T, O, D>,
 ) -> Result<Trust, AttendingError>
-    ensures { IfErr result IsCutShort }
+    ensures cut { IfErr result IsCutShort }
+    ensures ran { HasRunOver (C.runs (station_parts ⟦<Control<Global> as Station>⟧
+        ⟦<Control<Global> as Party>⟧ ⟦<Control<Global> as Sends>⟧.kept_at
+        ⟦<Control<Global> as Forgets>⟧.forgets_sent ⟦<Control<Global> as Forgets>⟧.forgets_arrived))
+        connections.old control.old (IsErr result) control.new }
 {
     let Watching {
         printing,
@@ -455,7 +495,12 @@ fn attend_until_answered<C: Attend, T: Timer + Meter + Drop, O: Write, D: Write>
     control: &mut Control<Global>,
     connections: &mut C,
     mut watch: ControlWatch<'_, Global, T, O, D>,
-) -> Result<Trust, LiveError> {
+) -> Result<Trust, LiveError>
+    ensures ran { HasRunOver (C.runs (station_parts ⟦<Control<Global> as Station>⟧
+        ⟦<Control<Global> as Party>⟧ ⟦<Control<Global> as Sends>⟧.kept_at
+        ⟦<Control<Global> as Forgets>⟧.forgets_sent ⟦<Control<Global> as Forgets>⟧.forgets_arrived))
+        connections.old control.old (IsErr result) control.new }
+{
     connections.attend_watched(control, &mut watch)?;
     if watch.is_closed() {
         return Ok(watch.trust());
@@ -472,7 +517,12 @@ fn attend_terminal<C: Attend, T: Timer + Meter + Drop, O: Write, D: Write>(
     connections: &mut C,
     watching: Watching<'_, T, O, D>,
 ) -> Result<Option<CarrierError>, AttendingError>
-    ensures { IfErr result IsCutShort }
+    ensures cut { IfErr result IsCutShort }
+    ensures ran { HasRunOver (C.runs (station_parts ⟦<LineTerminal<Global> as Station>⟧
+        ⟦<LineTerminal<Global> as Party>⟧ ⟦<LineTerminal<Global> as Sends>⟧.kept_at
+        ⟦<LineTerminal<Global> as Forgets>⟧.forgets_sent
+        ⟦<LineTerminal<Global> as Forgets>⟧.forgets_arrived))
+        connections.old terminal.old (IsErr result) terminal.new }
 {
     let Watching {
         printing,

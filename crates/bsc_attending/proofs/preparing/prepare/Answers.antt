@@ -34,3 +34,23 @@ returns-clause-prepared g c =
     (left c.station_of.new.input) prepared = search rules in
     is_prepared w c.args.role c.args.peers.terminals (left c.args.input.now)
     (left c.config_at.new.input) config reads (left c.station_of.new.input) (Ok prepared) station
+
+pub returns-clause-ready : goal.returns-clause-ready
+returns-clause-ready g c =
+    let w = asked_words c.args.words.now in
+    let left = g.R.Read.remaining in
+    let config = c.in_ok-config.config in
+    let reads : ReadsConfig w.config (left c.args.input.now) (left c.config_at.new.input) config =
+    search rules in
+    let station : IsStationOf config c.args.role w.offers (left c.config_at.new.input)
+    (left c.station_of.new.input) c.in_ok-prepared.prepared = search rules in
+    record {
+      prepared = record {
+        config = config;
+        middle = left c.config_at.new.input;
+        reads = reads;
+        station = station;
+      };
+      sending = search rules;
+      receiving = search rules;
+    }

@@ -1,0 +1,31 @@
+-- Shows that the station runs from span to span.
+use Rattle.std.proofs.Common.{refl}
+use Rattle.bsc_keeping.specs.Runs.{attended, begins, stopped}
+use Rattle.bsc_attending.specs.Runs.{station_parts}
+use Rattle.bsc_attending.proofs.GoingOn.{failed_as, once_forgotten}
+use Rattle.bsc_attending.proofs.connections.ConnectionsAttend.attend_kept.Goals as goal
+
+pub spans-init : goal.spans-init
+spans-init g c = begins refl
+
+pub spans-preserved : goal.spans-preserved
+spans-preserved g c =
+    once_forgotten (station_parts g.S.Station g.S.Party g.S.Sends.kept_at
+    g.S.Forgets.forgets_sent g.S.Forgets.forgets_arrived) g.K.Store _ _ g.S.Party.receives
+    _ _ _ _ (attended c.spans.invariant (c.in_ok-attend_and_keep_for_a_span.ensures))
+    c.forget_unneeded.ensures
+
+pub returns-in_err-attend_and_keep_for_a_span :
+    goal.returns-in_err-attend_and_keep_for_a_span
+returns-in_err-attend_and_keep_for_a_span g c unreached =
+    failed_as (station_parts g.S.Station g.S.Party g.S.Sends.kept_at
+    g.S.Forgets.forgets_sent g.S.Forgets.forgets_arrived) g.K.Store _ _
+    c.from_residual.result c.from_residual.ensures.0
+    (attended c.spans.invariant (c.in_err-attend_and_keep_for_a_span.ensures))
+
+pub returns-then-not-branch : goal.returns-then-not-branch
+returns-then-not-branch g c unreached =
+    attended c.spans.invariant (c.in_ok-attend_and_keep_for_a_span.ensures)
+
+pub returns : goal.returns
+returns g c unreached = stopped c.spans.invariant
