@@ -16,8 +16,8 @@ use Rattle.bsc_attending.specs.declared.error.AttendingError.{AttendingError}
 use Rattle.bsc_attending.specs.declared.error.AttendingError.TheVariants as attending
 use Rattle.bsc_attending.specs.declared.preparing.Prepared.{Prepared}
 use Rattle.bsc_attending.specs.declared.preparing.Prepared.TheVariants as prepared
-use Rattle.bsc_attending.specs.declared.stations.Left.{Left}
-use Rattle.bsc_attending.specs.declared.stations.Left.TheVariants.{Control, Terminal}
+use Rattle.bsc_attending.specs.declared.attending.Left.{Left}
+use Rattle.bsc_attending.specs.declared.attending.Left.TheVariants.{Control, Terminal}
 use Rattle.bsc_attending.specs.Errors.{IsCutShort, IsPrintFault, IsStoreError}
 use Rattle.bsc_attending.specs.Errors.{control_outcome_of, outcome_of}
 

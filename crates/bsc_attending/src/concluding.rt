@@ -5,8 +5,8 @@ ghost use Rattle.bsc_attending.specs.Ending.{IsConcluded, ReportsIn};
 ghost use Rattle.bsc_attending.specs.Errors.{IsLate, IsPrintFault, control_outcome_of, outcome_of};
 
 use crate::AttendingError;
+use crate::attending::Left;
 use crate::preparing::Prepared;
-use crate::stations::Left;
 use bsc_monitor::{Standing, station_standing, write_report, write_trust};
 use bsc_print::Form;
 use bsc_trust::Trust;

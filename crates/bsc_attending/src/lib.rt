@@ -5,6 +5,7 @@
 //! own.
 #![tactic(auto)]
 
+mod attending;
 mod concluding;
 mod connections;
 mod error;

@@ -5,17 +5,17 @@ ghost use Rattle.std.specs.Prelude.{IsSomeAnd, false, true};
 ghost use Rattle.bsc_asked.specs.StationWords.{asked_words};
 ghost use Rattle.bsc_options.specs.Settings.{place_value, settings_value};
 ghost use Rattle.bsc_attending.specs.Ending.{HasBegunAndRun, HasRun, IsLeftBy, IsSameKind};
-ghost use Rattle.bsc_attending.specs.Ending.{JoinsFirst, channels_of, counted_before};
+ghost use Rattle.bsc_attending.specs.Ending.{channels_of};
 ghost use Rattle.bsc_attending.specs.Errors.{IsCutShort, IsEarly, IsLate, IsStoreError};
 ghost use Rattle.bsc_attending.specs.Progress.{progress_in, work_in};
 ghost use Rattle.bsc_attending.specs.Outcomes.{IsAnswer, IsAnswerFor, IsReported, IsReportedFor};
 ghost use Rattle.bsc_attending.specs.Preparing.{SuitsOwn};
-ghost use Rattle.bsc_attending.specs.Runs.{BeginsAndRuns, BeginsFrom, HasRunOver, IsKeptRun};
-ghost use Rattle.bsc_attending.specs.Runs.{RunsAsked, station_parts};
+ghost use Rattle.bsc_attending.specs.Runs.{BeginsAndRuns, BeginsFrom, IsKeptRun, RunsAsked};
 ghost use Rattle.bsc_attending.specs.Sparing.{forgets_printed_in};
 ghost use Rattle.bsc_attending.specs.Wanted.{is_listening, wanted_value, wants};
 ghost use Rattle.bsc_trust.specs.Trust.{new_trust};
 
+use crate::attending::{Ending, Left, Watching, attend};
 use crate::concluding::{conclude, report};
 use crate::connections::{Attend, connect};
 use crate::keeping::{Kept, begin, print_rest, printed_before, with_fault};
@@ -26,19 +26,12 @@ use crate::serving::{Fed, called_by, reachable, serving_of};
 use crate::wanted::{listens, wanted_by_control, wanted_by_terminal};
 use crate::{AttendingError, Network, Readiness, Stores, Wanted};
 use bsc_asked::StationWords;
-use bsc_bid::Station;
-use bsc_carrier::CarrierError;
-use bsc_connections::LiveError;
-use bsc_control::Control;
 use bsc_input::Files;
-use bsc_keeping::{Keeper, Own, Sends};
+use bsc_keeping::{Keeper, Own};
 use bsc_kept::Store;
-use bsc_monitor::{
-    ControlWatch, Ended, Forgets, Limits, LineTerminal, Party, Printing, TerminalWatch, Tracing,
-    Watch,
-};
+use bsc_monitor::{Party, Tracing};
 use bsc_options::{Admission, Role, StationSettings, read_admission, read_settings};
-use bsc_progress::{Meter, Timer, Work};
+use bsc_progress::Work;
 use bsc_trust::Trust;
 use std::alloc::Global;
 use std::io::{Read, Write, sink};
@@ -52,46 +45,13 @@ struct Options<'a> {
     admission: Admission,
 }
 
-/// When the control station ends, and what it can tell of its line.
-#[derive(Clone, Copy)]
-struct Ending {
-    /// Its limits.
-    limits: Limits,
-
-    /// Whether other peers may connect later.
-    listens: bool,
-
-    /// What it can tell before there are connections.
-    trust: Trust,
-}
-
-/// What a station leaves when it ends.
-#[derive(Clone, Copy)]
-pub(crate) enum Left {
-    /// What the control station can tell of its line.
-    Control { trust: Trust },
-
-    /// The fault that closed the connection of a terminal, if any.
-    Terminal { closed: Option<CarrierError> },
-}
-
-/// What a station is watched with: the options for its output, the time, and what takes its records
-/// and its trace.
-#[derive(Drop)]
-struct Watching<'a, T: Drop, O, D> {
-    printing: Printing,
-    timer: T,
-    out: &'a mut O,
-    trace: &'a mut D,
-}
-
 /// Runs the station that the words ask for. The configuration and all records are read and checked
 /// before a connection is made. Records are printed when they arrive, and the report when the
 /// station ends. `NotTrusted`, `InDoubt` and `Undelivered` are returned after the report is
 /// printed, and so is `Closed`, when a fault closed the connection of a terminal. `Unprinted` is
 /// returned when records that arrived could not be printed; they were not acknowledged, and the
-/// report is tried. A station whose records are to be kept begins with what its store has, and what
-/// it changes is kept before it sends.
+/// report is tried. A station whose records are to be kept begins with what its store has. What it
+/// changes is kept before it sends what rests on it; the clause `kept` says before its next step.
 pub fn station<R: Read, H: Files + Network + Stores, W: Write>(
     alloc: Global,
     words: &StationWords,
@@ -408,131 +368,4 @@ fn wanted_by<'a>(options: &Options<'a>, prepared: &Prepared) -> Wanted<'a>
         }
         Prepared::Terminal { .. } => wanted_by_terminal(settings, allowed),
     }
-}
-
-/// Attends a station over its connections until it ends, and returns what it leaves.
-fn attend<C: Attend, T: Timer + Meter + Drop, O: Write, D: Write>(
-    alloc: Global,
-    ending: Ending,
-    prepared: &mut Prepared,
-    connections: &mut C,
-    watching: Watching<'_, T, O, D>,
-) -> Result<Left, AttendingError>
-    ensures cut { IfErr result IsCutShort }
-    ensures left { IfOk result (λ left. IsLeftBy prepared.old left × IsLeftBy prepared.new left) }
-    ensures ran { ⟦<Prepared as Running>⟧.runs_over _ (λ S Z parts. C.runs parts) connections.old
-        prepared.old
-        (IsErr result) prepared.new }
-{
-    match prepared {
-        Prepared::Control { control } => {
-            let trust = attend_control(alloc, ending, control, connections, watching)?;
-            Ok(Left::Control { trust })
-        }
-        Prepared::Terminal { terminal } => {
-            let closed = attend_terminal(alloc, terminal, connections, watching)?;
-            Ok(Left::Terminal { closed })
-        }
-    }
-}
-
-/// Attends the control station until it ends, and returns what it can tell of its line. No fault of
-/// a connection ends it.
-fn attend_control<C: Attend, T: Timer + Meter + Drop, O: Write, D: Write>(
-    alloc: Global,
-    ending: Ending,
-    control: &mut Control<Global>,
-    connections: &mut C,
-    watching: Watching<'_, T, O, D>,
-) -> Result<Trust, AttendingError>
-    ensures cut { IfErr result IsCutShort }
-    ensures ran { HasRunOver (C.runs (station_parts ⟦<Control<Global> as Station>⟧
-        ⟦<Control<Global> as Party>⟧ ⟦<Control<Global> as Sends>⟧.kept_at
-        ⟦<Control<Global> as Forgets>⟧.forgets_sent ⟦<Control<Global> as Forgets>⟧.forgets_arrived))
-        connections.old control.old (IsErr result) control.new }
-{
-    let Watching {
-        printing,
-        timer,
-        out,
-        trace,
-    } = watching;
-    let mut watch = Watch::new(alloc, control, printing, timer, out, trace)?;
-    count_printed(control.spools(), connections, &mut watch);
-    let trust = with_connections(ending.trust, connections);
-    let watch = ControlWatch::new(control, watch, ending.limits, ending.listens, trust);
-    Ok(attend_until_answered(control, connections, watch)?)
-}
-
-/// Counts the records that were printed before the station began.
-fn count_printed<C: Attend, T: Timer + Meter + Drop, O: Write, D: Write>(
-    channels: usize,
-    connections: &C,
-    watch: &mut Watch<'_, Global, T, O, D>,
-)
-    ensures { watch.new.printed.items
-        ≡ counted_before (C.printed_before connections.now) channels watch.old.printed.items }
-{
-    'channels: for number in 0..channels {
-        watch.count_printed(number, connections.printed(number));
-    }
-}
-
-/// Records the peers of the connections with which the control station begins.
-fn with_connections<C: Attend>(trust: Trust, connections: &C) -> Trust
-    ensures { JoinsFirst (C.names connections.now) (C.places connections.now) trust result }
-{
-    let mut trust = trust;
-    'places: for place in 0..connections.count() {
-        trust.joined(place, connections.peer(place));
-    }
-    trust
-}
-
-/// Attends the control station until it ends, and then its connections until its last call is
-/// answered. Returns what the station can tell of its line.
-fn attend_until_answered<C: Attend, T: Timer + Meter + Drop, O: Write, D: Write>(
-    control: &mut Control<Global>,
-    connections: &mut C,
-    mut watch: ControlWatch<'_, Global, T, O, D>,
-) -> Result<Trust, LiveError>
-    ensures ran { HasRunOver (C.runs (station_parts ⟦<Control<Global> as Station>⟧
-        ⟦<Control<Global> as Party>⟧ ⟦<Control<Global> as Sends>⟧.kept_at
-        ⟦<Control<Global> as Forgets>⟧.forgets_sent ⟦<Control<Global> as Forgets>⟧.forgets_arrived))
-        connections.old control.old (IsErr result) control.new }
-{
-    connections.attend_watched(control, &mut watch)?;
-    if watch.is_closed() {
-        return Ok(watch.trust());
-    }
-    let mut last = watch.into_last();
-    connections.attend(&mut Ended, &mut last)?;
-    Ok(last.trust())
-}
-
-/// Attends a terminal until its connection is closed, and returns the fault that closed it, if any.
-fn attend_terminal<C: Attend, T: Timer + Meter + Drop, O: Write, D: Write>(
-    alloc: Global,
-    terminal: &mut LineTerminal<Global>,
-    connections: &mut C,
-    watching: Watching<'_, T, O, D>,
-) -> Result<Option<CarrierError>, AttendingError>
-    ensures cut { IfErr result IsCutShort }
-    ensures ran { HasRunOver (C.runs (station_parts ⟦<LineTerminal<Global> as Station>⟧
-        ⟦<LineTerminal<Global> as Party>⟧ ⟦<LineTerminal<Global> as Sends>⟧.kept_at
-        ⟦<LineTerminal<Global> as Forgets>⟧.forgets_sent
-        ⟦<LineTerminal<Global> as Forgets>⟧.forgets_arrived))
-        connections.old terminal.old (IsErr result) terminal.new }
-{
-    let Watching {
-        printing,
-        timer,
-        out,
-        trace,
-    } = watching;
-    let mut watch = Watch::new(alloc, terminal, printing, timer, out, trace)?;
-    count_printed(terminal.spools(), connections, &mut watch);
-    let mut watch = TerminalWatch::new(watch);
-    connections.attend_watched(terminal, &mut watch)?;
-    Ok(watch.closed())
 }

@@ -1,6 +1,6 @@
 -- Shows that the connection at one more place is told.
 use Rattle.std.proofs.Common.{add-one}
-use Rattle.bsc_attending.proofs.stations.with_connections.Goals as goal
+use Rattle.bsc_attending.proofs.attending.with_connections.Goals as goal
 
 pub places-preserved : goal.places-preserved
 places-preserved g c =

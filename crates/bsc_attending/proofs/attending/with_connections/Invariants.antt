@@ -1,6 +1,6 @@
 -- The connections at the places so far were told.
 use Rattle.bsc_attending.specs.Ending.{JoinsFirst}
-use Rattle.bsc_attending.proofs.stations.with_connections.Given as goal
+use Rattle.bsc_attending.proofs.attending.with_connections.Given as goal
 
 abbrev pub invariant-places : goal.invariant-places
 invariant-places g l =
