@@ -74,7 +74,7 @@ module _ {S K Z : Type 0} (station : station_of.Ghosts S) (party : party_of.Ghos
   -- that arrived.
   module _ (forgets_sent : S → S → Type 0) (forgets_arrived : S → ℕ → ℕ → S → Type 0) where
     -- A run of a station: sessions, and between them records are forgotten, and what has changed is
-    -- kept. The flag says whether all of it succeeded, and so far nothing follows what fails.
+    -- kept. The flag says whether all of it succeeded; nothing follows what fails.
     pub data KeptRun : Bool → Moment S K → Moment S K → Type 0 where
       begins : {first now : Moment S K} → now ≡ first → KeptRun true first now
       attended : {first old new : Moment S K} {fine : Bool} → KeptRun true first old
