@@ -1,5 +1,5 @@
-//! Tests of the command: its words, its faults, whole runs and stations on machines made for tests,
-//! refused growths, and the largest inputs.
+//! Tests of the command: its words, its faults, whole runs and stations on a machine made for tests,
+//! and the largest inputs.
 //!
 //! Words, texts, traces and exit statuses are this project's own; the messages in them are the
 //! standard's (GA27-3004).
@@ -28,8 +28,6 @@ mod forgotten;
 #[cfg(test)]
 mod given;
 #[cfg(test)]
-mod growths;
-#[cfg(test)]
 mod helped;
 #[cfg(test)]
 mod kept_lines;
@@ -52,8 +50,6 @@ mod machine;
 #[cfg(test)]
 mod most_options;
 #[cfg(test)]
-mod naming;
-#[cfg(test)]
 mod options;
 #[cfg(test)]
 mod pieces;
@@ -66,17 +62,9 @@ mod record;
 #[cfg(test)]
 mod run_files;
 #[cfg(test)]
-mod run_traces;
-#[cfg(test)]
 mod run_words;
 #[cfg(test)]
-mod runs;
-#[cfg(test)]
 mod serving_options;
-#[cfg(test)]
-mod shown;
-#[cfg(test)]
-mod sizes;
 #[cfg(test)]
 mod station_bounds;
 #[cfg(test)]

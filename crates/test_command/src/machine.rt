@@ -1,5 +1,5 @@
-//! A machine for tests, with a few files, one scripted connection, the connections of two terminals
-//! in memory and no sockets.
+//! A machine for tests, with a few files, scripted connections, the connections of two terminals in
+//! memory and no sockets.
 
 use crate::pieces::Pieces;
 use crate::programs::Feeders;
@@ -31,8 +31,9 @@ fn peer_by(number: u8) -> Option<IpAddr> {
 
 /// Reports octets to read for each `r` of the steps, a gap for each `g`, another peer for each `j`,
 /// a time-out for each `t`, that a program may have to be served for each `c`, and that the station
-/// is asked to end for each `s`, and fails at each `f`; after the last step there are always octets
-/// to read.
+/// is asked to end for each `s`, and fails at each `f`. After the last step there are always octets
+/// to read: two times on each connection in turn, eight times on the last one, and then on the
+/// first.
 #[derive(Drop)]
 pub(crate) struct Scripted<'a> {
     steps: &'static [u8],
@@ -40,10 +41,32 @@ pub(crate) struct Scripted<'a> {
     /// What another peer sends.
     later: &'static [&'static [u8]],
 
-    /// The number of the peer.
+    /// The number of the peer, if there is one connection. If there are more, that of each is its
+    /// place.
     peer: u8,
 
+    /// The place of the last connection.
+    last: usize,
+
+    /// How often there were octets to read after the last step.
+    reads: usize,
+
     record: &'a Record,
+}
+
+impl Scripted<'_> {
+    /// Returns the place of the connection that has octets to read next, after the last step.
+    fn next_read(&mut self) -> usize {
+        let turn = self.reads / 2;
+        self.reads = self.reads.saturating_add(1);
+        if turn < self.last {
+            turn
+        } else if turn < self.last.saturating_add(4) {
+            self.last
+        } else {
+            0
+        }
+    }
 }
 
 impl<'a> Waiter<Pieces, Sending<'a>> for Scripted<'a> {
@@ -69,7 +92,8 @@ impl<'a> Waiter<Pieces, Sending<'a>> for Scripted<'a> {
 
     fn wait(&mut self) -> Result<Awaited, LiveError> {
         let Some(&step) = self.steps.first() else {
-            return Ok(Awaited::Octets { connection: 0 });
+            let connection = self.next_read();
+            return Ok(Awaited::Octets { connection });
         };
         self.steps = &self.steps[1..];
         if step == b't' {
@@ -103,8 +127,12 @@ impl<'a> Waiter<Pieces, Sending<'a>> for Scripted<'a> {
         None
     }
 
-    fn peer(&self, _connection: usize) -> Option<SocketAddr> {
-        Some(SocketAddr::new(peer_by(self.peer)?, 2780))
+    fn peer(&self, connection: usize) -> Option<SocketAddr> {
+        let number = match self.last {
+            0 => self.peer,
+            _ => u8::try_from(connection).ok()?,
+        };
+        Some(SocketAddr::new(peer_by(number)?, 2780))
     }
 
     fn newcomer(&self) -> Option<SocketAddr> {
@@ -157,11 +185,16 @@ pub(crate) struct Asking {
     pub(crate) serves: bool,
 }
 
-/// The octets of a connection and of that of another peer, at most one piece in each read, and the
+/// The octets of connections and of that of another peer, at most one piece in each read, and the
 /// waits before them.
 #[derive(Clone, Copy)]
 pub(crate) struct Scene {
+    /// The octets of the last connection.
     pub(crate) pieces: &'static [&'static [u8]],
+
+    /// The octets of each other connection; `None` if there is one connection only, whatever is
+    /// asked for.
+    pub(crate) others: Option<&'static [&'static [u8]]>,
     pub(crate) later: &'static [&'static [u8]],
     pub(crate) steps: &'static [u8],
 
@@ -187,6 +220,7 @@ pub(crate) struct Scene {
 /// A connection on which nothing arrives.
 pub(crate) const SILENT: Scene = Scene {
     pieces: &[],
+    others: None,
     later: &[],
     steps: b"",
     peer: 0,
@@ -224,7 +258,7 @@ impl Readiness for Rooms {
     }
 }
 
-/// A machine with the files of tests and one connection to another process.
+/// A machine with the files of tests and connections to other processes.
 #[derive(Drop)]
 pub(crate) struct Machine<'a> {
     pub(crate) alloc: Global,
@@ -277,6 +311,15 @@ impl Files for Machine<'_> {
             Ok(text) => Ok(text),
             Err(_) => Err(InputError::Memory),
         }
+    }
+}
+
+/// Returns a connection on which these pieces arrive.
+fn reader_of(left: &'static [&'static [u8]]) -> Pieces {
+    Pieces {
+        left,
+        piece: b"",
+        fails: false,
     }
 }
 
@@ -359,21 +402,24 @@ impl<'a> Network for Machine<'a> {
         if let Some(refusal) = self.scene.refusal {
             return Err(refusal);
         }
-        let reader = Pieces {
-            left: self.scene.pieces,
-            piece: b"",
-            fails: false,
-        };
         let record = self.record;
+        let last = match self.scene.others {
+            Some(_) => wanted.connections.saturating_sub(1),
+            None => 0,
+        };
         let mut connections = Vec::new(self.alloc);
-        if connections.push((reader, Sending { record })).is_err() {
-            return Err(SocketsError::Memory);
+        for _ in 0..last {
+            let reader = reader_of(self.scene.others.unwrap_or(&[]));
+            connections.push((reader, Sending { record }))?;
         }
+        connections.push((reader_of(self.scene.pieces), Sending { record }))?;
         Ok(Opened {
             waiter: Scripted {
                 steps: self.scene.steps,
                 later: self.scene.later,
                 peer: self.scene.peer,
+                last,
+                reads: 0,
                 record,
             },
             connections,

@@ -1,15 +1,11 @@
-//! Runs of each combination of their words, of each number of terminals, and with connections that
-//! fail.
+//! Runs of each combination of their words, and with connections that fail.
 
 use crate::cases::{Answer, answer_to};
 use crate::machine::SILENT;
 use crate::record::Record;
 use crate::run_files::{POLLED, POLLED_PRINTED, POLLED_TRACED};
-use crate::runs::Machine;
 use bsc_command::Fault;
-use bsc_running::{RunWords, run};
 use std::alloc::{AllocError, Global};
-use std::net::Net;
 use std::test::Fail;
 use test_fixtures::configurations::TWO_TERMINALS;
 
@@ -143,56 +139,5 @@ fn count_reads(alloc: Global) -> Result<usize, Fail> {
 #[test]
 fn a_fault_of_the_cable_is_told_at_its_event(rt: HostRuntime) -> Result<(), Fail> {
     assert!(rt; count_reads(rt.alloc())? > 12);
-    Ok(())
-}
-
-/// A configuration of this many terminals, each of which is polled.
-fn line_of(alloc: Global, count: usize) -> Result<String, Fail> {
-    let mut text = format!(in alloc; "version = 1\npoll_list = [0")?;
-    for number in 1..count {
-        write!(text, ", {number}")?;
-    }
-    text.push_str("]\n")?;
-    for number in 0..count {
-        write!(
-            text,
-            "[[terminals]]\npoll = \"A{number}\"\nselect = \"a{number}\"\n"
-        )?;
-    }
-    Ok(text)
-}
-
-/// Whether the line of this many terminals is run, and only checked.
-fn is_run<R: Net>(runtime: &R, alloc: Global, count: usize) -> Result<bool, Fail> {
-    let line = line_of(alloc, count)?;
-    let mut machine = Machine {
-        runtime,
-        alloc,
-        line: &line,
-        script: POLLED,
-    };
-    for check in [false, true] {
-        let words = RunWords {
-            config: "line.toml",
-            script: "script.txt",
-            check,
-            trace: false,
-            quiet: false,
-        };
-        let (mut out, mut trace) = (Vec::<u8>::new(alloc), Vec::<u8>::new(alloc));
-        let mut input = b"".as_slice();
-        let answer = run(alloc, words, &mut input, &mut machine, &mut out, &mut trace);
-        if answer.is_err() || out.is_empty() != check {
-            return Ok(false);
-        }
-    }
-    Ok(true)
-}
-
-#[test]
-fn a_line_of_each_number_of_terminals_is_run(rt: HostRuntime) -> Result<(), Fail> {
-    for count in 1..=64usize {
-        assert!(rt; is_run(&rt, rt.alloc(), count)?, "{count}");
-    }
     Ok(())
 }

@@ -1,65 +1,10 @@
-//! Stores of the machines for tests: one in which nothing is kept, and one that outlives the
-//! command that uses it.
+//! The stores of the machine for tests, which outlive the command that uses them.
 
 use crate::machine::Machine;
 use crate::record::Record;
 use bsc_attending::Stores;
 use bsc_kept::{Change, Channel, Found, Progress, Store, StoreFault};
 use bsc_storing::{Opened, StoreFiles};
-
-/// A store in which nothing is kept, and which forgets what it keeps.
-#[derive(Drop)]
-pub(crate) struct Forgetful;
-
-impl Store for Forgetful {
-    ghost keeps = { λ _ _ _. Unit {0} };
-
-    ghost stays = { λ _ _. Unit {0} };
-
-    ghost survives = { λ _ _ _. Unit {0} };
-
-    ghost sound = { λ _. Unit {0} };
-
-    ghost reads = { λ _ _. Unit {0} };
-
-    ghost counts = { λ _ _ _ _. Unit {0} };
-
-    ghost finds_offered = { λ _ _ _ _ _ _. Unit {0} };
-
-    ghost finds_arrived = { λ _ _ _ _ _ _. Unit {0} };
-
-    fn commit(&mut self, _step: &[Change]) -> Result<(), StoreFault> {
-        Ok(())
-    }
-
-    fn progress(&mut self, _channel: &Channel) -> Result<Progress, StoreFault> {
-        Ok(Progress {
-            offered: 0,
-            known: 0,
-            in_doubt: 0,
-            arrived: 0,
-            printed: 0,
-        })
-    }
-
-    fn offered(
-        &mut self,
-        _channel: &Channel,
-        _mark: i64,
-        _more: u32,
-    ) -> Result<Option<Found>, StoreFault> {
-        Ok(None)
-    }
-
-    fn arrived(
-        &mut self,
-        _channel: &Channel,
-        _mark: i64,
-        _more: u32,
-    ) -> Result<Option<Found>, StoreFault> {
-        Ok(None)
-    }
-}
 
 /// A store that is kept in the record of a machine.
 #[derive(Drop)]

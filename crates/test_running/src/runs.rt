@@ -1,11 +1,10 @@
 //! The examples of the repository, with the contents of their files, run over loopback connections.
 
-use crate::faults::has_text;
 use bsc_carrier::Cable;
 use bsc_input::{Files, InputError, Unreadable};
 use bsc_loopback::{LoopbackError, connect};
 use bsc_progress::{Unmetered, Work};
-use bsc_running::{Cables, RunWords, run};
+use bsc_running::{Cables, RunWords, RunningError, run};
 use std::alloc::Global;
 use std::net::Net;
 use std::test::Fail;
@@ -253,6 +252,14 @@ pub(crate) struct Case {
 /// The standard input of a run to which no path names it. It is not read.
 const UNASKED: &str = "silence\n";
 
+/// Whether this is the text of the error.
+fn is_told(alloc: Global, error: &RunningError, text: &str) -> bool {
+    match error.to_string(alloc) {
+        Ok(told) => told.as_str() == text,
+        Err(_) => false,
+    }
+}
+
 /// Whether a run has the expected results.
 fn is_due<R: Net>(runtime: &R, alloc: Global, case: &Case) -> bool {
     let (line, script) = (case.line, case.script);
@@ -280,7 +287,7 @@ fn is_due<R: Net>(runtime: &R, alloc: Global, case: &Case) -> bool {
         && (!is_unasked || input == UNASKED.as_bytes())
         && match &answer {
             Ok(()) => case.error.is_empty(),
-            Err(error) => has_text(alloc, error, case.error),
+            Err(error) => is_told(alloc, error, case.error),
         }
 }
 
