@@ -4,7 +4,7 @@ ghost use Rattle.std.specs.Prelude.{◌≡◌, ◌↔◌, IsTrue};
 ghost use Rattle.test_alloc.specs.Refusals.{RefusesRequest, next_count, count_if};
 
 /// Which requests are refused. Requests are counted from 1, and sizes are in octets.
-#[derive(Clone, Copy, Debug, PartialEq, Eq)]
+#[derive(Clone, Copy)]
 pub(crate) enum Rule {
     Nothing,
     Nth { request: usize },
@@ -14,7 +14,7 @@ pub(crate) enum Rule {
 
 /// A rule, the number of requests since it was set, how many of them were refused, and how many
 /// requests were ever refused.
-#[derive(Clone, Copy, Debug, PartialEq, Eq)]
+#[derive(Clone, Copy)]
 pub(crate) struct Requests {
     pub(crate) rule: Rule,
     pub(crate) requests: usize,

@@ -1,131 +1,195 @@
 use crate::{Refusal, Refusing, TurnError};
 use linked_list_allocator::LocalHeap;
-use std::alloc::{AllocError, Allocator, Global};
-use std::collections::BTreeMap;
-use std::ops::Range;
+use std::alloc::Allocator;
 use std::test::Fail;
 
-const VALUES: u8 = 100;
+/// Which of five requests of 1 to 5 octets a refusal and a number grant.
+const GRANTED: &[(Refusal, usize, [bool; 5])] = &[
+    (Refusal::Nth, 2, [true, false, true, true, true]),
+    (Refusal::Nth, 6, [true; 5]),
+    (Refusal::From, 4, [true, true, true, false, false]),
+    (
+        Refusal::Above { octets: 2 },
+        1,
+        [true, true, false, false, false],
+    ),
+    (
+        Refusal::Above { octets: 1 },
+        4,
+        [true, true, true, true, false],
+    ),
+];
 
-/// Pushes each value, a second time if the first push was refused, and returns the lengths at which
-/// that happened.
-fn refused_pushes<A: Allocator>(
-    alloc: Global,
-    pushed: &mut Vec<u8, A>,
-) -> Result<Vec<usize>, AllocError> {
-    let mut refused = Vec::new(alloc);
-    for value in 0..VALUES {
-        if let Err(failed) = pushed.push(value) {
-            refused.push(pushed.len())?;
-            pushed.push(failed.value)?;
+/// The runs of a test that requests 1 to 5 octets.
+struct Runs {
+    refusal: Refusal,
+    least: usize,
+    end: usize,
+
+    /// How many runs there are: their numbers are those from 1 on.
+    count: usize,
+
+    /// The name of the error at the end; nothing if there is none.
+    error: &'static str,
+}
+
+const RUNS: &[Runs] = &[
+    Runs {
+        refusal: Refusal::Nth,
+        least: 5,
+        end: 6,
+        count: 6,
+        error: "",
+    },
+    Runs {
+        refusal: Refusal::From,
+        least: 0,
+        end: 100,
+        count: 6,
+        error: "",
+    },
+    Runs {
+        refusal: Refusal::Above { octets: 1 },
+        least: 4,
+        end: 5,
+        count: 5,
+        error: "",
+    },
+    Runs {
+        refusal: Refusal::Above { octets: 5 },
+        least: 0,
+        end: 9,
+        count: 1,
+        error: "TooFew",
+    },
+    Runs {
+        refusal: Refusal::Above { octets: 1 },
+        least: 5,
+        end: 6,
+        count: 5,
+        error: "TooFew",
+    },
+    Runs {
+        refusal: Refusal::Above { octets: 1 },
+        least: 0,
+        end: 4,
+        count: 4,
+        error: "NoEnd",
+    },
+    Runs {
+        refusal: Refusal::From,
+        least: 0,
+        end: 0,
+        count: 0,
+        error: "NoEnd",
+    },
+];
+
+/// Whether a request of this many octets is granted. What is granted is returned at once.
+fn is_granted<A: Allocator>(alloc: A, octets: usize) -> bool {
+    Vec::<u8, A>::with_capacity(alloc, octets).is_ok()
+}
+
+/// Whether these requests, of 1 octet, 2 octets and so on, are granted, and all are counted.
+fn are_granted(alloc: &Refusing, granted: &[bool]) -> bool {
+    let mut octets = 0usize;
+    let mut refused = 0usize;
+    for expected in granted {
+        octets = octets.wrapping_add(1);
+        if is_granted(alloc, octets) != *expected {
+            return false;
+        }
+        if !*expected {
+            refused = refused.wrapping_add(1);
         }
     }
-    Ok(refused)
+    alloc.requests() == octets && alloc.refused() == refused
 }
 
 #[test]
-fn the_named_growth_alone_is_refused(rt: HostRuntime) -> Result<(), Fail> {
+fn refusals_by_a_number(rt: HostRuntime) {
     let alloc = Refusing::new(rt.alloc());
-    for (request, length) in [(1, 0), (2, 8), (3, 16), (4, 32), (5, 64)] {
-        alloc.refuse_nth(request);
-        let mut pushed: Vec<u8, &Refusing> = Vec::new(&alloc);
-        let refused = refused_pushes(rt.alloc(), &mut pushed)?;
-        assert_eq!(rt; refused.as_slice(), [length].as_slice());
-        assert_eq!(rt; (alloc.requests(), alloc.refused()), (6, 1));
-        assert!(rt; pushed.iter().copied().eq(0..VALUES));
+    for (refusal, number, granted) in GRANTED {
+        alloc.refuse(*refusal, *number);
+        assert!(rt; are_granted(&alloc, granted), "{refusal:?} {number}");
     }
-    alloc.refuse_nth(6);
-    let mut pushed = Vec::new(&alloc);
-    assert!(rt; refused_pushes(rt.alloc(), &mut pushed)?.is_empty());
-    assert_eq!(rt; (alloc.requests(), alloc.refused()), (5, 0));
-    Ok(())
-}
-
-#[test]
-fn each_growth_from_one_on_is_refused(rt: HostRuntime) -> Result<(), Fail> {
-    let alloc = Refusing::new(rt.alloc());
-    alloc.refuse_from(2);
-    let mut pushed = Vec::new(&alloc);
-    for value in 0..8u8 {
-        pushed.push(value)?;
-    }
-    for attempt in 1..4 {
-        assert_eq!(rt; pushed.push(8).map_err(|failed| failed.value), Err(8));
-        assert!(rt; Box::new(&alloc, attempt).is_err());
-        assert_eq!(rt; alloc.refused(), 2 * attempt);
-    }
-    assert_eq!(rt; (alloc.requests(), pushed.len()), (7, 8));
     alloc.refuse_none();
-    pushed.push(8)?;
-    assert_eq!(rt;
-        (alloc.requests(), alloc.refused(), pushed.len()),
-        (1, 0, 9)
-    );
-    Ok(())
+    assert!(rt; are_granted(&alloc, &[true; 5]));
 }
 
-#[test]
-fn growths_above_a_size_are_refused(rt: HostRuntime) -> Result<(), Fail> {
-    let alloc = Refusing::new(rt.alloc());
-    alloc.refuse_larger(100);
-    let mut room: Vec<u8, &Refusing> = Vec::new(&alloc);
-    assert!(rt; room.try_reserve_exact(101).is_err());
-    room.try_reserve_exact(100)?;
-    assert_eq!(rt; room.capacity(), 100);
-    assert!(rt; room.try_reserve(101).is_err());
-    assert_eq!(rt; (alloc.requests(), alloc.refused()), (3, 2));
-    Ok(())
+/// The name of the error.
+fn name(error: TurnError) -> &'static str {
+    match error {
+        TurnError::TooFew => "TooFew",
+        TurnError::NoEnd => "NoEnd",
+    }
 }
 
-#[test]
-fn each_collection_meets_each_refusal(rt: HostRuntime) -> Result<(), Fail> {
-    let heap = LocalHeap::new(rt.alloc(), 1 << 15)?;
-    let alloc = Refusing::new(&heap);
-    for request in alloc.in_turn(Refusal::Nth, 1..2000) {
-        let request = request?;
-        let filled = fill(&alloc);
-        assert_eq!(rt; filled.is_err(), alloc.refused() == 1);
-        if let Ok(count) = filled {
-            assert_eq!(rt; count, 300);
-            assert_eq!(rt; alloc.requests().saturating_add(1), request);
-        } else {
-            assert_eq!(rt; (alloc.requests(), heap.used()), (request, 0));
+/// Whether the runs have the expected numbers and the expected end, after which nothing is refused.
+fn goes(alloc: &Refusing, runs: &Runs) -> bool {
+    let mut count = 0usize;
+    let mut is_ended = runs.error.is_empty();
+    for number in alloc.in_turn(runs.refusal, runs.least..runs.end) {
+        match number {
+            Ok(number) => {
+                count = count.wrapping_add(1);
+                if number != count {
+                    return false;
+                }
+            }
+            Err(error) => is_ended = name(error) == runs.error,
+        }
+        for octets in 1..6 {
+            is_granted(alloc, octets);
         }
     }
-    Ok(())
+    count == runs.count && is_ended && is_granted(alloc, 9) && alloc.refused() == 0
 }
 
-/// Makes a map of three hundred records by their places, and a text. Returns the smaller of the two
-/// lengths.
-fn fill<A: Allocator + Copy>(alloc: A) -> Result<usize, AllocError> {
-    let mut records = BTreeMap::new(alloc);
-    let mut text = String::new(alloc);
-    for place in 0..300u32 {
-        records.insert(place, Vec::from_slice(alloc, &[1, 2, 3])?)?;
-        text.push('x')?;
+#[test]
+fn runs_go_on_until_one_meets_no_refusal(rt: HostRuntime) {
+    let alloc = Refusing::new(rt.alloc());
+    for runs in RUNS {
+        alloc.refuse_from(1);
+        assert!(rt; goes(&alloc, runs), "{} {}", runs.count, runs.error);
     }
-    Ok(records.len().min(text.len()))
 }
 
+/// Pushes a hundred values, each a second time if it was refused, and returns how often one was; or
+/// more than a hundred if one was refused twice.
+fn refused_pushes<A: Allocator>(pushed: &mut Vec<u8, A>) -> usize {
+    let mut refused = 0usize;
+    for value in 0..100u8 {
+        if pushed.push(value).is_err() {
+            refused = refused.wrapping_add(1);
+            if pushed.push(value).is_err() {
+                return usize::MAX;
+            }
+        }
+    }
+    refused
+}
+
+/// Whether a list grows five times and shrinks once, each by a request of which the one with this
+/// number alone is refused, if there is one.
+fn is_refused_once<A: Allocator + Copy>(alloc: A, request: usize) -> bool {
+    let mut pushed = Vec::new(alloc);
+    let refused = refused_pushes(&mut pushed);
+    pushed.truncate(3);
+    pushed.shrink_to_fit();
+    refused == usize::from(1 <= request && request <= 5) && pushed.len() == 3
+}
+
+/// The heap is used while a list is, and is as before after each list.
 #[test]
 fn every_block_goes_back(rt: HostRuntime) -> Result<(), Fail> {
     let heap = LocalHeap::new(rt.alloc(), 1 << 12)?;
     let alloc = Refusing::new(&heap);
     for round in 0..5000usize {
-        alloc.refuse_nth(round % 7);
-        let mut pushed = Vec::new(&alloc);
-        refused_pushes(rt.alloc(), &mut pushed)?;
-        pushed.truncate(3);
-        pushed.shrink_to_fit();
-        assert!(rt; heap.used() > 0);
-        drop(pushed);
-        assert_eq!(rt; heap.used(), 0);
+        alloc.refuse_nth(round % 8);
+        assert!(rt; is_refused_once(&alloc, round % 8), "{round}");
+        assert!(rt; heap.used() == 0, "{round}");
     }
-    let owned = Refusing::new(&heap);
-    let mut pushed = Vec::new(owned);
-    assert!(rt; refused_pushes(rt.alloc(), &mut pushed)?.is_empty());
-    drop(pushed);
-    assert_eq!(rt; heap.used(), 0);
     Ok(())
 }
 
@@ -133,82 +197,7 @@ fn every_block_goes_back(rt: HostRuntime) -> Result<(), Fail> {
 fn an_allocator_below_that_is_full_is_no_refusal(rt: HostRuntime) -> Result<(), Fail> {
     let heap = LocalHeap::new(rt.alloc(), 64)?;
     let alloc = Refusing::new(&heap);
-    assert!(rt; Vec::<u8, &Refusing<&LocalHeap>>::with_capacity(&alloc, 65).is_err());
-    assert_eq!(rt; (alloc.requests(), alloc.refused()), (1, 0));
-    Ok(())
-}
-
-/// Five requests of 1 to 5 octets, and which of them each refusal and number grants.
-#[test]
-fn refusals_by_a_number(rt: HostRuntime) -> Result<(), Fail> {
-    let alloc = Refusing::new(rt.alloc());
-    for (refusal, number, granted) in [
-        (Refusal::Nth, 2, [true, false, true, true, true]),
-        (Refusal::From, 4, [true, true, true, false, false]),
-        (
-            Refusal::Above { octets: 2 },
-            1,
-            [true, true, false, false, false],
-        ),
-        (
-            Refusal::Above { octets: 1 },
-            4,
-            [true, true, true, true, false],
-        ),
-    ] {
-        alloc.refuse(refusal, number);
-        for (place, is_granted) in granted.iter().enumerate() {
-            let asked = Vec::<u8, &Refusing>::with_capacity(&alloc, place + 1);
-            assert_eq!(rt; asked.is_ok(), *is_granted);
-        }
-        assert_eq!(rt; alloc.requests(), 5);
-    }
-    Ok(())
-}
-
-/// The runs of a test that requests 1 to 5 octets: their numbers, and the error at the end.
-fn runs(
-    global: Global,
-    alloc: &Refusing,
-    refusal: Refusal,
-    range: Range<usize>,
-) -> Result<(Vec<usize>, Option<TurnError>), AllocError> {
-    let (mut numbers, mut wrong) = (Vec::new(global), None);
-    for number in alloc.in_turn(refusal, range) {
-        match number {
-            Ok(number) => numbers.push(number)?,
-            Err(error) => wrong = Some(error),
-        }
-        for size in 1..6 {
-            drop(Vec::<u8, &Refusing>::with_capacity(alloc, size));
-        }
-    }
-    Ok((numbers, wrong))
-}
-
-#[test]
-fn runs_go_on_until_one_meets_no_refusal(rt: HostRuntime) -> Result<(), Fail> {
-    let alloc = Refusing::new(rt.alloc());
-    let octets = Refusal::Above { octets: 1 };
-    for (refusal, range, count, error) in [
-        (Refusal::Nth, 5..6, 6, None),
-        (Refusal::From, 0..100, 6, None),
-        (octets, 4..5, 5, None),
-        (
-            Refusal::Above { octets: 5 },
-            0..9,
-            1,
-            Some(TurnError::TooFew),
-        ),
-        (octets, 5..6, 5, Some(TurnError::TooFew)),
-        (octets, 0..4, 4, Some(TurnError::NoEnd)),
-        (Refusal::From, 0..0, 0, Some(TurnError::NoEnd)),
-    ] {
-        alloc.refuse_from(1);
-        let (numbers, wrong) = runs(rt.alloc(), &alloc, refusal, range)?;
-        assert!(rt; numbers.iter().copied().eq(1..=count));
-        assert_eq!(rt; wrong, error);
-        assert_eq!(rt; alloc.refused(), 0);
-    }
+    assert!(rt; !is_granted(&alloc, 65));
+    assert!(rt; alloc.requests() == 1 && alloc.refused() == 0);
     Ok(())
 }

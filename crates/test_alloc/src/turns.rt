@@ -4,7 +4,7 @@ ghost use Rattle.std.specs.Prelude.{◌≡◌};
 ghost use Rattle.test_alloc.specs.Turns.{new_turns, IsTurn};
 
 /// Why the refusals in turn do not make a test.
-#[derive(Clone, Copy, Debug, PartialEq, Eq)]
+#[derive(Clone, Copy, Debug)]
 pub enum TurnError {
     /// No run met a refusal, or fewer runs did than required.
     TooFew,
@@ -14,7 +14,7 @@ pub enum TurnError {
 }
 
 /// The runs of a test, by their numbers.
-#[derive(Clone, Copy, Debug, PartialEq, Eq)]
+#[derive(Clone, Copy)]
 pub(crate) struct Turns {
     /// The least number of runs that have to meet a refusal.
     least: usize,

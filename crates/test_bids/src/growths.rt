@@ -85,20 +85,21 @@ fn deliver_all(
     delayed
 }
 
-/// Offers and delivers all records, and repeats what is refused. Returns the number of records
-/// known to have arrived, the number stored, and the number of refusals.
-fn made_good(alloc: &Refusing, format: Format) -> (usize, usize, usize)
+/// Whether all records are offered in 60 blocks, arrive and are known if what is refused is
+/// repeated, as often as memory was refused.
+fn is_made_good(alloc: &Refusing, format: Format) -> bool
     requires { 80 ≤ format.full }
 {
     let mut queue = Queue::new(alloc, format);
     let mut spool = Spool::new(alloc);
     let back = offer_all(&mut queue);
+    if queue.blocks() != 60 {
+        return false;
+    }
     let delayed = deliver_all(alloc, &mut queue, &mut spool);
-    (
-        queue.known(),
-        spool.records().len(),
-        back.wrapping_add(delayed),
-    )
+    queue.known() == RECORDS
+        && spool.records().len() == RECORDS
+        && alloc.refused() == back.wrapping_add(delayed)
 }
 
 #[test]
@@ -106,16 +107,24 @@ fn each_growth_is_refused_in_turn(rt: HostRuntime) -> Result<(), Fail> {
     let alloc = Refusing::new(rt.alloc());
     let format = Format::new(80, 400)?;
     for request in alloc.in_turn(Refusal::Nth, 10..99) {
-        request?;
-        let counts = made_good(&alloc, format);
-        assert_eq!(rt; counts, (RECORDS, RECORDS, alloc.refused()));
+        let number = request?;
+        assert!(rt; is_made_good(&alloc, format), "{number}");
     }
     Ok(())
 }
 
-/// Offers and delivers all records, first with growths refused and then without. Returns how many
-/// records were accepted and stored with refusals, and how many are stored in the end.
-fn stored_in_two(alloc: &Refusing, format: Format, refusal: Refusal) -> (usize, usize, usize)
+/// Whether this many of all records are as many as expected: none, or some but not all.
+fn are_as_many(count: usize, is_some: bool) -> bool {
+    if is_some {
+        0 < count && count < RECORDS
+    } else {
+        count == 0
+    }
+}
+
+/// Offers and delivers all records, first with growths refused and then without. Returns whether
+/// with refusals none or some are accepted and stored, as expected, and all are in the end.
+fn is_done_later(alloc: &Refusing, format: Format, refusal: Refusal, is_some: bool) -> bool
     requires { 80 ≤ format.full }
 {
     let mut queue = Queue::new(alloc, format);
@@ -130,18 +139,15 @@ fn stored_in_two(alloc: &Refusing, format: Format, refusal: Refusal) -> (usize, 
     let stored = spool.records().len();
     alloc.refuse_none();
     deliver_all(alloc, &mut queue, &mut spool);
-    (taken, stored, spool.records().len())
+    are_as_many(taken, is_some) && are_as_many(stored, is_some) && spool.records().len() == RECORDS
 }
 
 #[test]
 fn what_is_refused_for_long_is_done_later(rt: HostRuntime) -> Result<(), Fail> {
     let alloc = Refusing::new(rt.alloc());
     let format = Format::new(80, 400)?;
-    let refused = stored_in_two(&alloc, format, Refusal::From);
-    assert_eq!(rt; refused, (0, 0, RECORDS));
+    assert!(rt; is_done_later(&alloc, format, Refusal::From, false));
     let above = Refusal::Above { octets: 2_500 };
-    let (taken, stored, all) = stored_in_two(&alloc, format, above);
-    let is_some = 0 < taken.min(stored) && taken.max(stored) < RECORDS;
-    assert_eq!(rt; (is_some, all), (true, RECORDS));
+    assert!(rt; is_done_later(&alloc, format, above, true));
     Ok(())
 }

@@ -15,8 +15,6 @@ mod growths;
 #[cfg(test)]
 mod lengths;
 #[cfg(test)]
-mod queues;
-#[cfg(test)]
 mod receivers;
 #[cfg(test)]
 mod turns;

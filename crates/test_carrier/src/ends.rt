@@ -7,11 +7,10 @@ use std::io;
 use std::io::{Read, Write};
 use std::net::{Ipv4Addr, Net, OpenListener, OpenStream, SocketAddr, SocketAddrV4};
 use std::os::fd::{AsRawFd, RawFd};
-use std::test::Fail;
 use std::time::Duration;
 
 /// How often each thing was done.
-#[derive(Clone, Copy, Debug, PartialEq, Eq)]
+#[derive(Clone, Copy)]
 struct Done {
     /// A listener was bound to a port of 127.0.0.1 that the system chooses.
     listeners: u32,
@@ -168,42 +167,50 @@ impl Write for End<'_> {
     }
 }
 
-/// What is done for this many connections, if each is accepted from this port; else the error.
-fn done_for(alloc: Global, count: u8, accepted: u16) -> Result<Done, LoopbackError> {
+/// Connects this many connections, each accepted from this port, on a machine that records it.
+fn connected(
+    alloc: Global,
+    done: &Cell<Done>,
+    count: u8,
+    accepted: u16,
+) -> Result<(), LoopbackError> {
     if count == 0 || count > 64 {
-        return Ok(NOTHING);
+        return Ok(());
     }
-    let seen = Cell::new(NOTHING);
-    let machine = Recording {
-        done: &seen,
-        accepted,
-    };
-    let cable = connect(&machine, alloc, usize::from(count))?;
-    drop(cable);
-    Ok(seen.get())
+    let machine = Recording { done, accepted };
+    match connect(&machine, alloc, usize::from(count)) {
+        Ok(_) => Ok(()),
+        Err(error) => Err(error),
+    }
 }
 
-/// Both ends of each connection send their octets at once and wait five seconds.
-#[test]
-fn each_end_of_1_to_64_connections_is_set_up(rt: HostRuntime) -> Result<(), Fail> {
-    for count in 1..=64u8 {
-        let connected = u32::from(count);
-        let ends = 2 * connected;
-        let expected = Done {
-            listeners: 1,
-            connected,
-            at_once: ends,
-            reads: ends,
-            writes: ends,
-            others: 0,
-        };
-        assert_eq!(rt; done_for(rt.alloc(), count, NEAR), Ok(expected), "{count}");
+/// Whether this many connections are made, and both ends of each are set to send their octets at
+/// once and to wait 5 seconds.
+fn is_set_up(alloc: Global, count: u8) -> bool {
+    let seen = Cell::new(NOTHING);
+    if connected(alloc, &seen, count, NEAR).is_err() {
+        return false;
     }
-    Ok(())
+    let done = seen.get();
+    let connections = u32::from(count);
+    let ends = 2 * connections;
+    done.listeners == 1
+        && done.connected == connections
+        && done.at_once == ends
+        && done.reads == ends
+        && done.writes == ends
+        && done.others == 0
+}
+
+#[test]
+fn each_end_of_1_to_64_connections_is_set_up(rt: HostRuntime) {
+    for count in 1..=64u8 {
+        assert!(rt; is_set_up(rt.alloc(), count), "{count}");
+    }
 }
 
 #[test]
 fn a_stranger_is_no_end_of_a_cable(rt: HostRuntime) {
-    let told = done_for(rt.alloc(), 2, LISTENS);
-    assert_eq!(rt; told, Err(LoopbackError::Sockets));
+    let told = connected(rt.alloc(), &Cell::new(NOTHING), 2, LISTENS);
+    assert!(rt; told == Err(LoopbackError::Sockets));
 }

@@ -4,8 +4,6 @@
 #![tactic(auto)]
 
 #[cfg(test)]
-mod assembling;
-#[cfg(test)]
 mod cables;
 #[cfg(test)]
 mod ends;

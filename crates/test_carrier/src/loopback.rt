@@ -2,9 +2,9 @@
 
 ghost use Rattle.std.specs.Prelude.{◌≤◌, length};
 
-use crate::records::many_octets;
 use bsc_carrier::{Cable, CarrierError, Octets};
 use bsc_loopback::{LoopbackError, connect};
+use std::alloc::Global;
 use std::io::{Read, Write};
 use std::test::Fail;
 
@@ -38,39 +38,55 @@ fn goes_each_way<S: Read + Write + Drop>(
     goes_down && goes_up && is_heard(down_to, heard, first)
 }
 
-#[test]
-fn sixty_four_connections_carry_the_largest_record_each_way(rt: HostRuntime) -> Result<(), Fail> {
-    let mut cable = connect(&rt, rt.alloc(), 64)?;
+/// The first of 64 terminals with which the largest records, which differ from those of the other
+/// terminals, do not go each way.
+fn first_wrong_terminal<S: Read + Write + Drop>(cable: &mut Cable<S>) -> Option<u8> {
     let mut heard = Octets::new();
     for terminal in 0..64u8 {
         let first = [0x80 + terminal; 2048];
         let later = [0xc0 + terminal; 2048];
-        let goes = goes_each_way(
-            &mut cable,
-            usize::from(terminal),
-            &first,
-            &later,
-            &mut heard,
-        );
-        assert!(rt; goes, "terminal {terminal}");
+        if !goes_each_way(cable, usize::from(terminal), &first, &later, &mut heard) {
+            return Some(terminal);
+        }
     }
-    Ok(())
+    None
 }
 
-/// While the octets in one direction become more, those in the other become fewer, so that what is
-/// heard replaces both fewer and more octets.
-#[test]
-fn each_length_is_carried_each_way(rt: HostRuntime) -> Result<(), Fail> {
-    let mut cable = connect(&rt, rt.alloc(), 1)?;
+/// Octets that repeat only every 251 places.
+fn many_octets() -> [u8; 2048] {
+    let mut octets = [0; 2048];
+    for place in 0..2048usize {
+        octets[place] = (place % 251) as u8;
+    }
+    octets
+}
+
+/// The first number of octets that do not go each way. While the octets in one direction become
+/// more, those in the other become fewer, so that what is heard replaces both fewer and more of
+/// them.
+fn first_wrong_length<S: Read + Write + Drop>(cable: &mut Cable<S>) -> Option<usize> {
     let octets = many_octets();
     let mut heard = Octets::new();
     for length in 1..=2048usize {
         let (first, later) = (&octets[..length], &octets[length - 1..]);
-        assert!(rt;
-            goes_each_way(&mut cable, 0, first, later, &mut heard),
-            "{length}"
-        );
+        if !goes_each_way(cable, 0, first, later, &mut heard) {
+            return Some(length);
+        }
     }
+    None
+}
+
+#[test]
+fn sixty_four_connections_carry_the_largest_record_each_way(rt: HostRuntime) -> Result<(), Fail> {
+    let mut cable = connect(&rt, rt.alloc(), 64)?;
+    assert_eq!(rt; first_wrong_terminal(&mut cable), None);
+    Ok(())
+}
+
+#[test]
+fn each_length_is_carried_each_way(rt: HostRuntime) -> Result<(), Fail> {
+    let mut cable = connect(&rt, rt.alloc(), 1)?;
+    assert_eq!(rt; first_wrong_length(&mut cable), None);
     Ok(())
 }
 
@@ -80,10 +96,17 @@ const PRINTED: &[(LoopbackError, &str)] = &[
     (LoopbackError::Memory, "out of memory"),
 ];
 
-#[test]
-fn errors_are_printed(rt: HostRuntime) -> Result<(), Fail> {
-    for (error, text) in PRINTED {
-        assert_eq!(rt; error.to_string(rt.alloc())?.as_str(), *text);
+/// Whether the error is printed as this text.
+fn is_printed(alloc: Global, error: LoopbackError, text: &str) -> bool {
+    match error.to_string(alloc) {
+        Ok(printed) => printed.as_str() == text,
+        Err(_) => false,
     }
-    Ok(())
+}
+
+#[test]
+fn errors_are_printed(rt: HostRuntime) {
+    for (error, text) in PRINTED {
+        assert!(rt; is_printed(rt.alloc(), *error, text), "{text}");
+    }
 }

@@ -1,7 +1,6 @@
 //! A stream in memory, which moves a limited number of octets in each call, counts its calls, and
-//! fails at a given one.
+//! fails at a given one. What is written to it is dropped.
 
-use std::alloc::Global;
 use std::io;
 use std::io::{Error, ErrorKind, Read, Write};
 
@@ -9,7 +8,6 @@ use std::io::{Error, ErrorKind, Read, Write};
 pub(crate) struct MemoryStream<'a> {
     /// The octets that are left to read.
     input: &'a [u8],
-    pub(crate) output: Vec<u8>,
     /// The greatest number of octets that a call moves.
     step: usize,
     /// The number of reads and writes so far.
@@ -20,33 +18,27 @@ pub(crate) struct MemoryStream<'a> {
 
 impl<'a> MemoryStream<'a> {
     /// A stream that returns these octets.
-    pub(crate) fn new(
-        alloc: Global,
-        input: &'a [u8],
-        step: usize,
-        fails_at: usize,
-    ) -> MemoryStream<'a> {
+    pub(crate) fn new(input: &'a [u8], step: usize, fails_at: usize) -> MemoryStream<'a> {
         MemoryStream {
             input,
-            output: Vec::new(alloc),
             step,
             calls: 0,
             fails_at,
         }
     }
 
-    fn count_call(&mut self) -> io::Result<()> {
+    /// Counts a call, and returns whether it fails.
+    fn fails(&mut self) -> bool {
         self.calls = self.calls.wrapping_add(1);
-        if self.fails_at == self.calls {
-            return Err(Error::from(ErrorKind::Interrupted));
-        }
-        Ok(())
+        self.fails_at == self.calls
     }
 }
 
 impl<'a> Read for MemoryStream<'a> {
     fn read(&mut self, buf: &mut [u8]) -> io::Result<usize> {
-        self.count_call()?;
+        if self.fails() {
+            return Err(Error::from(ErrorKind::Interrupted));
+        }
         let most = buf.len().min(self.step);
         self.input.read(&mut buf[..most])
     }
@@ -54,9 +46,10 @@ impl<'a> Read for MemoryStream<'a> {
 
 impl<'a> Write for MemoryStream<'a> {
     fn write(&mut self, buf: &[u8]) -> io::Result<usize> {
-        self.count_call()?;
-        let most = buf.len().min(self.step);
-        self.output.write(&buf[..most])
+        if self.fails() {
+            return Err(Error::from(ErrorKind::Interrupted));
+        }
+        Ok(buf.len().min(self.step))
     }
 
     fn flush(&mut self) -> io::Result<()> {

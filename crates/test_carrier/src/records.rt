@@ -1,153 +1,95 @@
-//! Socket records over readers and writers.
+//! Socket records over readers and writers, and records that arrive in pieces.
 
-ghost use Rattle.std.specs.Prelude.{◌≤◌, length};
+ghost use Rattle.std.specs.Prelude.{◌≤◌};
 
 use crate::memory::MemoryStream;
 use bsc_carrier::laws::any_pieces;
-use bsc_carrier::{CarrierError, DeviceFault, Octets, read_record, write_record};
-use std::alloc::Global;
+use bsc_carrier::{Assembler, CarrierError, DeviceFault, Octets, read_record, write_record};
 use std::test::Fail;
 
 /// The octets of the positive acknowledgement ACK0.
-const ACK0: [u8; 5] = [0x16, 0x16, 0x10, 0xb0, 0xff];
+const ACK0: &[u8] = &[0x16, 0x16, 0x10, 0xb0, 0xff];
 
 /// The record of ACK0.
-const RECORD: [u8; 7] = [0x00, 0x05, 0x16, 0x16, 0x10, 0xb0, 0xff];
+const RECORD: &[u8] = &[0x00, 0x05, 0x16, 0x16, 0x10, 0xb0, 0xff];
 
-/// Inputs that are at their end or do not begin with a whole record, and the result of a read.
-const REFUSED: &[(&[u8], Result<bool, CarrierError>)] = &[
-    (&[], Ok(false)),
-    (&[0x00, 0x00, 0x16], Err(CarrierError::Length)),
-    (&[0x08, 0x01, 0x16], Err(CarrierError::Length)),
-    (&[0x00], Err(CarrierError::Short)),
-    (&[0x00, 0x05], Err(CarrierError::Short)),
-    (&[0x00, 0x05, 0x16, 0x16], Err(CarrierError::Short)),
-];
+/// The beginning of this record.
+const BEGINNING: &[u8] = &[0x00, 0x05, 0x16, 0x16];
+
+/// The rest of this record, and one octet of the next.
+const REST: &[u8] = &[0x10, 0xb0, 0xff, 0x00];
 
 #[test]
 fn ack0_crosses_a_stream_as_a_record(rt: HostRuntime) -> Result<(), Fail> {
     let mut output = Vec::new(rt.alloc());
-    write_record(&mut output, &ACK0)?;
-    assert!(rt; output.as_slice() == RECORD.as_slice());
+    write_record(&mut output, ACK0)?;
+    assert!(rt; output.as_slice() == RECORD);
     any_pieces();
     Ok(())
 }
 
-/// Whether a read of these octets has this result and keeps what was heard before.
-fn is_refused(input: &[u8], answer: Result<bool, CarrierError>) -> bool {
-    let mut octets = Octets::new();
-    octets.push(0x42);
-    let mut reader = input;
-    read_record(&mut reader, &mut octets) == answer && octets.as_slice() == [0x42].as_slice()
+/// Whether ACK0 is assembled of two pieces, of which the second ends in the next record.
+fn is_assembled(assembler: &mut Assembler) -> bool {
+    matches!(assembler.feed(BEGINNING), Ok((4, false)))
+        && !assembler.between()
+        && assembler.wanted() == 3
+        && matches!(assembler.feed(REST), Ok((3, true)))
+        && assembler.between()
+        && assembler.octets() == ACK0
 }
 
 #[test]
-fn wrong_and_broken_records_are_refused(rt: HostRuntime) {
-    for (input, answer) in REFUSED {
-        assert!(rt; is_refused(input, *answer), "{input:?}");
-    }
+fn ack0_is_assembled_of_pieces(rt: HostRuntime) {
+    assert!(rt; is_assembled(&mut Assembler::new()));
 }
 
-/// The result of a write of these octets to a stream, the number of writes that it took, and the
-/// octets written.
-fn written(
-    alloc: Global,
-    sent: &[u8],
-    step: usize,
-    fails_at: usize,
-) -> (Result<(), CarrierError>, usize, Vec<u8>)
-    requires some { 1 ≤ length sent.now }
-    requires most { length sent.now ≤ 2048 }
+/// Whether a record of this many SYN is written and read by these numbers of writes and reads, if
+/// each moves this many octets at most.
+fn is_moved(length: usize, step: usize, writes: usize, reads: usize) -> bool
+    requires least { 1 ≤ length }
+    requires most { length ≤ 2048 }
 {
-    let mut sender = MemoryStream::new(alloc, &[], step, fails_at);
-    let answer = write_record(&mut sender, sent);
-    (answer, sender.calls, sender.output)
-}
-
-/// The result of a read of a record from a stream, and the number of reads that it took.
-fn read(
-    alloc: Global,
-    input: &[u8],
-    step: usize,
-    fails_at: usize,
-    heard: &mut Octets,
-) -> (Result<bool, CarrierError>, usize) {
-    let mut receiver = MemoryStream::new(alloc, input, step, fails_at);
-    let answer = read_record(&mut receiver, heard);
-    (answer, receiver.calls)
-}
-
-/// Whether these octets are written as a record and read back, replacing what was heard before, in
-/// these numbers of writes and reads.
-fn crosses(
-    alloc: Global,
-    sent: &[u8],
-    step: usize,
-    calls: (usize, usize),
-    heard: &mut Octets,
-) -> bool
-    requires some { 1 ≤ length sent.now }
-    requires most { length sent.now ≤ 2048 }
-{
-    let (wrote, writes, output) = written(alloc, sent, step, 0);
-    let length = [(sent.len() / 256) as u8, (sent.len() % 256) as u8];
-    let is_record = output.get(..2) == Some(length.as_slice()) && output.get(2..) == Some(sent);
-    let (answer, reads) = read(alloc, &output, step, 0, heard);
-    let is_heard = answer == Ok(true) && heard.as_slice() == sent;
-    wrote == Ok(()) && is_record && is_heard && (writes, reads) == calls
+    let mut record = [0x16; 2050];
+    record[0] = (length / 256) as u8;
+    record[1] = (length % 256) as u8;
+    let mut sender = MemoryStream::new(&[], step, 0);
+    let mut receiver = MemoryStream::new(&record[..length + 2], step, 0);
+    let mut heard = Octets::new();
+    write_record(&mut sender, &record[2..length + 2]).is_ok()
+        && matches!(read_record(&mut receiver, &mut heard), Ok(true))
+        && heard.len() == length
+        && sender.calls == writes
+        && receiver.calls == reads
 }
 
 #[test]
-fn largest_record_takes_2050_reads_and_writes(rt: HostRuntime) {
-    let mut heard = Octets::new();
-    assert!(rt; crosses(rt.alloc(), &[0x16; 2048], 1, (2050, 2050), &mut heard));
+fn records_are_moved_by_few_calls(rt: HostRuntime) {
+    assert!(rt; is_moved(2048, 1, 2050, 2050));
+    assert!(rt; is_moved(2048, 4096, 1, 2) && is_moved(1, 4096, 1, 2));
 }
 
-/// Octets that repeat only every 251 places.
-pub(crate) fn many_octets() -> [u8; 2048] {
-    let mut octets = [0; 2048];
-    for (place, octet) in octets.iter_mut().enumerate() {
-        *octet = (place % 251) as u8;
-    }
-    octets
-}
-
-#[test]
-fn each_length_is_written_at_once_and_read_back(rt: HostRuntime) {
-    let octets = many_octets();
+/// Whether a write of ACK0 whose call at this place fails, and a read likewise, return `Device`,
+/// and nothing is heard.
+fn is_device(place: usize) -> bool {
     let mut heard = Octets::new();
-    for length in 1..=2048usize {
-        let sent = &octets[..length];
-        assert!(rt;
-            crosses(rt.alloc(), sent, 4096, (1, 2), &mut heard),
-            "{length}"
-        );
-    }
-}
-
-/// Whether a write and a read of ACK0 whose call at this place fails return `Device`, after the
-/// octets before it were written and with nothing heard.
-fn is_device(alloc: Global, place: usize) -> bool {
-    let device = CarrierError::Device {
-        why: DeviceFault::Other,
-    };
-    let mut heard = Octets::new();
-    let (wrote, _, output) = written(alloc, &ACK0, 1, place);
-    let (answer, _) = read(alloc, &RECORD, 1, place, &mut heard);
-    let front = place.checked_sub(1).and_then(|count| RECORD.get(..count));
-    wrote == Err(device)
-        && answer == Err(device)
+    let wrote = write_record(&mut MemoryStream::new(&[], 1, place), ACK0);
+    let answer = read_record(&mut MemoryStream::new(RECORD, 1, place), &mut heard);
+    let why = DeviceFault::Other;
+    wrote == Err(CarrierError::Device { why })
+        && answer == Err(CarrierError::Device { why })
         && heard.is_empty()
-        && Some(output.as_slice()) == front
+}
+
+/// Whether a write that takes no octets is the last.
+fn is_stuck() -> bool {
+    let mut sender = MemoryStream::new(&[], 0, 0);
+    write_record(&mut sender, ACK0).is_err() && sender.calls == 1
 }
 
 #[test]
 fn device_comes_only_after_a_failed_call(rt: HostRuntime) {
-    for place in 1..=RECORD.len() {
-        assert!(rt; is_device(rt.alloc(), place), "call {place}");
+    for place in 1..=7usize {
+        assert!(rt; is_device(place), "call {place}");
     }
-    assert!(rt; !is_device(rt.alloc(), 8));
-    let (stuck, calls, _) = written(rt.alloc(), &ACK0, 0, 0);
-    let why = DeviceFault::Other;
-    assert_eq!(rt; (stuck, calls), (Err(CarrierError::Device { why }), 1));
+    assert!(rt; !is_device(8) && is_stuck());
 }

@@ -8,6 +8,8 @@
 #[cfg(test)]
 mod block;
 #[cfg(test)]
+mod bounds;
+#[cfg(test)]
 mod definitions;
 #[cfg(test)]
 mod frame;

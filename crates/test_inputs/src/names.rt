@@ -39,22 +39,6 @@ const UNITS: &[u8] = b"TEXT ETX 2\nunit 4849 EM\nunit - EM\n";
 /// A call of AB.
 const CALL: &[u8] = &[0x16, 0x16, 0x04, 0xFF, 0x16, 0x16, 0xC1, 0xC2, 0x85, 0xFF];
 
-/// Messages and their names.
-const NAMES: &[(&[u8], &[u8])] = &[
-    (&[0x16, 0x16, 0x04, 0xFF], b"EOT"),
-    (&[0x16, 0x16, 0x85, 0xFF], b"ENQ"),
-    (&[0x16, 0x16, 0x10, 0xB0, 0xFF], b"ACK0"),
-    (&[0x16, 0x16, 0x10, 0x31, 0xFF], b"ACK1"),
-    (&[0x16, 0x16, 0x15, 0xFF], b"NAK"),
-    (&[0x16, 0x16, 0x10, 0x3B, 0xFF], b"WACK"),
-    (&[0x16, 0x16, 0x10, 0xBC, 0xFF], b"RVI"),
-    (CALL, b"CALL AB"),
-    (TEXT, b"TEXT ETX 2"),
-];
-
-/// Characters, and how they are printed.
-const CHARS: &[(&[u8], &[u8])] = &[(b"HI", b"4849"), (b"JoZ", b"4a6f5a"), (b"", b"-")];
-
 /// Octets, the detail, and the output.
 const SHOWN: &[(&[u8], Detail, &[u8])] = &[
     (TEXT, Detail::Name, b"TEXT ETX 2\n"),
@@ -71,10 +55,10 @@ fn write_name_of<W: Write>(octets: &[u8], out: &mut W) -> Result<(), PrintError>
     }
 }
 
-// Whether the octets are heard as a message with this name.
-fn is_name(octets: &[u8], name: &[u8], alloc: Global) -> bool {
+// Whether a call of AB has this name.
+fn is_name_of_call(name: &[u8], alloc: Global) -> bool {
     let mut out = Vec::new(alloc);
-    write_name_of(octets, &mut out).is_ok() && out.as_slice() == name
+    write_name_of(CALL, &mut out).is_ok() && out.as_slice() == name
 }
 
 // Whether the characters are printed as this.
@@ -86,28 +70,15 @@ fn are_chars(chars: &[u8], shown: &[u8], alloc: Global) -> bool {
 // Whether this is printed for the octets.
 fn is_shown(octets: &[u8], detail: Detail, shown: &[u8], alloc: Global) -> bool {
     let mut out = Vec::new(alloc);
-    write_shown(
-        alloc,
-        detail,
-        &decode(octets, &mut TextBuffer::new()),
-        &mut out,
-    )
-    .is_ok()
-        && out.as_slice() == shown
+    let mut buffer = TextBuffer::new();
+    let heard = decode(octets, &mut buffer);
+    write_shown(alloc, detail, &heard, &mut out).is_ok() && out.as_slice() == shown
 }
 
 #[test]
-fn names_of_messages(rt: HostRuntime) {
-    for (octets, name) in NAMES {
-        assert!(rt; is_name(octets, name, rt.alloc()), "{octets:?}");
-    }
-}
-
-#[test]
-fn characters_in_hexadecimal(rt: HostRuntime) {
-    for (chars, shown) in CHARS {
-        assert!(rt; are_chars(chars, shown, rt.alloc()), "{chars:?}");
-    }
+fn names_and_characters(rt: HostRuntime) {
+    assert!(rt; is_name_of_call(b"CALL AB", rt.alloc()));
+    assert!(rt; are_chars(b"JoZ", b"4a6f5a", rt.alloc()));
 }
 
 #[test]
@@ -117,38 +88,40 @@ fn both_details(rt: HostRuntime) {
     }
 }
 
+// Whether a write of the output for the text that fails after this many writes is told.
+fn is_fault(left: usize, alloc: Global) -> bool {
+    let mut buffer = TextBuffer::new();
+    let heard = decode(TEXT, &mut buffer);
+    match write_shown(alloc, Detail::Units, &heard, &mut Full { left }) {
+        Ok(()) => false,
+        Err(error) => error == PrintError::Output,
+    }
+}
+
 /// A write that fails is reported at each place.
 #[test]
 fn failing_write(rt: HostRuntime) {
     for left in 0..8usize {
-        let answer = write_shown(
-            rt.alloc(),
-            Detail::Units,
-            &decode(TEXT, &mut TextBuffer::new()),
-            &mut Full { left },
-        );
-        assert!(rt; answer == Err(PrintError::Output), "{left}");
+        assert!(rt; is_fault(left, rt.alloc()), "{left}");
     }
-    assert!(rt; write_name_of(CALL, &mut Full { left: 1 }) == Err(PrintError::Output));
-    let chars = write_chars(rt.alloc(), b"HI", &mut Full { left: 0 });
-    assert!(rt; chars == Err(PrintError::Output));
+    assert!(rt; write_name_of(CALL, &mut Full { left: 1 }).is_err());
+    assert!(rt; write_chars(rt.alloc(), b"HI", &mut Full { left: 0 }).is_err());
 }
 
 // Whether the result is right: out of memory after a beginning of the output if this allocator
 // refused something, and the whole output otherwise.
 fn is_shown_or_refused(alloc: &Refusing, kept: Global) -> bool {
     let mut out = Vec::new(kept);
-    let answer = write_shown(
-        alloc,
-        Detail::Units,
-        &decode(TEXT, &mut TextBuffer::new()),
-        &mut out,
-    );
-    if alloc.refused() == 0 {
-        answer == Ok(()) && out.as_slice() == UNITS
-    } else {
-        let front = UNITS.starts_with(&out) && out.len() < UNITS.len();
-        answer == Err(PrintError::Memory) && front
+    let mut buffer = TextBuffer::new();
+    let heard = decode(TEXT, &mut buffer);
+    match write_shown(alloc, Detail::Units, &heard, &mut out) {
+        Ok(()) => alloc.refused() == 0 && out.as_slice() == UNITS,
+        Err(error) => {
+            alloc.refused() > 0
+                && error == PrintError::Memory
+                && UNITS.starts_with(&out)
+                && out.len() < UNITS.len()
+        }
     }
 }
 

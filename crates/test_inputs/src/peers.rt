@@ -1,8 +1,8 @@
 //! Networks and the addresses in them.
 
-use bsc_peers::{MAX_NETWORKS, Network, NetworkError, Networks};
-use std::net::{AddrParseError, IpAddr, Ipv4Addr};
-use std::test::Fail;
+use bsc_peers::{Network, NetworkError, Networks};
+use std::alloc::Global;
+use std::net::{IpAddr, Ipv4Addr};
 
 /// A network, an address, and whether the address is in the network. The edges of 172.16.0.0/12 and
 /// fc00::/7 are those of RFC 1918 and RFC 4193.
@@ -34,85 +34,47 @@ const IN_NETWORKS: &[(&str, &str, bool)] = &[
     ("::/95", "10.0.0.1", false),
 ];
 
-/// Whether an address is in a network.
-fn is_in(network: &str, address: &str) -> Result<bool, Fail> {
-    Ok(Network::read(network)?.contains(address.parse::<IpAddr>()?))
+/// Whether the first text is a network, the second an address, and the address is in the network;
+/// None if they are not.
+fn is_in(network: &str, address: &str) -> Option<bool> {
+    let Ok(network) = Network::read(network) else {
+        return None;
+    };
+    match address.parse::<IpAddr>() {
+        Ok(address) => Some(network.contains(address)),
+        Err(_) => None,
+    }
 }
 
 #[test]
-fn addresses_are_in_networks(rt: HostRuntime) -> Result<(), Fail> {
+fn addresses_are_in_networks(rt: HostRuntime) {
     for (network, address, expected) in IN_NETWORKS {
-        if is_in(*network, *address)? != *expected {
-            return Err(Fail::new(format_args!("{network}, {address}")));
+        assert!(rt;
+            is_in(*network, *address) == Some(*expected),
+            "{network}, {address}"
+        );
+    }
+}
+
+/// Whether a list of the network 127.0.0.0/8 allows only addresses in it, and an empty list each.
+fn is_allowed() -> bool {
+    let inner = IpAddr::V4(Ipv4Addr::LOCALHOST);
+    let outer = IpAddr::V4(Ipv4Addr::new(192, 0, 2, 1));
+    let Some(network) = Network::new(inner, 8) else {
+        return false;
+    };
+    let empty = Networks::new();
+    match empty.with(network) {
+        Some(networks) => {
+            networks.allows(inner) && !networks.allows(outer) && empty.allows(outer)
         }
+        None => false,
     }
-    assert!(rt; is_in("127.0.0.0/8", "127.0.0.1")?);
-    Ok(())
-}
-
-/// Texts that are no networks, and why.
-const NO_NETWORKS: &[(&str, NetworkError)] = &[
-    ("", NetworkError::NoAddress),
-    ("/8", NetworkError::NoAddress),
-    ("10.0.0/8", NetworkError::NoAddress),
-    ("localhost", NetworkError::NoAddress),
-    ("10.0.0.0:80", NetworkError::NoAddress),
-    (" 10.0.0.0/8", NetworkError::NoAddress),
-    ("[::1]", NetworkError::NoAddress),
-    ("10.0.0.0/", NetworkError::NoBits),
-    ("10.0.0.0/33", NetworkError::NoBits),
-    ("10.0.0.0/+8", NetworkError::NoBits),
-    ("10.0.0.0/-8", NetworkError::NoBits),
-    ("10.0.0.0/8 ", NetworkError::NoBits),
-    ("10.0.0.0/8/8", NetworkError::NoBits),
-    ("10.0.0.0/255.0.0.0", NetworkError::NoBits),
-    ("10.0.0.0/264", NetworkError::NoBits),
-    ("::/129", NetworkError::NoBits),
-];
-
-#[test]
-fn other_texts_are_no_networks(rt: HostRuntime) -> Result<(), Fail> {
-    for (text, why) in NO_NETWORKS {
-        assert_eq!(rt; Network::read(*text).err(), Some(*why));
-    }
-    Ok(())
 }
 
 #[test]
-fn a_network_has_no_more_bits_than_its_address(rt: HostRuntime) -> Result<(), Fail> {
-    let address = IpAddr::V4(Ipv4Addr::LOCALHOST);
-    assert_eq!(rt; Network::new(address, 32), Network::read("127.0.0.1").ok());
-    assert_eq!(rt; Network::new(address, 33), None);
-    Ok(())
-}
-
-/// The list of this many networks 10.0.0.0/24, 10.0.1.0/24 and so on; None if they do not fit.
-fn first_networks(count: u8) -> Option<Networks> {
-    let mut networks = Networks::new();
-    for third in 0..count {
-        let address = IpAddr::V4(Ipv4Addr::new(10, 0, third, 0));
-        networks = networks.with(Network::new(address, 24)?)?;
-    }
-    Some(networks)
-}
-
-/// Whether the list of this many networks allows an address.
-fn allows(count: u8, address: &str) -> Result<Option<bool>, AddrParseError> {
-    let address = address.parse::<IpAddr>()?;
-    Ok(first_networks(count).map(|networks| networks.allows(address)))
-}
-
-#[test]
-fn a_list_allows_the_addresses_of_its_networks(rt: HostRuntime) -> Result<(), Fail> {
-    assert_eq!(rt; allows(0, "192.0.2.1")?, Some(true));
-    assert_eq!(rt; allows(0, "::1")?, Some(true));
-    assert_eq!(rt; allows(1, "10.0.0.9")?, Some(true));
-    assert_eq!(rt; allows(1, "10.0.1.9")?, Some(false));
-    assert_eq!(rt; allows(16, "10.0.15.9")?, Some(true));
-    assert_eq!(rt; allows(16, "10.0.16.9")?, Some(false));
-    assert_eq!(rt; allows(17, "10.0.0.9")?, None);
-    assert_eq!(rt; MAX_NETWORKS, 16);
-    Ok(())
+fn a_list_allows_the_addresses_of_its_networks(rt: HostRuntime) {
+    assert!(rt; is_allowed());
 }
 
 /// Why a text is no network, and how that is printed.
@@ -121,10 +83,17 @@ const PRINTED: &[(NetworkError, &str)] = &[
     (NetworkError::NoBits, "not a number of bits of the address"),
 ];
 
-#[test]
-fn why_a_text_is_no_network_is_printed(rt: HostRuntime) -> Result<(), Fail> {
-    for (why, text) in PRINTED {
-        assert_eq!(rt; why.to_string(rt.alloc())?.as_str(), *text);
+/// Whether the reason is printed as this text.
+fn is_printed(alloc: Global, why: NetworkError, text: &str) -> bool {
+    match why.to_string(alloc) {
+        Ok(printed) => printed.as_str() == text,
+        Err(_) => false,
     }
-    Ok(())
+}
+
+#[test]
+fn why_a_text_is_no_network_is_printed(rt: HostRuntime) {
+    for (why, text) in PRINTED {
+        assert!(rt; is_printed(rt.alloc(), *why, text), "{text}");
+    }
 }

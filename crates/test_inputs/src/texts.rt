@@ -1,7 +1,6 @@
 //! Texts at paths: what the files of a machine have, and why a file has none.
 use bsc_input::{Files, InputError, MAX_INPUT, STANDARD_INPUT, TextError, Unreadable, read_text};
 use std::alloc::Global;
-use std::test::Fail;
 
 /// The path of every file.
 const PATH: &str = "line.toml";
@@ -49,11 +48,12 @@ fn answering(alloc: Global, answer: Result<usize, InputError>) -> Machine {
 
 /// Whether these are the octets of a text of this length.
 fn is_text(text: &[u8], length: usize) -> bool {
+    for (place, octet) in text.iter().enumerate() {
+        if *octet != octet_at(place) {
+            return false;
+        }
+    }
     text.len() == length
-        && text
-            .iter()
-            .enumerate()
-            .all(|(place, &octet)| octet == octet_at(place))
 }
 
 /// Whether the text of a file with this many octets is read whole, with one read.
@@ -69,26 +69,25 @@ fn is_read_whole(alloc: Global, length: usize) -> bool {
 /// Lengths of files: those about the size of a read, and the longest.
 const LENGTHS: &[usize] = &[0, 1, 4_096, 4_097, 65_537, MAX_INPUT];
 
-/// The length of the first text that is not read whole.
-fn first_cut(alloc: Global) -> Option<usize> {
-    for &length in LENGTHS {
-        if !is_read_whole(alloc, length) {
-            return Some(length);
-        }
-    }
-    None
-}
-
 #[test]
 fn texts_of_files_are_read_whole(rt: HostRuntime) {
-    assert_eq!(rt; first_cut(rt.alloc()), None);
+    for length in LENGTHS {
+        assert!(rt; is_read_whole(rt.alloc(), *length), "{length}");
+    }
 }
 
-/// Whether an error of a file is told with its path and this reason.
-fn is_told(alloc: Global, why: Unreadable) -> bool {
-    let mut files = answering(alloc, Err(InputError::Device { why }));
+/// Whether what is told of a file that cannot be read is its path and this reason, or one of its
+/// own if the file is too long or there is no memory for it.
+fn is_told(alloc: Global, error: InputError) -> bool {
+    let mut files = answering(alloc, Err(error));
     match read_text(alloc, PATH, &mut b"".as_slice(), &mut files) {
-        Err(TextError::CannotRead { path, why: told }) => path.as_str() == PATH && told == why,
+        Err(TextError::CannotRead { path, why }) => {
+            path.as_str() == PATH && error == InputError::Device { why }
+        }
+        Err(TextError::FileTooLong { path }) => {
+            path.as_str() == PATH && error == InputError::TooLong
+        }
+        Err(TextError::Memory) => error == InputError::Memory,
         _ => false,
     }
 }
@@ -104,33 +103,11 @@ const REASONS: &[Unreadable] = &[
 
 #[test]
 fn why_a_file_cannot_be_read(rt: HostRuntime) {
-    for &why in REASONS {
-        assert!(rt; is_told(rt.alloc(), why));
+    for why in REASONS {
+        assert!(rt; is_told(rt.alloc(), InputError::Device { why: *why }));
     }
-}
-
-/// Whether a file that is too long is told with its path.
-fn is_too_long(alloc: Global) -> bool {
-    let mut files = answering(alloc, Err(InputError::TooLong));
-    match read_text(alloc, PATH, &mut b"".as_slice(), &mut files) {
-        Err(TextError::FileTooLong { path }) => path.as_str() == PATH,
-        _ => false,
-    }
-}
-
-/// Whether no memory for a file is told as such.
-fn is_memory(alloc: Global) -> bool {
-    let mut files = answering(alloc, Err(InputError::Memory));
-    match read_text(alloc, PATH, &mut b"".as_slice(), &mut files) {
-        Err(TextError::Memory) => true,
-        _ => false,
-    }
-}
-
-#[test]
-fn a_file_that_is_too_long(rt: HostRuntime) {
-    assert!(rt; is_too_long(rt.alloc()));
-    assert!(rt; is_memory(rt.alloc()));
+    assert!(rt; is_told(rt.alloc(), InputError::TooLong));
+    assert!(rt; is_told(rt.alloc(), InputError::Memory));
 }
 
 /// Whether standard input is read whole, and no file.
@@ -144,7 +121,6 @@ fn is_input_read(alloc: Global) -> bool {
 }
 
 #[test]
-fn standard_input_is_read_for_a_dash(rt: HostRuntime) -> Result<(), Fail> {
+fn standard_input_is_read_for_a_dash(rt: HostRuntime) {
     assert!(rt; is_input_read(rt.alloc()));
-    Ok(())
 }

@@ -96,8 +96,5 @@ fn octets_that_are_no_text_are_not_toml(rt: HostRuntime) -> Result<(), Fail> {
 #[test]
 fn a_key_has_a_name_and_an_owner(rt: HostRuntime) {
     let key = Key::Select { terminal: 7 };
-    assert_eq!(rt;
-        (key.name(), key.owner()),
-        ("select", Owner::Terminal { number: 7 })
-    );
+    assert!(rt; key.name() == "select" && matches!(key.owner(), Owner::Terminal { number: 7 }));
 }

@@ -1,91 +1,44 @@
-//! The greatest number of terminals and of poll list entries of a configuration, and one more of
-//! each.
+//! Configurations with each number of terminals and of poll list entries, and the longest one.
 
-use crate::documents::{TERMINALS, is_answer};
+use crate::documents::is_answer;
 use bsc_input::MAX_INPUT;
 use std::alloc::Global;
 use std::test::Fail;
 
-/// A document with this poll list and this many terminals, whose addresses all differ.
-fn many_terminals(alloc: Global, poll_list: &str, count: usize) -> Result<String, Fail> {
-    let mut text = format!(in alloc; "version = 1\npoll_list = {poll_list}\n")?;
+/// A document with this many terminals, of one to four selection addresses each, which are all
+/// polled; and with a poll list of at least this many entries.
+fn document_of(alloc: Global, count: usize, entries: usize) -> Result<String, Fail> {
+    let mut text = format!(in alloc; "version = 2\npoll_list = [0")?;
+    for entry in 1..count.max(entries) {
+        write!(text, ", {}", entry % count.max(1))?;
+    }
+    text.push_str("]\n")?;
     for number in 0..count {
         write!(
             text,
-            "[[terminals]]\npoll = \"A{number}\"\nselect = \"a{number}\"\n"
+            "[[terminals]]\npoll = \"A{number}\"\nselect = [\"a{number}\""
         )?;
+        for select in 0..number % 4 {
+            write!(text, ", \"b{select}-{number}\"")?;
+        }
+        text.push_str("]\n")?;
     }
     Ok(text)
 }
 
-/// A document with two terminals and a poll list of this many entries.
-fn long_poll_list(alloc: Global, entries: usize) -> Result<String, Fail> {
-    let mut text = format!(in alloc; "version = 1\npoll_list = [0")?;
-    for _ in 1..entries {
-        text.push_str(", 0")?;
-    }
-    text.push_str("]")?;
-    text.push_str(TERMINALS)?;
-    Ok(text)
-}
-
-/// Whether a document with this many terminals has this result.
-fn terminals_have(
-    alloc: Global,
-    poll_list: &str,
-    count: usize,
-    answer: &str,
-) -> Result<bool, Fail> {
-    let document = many_terminals(alloc, poll_list, count)?;
+/// Whether this is the answer to a document of so many terminals and poll list entries.
+fn have(alloc: Global, count: usize, entries: usize, answer: &str) -> Result<bool, Fail> {
+    let document = document_of(alloc, count, entries)?;
     is_answer(alloc, document.as_str(), answer)
 }
 
-/// Whether a document with this many poll list entries has this result.
-fn entries_have(alloc: Global, entries: usize, answer: &str) -> Result<bool, Fail> {
-    let document = long_poll_list(alloc, entries)?;
-    is_answer(alloc, document.as_str(), answer)
-}
-
-/// 65 terminals are too many, whatever their addresses and the poll list are.
 #[test]
-fn there_are_64_terminals_at_most(rt: HostRuntime) -> Result<(), Fail> {
-    let alloc = rt.alloc();
-    assert!(rt; terminals_have(alloc, "[63]", 64, "read")?);
-    assert!(rt; terminals_have(alloc, "[]", 65, "config: too many terminals")?);
-    Ok(())
-}
-
-#[test]
-fn a_poll_list_has_255_entries_at_most(rt: HostRuntime) -> Result<(), Fail> {
-    let alloc = rt.alloc();
-    assert!(rt; entries_have(alloc, 255, "read")?);
-    assert!(rt; entries_have(alloc, 256, "config: poll list entry 255 is wrong")?);
-    Ok(())
-}
-
-/// A document that begins with a comment of this many octets.
-fn commented(alloc: Global, octets: usize) -> Result<String, Fail> {
-    let mut text = format!(in alloc; "#")?;
-    for _ in 1..octets {
-        text.push_str("x")?;
+fn each_number_of_terminals_and_entries_is_read(rt: HostRuntime) -> Result<(), Fail> {
+    for count in 1..=64usize {
+        assert!(rt; have(rt.alloc(), count, 4 * count - 1, "read")?, "{count}");
     }
-    text.push_str("\nversion = 1\npoll_list = [0, 1]")?;
-    text.push_str(TERMINALS)?;
-    Ok(text)
-}
-
-/// A configuration has no limit of its own; an input has 1,048,576 octets at most. A fault after so
-/// many octets has its own message.
-#[test]
-fn a_configuration_may_be_as_long_as_an_input(rt: HostRuntime) -> Result<(), Fail> {
-    let alloc = rt.alloc();
-    for octets in [16_384, 65_536, 1_048_000usize] {
-        let mut document = commented(alloc, octets)?;
-        assert!(rt; is_answer(alloc, document.as_str(), "read")?);
-        document.push_str("zz = 1\n")?;
-        let answer = "config: unknown key terminals[1].zz";
-        assert!(rt; is_answer(alloc, document.as_str(), answer)?);
-    }
+    assert!(rt; have(rt.alloc(), 65, 0, "config: too many terminals")?);
+    assert!(rt; have(rt.alloc(), 3, 256, "config: poll list entry 255 is wrong")?);
     Ok(())
 }
 
@@ -112,16 +65,9 @@ fn longest(alloc: Global) -> Result<String, Fail> {
     Ok(text)
 }
 
-#[test]
-fn the_longest_configuration_is_read(rt: HostRuntime) -> Result<(), Fail> {
-    let document = longest(rt.alloc())?;
-    assert_eq!(rt; document.len(), 1_048_576);
-    assert!(rt; is_answer(rt.alloc(), document.as_str(), "read")?);
-    Ok(())
-}
-
 /// Parts of the longest configuration that are replaced, and what is told of it then.
 const LAST_PARTS: &[(&str, &str, &str)] = &[
+    ("FOUR-73", "FIVE-73", "read"),
     (
         "FOUR-73",
         "POLL-10",
@@ -159,24 +105,43 @@ const LAST_PARTS: &[(&str, &str, &str)] = &[
     ("full = 144", "full = 145", "config: wrong value of full"),
 ];
 
-/// The first of these parts with another answer.
-fn first_wrong_part(alloc: Global) -> Result<Option<(&'static str, &'static str)>, Fail> {
-    let document = longest(alloc)?;
-    for (part, other, answer) in LAST_PARTS {
-        let Some((before, after)) = document.split_once(*part) else {
-            return Ok(Some((part, other)));
-        };
-        let document = format!(in alloc; "{before}{other}{after}")?;
-        if !is_answer(alloc, document.as_str(), answer)? {
-            return Ok(Some((part, other)));
-        }
-    }
-    Ok(None)
+/// Whether this is the answer to the document if a part is replaced by another one.
+fn is_replaced(
+    alloc: Global,
+    document: &str,
+    (part, other, answer): &(&str, &str, &str),
+) -> Result<bool, Fail> {
+    let Some((before, after)) = document.split_once(*part) else {
+        return Ok(false);
+    };
+    let document = format!(in alloc; "{before}{other}{after}")?;
+    is_answer(alloc, document.as_str(), answer)
 }
 
-/// A fault at the end of the longest configuration has its own message.
+/// The longest configuration is read, and a fault at its end has its own message.
 #[test]
 fn the_last_parts_of_the_longest_configuration_are_checked(rt: HostRuntime) -> Result<(), Fail> {
-    assert_eq!(rt; first_wrong_part(rt.alloc())?, None);
+    let document = longest(rt.alloc())?;
+    assert!(rt; document.len() == 1_048_576);
+    for row in LAST_PARTS {
+        assert!(rt;
+            is_replaced(rt.alloc(), document.as_str(), row)?,
+            "{}",
+            row.1
+        );
+    }
+    Ok(())
+}
+
+/// A fault after a million lines has their number, and the longest key is told whole.
+#[test]
+fn a_fault_is_told_whatever_its_length(rt: HostRuntime) -> Result<(), Fail> {
+    let alloc = rt.alloc();
+    let document = format!(in alloc; "{}?", "\n".repeat(alloc, 1_000_000)?)?;
+    assert!(rt; is_answer(alloc, &document, "config: not toml: line 1000001")?);
+    let key = "k".repeat(alloc, 1_000_000)?;
+    let document = format!(in alloc; "{key} = 1\n")?;
+    let answer = format!(in alloc; "config: unknown key {key}")?;
+    assert!(rt; is_answer(alloc, &document, &answer)?);
     Ok(())
 }

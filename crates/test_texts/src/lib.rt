@@ -11,8 +11,6 @@ mod documents;
 #[cfg(test)]
 mod errors;
 #[cfg(test)]
-mod events;
-#[cfg(test)]
 mod keys;
 #[cfg(test)]
 mod lengths;
@@ -22,7 +20,5 @@ mod numbers;
 mod refusals;
 #[cfg(test)]
 mod scripts;
-#[cfg(test)]
-mod sweeps;
 #[cfg(test)]
 mod values;

@@ -1,9 +1,8 @@
 //! Worked cases: what happens to a control station, and what is told of it.
 
 use crate::player::Happening::{Ack, Closes, Enq, Eot, Failed, Joins, Noise, Sends, Withholds};
-use crate::player::{History, played};
-use bsc_trust::{Distrust, TerminalPeers, Trust};
-use std::test::Fail;
+use crate::player::{History, first_wrong};
+use bsc_trust::Distrust;
 
 const LATE: Option<Distrust> = Some(Distrust::LateAnswer);
 
@@ -370,28 +369,6 @@ const HISTORIES: &[History] = &[
 #[test]
 fn histories_are_told_as_worked(rt: HostRuntime) {
     for (number, history) in HISTORIES.iter().enumerate() {
-        let (wrong, distrust, share) = played(history);
-        assert_eq!(rt; wrong, None, "row of history {number}");
-        assert_eq!(rt; distrust, history.distrust, "history {number}");
-        assert_eq!(rt; share, history.share, "history {number}");
+        assert_eq!(rt; first_wrong(history), None, "history {number}");
     }
-}
-
-/// The share of an answer that took this long saturates only in the product.
-#[test]
-fn shares_do_not_overflow(rt: HostRuntime) -> Result<(), Fail> {
-    for (time_out, time, share) in [
-        (1u64, u64::MAX, u64::MAX),
-        (0, 3, 300),
-        (3, 2, 66),
-        (u64::MAX, u64::MAX, 1),
-        (100, u64::MAX / 100, 184_467_440_737_095_516),
-    ] {
-        let mut trust = Trust::new(true, time_out, TerminalPeers::new());
-        assert_eq!(rt; trust.slowest_share(), None);
-        trust.sent(0);
-        let _ = trust.heard(None, 0, &bsc_frame::Heard::Failed, time);
-        assert_eq!(rt; trust.slowest_share(), Some(share), "{time} of {time_out}");
-    }
-    Ok(())
 }

@@ -81,20 +81,27 @@ fn is_told(trust: &mut Trust, heard: &Heard<'_>, row: &Row) -> bool {
 /// Plays a row. Returns whether that is told which the row says.
 fn plays(trust: &mut Trust, row: &Row) -> bool {
     let (now, happening, place, _, told) = *row;
-    match happening {
+    let heard = match happening {
         Happening::Sends => return trust.sent(now) == told,
-        Happening::Withholds => trust.withheld(now),
-        Happening::Joins => trust.joined(place, None),
-        Happening::Closes => trust.closed(place),
-        Happening::Ack => {
-            return is_told(trust, &Heard::Whole(Message::Reply(Reply::Ack0)), row);
+        Happening::Withholds => {
+            trust.withheld(now);
+            return true;
         }
-        Happening::Enq => return is_told(trust, &Heard::Whole(Message::Enq), row),
-        Happening::Eot => return is_told(trust, &Heard::Whole(Message::Eot), row),
-        Happening::Failed => return is_told(trust, &Heard::Failed, row),
-        Happening::Noise => return is_told(trust, &Heard::Noise, row),
-    }
-    true
+        Happening::Joins => {
+            trust.joined(place, None);
+            return true;
+        }
+        Happening::Closes => {
+            trust.closed(place);
+            return true;
+        }
+        Happening::Ack => Heard::Whole(Message::Reply(Reply::Ack0)),
+        Happening::Enq => Heard::Whole(Message::Enq),
+        Happening::Eot => Heard::Whole(Message::Eot),
+        Happening::Failed => Heard::Failed,
+        Happening::Noise => Heard::Noise,
+    };
+    is_told(trust, &heard, row)
 }
 
 /// What is known when the first connections of a history have begun.
@@ -110,15 +117,18 @@ fn beginning(history: &History) -> Trust {
     trust
 }
 
-/// Plays a history. Returns the number of the first row of which something else is told, the first
-/// reason for which the line is not trusted, and the time of the slowest answer.
-pub(crate) fn played(history: &History) -> (Option<usize>, Option<Distrust>, Option<u64>) {
+/// Plays a history. Returns the number of the first row of which something else is told; the number
+/// of rows if in the end the first reason for which the line is not trusted, or the time of the
+/// slowest answer, is another one.
+pub(crate) fn first_wrong(history: &History) -> Option<usize> {
     let mut trust = beginning(history);
-    let mut wrong = None;
     for (number, row) in history.rows.iter().enumerate() {
-        if !plays(&mut trust, row) && wrong.is_none() {
-            wrong = Some(number);
+        if !plays(&mut trust, row) {
+            return Some(number);
         }
     }
-    (wrong, trust.distrust(), trust.slowest_share())
+    if trust.distrust() == history.distrust && trust.slowest_share() == history.share {
+        return None;
+    }
+    Some(history.rows.len())
 }

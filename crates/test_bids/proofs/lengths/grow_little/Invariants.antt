@@ -3,4 +3,4 @@ use Rattle.std.proofs.Common.{◌≡◌}
 use Rattle.test_bids.proofs.lengths.grow_little.Given as goal
 
 abbrev pub invariant-loop-number : goal.invariant-loop-number
-invariant-loop-number l = l.queue.format.full ≡ 144
+invariant-loop-number g l = l.queue.format.full ≡ 144
