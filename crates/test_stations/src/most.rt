@@ -30,18 +30,23 @@ fn record_of(number: usize) -> Option<Record> {
     Record::read(chars, 144).ok()
 }
 
+/// The address of a letter and this code.
+fn address_of(letter: u8, code: u8) -> Result<Address, Fail> {
+    Ok(Address::read(&[letter, code])?)
+}
+
 /// A terminal with the polling address P and the selection addresses a, b, c and d, each followed
 /// by this code.
 fn coded_terminal(code: u8) -> Result<Terminal, Fail>
     ensures { IfOk result (λ terminal. length terminal.selects ≡ 4) }
 {
     let selects = [
-        Address::read(&[b'a', code])?,
-        Address::read(&[b'b', code])?,
-        Address::read(&[b'c', code])?,
-        Address::read(&[b'd', code])?,
+        address_of(b'a', code)?,
+        address_of(b'b', code)?,
+        address_of(b'c', code)?,
+        address_of(b'd', code)?,
     ];
-    Ok(Terminal::new(Address::read(&[b'P', code])?, &selects)?)
+    Ok(Terminal::new(address_of(b'P', code)?, &selects)?)
 }
 
 /// Gives the control station this many records of any length that had arrived from a terminal, and
@@ -63,8 +68,8 @@ fn a_control_station_keeps_thousands_of_records_from_each_of_64_terminals(
     rt: HostRuntime,
 ) -> Result<(), Fail> {
     let mut terminals = [coded_terminal(FIRST_CODE)?; 64];
-    for (terminal, code) in terminals.iter_mut().zip(FIRST_CODE..=0x7e) {
-        *terminal = coded_terminal(code)?;
+    for place in 0..64u8 {
+        terminals[usize::from(place)] = coded_terminal(FIRST_CODE + place)?;
     }
     let mut control = Control::new(rt.alloc(), setup(3)?, &terminals, &[63; 255])?;
     for terminal in 0..63usize {
@@ -72,6 +77,18 @@ fn a_control_station_keeps_thousands_of_records_from_each_of_64_terminals(
     }
     assert!(rt; keeps_from(&mut control, 63, MOST_RECORDS));
     Ok(())
+}
+
+/// Gives a terminal the record of this number, that had arrived at the selection address of this
+/// number, and returns whether it keeps it.
+fn keeps_one<A: Allocator>(tributary: &mut Tributary<A>, select: usize, number: usize) -> bool
+    requires { select < length tributary.old.terminal.selects }
+    ensures { tributary.new.terminal ≡ tributary.old.terminal }
+{
+    match record_of(number) {
+        Some(record) => tributary.keep_arrived(select, record).is_ok(),
+        None => false,
+    }
 }
 
 /// Gives a terminal this many records of any length that had arrived at the selection address of
@@ -82,10 +99,7 @@ fn keeps_at<A: Allocator>(tributary: &mut Tributary<A>, select: usize, count: us
     ensures selects { length tributary.new.terminal.selects ≡ 4 }
 {
     for number in 0..count {
-        let Some(record) = record_of(number) else {
-            return false;
-        };
-        if tributary.keep_arrived(select, record).is_err() {
+        if !keeps_one(tributary, select, number) {
             return false;
         }
     }

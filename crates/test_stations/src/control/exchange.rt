@@ -3,13 +3,13 @@
 ghost use Rattle.std.specs.Prelude.{◌<◌, IsTrue, length};
 ghost use Rattle.bsc_control.specs.Control.{peer_at};
 
-use crate::hearing::sends;
-use bsc_bid::{KeptSender, RecallError, ReleaseError, Setup, Station};
+use crate::hearing::has_sent;
+use bsc_bid::{KeptSender, Station};
 use bsc_block::Record;
 use bsc_control::{Control, Replied, SetupError, Task, Way};
-use bsc_frame::Address;
+use bsc_frame::Wire;
 use std::alloc::Allocator;
-use test_fixtures::lines::two_terminals_by_three;
+use test_fixtures::lines::{address, setup, two_terminals_by_three};
 use test_fixtures::records::are_records;
 
 /// A step of an exchange. Releases, known records, the records offered and forgotten, and what is
@@ -32,14 +32,14 @@ pub(crate) enum Step<'a> {
     /// What is to be kept: the number of known records, and the records of a doubtful block.
     Kept(usize, Option<usize>),
 
-    /// What was kept, in the same form, is recalled, with this answer.
-    Recalls(usize, Option<usize>, Result<(), RecallError>),
+    /// What was kept, in the same form, is recalled; true if it is accepted.
+    Recalls(usize, Option<usize>, bool),
 
     /// The control station asks this terminal for the line.
     AsksForLine(usize),
 
-    /// The doubt is ended with this count, with this answer.
-    Release(usize, Result<(), ReleaseError>),
+    /// The doubt is ended with this count; true if that is accepted.
+    Release(usize, bool),
 
     /// The number of records known to have arrived, and whether the last block is in doubt.
     Known(usize, bool),
@@ -56,20 +56,18 @@ pub(crate) enum Step<'a> {
     /// Exactly these records arrived from terminal 0; those that are forgotten are empty.
     Spooled(&'a [&'a [u8]]),
 
-    /// The present entry of the poll list, and the failures of the present call.
-    At(usize, u8),
-
-    /// The station polls the terminal of the present entry, and has sent no reply to it.
-    Polls,
-
-    /// The terminal and direction of the channel with this address.
-    Owner(&'a [u8], Option<(usize, Way)>),
+    /// The station polls the terminal of the present entry, the first or the second, and has heard
+    /// no reply since. The address a is found as that of a selection of terminal 0.
+    Polls(usize),
 }
 
 /// An exchange of a new control station with two terminals; terminal 0 has two selection addresses.
 pub(crate) struct Exchange<'a> {
     /// What the exchange shows.
     pub(crate) shows: &'a str,
+
+    /// The greatest number of failures in a row.
+    pub(crate) tries: u8,
 
     /// The poll list.
     pub(crate) poll_list: &'a [u8],
@@ -88,6 +86,18 @@ pub(crate) fn has_address<A: Allocator>(
     ensures select { IsTrue result → select < length (peer_at control.now terminal).outbounds }
 {
     terminal < control.terminals() && select < control.addresses(terminal)
+}
+
+/// Whether a control station that hears these octets, or a silence if there are none, sends exactly
+/// the expected ones and reports correctly whether it sends any.
+fn sends<A: Allocator>(control: &mut Control<A>, heard: &[u8], expected: &[u8]) -> bool {
+    let mut wire = Wire::new();
+    let sends = if heard.is_empty() {
+        control.silence(&mut wire)
+    } else {
+        control.hear(heard, &mut wire)
+    };
+    has_sent(&wire, sends, expected)
 }
 
 /// Offers a record for a selection address. Returns whether it is accepted or returned unchanged;
@@ -143,25 +153,15 @@ fn keeps_hi<A: Allocator>(control: &mut Control<A>) -> Option<bool> {
     }
 }
 
-/// Returns what is to be kept of the first selection address of terminal 0; None if there is no
-/// such address.
-fn kept<A: Allocator>(control: &Control<A>) -> Option<KeptSender> {
-    if !has_address(control, 0, 0) {
-        return None;
-    }
-    Some(control.kept(0, 0))
+/// Whether this is to be kept of the first selection address of terminal 0.
+fn keeps<A: Allocator>(control: &Control<A>, kept: KeptSender) -> bool {
+    has_address(control, 0, 0) && control.kept(0, 0) == kept
 }
 
-/// Lets the first selection address of terminal 0 recall what was kept, and returns the answer;
-/// None if there is no such address.
-fn recalled<A: Allocator>(
-    control: &mut Control<A>,
-    kept: KeptSender,
-) -> Option<Result<(), RecallError>> {
-    if !has_address(control, 0, 0) {
-        return None;
-    }
-    Some(control.recall(0, 0, kept))
+/// Lets the first selection address of terminal 0 recall what was kept, and returns whether it is
+/// accepted.
+fn recalls<A: Allocator>(control: &mut Control<A>, kept: KeptSender) -> bool {
+    has_address(control, 0, 0) && control.recall(0, 0, kept).is_ok()
 }
 
 /// Asks a terminal for the line, and returns whether there is such a terminal.
@@ -173,26 +173,18 @@ fn asks_for_line<A: Allocator>(control: &mut Control<A>, terminal: usize) -> boo
     is_there
 }
 
-/// Ends the doubt of the first selection address of terminal 0, and returns the answer; None if
-/// there is no such address.
-fn released<A: Allocator>(
-    control: &mut Control<A>,
-    count: usize,
-) -> Option<Result<(), ReleaseError>> {
-    if !has_address(control, 0, 0) {
-        return None;
-    }
-    Some(control.release(0, Way::ToTerminal(0), count))
+/// Ends the doubt of the first selection address of terminal 0, and returns whether that is
+/// accepted.
+fn releases<A: Allocator>(control: &mut Control<A>, count: usize) -> bool {
+    has_address(control, 0, 0) && control.release(0, Way::ToTerminal(0), count).is_ok()
 }
 
-/// The number of records for the first selection address of terminal 0 that are known to have
-/// arrived, and whether the last block is in doubt; None if there is no such address.
-fn known<A: Allocator>(control: &Control<A>) -> Option<(usize, bool)> {
-    if !has_address(control, 0, 0) {
-        return None;
-    }
-    let known = control.queue(0, 0).known();
-    Some((known, control.in_doubt(0, Way::ToTerminal(0))))
+/// Whether this many records for the first selection address of terminal 0 are known to have
+/// arrived, and the last block is in doubt or not.
+fn knows<A: Allocator>(control: &Control<A>, known: usize, in_doubt: bool) -> bool {
+    has_address(control, 0, 0)
+        && control.queue(0, 0).known() == known
+        && control.in_doubt(0, Way::ToTerminal(0)) == in_doubt
 }
 
 /// Forgets the first records that were sent to the first selection address of terminal 0, this
@@ -226,10 +218,24 @@ fn has_spooled<A: Allocator>(control: &Control<A>, records: &[&[u8]]) -> bool {
     control.terminals() > 0 && are_records(control.spool(0).records(), records)
 }
 
-/// The terminal and direction of the channel with this address.
-fn owner<A: Allocator>(control: &Control<A>, codes: &[u8]) -> Option<(usize, Way)> {
-    let address = Address::read(codes).ok()?;
-    control.find(&address)
+/// Whether the station polls at this entry of the poll list, and finds the address a.
+fn polls<A: Allocator>(control: &Control<A>, place: usize) -> bool {
+    let finds = matches!(control.find(&address(b'a')), Some((0, Way::ToTerminal(0))));
+    let polls = matches!(
+        control.task(),
+        Task::Polling {
+            replied: Replied::Nothing,
+        }
+    );
+    finds && polls && control.place() == place && control.failures() == 0
+}
+
+/// What is kept of a sender that knows this, and has this doubt.
+fn kept_of(known: &usize, doubt: &Option<usize>) -> KeptSender {
+    KeptSender {
+        known: *known,
+        doubt: *doubt,
+    }
 }
 
 /// Plays a step, and returns whether its result is the expected one.
@@ -239,76 +245,39 @@ fn goes<A: Allocator>(control: &mut Control<A>, step: &Step<'_>) -> bool {
         Step::Takes(terminal, select, records) => takes(control, *terminal, *select, records),
         Step::GivesBack(chars) => offers(control, 0, 0, chars) == Some(false),
         Step::KeepsHi(taken) => keeps_hi(control) == Some(*taken),
-        Step::Kept(known, doubt) => {
-            let expected = KeptSender {
-                known: *known,
-                doubt: *doubt,
-            };
-            kept(control) == Some(expected)
-        }
-        Step::Recalls(known, doubt, answer) => {
-            let kept = KeptSender {
-                known: *known,
-                doubt: *doubt,
-            };
-            recalled(control, kept) == Some(*answer)
-        }
+        Step::Kept(known, doubt) => keeps(control, kept_of(known, doubt)),
+        Step::Recalls(known, doubt, answer) => recalls(control, kept_of(known, doubt)) == *answer,
         Step::AsksForLine(terminal) => asks_for_line(control, *terminal),
-        Step::Release(count, answer) => released(control, *count) == Some(*answer),
-        Step::Known(count, in_doubt) => known(control) == Some((*count, *in_doubt)),
+        Step::Release(count, answer) => releases(control, *count) == *answer,
+        Step::Known(count, in_doubt) => knows(control, *count, *in_doubt),
         Step::ForgetsSent(count) => forgets_sent(control, *count),
         Step::ForgetsArrived(count) => forgets_arrived(control, *count),
         Step::Offered(records) => has_offered(control, records),
         Step::Spooled(records) => has_spooled(control, records),
-        Step::At(place, failures) => control.place() == *place && control.failures() == *failures,
-        Step::Polls => {
-            matches!(
-                control.task(),
-                Task::Polling {
-                    replied: Replied::Nothing,
-                }
-            )
-        }
-        Step::Owner(codes, expected) => owner(control, codes) == *expected,
+        Step::Polls(place) => polls(control, *place),
     }
 }
 
-/// The place of the first step with another result.
-pub(crate) fn wrong_step<A: Allocator>(
-    control: &mut Control<A>,
-    steps: &[Step<'_>],
-) -> Option<usize> {
-    for (place, step) in steps.iter().enumerate() {
+/// Plays these steps, and returns whether the result of each is the expected one.
+fn go<A: Allocator>(control: &mut Control<A>, steps: &[Step<'_>]) -> bool {
+    for step in steps {
         if !goes(control, step) {
-            return Some(place);
+            return false;
         }
     }
-    None
+    true
 }
 
-/// Plays an exchange on a new station, and returns the place of the first step with another result.
-pub(crate) fn play<A: Allocator + Copy>(
-    alloc: A,
-    setup: Setup,
-    exchange: &Exchange<'_>,
-) -> Result<Option<usize>, SetupError> {
+/// Plays an exchange on a new station. Returns whether the result of each step is the expected one;
+/// None if there is no memory for the station.
+pub(crate) fn play<A: Allocator + Copy>(alloc: A, exchange: &Exchange<'_>) -> Option<bool> {
+    let Ok(setup) = setup(exchange.tries) else {
+        return Some(false);
+    };
     let terminals = two_terminals_by_three();
-    let mut control = Control::new(alloc, setup, &terminals, exchange.poll_list)?;
-    Ok(wrong_step(&mut control, exchange.steps))
-}
-
-/// Plays these exchanges. Returns what the first one with another result shows, and what `play`
-/// returned.
-pub(crate) fn play_each<'a, A: Allocator + Copy>(
-    alloc: A,
-    setup: Setup,
-    exchanges: &[Exchange<'a>],
-) -> Result<(), (&'a str, Result<Option<usize>, SetupError>)> {
-    for exchange in exchanges {
-        let played = play(alloc, setup, exchange);
-        if played != Ok(None) {
-            return Err((exchange.shows, played));
-        }
+    match Control::new(alloc, setup, &terminals, exchange.poll_list) {
+        Ok(mut control) => Some(go(&mut control, exchange.steps)),
+        Err(SetupError::Memory) => None,
+        Err(_) => Some(false),
     }
-    Ok(())
 }

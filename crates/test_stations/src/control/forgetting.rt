@@ -1,24 +1,22 @@
-//! A control station that forgets records: what it sends and what it knows of its records stay the
-//! same.
+//! Exchanges of a control station that forgets records: what it sends and what it knows of its
+//! records stay the same.
 
+use crate::control::exchange::Exchange;
 use crate::control::exchange::Step::{
     ForgetsArrived, ForgetsSent, Hears, KeepsHi, Kept, Known, Offered, Release, Spooled, Takes,
 };
-use crate::control::exchange::{Exchange, play_each};
-use crate::control::made_again::stop_each;
 use crate::control::{EMPTY, HI};
 use crate::hearing::SILENCE;
-use std::test::Fail;
-use test_fixtures::lines::setup;
 use test_fixtures::octets::{
     ACK0, ACK1, CALL_POLL_A, CALL_POLL_B, CALL_SELECT_A, ENQ, EOT, TEXT_EMPTY, TEXT_FIRST_SEVEN,
     TEXT_HI, WACK,
 };
 
 /// Records are forgotten during each task.
-const FORGETS: &[Exchange<'static>] = &[
+pub(crate) const FORGETS: &[Exchange<'static>] = &[
     Exchange {
         shows: "records are forgotten, and the next ones are sent and taken as before",
+        tries: 3,
         poll_list: &[0, 1],
         steps: &[
             Takes(0, 0, &[b"HI"]),
@@ -50,6 +48,7 @@ const FORGETS: &[Exchange<'static>] = &[
     },
     Exchange {
         shows: "records are forgotten during a bid",
+        tries: 3,
         poll_list: &[0, 1],
         steps: &[
             Takes(0, 0, &[EMPTY; 8]),
@@ -67,6 +66,7 @@ const FORGETS: &[Exchange<'static>] = &[
     },
     Exchange {
         shows: "a doubt stays when the records before it are forgotten",
+        tries: 3,
         poll_list: &[0, 1],
         steps: &[
             Takes(0, 0, &[b"HI"]),
@@ -83,21 +83,9 @@ const FORGETS: &[Exchange<'static>] = &[
             Hears(SILENCE, CALL_POLL_A),
             ForgetsSent(1),
             Known(1, true),
-            Release(2, Ok(())),
+            Release(2, true),
             Known(2, false),
             Offered(&[EMPTY, HI]),
         ],
     },
 ];
-
-#[test]
-fn a_control_station_forgets_records(rt: HostRuntime) -> Result<(), Fail> {
-    play_each(rt.alloc(), setup(3)?, FORGETS)?;
-    Ok(())
-}
-
-#[test]
-fn a_control_station_that_forgot_records_is_made_again(rt: HostRuntime) -> Result<(), Fail> {
-    stop_each(rt.alloc(), setup(3)?, FORGETS)?;
-    Ok(())
-}

@@ -2,9 +2,10 @@
 
 ghost use Rattle.std.specs.Prelude.{◌≡◌, ◌≤◌, length, IfSome};
 
-use crate::hearing::sends;
-use bsc_bid::{KeptSender, RecallError, ReleaseError, Setup, Station};
+use crate::hearing::has_sent;
+use bsc_bid::{KeptSender, Station};
 use bsc_block::Record;
+use bsc_frame::Wire;
 use bsc_tributary::Tributary;
 use std::alloc::Allocator;
 use test_fixtures::lines::{setup, two_terminals_by_three};
@@ -26,11 +27,11 @@ pub(crate) enum Step<'a> {
     /// What is to be kept: the number of known records, and the records of a doubtful block.
     Kept(usize, Option<usize>),
 
-    /// What was kept, in the same form, is recalled, with this answer.
-    Recalls(usize, Option<usize>, Result<(), RecallError>),
+    /// What was kept, in the same form, is recalled; true if it is accepted.
+    Recalls(usize, Option<usize>, bool),
 
-    /// The record HI is offered; true if it is accepted, false if it is returned unchanged.
-    OfferHi(bool),
+    /// The record of these characters is offered and returned unchanged.
+    GivesBack(&'a [u8]),
 
     /// The terminal accepts selections from now on, or refuses them.
     Ready(bool),
@@ -38,11 +39,11 @@ pub(crate) enum Step<'a> {
     /// The terminal asks for the line.
     AsksForLine,
 
-    /// Whether the terminal sends after a silence.
+    /// Whether the terminal sends after a silence; if so, it is not in control mode.
     HoldsLine(bool),
 
-    /// The doubt is ended with this count, with this answer.
-    Release(usize, Result<(), ReleaseError>),
+    /// The doubt is ended with this count; true if that is accepted.
+    Release(usize, bool),
 
     /// The number of its records known to have arrived, and whether its last block is in doubt.
     Known(usize, bool),
@@ -68,8 +69,37 @@ pub(crate) struct Exchange<'a> {
     /// What the exchange shows.
     pub(crate) shows: &'a str,
 
+    /// The greatest number of failures in a row.
+    pub(crate) tries: u8,
+
     /// The steps with their results.
     pub(crate) steps: &'a [Step<'a>],
+}
+
+/// Lets a terminal hear these octets, or a silence if there are none, and returns whether it reports
+/// that it sends.
+fn hears<A: Allocator>(tributary: &mut Tributary<A>, heard: &[u8], wire: &mut Wire) -> bool
+    requires { tributary.old.queue.format.full ≡ 80 }
+    ensures terminal { tributary.new.terminal ≡ tributary.old.terminal }
+    ensures full { tributary.new.queue.format.full ≡ 80 }
+{
+    if heard.is_empty() {
+        tributary.silence(wire)
+    } else {
+        tributary.hear(heard, wire)
+    }
+}
+
+/// Whether a terminal that hears these octets, or a silence if there are none, sends exactly the
+/// expected ones and reports correctly whether it sends any.
+fn sends<A: Allocator>(tributary: &mut Tributary<A>, heard: &[u8], expected: &[u8]) -> bool
+    requires { tributary.old.queue.format.full ≡ 80 }
+    ensures terminal { tributary.new.terminal ≡ tributary.old.terminal }
+    ensures full { tributary.new.queue.format.full ≡ 80 }
+{
+    let mut wire = Wire::new();
+    let sends = hears(tributary, heard, &mut wire);
+    has_sent(&wire, sends, expected)
 }
 
 /// The record of these characters, at most 80, if they are one.
@@ -79,17 +109,17 @@ fn card(chars: &[u8]) -> Option<Record>
     Record::read(chars, 80).ok()
 }
 
-/// Offers the record HI. Returns whether it is accepted or returned unchanged; None if another
-/// record is returned.
-fn offers_hi<A: Allocator>(tributary: &mut Tributary<A>) -> Option<bool>
+/// Offers a record of at most 80 characters. Returns whether it is accepted or returned unchanged;
+/// None if these characters are no such record, or another record is returned.
+fn offers<A: Allocator>(tributary: &mut Tributary<A>, chars: &[u8]) -> Option<bool>
     requires { tributary.old.queue.format.full ≡ 80 }
     ensures terminal { tributary.new.terminal ≡ tributary.old.terminal }
     ensures full { tributary.new.queue.format.full ≡ 80 }
 {
-    let record = card(b"HI")?;
+    let record = card(chars)?;
     match tributary.offer(record) {
         Ok(()) => Some(true),
-        Err(record) if record.chars() == b"HI".as_slice() => Some(false),
+        Err(record) if record.chars() == chars => Some(false),
         Err(_) => None,
     }
 }
@@ -113,17 +143,13 @@ fn keeps_hi<A: Allocator>(tributary: &mut Tributary<A>, select: usize) -> Option
     }
 }
 
-/// Recalls what was kept, and returns the answer.
-fn recalled<A: Allocator>(
-    tributary: &mut Tributary<A>,
-    known: usize,
-    doubt: Option<usize>,
-) -> Result<(), RecallError>
+/// Recalls what was kept, and returns whether it is accepted.
+fn recalled<A: Allocator>(tributary: &mut Tributary<A>, known: usize, doubt: Option<usize>) -> bool
     requires { tributary.old.queue.format.full ≡ 80 }
     ensures terminal { tributary.new.terminal ≡ tributary.old.terminal }
     ensures full { tributary.new.queue.format.full ≡ 80 }
 {
-    tributary.recall(KeptSender { known, doubt })
+    tributary.recall(KeptSender { known, doubt }).is_ok()
 }
 
 /// Offers these records, and returns whether each is accepted.
@@ -134,10 +160,7 @@ fn takes<A: Allocator>(tributary: &mut Tributary<A>, records: &[&[u8]]) -> bool
     ensures full { tributary.new.queue.format.full ≡ 80 }
 {
     for chars in records {
-        let Ok(record) = Record::read(chars, 80) else {
-            return false;
-        };
-        if tributary.offer(record).is_err() {
+        if offers(tributary, chars) != Some(true) {
             return false;
         }
     }
@@ -179,6 +202,22 @@ fn has_spooled<A: Allocator>(tributary: &Tributary<A>, select: usize, records: &
     select < 2 && are_records(tributary.spool(select).records(), records)
 }
 
+/// Whether this is what is to be kept of the terminal.
+fn keeps<A: Allocator>(tributary: &Tributary<A>, known: usize, doubt: Option<usize>) -> bool {
+    tributary.kept() == KeptSender { known, doubt }
+}
+
+/// Whether this many of its records are known to have arrived, and its last block is in doubt or
+/// not.
+fn knows<A: Allocator>(tributary: &Tributary<A>, known: usize, in_doubt: bool) -> bool {
+    tributary.queue().known() == known && tributary.in_doubt() == in_doubt
+}
+
+/// Whether the terminal holds the line, and is then out of control mode, or does not hold it.
+fn holds<A: Allocator>(tributary: &Tributary<A>, holds: bool) -> bool {
+    tributary.holds_line() == holds && !(holds && tributary.in_control_mode())
+}
+
 /// Plays a step, and returns whether its result is the expected one.
 fn goes<A: Allocator>(tributary: &mut Tributary<A>, step: &Step<'_>) -> bool
     requires selects { length tributary.old.terminal.selects ≡ 2 }
@@ -189,16 +228,10 @@ fn goes<A: Allocator>(tributary: &mut Tributary<A>, step: &Step<'_>) -> bool
     match step {
         Step::Hears(heard, sent) => sends(tributary, heard, sent),
         Step::Takes(records) => takes(tributary, records),
+        Step::GivesBack(chars) => offers(tributary, chars) == Some(false),
         Step::KeepsHi(select, taken) => keeps_hi(tributary, *select) == Some(*taken),
-        Step::Kept(known, doubt) => {
-            let kept = KeptSender {
-                known: *known,
-                doubt: *doubt,
-            };
-            tributary.kept() == kept
-        }
+        Step::Kept(known, doubt) => keeps(tributary, *known, *doubt),
         Step::Recalls(known, doubt, answer) => recalled(tributary, *known, *doubt) == *answer,
-        Step::OfferHi(taken) => offers_hi(tributary) == Some(*taken),
         Step::Ready(ready) => {
             tributary.set_ready(*ready);
             true
@@ -207,11 +240,9 @@ fn goes<A: Allocator>(tributary: &mut Tributary<A>, step: &Step<'_>) -> bool
             tributary.set_urgent();
             true
         }
-        Step::HoldsLine(holds) => tributary.holds_line() == *holds,
-        Step::Release(count, answer) => tributary.release(*count) == *answer,
-        Step::Known(known, in_doubt) => {
-            (tributary.queue().known(), tributary.in_doubt()) == (*known, *in_doubt)
-        }
+        Step::HoldsLine(expected) => holds(tributary, *expected),
+        Step::Release(count, answer) => tributary.release(*count).is_ok() == *answer,
+        Step::Known(known, in_doubt) => knows(tributary, *known, *in_doubt),
         Step::ForgetsSent(count) => forgets_sent(tributary, *count),
         Step::ForgetsArrived(select, count) => forgets_arrived(tributary, *select, *count),
         Step::Offered(records) => are_records(tributary.queue().offered(), records),
@@ -219,51 +250,26 @@ fn goes<A: Allocator>(tributary: &mut Tributary<A>, step: &Step<'_>) -> bool
     }
 }
 
-/// The place of the first step with another result.
-pub(crate) fn wrong_step<A: Allocator>(
-    tributary: &mut Tributary<A>,
-    steps: &[Step<'_>],
-) -> Option<usize>
+/// Plays these steps, and returns whether the result of each is the expected one.
+fn go<A: Allocator>(tributary: &mut Tributary<A>, steps: &[Step<'_>]) -> bool
     requires selects { length tributary.old.terminal.selects ≡ 2 }
     requires full { tributary.old.queue.format.full ≡ 80 }
-    ensures selects { length tributary.new.terminal.selects ≡ 2 }
-    ensures full { tributary.new.queue.format.full ≡ 80 }
 {
-    for (place, step) in steps.iter().enumerate() {
+    for step in steps {
         if !goes(tributary, step) {
-            return Some(place);
+            return false;
         }
     }
-    None
+    true
 }
 
-/// Plays an exchange on a new terminal, and returns the place of the first step with another
-/// result.
-pub(crate) fn play<A: Allocator + Copy>(
-    alloc: A,
-    setup: Setup,
-    exchange: &Exchange<'_>,
-) -> Option<usize>
-    requires { setup.format.full ≡ 80 }
-{
+/// Plays an exchange on a new terminal, and returns whether the result of each step is the expected
+/// one.
+pub(crate) fn play<A: Allocator + Copy>(alloc: A, exchange: &Exchange<'_>) -> bool {
+    let Ok(setup) = setup(exchange.tries) else {
+        return false;
+    };
     let [terminal, _] = two_terminals_by_three();
     let mut tributary = Tributary::new(alloc, setup, terminal);
-    wrong_step(&mut tributary, exchange.steps)
-}
-
-/// Plays these exchanges. Returns what the first one with another result shows, and the place of
-/// the step.
-pub(crate) fn play_each<'a, A: Allocator + Copy>(
-    alloc: A,
-    setup: Setup,
-    exchanges: &[Exchange<'a>],
-) -> Result<(), (&'a str, usize)>
-    requires { setup.format.full ≡ 80 }
-{
-    for exchange in exchanges {
-        if let Some(place) = play(alloc, setup, exchange) {
-            return Err((exchange.shows, place));
-        }
-    }
-    Ok(())
+    go(&mut tributary, exchange.steps)
 }

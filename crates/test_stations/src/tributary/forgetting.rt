@@ -1,23 +1,22 @@
-//! A terminal that forgets records: what it sends and what it knows of its records stay the same.
+//! Exchanges of a terminal that forgets records: what it sends and what it knows of its records stay
+//! the same.
 
 use crate::hearing::{QUIET, SILENCE};
+use crate::tributary::exchange::Exchange;
 use crate::tributary::exchange::Step::{
     ForgetsArrived, ForgetsSent, Hears, KeepsHi, Kept, Known, Offered, Release, Spooled, Takes,
 };
-use crate::tributary::exchange::{Exchange, play_each};
-use crate::tributary::made_again::stop_each;
 use crate::tributary::{EMPTY, HI};
-use std::test::Fail;
-use test_fixtures::lines::setup;
 use test_fixtures::octets::{
     ACK0, ACK1, CALL_POLL_A, CALL_SELECT_A, CALL_SELECT_C, ENQ, EOT, NAK, TEXT_EMPTY,
     TEXT_FIRST_SEVEN, TEXT_HI,
 };
 
 /// Records are forgotten in each mode.
-const FORGETS: &[Exchange<'static>] = &[
+pub(crate) const FORGETS: &[Exchange<'static>] = &[
     Exchange {
         shows: "records that were sent are forgotten, and the next ones are sent as before",
+        tries: 3,
         steps: &[
             Takes(&[b"HI"]),
             Hears(CALL_POLL_A, TEXT_HI),
@@ -41,6 +40,7 @@ const FORGETS: &[Exchange<'static>] = &[
     },
     Exchange {
         shows: "records are forgotten during a bid",
+        tries: 3,
         steps: &[
             Takes(&[EMPTY; 8]),
             ForgetsSent(0),
@@ -58,6 +58,7 @@ const FORGETS: &[Exchange<'static>] = &[
     },
     Exchange {
         shows: "a doubt stays when the records before it are forgotten",
+        tries: 3,
         steps: &[
             Takes(&[b"HI"]),
             Hears(CALL_POLL_A, TEXT_HI),
@@ -67,16 +68,17 @@ const FORGETS: &[Exchange<'static>] = &[
             Hears(EOT, QUIET),
             ForgetsSent(1),
             Known(1, true),
-            Release(1, Ok(())),
+            Release(1, true),
             Hears(CALL_POLL_A, TEXT_HI),
             Hears(EOT, QUIET),
-            Release(2, Ok(())),
+            Release(2, true),
             Known(2, false),
             Offered(&[EMPTY, HI]),
         ],
     },
     Exchange {
         shows: "records that arrived are forgotten at their address, and more arrive",
+        tries: 3,
         steps: &[
             Hears(CALL_SELECT_A, ACK0),
             Hears(TEXT_HI, ACK1),
@@ -96,15 +98,3 @@ const FORGETS: &[Exchange<'static>] = &[
         ],
     },
 ];
-
-#[test]
-fn a_terminal_forgets_records(rt: HostRuntime) -> Result<(), Fail> {
-    play_each(rt.alloc(), setup(3)?, FORGETS)?;
-    Ok(())
-}
-
-#[test]
-fn a_terminal_that_forgot_records_is_made_again(rt: HostRuntime) -> Result<(), Fail> {
-    stop_each(rt.alloc(), setup(3)?, FORGETS)?;
-    Ok(())
-}

@@ -1,9 +1,9 @@
 -- The terminal still has two selection addresses, and records of up to 80 characters.
 use Rattle.std.proofs.Common.{◌≡◌, length}
-use Rattle.test_stations.proofs.tributary.made_again.takes_offers.Given as goal
+use Rattle.test_stations.proofs.tributary.exchange.go.Given as goal
 
-abbrev pub invariant-loop-place : goal.invariant-loop-place
-invariant-loop-place g l =
+abbrev pub invariant-loop-step : goal.invariant-loop-step
+invariant-loop-step g l =
     record {
       selects : length l.tributary.terminal.selects ≡ 2;
       full : l.tributary.queue.format.full ≡ 80;
