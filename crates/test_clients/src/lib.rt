@@ -8,8 +8,6 @@ mod listening;
 #[cfg(test)]
 mod paths;
 #[cfg(test)]
-mod programs;
-#[cfg(test)]
-mod reaching;
+mod scenes;
 #[cfg(test)]
 mod station;

@@ -1,11 +1,10 @@
 //! A station that listens for programs, and waits until one may have to be served.
 
-use bsc_clients::{Clients, ClientsError, ServedAt, Stream};
-use bsc_serving::{Called, Programs};
+use bsc_clients::{Clients, ClientsError, Reached, ServedAt, Stream, reach};
+use bsc_serving::Programs;
 use mio::unix::SourceFd;
 use mio::{Events, Interest, Poll, Token};
-use std::alloc::Global;
-use std::fmt;
+use std::alloc::{AllocError, Global};
 use std::io::{ErrorKind, Read, Write};
 use std::net::{SocketAddr, TcpStream};
 use std::test::Fail;
@@ -41,103 +40,39 @@ impl<'a> Station<'a> {
         })
     }
 
-    /// The address at which it listens.
-    pub(crate) fn address(&self) -> Result<SocketAddr, Fail> {
-        match self.clients.address() {
-            Some(address) => Ok(address),
-            None => Err(Fail::new("no address")),
-        }
-    }
-
-    /// Whether the descriptor is reported within this time.
+    /// Whether the descriptor is reported within this time. If it is, the station asks what has
+    /// happened.
     pub(crate) fn is_called_within(&mut self, time: Duration) -> Result<bool, Fail> {
         self.poll.poll(&mut self.events, Some(time))?;
-        Ok(!self.events.is_empty())
-    }
-
-    /// Waits until the descriptor is reported, at most ten seconds, and asks what has happened.
-    pub(crate) fn waits(&mut self) -> Result<(), Fail> {
-        if !self.is_called_within(Duration::from_secs(10))? {
-            return Err(Fail::new("nothing happens"));
+        let is_called = !self.events.is_empty();
+        if is_called {
+            self.clients.ask();
         }
-        self.clients.ask();
-        Ok(())
-    }
-
-    /// Waits for the only program that connects, and takes it at this place.
-    pub(crate) fn takes(&mut self, place: usize) -> Result<Stream, Fail> {
-        self.waits()?;
-        if self.clients.next() != Some(Called::Newcomer) {
-            return Err(Fail::new("no newcomer"));
-        }
-        match (self.clients.accept(place), self.clients.accept(place)) {
-            (Some(stream), None) => Ok(stream),
-            _ => Err(Fail::new("not one newcomer")),
-        }
+        Ok(is_called)
     }
 }
 
-/// A station at any free port, and a program that has connected to it, as the station was told.
-pub(crate) fn connected(rt: &HostRuntime) -> Result<(Station<'_>, TcpStream), Fail> {
-    let mut station = Station::listens(rt, LOCAL)?;
-    let program = TcpStream::connect(rt, station.address()?)?;
-    station.waits()?;
-    Ok((station, program))
+/// Connects a program to a station that listens there, at the path or else at the address.
+pub(crate) fn connects(
+    rt: &HostRuntime,
+    address: Option<SocketAddr>,
+    path: &str,
+) -> Result<Reached<TcpStream>, Fail> {
+    let patience = Duration::from_secs(10);
+    let Some(address) = address else {
+        return Ok(reach(rt, rt.alloc(), ServedAt::Path { path }, patience)?);
+    };
+    let text = text_of(rt.alloc(), address)?;
+    let at = ServedAt::Address {
+        address: &text,
+        anyone: true,
+    };
+    Ok(reach(rt, rt.alloc(), at, patience)?)
 }
 
-/// Whether all that is told of the programs of a station is this.
-pub(crate) fn is_told<P: Programs>(programs: &mut P, called: &[Called]) -> bool {
-    let mut expected = called.iter();
-    for _ in 0..=called.len() {
-        if programs.next() != expected.next().copied() {
-            return false;
-        }
-    }
-    true
-}
-
-/// Whether the only program that has connected can be taken at this place, and no other one.
-pub(crate) fn takes_one<P: Programs>(programs: &mut P, place: usize) -> bool {
-    programs.accept(place).is_some() && programs.accept(place).is_none()
-}
-
-/// Sends these octets, and returns whether they were taken.
-pub(crate) fn sends<W: Write>(stream: &mut W, octets: &[u8]) -> bool {
-    stream.write_all(octets).is_ok() && stream.flush().is_ok()
-}
-
-/// Whether a read finds nothing yet.
-pub(crate) fn hears_nothing<R: Read>(stream: &mut R) -> bool {
-    reads(stream, &mut [0u8; 4]) == Err(ErrorKind::WouldBlock)
-}
-
-/// Whether a read gives the end.
-pub(crate) fn hears_the_end<R: Read>(stream: &mut R) -> bool {
-    reads(stream, &mut [0u8; 4]) == Ok(0)
-}
-
-/// Whether a program that is turned away is told why, and nothing else before its connection ends.
-pub(crate) fn is_told_why<R: Read>(alloc: Global, program: &mut R) -> Result<bool, Fail> {
-    let mut told = Vec::new(alloc);
-    program.read_to_end(&mut told)?;
-    Ok(told.as_slice() == b"fault every place is taken\n".as_slice())
-}
-
-/// What a read gives: how many octets, or the kind of the error.
-pub(crate) fn reads<R: Read>(stream: &mut R, buffer: &mut [u8]) -> Result<usize, ErrorKind> {
-    match stream.read(buffer) {
-        Ok(count) => Ok(count),
-        Err(error) => Err(error.kind()),
-    }
-}
-
-/// Whether a read gives these octets, 16 at most.
-pub(crate) fn hears<R: Read>(stream: &mut R, octets: &[u8]) -> bool {
-    let mut buffer = [0u8; 16];
-    match stream.read(&mut buffer) {
-        Ok(count) => buffer.get(..count) == Some(octets),
-        Err(_) => false,
-    }
+/// Why a program does not reach a station there, if it does not.
+pub(crate) fn unreached(rt: &HostRuntime, at: ServedAt<'_>) -> Option<ClientsError> {
+    reach(rt, rt.alloc(), at, Duration::from_secs(10)).err()
 }
 
 /// Why a station cannot listen there, if it cannot.
@@ -146,8 +81,38 @@ pub(crate) fn refused(rt: &HostRuntime, at: ServedAt<'_>) -> Option<ClientsError
 }
 
 /// The text of an address.
-pub(crate) fn text_of(rt: &HostRuntime, address: SocketAddr) -> Result<String, Fail> {
-    let mut text = String::new(rt.alloc());
-    write!(text, "{address}")?;
-    Ok(text)
+pub(crate) fn text_of(alloc: Global, address: SocketAddr) -> Result<String, AllocError> {
+    format!(in alloc; "{address}")
+}
+
+/// Sends these octets, and returns whether they were taken.
+pub(crate) fn sends<W: Write>(stream: &mut W, octets: &[u8]) -> bool {
+    stream.write_all(octets).is_ok() && stream.flush().is_ok()
+}
+
+/// Whether a read finds nothing yet.
+pub(crate) fn hears_nothing(stream: &mut Stream) -> bool {
+    match stream.read(&mut [0u8; 4]) {
+        Ok(_) => false,
+        Err(error) => error.kind() == ErrorKind::WouldBlock,
+    }
+}
+
+/// Whether a read gives these octets, 32 at most.
+pub(crate) fn hears<R: Read>(stream: &mut R, octets: &[u8]) -> bool {
+    let mut buffer = [0u8; 32];
+    match stream.read(&mut buffer) {
+        Ok(count) => buffer.get(..count) == Some(octets),
+        Err(_) => false,
+    }
+}
+
+/// Why a write fails at last, when nobody reads what is written.
+pub(crate) fn fails_at_last<W: Write>(stream: &mut W) -> Option<ErrorKind> {
+    for _ in 0..100_000u32 {
+        if let Err(error) = stream.write(&[b'x'; 4_096]) {
+            return Some(error.kind());
+        }
+    }
+    None
 }

@@ -2,6 +2,8 @@
 #![tactic(auto)]
 
 #[cfg(test)]
+mod scenes;
+#[cfg(test)]
 mod sessions;
 mod station;
 

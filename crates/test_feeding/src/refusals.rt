@@ -1,119 +1,105 @@
-//! Reads and writes that give little, or fail.
+//! Reads and writes that fail, and a line that is too long.
 
-use crate::station::{Short, Slow, words_of};
-use bsc_feeding::{FeedError, feed};
+use crate::station::{FREE, Session, play};
+use bsc_feeding::FeedError;
 use bsc_input::MAX_INPUT;
-use std::alloc::Global;
 use std::test::Fail;
 
-/// How it ends, and how much is sent and printed, if the input and the station give one octet at a
-/// time, and the station and the output take this many octets, one at a time.
-#[derive(Clone, Copy)]
-struct Limits {
-    input_fails: bool,
-    heard_fails: bool,
-    said: usize,
-    out: usize,
-}
-
-/// Nothing fails.
-const FREE: Limits = Limits {
-    input_fails: false,
-    heard_fails: false,
-    said: 100,
-    out: 100,
+/// A session of two commands that are answered.
+const TWO: Session<'static> = Session {
+    shows: "two commands are sent, and their answers printed",
+    input: b"urgent\nstop\n",
+    heard: b"ok\nok\n",
+    said: b"urgent\nstop\n",
+    out: b"ok\nok\n",
+    ..FREE
 };
 
-fn ended(alloc: Global, limits: Limits, heard: &str) -> Result<Result<(), FeedError>, Fail> {
-    let mut input = Slow {
-        left: b"urgent\nstop\n",
-        fails: limits.input_fails,
-    };
-    let mut heard = Slow {
-        left: heard.as_bytes(),
-        fails: limits.heard_fails,
-    };
-    let mut said = Short {
-        taken: Vec::new(alloc),
-        room: limits.said,
-    };
-    let mut out = Short {
-        taken: Vec::new(alloc),
-        room: limits.out,
-    };
-    let words = words_of(alloc, &[])?;
-    Ok(feed(alloc, &words, &mut input, &mut heard, &mut said, &mut out))
-}
+/// A session whose output fails.
+const UNPRINTED: Session<'static> = Session {
+    shows: "an output that fails is told",
+    ended: Err(FeedError::Output),
+    ..TWO
+};
 
-#[test]
-fn one_octet_at_a_time_is_enough(rt: HostRuntime) -> Result<(), Fail> {
-    assert_eq!(rt; ended(rt.alloc(), FREE, "ok\nok\n")?, Ok(()));
-    Ok(())
-}
+/// A session whose station hears only the beginning of a command.
+const UNHEARD: Session<'static> = Session {
+    shows: "a station that hears nothing has closed the connection",
+    said_room: 3,
+    heard: b"",
+    said: b"urg",
+    out: b"",
+    ended: Err(FeedError::Closed),
+    ..TWO
+};
 
-#[test]
-fn an_input_that_fails_is_told(rt: HostRuntime) -> Result<(), Fail> {
-    let limits = Limits {
+const FAULTS: &[Session<'static>] = &[
+    Session {
+        shows: "an input that fails is told",
         input_fails: true,
-        ..FREE
-    };
-    assert_eq!(rt;
-        ended(rt.alloc(), limits, "ok\nok\n")?,
-        Err(FeedError::Input)
-    );
-    Ok(())
-}
-
-#[test]
-fn a_connection_that_fails_is_closed(rt: HostRuntime) -> Result<(), Fail> {
-    let limits = Limits {
+        ended: Err(FeedError::Input),
+        ..TWO
+    },
+    Session {
+        shows: "a connection that fails is closed",
+        heard: b"ok\n",
         heard_fails: true,
-        ..FREE
-    };
-    assert_eq!(rt; ended(rt.alloc(), limits, "ok\n")?, Err(FeedError::Closed));
-    Ok(())
-}
+        out: b"ok\n",
+        ended: Err(FeedError::Closed),
+        ..TWO
+    },
+    UNHEARD,
+    Session {
+        shows: "an answer of a station that hears nothing is printed",
+        heard: b"ok\n",
+        out: b"ok\n",
+        ..UNHEARD
+    },
+    Session {
+        shows: "what a station said that hears nothing is printed, which may be why",
+        heard: b"fault every place is taken\n",
+        out: b"fault every place is taken\n",
+        ended: Err(FeedError::Refused),
+        ..UNHEARD
+    },
+    Session {
+        out_room: 0,
+        said: b"urgent\n",
+        out: b"",
+        ..UNPRINTED
+    },
+    Session {
+        out_room: 2,
+        said: b"urgent\n",
+        out: b"ok",
+        ..UNPRINTED
+    },
+    Session {
+        out_room: 3,
+        out: b"ok\n",
+        ..UNPRINTED
+    },
+    Session {
+        out_room: 5,
+        out: b"ok\nok",
+        ..UNPRINTED
+    },
+    Session { out_room: 6, ..TWO },
+];
 
-/// A station that has closed the connection may have said why.
 #[test]
-fn what_a_station_said_that_hears_nothing_is_printed(rt: HostRuntime) -> Result<(), Fail> {
-    let limits = Limits { said: 3, ..FREE };
-    let heard = "fault every place is taken\n";
-    assert_eq!(rt; ended(rt.alloc(), limits, heard)?, Err(FeedError::Refused));
-    assert_eq!(rt; ended(rt.alloc(), limits, "ok\n")?, Err(FeedError::Closed));
-    assert_eq!(rt; ended(rt.alloc(), limits, "")?, Err(FeedError::Closed));
-    Ok(())
-}
-
-#[test]
-fn an_output_that_fails_is_told(rt: HostRuntime) -> Result<(), Fail> {
-    for out in 0..6usize {
-        let limits = Limits { out, ..FREE };
-        assert_eq!(rt;
-            ended(rt.alloc(), limits, "ok\nok\n")?,
-            Err(FeedError::Output)
-        );
-    }
-    let limits = Limits { out: 6, ..FREE };
-    assert_eq!(rt; ended(rt.alloc(), limits, "ok\nok\n")?, Ok(()));
-    Ok(())
+fn a_read_or_a_write_that_fails_is_told(rt: HostRuntime) -> Result<(), Fail> {
+    play(rt.alloc(), FAULTS)
 }
 
 #[test]
 fn a_line_that_is_too_long_is_told(rt: HostRuntime) -> Result<(), Fail> {
     let input = Vec::from_elem(rt.alloc(), b'x', MAX_INPUT + 1)?;
-    let words = words_of(rt.alloc(), &[])?;
-    let (mut said, mut out) = (Vec::new(rt.alloc()), Vec::new(rt.alloc()));
-    let heard = b"";
-    let ended = feed(
-        rt.alloc(),
-        &words,
-        &mut &input[..],
-        &mut &heard[..],
-        &mut said,
-        &mut out,
-    );
-    assert_eq!(rt; ended, Err(FeedError::TooLong));
-    assert!(rt; said.is_empty());
-    Ok(())
+    let session = Session {
+        shows: "nothing is sent of a line that is too long",
+        input: &input,
+        ended: Err(FeedError::TooLong),
+        ..FREE
+    };
+    play(rt.alloc(), &[session])
 }

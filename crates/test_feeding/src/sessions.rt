@@ -1,91 +1,122 @@
 //! What is sent, and what is printed.
 
-use crate::station::feeds;
+use crate::station::{FREE, Session, play};
 use bsc_feeding::FeedError;
 use std::test::Fail;
 
-#[test]
-fn each_line_of_the_input_is_a_command(rt: HostRuntime) -> Result<(), Fail> {
-    let heard = "to 0.0: offered 0, known 0\nok\nok\n";
-    let fed = feeds(rt.alloc(), &[], "status\r\n\n# a line\n\r\r\nstop", heard)?;
-    assert!(rt; fed.is(Ok(()), "status\nstop\n", heard));
-    Ok(())
-}
+const SESSIONS: &[Session<'static>] = &[
+    Session {
+        shows: "each line of the input is a command",
+        input: b"status\r\n\n# a line\n\r\r\nstop",
+        heard: b"to 0.0: offered 0, known 0\nok\nok\n",
+        said: b"status\nstop\n",
+        out: b"to 0.0: offered 0, known 0\nok\nok\n",
+        ..FREE
+    },
+    Session {
+        shows: "the words are one command",
+        words: &["offer", "to", "0.1", "GOOD", "DAY"],
+        input: b"not read\n",
+        heard: b"ok 3\nmore\n",
+        said: b"offer to 0.1 GOOD DAY\n",
+        out: b"ok 3\n",
+        ..FREE
+    },
+    Session {
+        shows: "a word with a space is part of the command",
+        words: &["ready on"],
+        heard: b"ok\n",
+        said: b"ready on\n",
+        out: b"ok\n",
+        ..FREE
+    },
+    Session {
+        shows: "an offer without a text takes each line",
+        words: &["offer", "from", "0"],
+        input: b"A\n\n# B\r\nC",
+        heard: b"ok 0\nok 1\nok 2\nok 3\n",
+        said: b"offer from 0 A\noffer from 0 \noffer from 0 # B\noffer from 0 C\n",
+        out: b"ok 0\nok 1\nok 2\nok 3\n",
+        ..FREE
+    },
+    Session {
+        shows: "an offer in hexadecimal digits takes each line",
+        words: &["offer-hex", "to 0.1"],
+        input: b"C1C2\n",
+        heard: b"ok 7\n",
+        said: b"offer-hex to 0.1 C1C2\n",
+        out: b"ok 7\n",
+        ..FREE
+    },
+    Session {
+        shows: "an offer of the empty text takes no line",
+        words: &["offer to 0 "],
+        input: b"A\n",
+        heard: b"ok 0\n",
+        said: b"offer to 0 \n",
+        out: b"ok 0\n",
+        ..FREE
+    },
+    Session {
+        shows: "nothing is sent for an empty input",
+        ..FREE
+    },
+    Session {
+        shows: "nothing is offered for an empty input",
+        words: &["offer", "to", "0"],
+        ..FREE
+    },
+    Session {
+        shows: "words that are a comment are not sent",
+        words: &["# a comment"],
+        input: b"stop\n",
+        ..FREE
+    },
+    Session {
+        shows: "the first fault ends it",
+        input: b"urgent\nstop\nstatus\n",
+        heard: b"ok\narrived from 0 1 ok\nfault no such channel\nok\n",
+        said: b"urgent\nstop\n",
+        out: b"ok\narrived from 0 1 ok\nfault no such channel\n",
+        ended: Err(FeedError::Refused),
+        ..FREE
+    },
+    Session {
+        shows: "what is followed is printed until the end, but for a line without its end",
+        words: &["follow", "from", "0", "0"],
+        heard: b"ok\narrived from 0 0 HELLO\ndelivered to 0.0 1\narri",
+        said: b"follow from 0 0\n",
+        out: b"ok\narrived from 0 0 HELLO\ndelivered to 0.0 1\n",
+        ..FREE
+    },
+    Session {
+        shows: "what is followed is printed after the last answer, until a fault",
+        input: b"follow from 0\nurgent\n",
+        heard: b"ok\nok\nfault x\nok\n",
+        said: b"follow from 0\nurgent\n",
+        out: b"ok\nok\nfault x\n",
+        ended: Err(FeedError::Refused),
+        ..FREE
+    },
+    Session {
+        shows: "a station that closes before its answer is told",
+        input: b"stop\nstatus\n",
+        heard: b"ok\nto 0",
+        said: b"stop\nstatus\n",
+        out: b"ok\n",
+        ended: Err(FeedError::Closed),
+        ..FREE
+    },
+    Session {
+        shows: "a command has one line",
+        words: &["status\nstop"],
+        heard: b"ok\nok\n",
+        ended: Err(FeedError::NotOneLine),
+        ..FREE
+    },
+];
 
 #[test]
-fn the_words_are_one_command(rt: HostRuntime) -> Result<(), Fail> {
-    let words = ["offer", "to", "0.1", "GOOD", "DAY"];
-    let fed = feeds(rt.alloc(), &words, "not read\n", "ok 3\nmore\n")?;
-    assert!(rt; fed.is(Ok(()), "offer to 0.1 GOOD DAY\n", "ok 3\n"));
-    let fed = feeds(rt.alloc(), &["ready on"], "", "ok\n")?;
-    assert!(rt; fed.is(Ok(()), "ready on\n", "ok\n"));
-    Ok(())
-}
-
-#[test]
-fn an_offer_without_a_text_takes_each_line(rt: HostRuntime) -> Result<(), Fail> {
-    let fed = feeds(
-        rt.alloc(),
-        &["offer", "from", "0"],
-        "A\n\n# B\r\nC",
-        "ok 0\nok 1\nok 2\nok 3\n",
-    )?;
-    let said = "offer from 0 A\noffer from 0 \noffer from 0 # B\noffer from 0 C\n";
-    assert!(rt; fed.is(Ok(()), said, "ok 0\nok 1\nok 2\nok 3\n"));
-    let fed = feeds(rt.alloc(), &["offer-hex", "to 0.1"], "C1C2\n", "ok 7\n")?;
-    assert!(rt; fed.is(Ok(()), "offer-hex to 0.1 C1C2\n", "ok 7\n"));
-    let fed = feeds(rt.alloc(), &["offer to 0 "], "A\n", "ok 0\n")?;
-    assert!(rt; fed.is(Ok(()), "offer to 0 \n", "ok 0\n"));
-    Ok(())
-}
-
-#[test]
-fn nothing_is_sent_for_an_empty_input(rt: HostRuntime) -> Result<(), Fail> {
-    let fed = feeds(rt.alloc(), &[], "", "")?;
-    assert!(rt; fed.is(Ok(()), "", ""));
-    let fed = feeds(rt.alloc(), &["offer", "to", "0"], "", "")?;
-    assert!(rt; fed.is(Ok(()), "", ""));
-    let fed = feeds(rt.alloc(), &["# a comment"], "stop\n", "")?;
-    assert!(rt; fed.is(Ok(()), "", ""));
-    Ok(())
-}
-
-#[test]
-fn the_first_fault_ends_it(rt: HostRuntime) -> Result<(), Fail> {
-    let heard = "ok\narrived from 0 1 ok\nfault no such channel\nok\n";
-    let fed = feeds(rt.alloc(), &[], "urgent\nstop\nstatus\n", heard)?;
-    let out = "ok\narrived from 0 1 ok\nfault no such channel\n";
-    assert!(rt; fed.is(Err(FeedError::Refused), "urgent\nstop\n", out));
-    Ok(())
-}
-
-#[test]
-fn what_is_followed_is_printed_until_the_end(rt: HostRuntime) -> Result<(), Fail> {
-    let heard = "ok\narrived from 0 0 HELLO\ndelivered to 0.0 1\narri";
-    let fed = feeds(rt.alloc(), &["follow", "from", "0", "0"], "", heard)?;
-    let out = "ok\narrived from 0 0 HELLO\ndelivered to 0.0 1\n";
-    assert!(rt; fed.is(Ok(()), "follow from 0 0\n", out));
-    let fed = feeds(
-        rt.alloc(),
-        &[],
-        "follow from 0\nurgent\n",
-        "ok\nok\nfault x\nok\n",
-    )?;
-    let said = "follow from 0\nurgent\n";
-    assert!(rt; fed.is(Err(FeedError::Refused), said, "ok\nok\nfault x\n"));
-    Ok(())
-}
-
-#[test]
-fn a_station_that_closes_before_its_answer_is_told(rt: HostRuntime) -> Result<(), Fail> {
-    let fed = feeds(rt.alloc(), &[], "stop\nstatus\n", "ok\nto 0")?;
-    assert!(rt; fed.is(Err(FeedError::Closed), "stop\nstatus\n", "ok\n"));
-    Ok(())
-}
-
-#[test]
-fn a_command_has_one_line(rt: HostRuntime) -> Result<(), Fail> {
-    let fed = feeds(rt.alloc(), &["status\nstop"], "", "ok\nok\n")?;
-    assert!(rt; fed.is(Err(FeedError::NotOneLine), "", ""));
-    Ok(())
+fn a_station_is_fed(rt: HostRuntime) -> Result<(), Fail> {
+    play(rt.alloc(), SESSIONS)
 }

@@ -6,16 +6,91 @@ use std::io;
 use std::io::{ErrorKind, Read, Write};
 use std::test::Fail;
 
-/// What was sent to the station and what was printed, and how it ended.
-#[derive(Drop)]
-pub(crate) struct Session {
-    pub(crate) said: Vec<u8>,
-    pub(crate) out: Vec<u8>,
+/// The words and the input of a session, what the station says before it closes the connection, and
+/// what has to come of it.
+#[derive(Clone, Copy)]
+pub(crate) struct Session<'a> {
+    /// What the session shows.
+    pub(crate) shows: &'a str,
+
+    pub(crate) words: &'a [&'a str],
+    pub(crate) input: &'a [u8],
+
+    /// Whether the input fails after that, and does not end.
+    pub(crate) input_fails: bool,
+
+    pub(crate) heard: &'a [u8],
+
+    /// Whether the connection fails after that.
+    pub(crate) heard_fails: bool,
+
+    /// The number of octets that the station takes before a write to it fails.
+    pub(crate) said_room: usize,
+
+    /// The number of octets that the output takes before a write to it fails.
+    pub(crate) out_room: usize,
+
+    /// What was sent to the station.
+    pub(crate) said: &'a [u8],
+
+    /// What was printed.
+    pub(crate) out: &'a [u8],
     pub(crate) ended: Result<(), FeedError>,
 }
 
+/// A session without words, in which nothing is said and nothing fails.
+pub(crate) const FREE: Session<'static> = Session {
+    shows: "",
+    words: &[],
+    input: b"",
+    input_fails: false,
+    heard: b"",
+    heard_fails: false,
+    said_room: 100,
+    out_room: 100,
+    said: b"",
+    out: b"",
+    ended: Ok(()),
+};
+
+/// Fails unless each session goes as it says, if the input and the station give one octet at a time
+/// and if they give all at once.
+pub(crate) fn play(alloc: Global, sessions: &[Session<'_>]) -> Result<(), Fail> {
+    for session in sessions {
+        if !goes(alloc, session, 1)? || !goes(alloc, session, 4_096)? {
+            return Err(Fail::new(session.shows));
+        }
+    }
+    Ok(())
+}
+
+/// Whether a session goes as it says, if the input and the station give this many octets at a time.
+fn goes(alloc: Global, session: &Session<'_>, piece: usize) -> Result<bool, Fail> {
+    let words = words_of(alloc, session.words)?;
+    let mut input = Gives {
+        left: session.input,
+        piece,
+        fails: session.input_fails,
+    };
+    let mut heard = Gives {
+        left: session.heard,
+        piece,
+        fails: session.heard_fails,
+    };
+    let mut said = Takes {
+        taken: Vec::new(alloc),
+        room: session.said_room,
+    };
+    let mut out = Takes {
+        taken: Vec::new(alloc),
+        room: session.out_room,
+    };
+    let ended = feed(alloc, &words, &mut input, &mut heard, &mut said, &mut out);
+    Ok(ended == session.ended && said.took(session.said) && out.took(session.out))
+}
+
 /// The words of the command.
-pub(crate) fn words_of(alloc: Global, words: &[&str]) -> Result<Vec<String>, Fail> {
+fn words_of(alloc: Global, words: &[&str]) -> Result<Vec<String>, Fail> {
     let mut given = Vec::new(alloc);
     for word in words {
         given.push(String::from_str(alloc, word)?)?;
@@ -23,66 +98,46 @@ pub(crate) fn words_of(alloc: Global, words: &[&str]) -> Result<Vec<String>, Fai
     Ok(given)
 }
 
-/// Feeds a station with these words and this input. The station says this, and then closes the
-/// connection.
-pub(crate) fn feeds(
-    alloc: Global,
-    words: &[&str],
-    input: &str,
-    heard: &str,
-) -> Result<Session, Fail> {
-    let given = words_of(alloc, words)?;
-    let (mut said, mut out) = (Vec::new(alloc), Vec::new(alloc));
-    let ended = feed(
-        alloc,
-        &given,
-        &mut input.as_bytes(),
-        &mut heard.as_bytes(),
-        &mut said,
-        &mut out,
-    );
-    Ok(Session { said, out, ended })
-}
-
-impl Session {
-    /// Whether it ended so, after this was sent and this printed.
-    pub(crate) fn is(&self, ended: Result<(), FeedError>, said: &str, out: &str) -> bool {
-        self.ended == ended && &self.said[..] == said.as_bytes() && &self.out[..] == out.as_bytes()
-    }
-}
-
-/// Gives these octets one at a time, and then ends or fails.
+/// Gives these octets, at most `piece` at a time, and then ends or fails.
 #[derive(Drop)]
-pub(crate) struct Slow<'a> {
-    pub(crate) left: &'a [u8],
-    pub(crate) fails: bool,
+struct Gives<'a> {
+    left: &'a [u8],
+    piece: usize,
+    fails: bool,
 }
 
-impl Read for Slow<'_> {
+impl Read for Gives<'_> {
     fn read(&mut self, buffer: &mut [u8]) -> io::Result<usize> {
-        let Some((first, rest)) = self.left.split_first() else {
-            if self.fails {
-                return Err(io::Error::from(ErrorKind::ConnectionReset));
-            }
-            return Ok(0);
-        };
-        if buffer.is_empty() {
-            return Ok(0);
+        if self.left.is_empty() && self.fails {
+            return Err(io::Error::from(ErrorKind::ConnectionReset));
         }
-        buffer[0] = *first;
-        self.left = rest;
-        Ok(1)
+        let mut piece = self.left;
+        if let Some(first) = self.left.get(..self.piece) {
+            piece = first;
+        }
+        let count = piece.read(buffer)?;
+        if let Some(rest) = self.left.get(count..) {
+            self.left = rest;
+        }
+        Ok(count)
     }
 }
 
 /// Takes this many octets, one at a time, and then fails.
 #[derive(Drop)]
-pub(crate) struct Short {
-    pub(crate) taken: Vec<u8>,
-    pub(crate) room: usize,
+struct Takes {
+    taken: Vec<u8>,
+    room: usize,
 }
 
-impl Write for Short {
+impl Takes {
+    /// Whether it has taken these octets.
+    fn took(&self, octets: &[u8]) -> bool {
+        &self.taken[..] == octets
+    }
+}
+
+impl Write for Takes {
     fn write(&mut self, octets: &[u8]) -> io::Result<usize> {
         let Some(first) = octets.first() else {
             return Ok(0);

@@ -34,11 +34,6 @@ fn address(codes: &[u8]) -> Result<Address, Fail> {
     Ok(Address::read(codes)?)
 }
 
-/// The record of these characters.
-fn record(chars: &[u8]) -> Result<Record, Fail> {
-    Ok(Record::read(chars, 80)?)
-}
-
 /// The channel to terminal 0 at its second address.
 fn second() -> Result<Channel, Fail> {
     let selection = address(b"c")?;
@@ -73,74 +68,152 @@ fn are_told(world: &World, talks: &[Talk]) -> Result<bool, Fail> {
     Ok(true)
 }
 
-/// Serves programs once, at a control station over this store. Returns what keeps its records, and
-/// the station, if that gave this and each program was told what it has to be told.
-fn told(
-    alloc: Global,
-    store: Memory,
-    talks: &[Talk],
+/// A control station over a store, programs that are served once, and what has to come of it.
+struct Case {
+    /// What the case shows.
+    shows: &'static str,
+
+    /// Whether a record is offered already, and in doubt.
+    is_doubtful: bool,
+
+    /// How many commits succeed after that.
+    left: u32,
+
+    talks: &'static [Talk],
     given: Result<bool, LiveError>,
-) -> Result<Kept, Fail> {
-    let world = World::new(alloc, talks.len())?;
-    let mut kept = begun(alloc, store)?;
-    let mut serving = Serving::new(alloc, world.scripted())?;
-    say(&world, talks)?;
-    if served(&mut serving, &mut kept) == given && are_told(&world, talks)? {
-        return Ok(kept);
-    }
-    Err(Fail::new("something else was given or told"))
+    fault: Option<StoreFault>,
+
+    /// How many records the station has to send to the first address of terminal 0.
+    first: usize,
+
+    /// The last record that the store has on the second channel, if it has any, and its progress.
+    last: Option<&'static [u8]>,
+    offered: u32,
+    known: u32,
+    in_doubt: u32,
 }
 
-/// Whether a store has this many records offered on the second channel, and this is the last one.
-fn has_offered(store: &mut Memory, count: u32, chars: &[u8]) -> Result<bool, Fail> {
-    if count == 0 || store.progress(&second()?)?.offered != count {
-        return Ok(false);
-    }
-    match store.offered(&second()?, 0, count - 1)? {
-        Some(found) => Ok(found.record.chars() == chars),
-        None => Ok(false),
-    }
-}
-
-/// Records of one program, and a release that the station refuses.
-const OFFERS: &[Talk] = &[(
-    b"offer to 0.1 ONE\noffer to 0.1 TWO\nrelease to 0.1 0\n",
-    b"ok 0\nok 1\nfault not in doubt\n",
-)];
-
-#[test]
-fn what_is_answered_is_kept(rt: HostRuntime) -> Result<(), Fail> {
-    let kept = told(rt.alloc(), Memory::new(rt.alloc()), OFFERS, Ok(false))?;
-    let mut store = kept.keeper.into_store();
-    assert!(rt; has_offered(&mut store, 2, b"TWO")?);
-    Ok(())
-}
-
-/// Records of one program, of which the store keeps the first only, and a second program.
-const UNKEPT_OFFERS: &[Talk] = &[
-    (
-        b"offer to 0 ONE\noffer to 0 TWO\noffer to 0 THREE\n",
-        b"ok 0\n",
-    ),
-    (b"stop\n", b""),
+const CASES: &[Case] = &[
+    Case {
+        shows: "what is answered is kept",
+        is_doubtful: false,
+        left: 100,
+        talks: &[(
+            b"offer to 0.1 ONE\noffer to 0.1 TWO\nrelease to 0.1 0\n",
+            b"ok 0\nok 1\nfault not in doubt\n",
+        )],
+        given: Ok(false),
+        fault: None,
+        first: 0,
+        last: Some(b"TWO"),
+        offered: 2,
+        known: 0,
+        in_doubt: 0,
+    },
+    Case {
+        shows: "a record that is not kept is not answered, and no program is served after it",
+        is_doubtful: false,
+        left: 1,
+        talks: &[
+            (
+                b"offer to 0 ONE\noffer to 0 TWO\noffer to 0 THREE\n",
+                b"ok 0\n",
+            ),
+            (b"stop\n", b""),
+        ],
+        given: Err(LiveError::Unkept),
+        fault: Some(StoreFault::Full),
+        first: 1,
+        last: None,
+        offered: 0,
+        known: 0,
+        in_doubt: 0,
+    },
+    Case {
+        shows: "a release is kept, but not one of a count that does not fit",
+        is_doubtful: true,
+        left: 100,
+        talks: &[(
+            b"release to 0.1 2\nrelease to 0.1 1\n",
+            b"fault count mismatch\nok\n",
+        )],
+        given: Ok(false),
+        fault: None,
+        first: 0,
+        last: Some(b"ONE"),
+        offered: 1,
+        known: 1,
+        in_doubt: 0,
+    },
+    Case {
+        shows: "a release that is not kept is not answered",
+        is_doubtful: true,
+        left: 0,
+        talks: &[(b"release to 0.1 1\n", b"")],
+        given: Err(LiveError::Unkept),
+        fault: Some(StoreFault::Full),
+        first: 0,
+        last: Some(b"ONE"),
+        offered: 1,
+        known: 0,
+        in_doubt: 1,
+    },
 ];
 
-#[test]
-fn a_record_that_is_not_kept_is_not_answered(rt: HostRuntime) -> Result<(), Fail> {
-    let mut store = Memory::new(rt.alloc());
-    store.left = 1;
-    let kept = told(rt.alloc(), store, UNKEPT_OFFERS, Err(LiveError::Unkept))?;
-    assert_eq!(rt; offered(&kept.station, 0, 0), 1);
-    assert!(rt; kept.keeper.fault() == Some(StoreFault::Full));
-    Ok(())
+impl Case {
+    /// The store of the case.
+    fn store(&self, alloc: Global) -> Result<Memory, Fail> {
+        let mut store = Memory::new(alloc);
+        if self.is_doubtful {
+            store.commit(&[one_on(second()?)?])?;
+            store.commit(&[in_doubt_on(second()?)])?;
+        }
+        store.left = self.left;
+        Ok(store)
+    }
+
+    /// Whether the programs were told what they had to be told, and the station and what keeps its
+    /// records have come to what the case says.
+    fn goes(&self, alloc: Global) -> Result<bool, Fail> {
+        let world = World::new(alloc, self.talks.len())?;
+        let mut kept = begun(alloc, self.store(alloc)?)?;
+        let mut serving = Serving::new(alloc, world.scripted())?;
+        say(&world, self.talks)?;
+        if served(&mut serving, &mut kept) != self.given || !are_told(&world, self.talks)? {
+            return Ok(false);
+        }
+        let is_right = offered(&kept.station, 0, 0) == self.first;
+        let has_failed = kept.keeper.fault() == self.fault;
+        Ok(is_right && has_failed && self.is_kept(&mut kept.keeper.into_store())?)
+    }
+
+    /// Whether the store has kept what the case says.
+    fn is_kept(&self, store: &mut Memory) -> Result<bool, Fail> {
+        let channel = second()?;
+        let progress = store.progress(&channel)?;
+        if progress.offered != self.offered
+            || progress.known != self.known
+            || progress.in_doubt != self.in_doubt
+        {
+            return Ok(false);
+        }
+        let Some(chars) = self.last else {
+            return Ok(true);
+        };
+        match store.offered(&channel, 0, self.offered.saturating_sub(1))? {
+            Some(found) => Ok(found.record.chars() == chars),
+            None => Ok(false),
+        }
+    }
 }
 
-/// Returns the change that offers a record.
-fn offered_on(channel: Channel, record: Record) -> Change {
-    Change::Offered { channel, record }
+/// The change by which the record ONE is offered.
+fn one_on(channel: Channel) -> Result<Change, Fail> {
+    let record = Record::read(b"ONE", 80)?;
+    Ok(Change::Offered { channel, record })
 }
 
-/// Returns the change by which a block of one record is in doubt.
+/// The change by which a block of one record is in doubt.
 fn in_doubt_on(channel: Channel) -> Change {
     Change::Known {
         channel,
@@ -149,35 +222,12 @@ fn in_doubt_on(channel: Channel) -> Change {
     }
 }
 
-/// Returns a store of a channel that is in doubt.
-fn doubtful(alloc: Global) -> Result<Memory, Fail> {
-    let mut store = Memory::new(alloc);
-    store.commit(&[offered_on(second()?, record(b"ONE")?)])?;
-    store.commit(&[in_doubt_on(second()?)])?;
-    Ok(store)
-}
-
-/// Two releases, of a count that does not fit and of one that does.
-const RELEASES: &[Talk] = &[(
-    b"release to 0.1 2\nrelease to 0.1 1\n",
-    b"fault count mismatch\nok\n",
-)];
-
 #[test]
-fn a_release_is_kept(rt: HostRuntime) -> Result<(), Fail> {
-    let kept = told(rt.alloc(), doubtful(rt.alloc())?, RELEASES, Ok(false))?;
-    let mut store = kept.keeper.into_store();
-    let progress = store.progress(&second()?)?;
-    assert!(rt; progress.known == 1 && progress.in_doubt == 0);
-    Ok(())
-}
-
-#[test]
-fn a_release_that_is_not_kept_is_not_answered(rt: HostRuntime) -> Result<(), Fail> {
-    let mut store = doubtful(rt.alloc())?;
-    store.left = 0;
-    let talks: &[Talk] = &[(b"release to 0.1 1\n", b"")];
-    let kept = told(rt.alloc(), store, talks, Err(LiveError::Unkept))?;
-    assert!(rt; kept.keeper.fault() == Some(StoreFault::Full));
+fn what_is_answered_is_kept(rt: HostRuntime) -> Result<(), Fail> {
+    for case in CASES {
+        if !case.goes(rt.alloc())? {
+            return Err(Fail::new(case.shows));
+        }
+    }
     Ok(())
 }

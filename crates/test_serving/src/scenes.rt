@@ -29,6 +29,11 @@ pub(crate) enum Act {
         times: usize,
     },
 
+    /// A program says the comments of the scene, one in each line.
+    Comment {
+        program: usize,
+    },
+
     /// A program says this and all are served, this many times.
     SayAndServe {
         program: usize,
@@ -121,22 +126,51 @@ pub(crate) enum Act {
     },
 }
 
-/// Plays a scene of this many programs at a control station. Returns the place of its first act
-/// that did not hold, if there is one.
-pub(crate) fn first_wrong(
-    alloc: Global,
-    programs: usize,
-    acts: &[Act],
-) -> Result<Option<usize>, Fail> {
-    let world = World::new(alloc, programs)?;
-    let mut station = control(alloc)?;
-    let mut serving = Serving::new(alloc, world.scripted())?;
-    for (place, act) in acts.iter().enumerate() {
-        if !holds(&world, &mut serving, &mut station, *act)? {
-            return Ok(Some(place));
+/// A scene at a control station.
+pub(crate) struct Scene {
+    /// What the scene shows.
+    pub(crate) shows: &'static str,
+
+    /// The number of programs.
+    pub(crate) programs: usize,
+
+    /// The scene is played with each number of comments below this one.
+    pub(crate) comments: usize,
+
+    pub(crate) acts: &'static [Act],
+}
+
+/// A scene of one program that says no comments.
+pub(crate) const ONE: Scene = Scene {
+    shows: "",
+    programs: 1,
+    comments: 1,
+    acts: &[],
+};
+
+/// Plays each of these scenes.
+pub(crate) fn play(alloc: Global, scenes: &[Scene]) -> Result<(), Fail> {
+    for scene in scenes {
+        for comments in 0..scene.comments {
+            if !all_hold(alloc, scene, comments)? {
+                return Err(Fail::new(scene.shows));
+            }
         }
     }
-    Ok(None)
+    Ok(())
+}
+
+/// Plays a scene with this many comments, and returns whether each act holds.
+fn all_hold(alloc: Global, scene: &Scene, comments: usize) -> Result<bool, Fail> {
+    let world = World::new(alloc, scene.programs)?;
+    let mut station = control(alloc)?;
+    let mut serving = Serving::new(alloc, world.scripted())?;
+    for act in scene.acts {
+        if !holds(&world, &mut serving, &mut station, *act, comments)? {
+            return Ok(false);
+        }
+    }
+    Ok(true)
 }
 
 /// Plays one act, and returns whether it holds.
@@ -145,8 +179,13 @@ fn holds(
     serving: &mut Serving<Scripted<'_>>,
     station: &mut Control<Global>,
     act: Act,
+    comments: usize,
 ) -> Result<bool, Fail> {
     match act {
+        Act::Comment { program } => {
+            world.at(program)?.say_often(b"#\n", comments)?;
+            Ok(true)
+        }
         Act::SayAndServe {
             program,
             octets,
@@ -235,11 +274,7 @@ fn acts(world: &World, act: Act) -> Result<(), Fail> {
             program,
             octets,
             times,
-        } => {
-            for _ in 0..times {
-                world.at(program)?.say(octets)?;
-            }
-        }
+        } => world.at(program)?.say_often(octets, times)?,
         Act::End { program } => world.at(program)?.end(),
         Act::Piece { program, octets } => world.at(program)?.piece.set(octets),
         Act::Room { program, octets } => world.at(program)?.make_room(octets),

@@ -54,6 +54,14 @@ impl Program {
         Ok(())
     }
 
+    /// Says more, this many times.
+    pub(crate) fn say_often(&self, octets: &[u8], times: usize) -> Result<(), Fail> {
+        for _ in 0..times {
+            self.say(octets)?;
+        }
+        Ok(())
+    }
+
     /// Ends its side.
     pub(crate) fn end(&self) {
         self.ended.set(true);

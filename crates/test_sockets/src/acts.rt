@@ -9,7 +9,7 @@ use std::time::Instant;
 pub(crate) type Read4 = Result<&'static [u8], ErrorKind>;
 
 /// What peers do every 5 milliseconds to keep a station busy.
-#[derive(Clone, Copy, PartialEq, Eq)]
+#[derive(Clone, Copy)]
 pub(crate) enum Busy {
     /// The last peer sends an octet, which the station reads.
     Octets,
@@ -139,7 +139,10 @@ pub(crate) fn reads<R: Read>(reader: &mut R, expected: Read4) -> bool {
 
 /// Whether the time is at least `least` milliseconds and less than `most`.
 pub(crate) fn is_between(passed: Option<u128>, least: u128, most: u128) -> bool {
-    passed.is_some_and(|passed| least <= passed && passed < most)
+    match passed {
+        Some(passed) => least <= passed && passed < most,
+        None => false,
+    }
 }
 
 /// Whether an act at a connection has the expected result.
@@ -258,5 +261,5 @@ fn shares<R, W, S: Waiter<R, W>>(sockets: &mut S, least: usize) -> bool {
         };
         *count = count.saturating_add(1);
     }
-    told.iter().all(|count| *count >= least)
+    told[0] >= least && told[1] >= least && told[2] >= least
 }

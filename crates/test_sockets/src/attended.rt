@@ -21,11 +21,17 @@ pub(crate) struct Attended {
     pub(crate) second: Ends,
     pub(crate) newcomer: Ends,
 
+    /// Whether whatever the station sends is late.
+    pub(crate) is_late: bool,
+
     /// The place of the connection that a newcomer may replace.
     pub(crate) replaceable: Option<usize>,
 
     /// The results of the waits.
     pub(crate) waits: &'static [Awaited],
+
+    /// How often there are octets after that at a place without a connection.
+    pub(crate) nowhere: u64,
 
     /// The notes that the monitor has to receive. It ends the station at the last note, or the next
     /// wait fails.
@@ -36,6 +42,23 @@ pub(crate) struct Attended {
     /// and of nothing else, that it was handled.
     pub(crate) counts: Counts,
 }
+
+pub(crate) const NONE: Ends = (&[], &[]);
+
+/// A station to which nothing happens.
+pub(crate) const NOTHING: Attended = Attended {
+    shows: "",
+    first: NONE,
+    second: NONE,
+    newcomer: NONE,
+    is_late: false,
+    replaceable: None,
+    waits: &[],
+    nowhere: 0,
+    notes: &[],
+    result: Ok(()),
+    counts: NOT_TOLD,
+};
 
 /// The first connection has octets to read.
 pub(crate) const FIRST: Awaited = Awaited::Octets { connection: 0 };
@@ -56,15 +79,25 @@ const EOT_AND_ACK0: &[u8] = &[
 /// The octets of a transmission that the monitor does not admit.
 pub(crate) const STRANGE: &[u8] = &[0x16, 0x16, 0x02, 0x41, 0x83, 0x00, 0xff];
 
-pub(crate) const NONE: Ends = (&[], &[]);
+/// The longest transmission that may be heard. No message is so long.
+pub(crate) const LONGEST: &[u8] = &[0x55; 2_048];
+
+pub(crate) const SHORTEST: &[u8] = &[0x55];
+
+pub(crate) const HEARD_LONGEST: Note<'static> = Note::Heard {
+    connection: 0,
+    octets: LONGEST,
+};
+
+pub(crate) const HEARD_SHORTEST: Note<'static> = Note::Heard {
+    connection: 0,
+    octets: SHORTEST,
+};
 
 const OVER_RECORDS: &[Attended] = &[
     Attended {
         shows: "what is not admitted is not heard, and a stop and a peer turned away are told",
         first: (&[Octets(&[0x00, 0x07]), Octets(STRANGE)], &[]),
-        second: NONE,
-        newcomer: NONE,
-        replaceable: None,
         waits: &[FIRST, FIRST, Stopped, NotAllowed, FIRST],
         notes: &[
             Note::Ignored {
@@ -82,15 +115,12 @@ const OVER_RECORDS: &[Attended] = &[
                 why: None,
             },
         ],
-        result: Ok(()),
         counts: Counts {
             nothing_left: 1,
             turned_away: 1,
-            handled: 0,
-            answers: 0,
-            pauses: 0,
-            gaps: 0,
+            ..NOT_TOLD
         },
+        ..NOTHING
     },
     Attended {
         shows: "a record that is begun is kept over a time-out, and what is sent goes out once",
@@ -107,8 +137,6 @@ const OVER_RECORDS: &[Attended] = &[
             EOT_AND_ACK0,
         ),
         second: (&[], EOT_AND_ACK0),
-        newcomer: NONE,
-        replaceable: None,
         waits: &[
             FIRST, FIRST, FIRST, FIRST, FIRST, FIRST, TimeOut, FIRST, FIRST, FIRST, SECOND,
         ],
@@ -131,22 +159,19 @@ const OVER_RECORDS: &[Attended] = &[
                 why: None,
             },
         ],
-        result: Ok(()),
         counts: Counts {
             nothing_left: 5,
-            turned_away: 0,
             handled: 2,
             answers: 1,
             pauses: 2,
-            gaps: 0,
+            ..NOT_TOLD
         },
+        ..NOTHING
     },
     Attended {
         shows: "what ends a connection is named, and a wait that fails ends all",
         first: (&[Octets(&[0x00])], &[]),
         second: (&[Octets(&[0x08, 0x01])], &[]),
-        newcomer: NONE,
-        replaceable: None,
         waits: &[FIRST, FIRST, FIRST, SECOND],
         notes: &[
             Note::Closed {
@@ -163,19 +188,14 @@ const OVER_RECORDS: &[Attended] = &[
         result: Err(LiveError::Wait),
         counts: Counts {
             nothing_left: 3,
-            turned_away: 0,
-            handled: 0,
-            answers: 0,
-            pauses: 0,
-            gaps: 0,
+            ..NOT_TOLD
         },
+        ..NOTHING
     },
     Attended {
         shows: "a write that fails is told before the next wait, and then no more",
         first: (&[], &[0x00, 0x04, 0x16, 0x16, 0x04, 0xff]),
         second: (&[Octets(&[0x00])], &[]),
-        newcomer: NONE,
-        replaceable: None,
         waits: &[TimeOut, SECOND, FIRST],
         notes: &[
             Note::Silence,
@@ -193,22 +213,18 @@ const OVER_RECORDS: &[Attended] = &[
                 why: None,
             },
         ],
-        result: Ok(()),
         counts: Counts {
             nothing_left: 3,
-            turned_away: 0,
             handled: 1,
-            answers: 0,
             pauses: 1,
-            gaps: 0,
+            ..NOT_TOLD
         },
+        ..NOTHING
     },
     Attended {
         shows: "a peer that comes later takes a place that is free, and else is turned away",
         first: (&[Octets(&[0x00, 0x00])], &[]),
-        second: NONE,
         newcomer: (&[Octets(&[0x00, 0x01]), Octets(&[0x55])], &[]),
-        replaceable: None,
         waits: &[Newcomer, FIRST, FIRST, Newcomer, NotAccepted, FIRST, FIRST],
         notes: &[
             Note::Refused {
@@ -234,20 +250,17 @@ const OVER_RECORDS: &[Attended] = &[
                 octets: &[0x55],
             },
         ],
-        result: Ok(()),
         counts: Counts {
             nothing_left: 2,
             turned_away: 1,
             handled: 1,
-            answers: 0,
-            pauses: 0,
-            gaps: 0,
+            ..NOT_TOLD
         },
+        ..NOTHING
     },
     Attended {
         shows: "a newcomer takes the place of a connection that may be replaced, and nothing of it",
         first: (&[Octets(&[0x00, 0x04]), Octets(&[0x16])], &[]),
-        second: NONE,
         newcomer: (&[Octets(&[0x00, 0x01]), Octets(&[0x55])], &[]),
         replaceable: Some(0),
         waits: &[FIRST, FIRST, Newcomer, FIRST, FIRST],
@@ -262,15 +275,71 @@ const OVER_RECORDS: &[Attended] = &[
                 octets: &[0x55],
             },
         ],
-        result: Ok(()),
         counts: Counts {
-            nothing_left: 0,
-            turned_away: 0,
             handled: 1,
-            answers: 0,
-            pauses: 0,
-            gaps: 0,
+            ..NOT_TOLD
         },
+        ..NOTHING
+    },
+    Attended {
+        shows: "the longest record and the shortest are heard, and a longer one closes",
+        first: (
+            &[
+                Octets(&[0x08, 0x00]),
+                Octets(LONGEST),
+                Octets(&[0x00, 0x01]),
+                Octets(SHORTEST),
+                Octets(&[0x08, 0x01]),
+            ],
+            &[],
+        ),
+        waits: &[FIRST, FIRST, FIRST, FIRST, FIRST],
+        notes: &[
+            HEARD_LONGEST,
+            HEARD_SHORTEST,
+            Note::Closed {
+                connection: 0,
+                peer: None,
+                why: Some(CarrierError::Length),
+            },
+        ],
+        counts: Counts {
+            nothing_left: 1,
+            handled: 2,
+            ..NOT_TOLD
+        },
+        ..NOTHING
+    },
+    Attended {
+        shows: "neither an answer nor what follows a silence is written when it is late",
+        first: (&[Octets(&[0x00, 0x04]), Octets(EOT)], &[]),
+        is_late: true,
+        waits: &[FIRST, FIRST, TimeOut],
+        notes: &[
+            Note::Heard {
+                connection: 0,
+                octets: EOT,
+            },
+            Note::Withheld { octets: ACK0 },
+            Note::Silence,
+            Note::Withheld { octets: EOT },
+        ],
+        counts: Counts {
+            handled: 2,
+            answers: 1,
+            ..NOT_TOLD
+        },
+        ..NOTHING
+    },
+    Attended {
+        shows: "a station is attended for as many steps as its waiter has, here two million",
+        nowhere: 2_000_000,
+        result: Err(LiveError::Wait),
+        counts: Counts {
+            nothing_left: 2_000_000,
+            ..NOT_TOLD
+        },
+        ..NOTHING
     },
 ];
 
@@ -287,31 +356,24 @@ fn goes_over<F: Framing + Drop>(
 ) -> bool {
     let mut waiter = Told {
         waits: attended.waits,
-        nowhere: 0,
+        nowhere: attended.nowhere,
         newcomer: attended.newcomer,
         replaceable: attended.replaceable,
-        is_late: false,
+        is_late: attended.is_late,
         counts: NOT_TOLD,
     };
     let mut monitor = Expects::new(attended.notes, attended.result.is_ok());
     let result = attend(&mut Answers, connections, &mut waiter, &mut monitor);
-    let counts = waiter.counts;
-    let is_done = waiter.waits.is_empty() && monitor.is_done();
-    is_done && result == attended.result && counts == attended.counts
+    result == attended.result && monitor.is_done() && waiter.is_done(&attended.counts)
 }
 
-/// Whether a station is attended as the case says, over connections with this framing.
-fn goes<F: Framing + Drop>(alloc: Global, attended: &Attended) -> Result<bool, Fail> {
-    let mut connections: Vec<Connection<_, _, F>> = Vec::new(alloc);
-    connections.push(connection(attended.first))?;
-    connections.push(connection(attended.second))?;
-    Ok(goes_over(&mut connections, attended))
-}
-
-/// Fails unless each case goes as it says.
+/// Fails unless each case goes as it says, over connections with this framing.
 pub(crate) fn play<F: Framing + Drop>(alloc: Global, table: &[Attended]) -> Result<(), Fail> {
     for attended in table {
-        if !goes::<F>(alloc, attended)? {
+        let mut connections: Vec<Connection<_, _, F>> = Vec::new(alloc);
+        connections.push(connection(attended.first))?;
+        connections.push(connection(attended.second))?;
+        if !goes_over(&mut connections, attended) {
             return Err(Fail::new(attended.shows));
         }
     }
@@ -321,23 +383,4 @@ pub(crate) fn play<F: Framing + Drop>(alloc: Global, table: &[Attended]) -> Resu
 #[test]
 fn a_station_is_attended_over_records(rt: HostRuntime) -> Result<(), Fail> {
     play::<SocketRecords>(rt.alloc(), OVER_RECORDS)
-}
-
-/// A station is attended for as many steps as its waiter has, here two million.
-#[test]
-fn a_station_is_attended_for_millions_of_steps(rt: HostRuntime) -> Result<(), Fail> {
-    let mut connections: Vec<Connection<Pieces, Expecting, SocketRecords>> = Vec::new(rt.alloc());
-    let mut waiter = Told {
-        waits: &[],
-        nowhere: 2_000_000,
-        newcomer: NONE,
-        replaceable: None,
-        is_late: false,
-        counts: NOT_TOLD,
-    };
-    let mut monitor = Expects::new(&[], false);
-    let result = attend(&mut Answers, &mut connections, &mut waiter, &mut monitor);
-    assert_eq!(rt; result, Err(LiveError::Wait));
-    assert_eq!(rt; waiter.nowhere, 0);
-    Ok(())
 }

@@ -1,8 +1,11 @@
 //! A station is attended over two connections in memory, whose transmissions end at gaps.
 
-use crate::attended::{ACK0, Attended, EOT, FIRST, NONE, SECOND, STRANGE, play};
-use crate::memory::Counts;
+use crate::attended::{
+    ACK0, Attended, EOT, FIRST, HEARD_LONGEST, HEARD_SHORTEST, LONGEST, NOTHING, SECOND, SHORTEST,
+    STRANGE, play,
+};
 use crate::memory::Piece::{Fails, Octets};
+use crate::memory::{Counts, NOT_TOLD};
 use bsc_carrier::{CarrierError, DeviceFault};
 use bsc_connections::Awaited::{Gap, TimeOut};
 use bsc_connections::{Gaps, Note};
@@ -15,13 +18,14 @@ const ACK0_AND_EOT: &[u8] = &[0x16, 0x16, 0x10, 0xb0, 0xff, 0x16, 0x16, 0x04, 0x
 /// The octets of EOT and of ACK0.
 const EOT_THEN_ACK0: &[u8] = &[0x16, 0x16, 0x04, 0xff, 0x16, 0x16, 0x10, 0xb0, 0xff];
 
+/// One octet more than the longest transmission, which is as much as is kept of one.
+const LONGER: &[u8] = &[0x55; 2_049];
+
 const OVER_GAPS: &[Attended] = &[
     Attended {
         shows: "a gap ends what is begun, and then a time-out is a silence",
         first: (&[], ACK0_AND_EOT),
         second: (&[Octets(&[0x16, 0x16]), Octets(&[0x04])], ACK0_AND_EOT),
-        newcomer: NONE,
-        replaceable: None,
         waits: &[
             SECOND,
             SECOND,
@@ -49,22 +53,20 @@ const OVER_GAPS: &[Attended] = &[
                 why: None,
             },
         ],
-        result: Ok(()),
         counts: Counts {
             nothing_left: 2,
-            turned_away: 0,
             handled: 2,
             answers: 1,
             pauses: 2,
             gaps: 2,
+            ..NOT_TOLD
         },
+        ..NOTHING
     },
     Attended {
         shows: "a time-out may pass before the gap, and a gap where nothing has begun ends nothing",
         first: (&[], EOT_THEN_ACK0),
         second: (&[Octets(&[0x16, 0x16]), Octets(&[0x04])], EOT_THEN_ACK0),
-        newcomer: NONE,
-        replaceable: None,
         waits: &[
             Gap { connection: 0 },
             Gap { connection: 2 },
@@ -88,22 +90,20 @@ const OVER_GAPS: &[Attended] = &[
                 why: None,
             },
         ],
-        result: Ok(()),
         counts: Counts {
             nothing_left: 1,
-            turned_away: 0,
             handled: 2,
             answers: 1,
             pauses: 2,
             gaps: 2,
+            ..NOT_TOLD
         },
+        ..NOTHING
     },
     Attended {
         shows: "the end of the input ends what has begun, and is the end after that",
         first: (&[Octets(&[0x16, 0x16]), Octets(&[0x04, 0xff])], ACK0),
         second: (&[Octets(STRANGE)], ACK0),
-        newcomer: NONE,
-        replaceable: None,
         waits: &[
             SECOND,
             SECOND,
@@ -135,22 +135,19 @@ const OVER_GAPS: &[Attended] = &[
                 why: None,
             },
         ],
-        result: Ok(()),
         counts: Counts {
             nothing_left: 2,
-            turned_away: 0,
             handled: 1,
             answers: 1,
             pauses: 1,
             gaps: 3,
+            ..NOT_TOLD
         },
+        ..NOTHING
     },
     Attended {
         shows: "a read that fails ends a connection",
         first: (&[Fails(ErrorKind::ConnectionReset)], &[]),
-        second: NONE,
-        newcomer: NONE,
-        replaceable: None,
         waits: &[FIRST],
         notes: &[Note::Closed {
             connection: 0,
@@ -159,15 +156,53 @@ const OVER_GAPS: &[Attended] = &[
                 why: DeviceFault::Reset,
             }),
         }],
-        result: Ok(()),
         counts: Counts {
             nothing_left: 1,
-            turned_away: 0,
-            handled: 0,
-            answers: 0,
-            pauses: 0,
-            gaps: 0,
+            ..NOT_TOLD
         },
+        ..NOTHING
+    },
+    Attended {
+        shows: "the longest transmission and the shortest are heard, and one octet of a longer one",
+        first: (
+            &[
+                Octets(LONGEST),
+                Octets(SHORTEST),
+                Octets(LONGEST),
+                Octets(LONGEST),
+            ],
+            &[],
+        ),
+        waits: &[
+            FIRST,
+            Gap { connection: 0 },
+            FIRST,
+            Gap { connection: 0 },
+            FIRST,
+            FIRST,
+            Gap { connection: 0 },
+            FIRST,
+        ],
+        notes: &[
+            HEARD_LONGEST,
+            HEARD_SHORTEST,
+            Note::Heard {
+                connection: 0,
+                octets: LONGER,
+            },
+            Note::Closed {
+                connection: 0,
+                peer: None,
+                why: None,
+            },
+        ],
+        counts: Counts {
+            nothing_left: 1,
+            handled: 3,
+            gaps: 4,
+            ..NOT_TOLD
+        },
+        ..NOTHING
     },
 ];
 

@@ -1,14 +1,14 @@
 //! How connections begin, and the errors if they cannot.
 
 use crate::acts::{reads_at, writes_at};
-use crate::meeting::{Told, bound, patience, peer, settings};
+use crate::meeting::{Told, begin, bound, peers, reach, settings};
 use bsc_connections::{Awaited, Waiter};
-use bsc_sockets::{Begun, Listening, Peers, SocketsError, connect, connect_to_any, listen};
+use bsc_sockets::{Begun, ConnectionSettings, Listening, Peers, SocketsError};
 use std::alloc::{AllocError, Allocator, Global};
 use std::io::{Read, Write};
 use std::net::SocketAddr;
 use std::test::Fail;
-use std::time::{Duration, Instant};
+use std::time::Instant;
 
 /// The number of connections to the listener at this address.
 pub(crate) fn connections_to<A: Allocator + Copy>(
@@ -16,24 +16,19 @@ pub(crate) fn connections_to<A: Allocator + Copy>(
     alloc: A,
     address: &str,
 ) -> Result<usize, SocketsError> {
-    let begun = connect(rt, alloc, address, patience(), settings())?;
+    let begun = reach(rt, alloc, address, settings())?;
     Ok(begun.connections.len())
 }
 
-/// The number of connections if this many peers may connect to this listener, within this time.
-pub(crate) fn connections_at<A: Allocator + Copy>(
+/// The number of connections of a station with these settings that waits for a peer that does not
+/// come.
+pub(crate) fn connections_with(
     rt: &HostRuntime,
-    alloc: A,
-    listening: Listening,
-    peers: u16,
-    patience: Duration,
+    alloc: Global,
+    settings: ConnectionSettings,
 ) -> Result<usize, SocketsError> {
-    let peers = Peers {
-        count: usize::from(peers),
-        patience,
-        keeps_listening: true,
-    };
-    let begun = listen(rt, alloc, listening, peers, settings(), &mut Told::new())?;
+    let (listening, _) = bound(rt)?;
+    let begun = begin(rt, alloc, listening, peers(1), settings, &mut Told::new())?;
     Ok(begun.connections.len())
 }
 
@@ -109,39 +104,6 @@ fn nobody_there_is_told_at_once(rt: HostRuntime) -> Result<(), Fail> {
     has_passed(&rt, start, 0)
 }
 
-/// The number of connections to the second of two addresses, at the first of which nobody listens.
-fn connections_to_second<A: Allocator + Copy>(
-    rt: &HostRuntime,
-    alloc: A,
-) -> Result<usize, SocketsError> {
-    let first = left(rt)?;
-    let (_listening, second) = bound(rt)?;
-    let begun = connect_to_any(rt, alloc, &[first, second], patience(), settings())?;
-    Ok(begun.connections.len())
-}
-
-#[test]
-fn every_address_of_a_host_is_tried(rt: HostRuntime) -> Result<(), Fail> {
-    assert_eq!(rt; connections_to_second(&rt, rt.alloc()).ok(), Some(1));
-    Ok(())
-}
-
-/// The number of connections if a station waits 40 milliseconds for two peers, only one of which
-/// has connected.
-fn connections_of_one_peer(rt: &HostRuntime, alloc: Global) -> Result<usize, SocketsError> {
-    let (listening, address) = bound(rt)?;
-    let _first = peer(rt, address)?;
-    connections_at(rt, alloc, listening, 2, Duration::from_millis(40))
-}
-
-#[test]
-fn peers_that_are_missing_are_told_in_time(rt: HostRuntime) -> Result<(), Fail> {
-    let start = Instant::now(&rt)?;
-    let begun = connections_of_one_peer(&rt, rt.alloc());
-    is_told(begun, SocketsError::NobodyConnected)?;
-    has_passed(&rt, start, 40)
-}
-
 /// Whether a station is told of an octet that arrives on its first connection.
 fn hears<R: Read, W, S: Waiter<R, W>>(sockets: &mut S, connections: &mut [(R, W)]) -> bool {
     let first = Awaited::Octets { connection: 0 };
@@ -157,15 +119,14 @@ fn listens_to<P, Q: Write>(
     near: &mut [(P, Q)],
     address: &str,
 ) -> Result<bool, SocketsError> {
-    let peers = Peers {
-        count: 1,
-        patience: patience(),
+    let wanted = Peers {
         keeps_listening: false,
+        ..peers(1)
     };
     let Begun {
         mut sockets,
         mut connections,
-    } = listen(rt, alloc, listening, peers, settings(), &mut Told::new())?;
+    } = begin(rt, alloc, listening, wanted, settings(), &mut Told::new())?;
     let meets = writes_at(near, 0, &[0x16]) && hears(&mut sockets, &mut connections);
     let third = connections_to(rt, alloc, address);
     Ok(meets && third == Err(SocketsError::NobodyThere))
@@ -180,9 +141,12 @@ fn meet(
     address: &str,
 ) -> Result<bool, SocketsError> {
     let there = listening.address()?;
-    let mut near = connect(rt, alloc, address, patience(), settings())?;
-    let is_named = near.sockets.peer(0) == Some(there);
-    let meets = listens_to(rt, alloc, listening, &mut near.connections, address)?;
+    let Begun {
+        sockets,
+        mut connections,
+    } = reach(rt, alloc, address, settings())?;
+    let is_named = sockets.peer(0) == Some(there);
+    let meets = listens_to(rt, alloc, listening, &mut connections, address)?;
     Ok(is_named && meets)
 }
 

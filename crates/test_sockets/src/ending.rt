@@ -1,9 +1,9 @@
-//! A raw peer that sends and ends its connection at once.
+//! A peer that sends and ends its connection at once.
 
-use crate::meeting::{Told, bound, patience, peer, settings};
+use crate::meeting::{SHORT, Times, Told, begin, bound, peer, peers};
 use crate::watching::{Answers, Expects};
-use bsc_connections::{Connection, Gaps, Note, attend};
-use bsc_sockets::{Begun, ConnectionSettings, Listening, Peers, listen};
+use bsc_connections::{Connection, Framing, Gaps, Note, SocketRecords, attend};
+use bsc_sockets::{Begun, Listening};
 use std::alloc::Global;
 use std::io;
 use std::io::Write;
@@ -48,25 +48,32 @@ const ENDINGS: &[Ending] = &[
     Ending {
         octets: EOT,
         how: Shutdown::Write,
-        notes: &[
-            Note::Heard {
-                connection: 0,
-                octets: EOT,
-            },
-            Note::Sent { octets: ACK0 },
-            CLOSED,
-        ],
+        notes: ANSWERED,
     },
 ];
 
+const ANSWERED: &[Note<'static>] = &[
+    Note::Heard {
+        connection: 0,
+        octets: EOT,
+    },
+    Note::Sent { octets: ACK0 },
+    CLOSED,
+];
+
+/// A peer that sends a socket record.
+const RECORD: Ending = Ending {
+    octets: &[0x00, 0x04, 0x16, 0x16, 0x04, 0xff],
+    how: Shutdown::Write,
+    notes: ANSWERED,
+};
+
 /// Times so long that neither a gap nor a time-out passes in a test.
-fn without_gaps() -> ConnectionSettings {
-    ConnectionSettings {
-        time_out: patience(),
-        gap: patience(),
-        ..settings()
-    }
-}
+const QUIET: Times = Times {
+    time_out: 5_000,
+    gap: 5_000,
+    ..SHORT
+};
 
 /// A peer that has connected to this address, sent, and ended its connection as the case says.
 fn ended(rt: &HostRuntime, address: SocketAddr, ending: &Ending) -> io::Result<TcpStream> {
@@ -78,46 +85,45 @@ fn ended(rt: &HostRuntime, address: SocketAddr, ending: &Ending) -> io::Result<T
 
 /// Attends a station over the connection of one peer of this listener, which has this address.
 /// Returns whether it was told exactly these notes.
-fn is_told(
+fn is_told<F: Framing + Drop>(
     rt: &HostRuntime,
     alloc: Global,
     listening: Listening,
     peer: SocketAddr,
     notes: &'static [Note<'static>],
 ) -> Result<bool, Fail> {
-    let wanted = Peers {
-        count: 1,
-        patience: patience(),
-        keeps_listening: false,
-    };
     let Begun {
         mut sockets,
         connections,
-    } = listen(
+    } = begin(
         rt,
         alloc,
         listening,
-        wanted,
-        without_gaps(),
+        peers(1),
+        QUIET.settings(),
         &mut Told::new(),
     )?;
     let mut raw = Vec::new(alloc);
     for (reader, writer) in connections {
-        raw.push(Connection::<_, _, Gaps>::new(reader, writer))?;
+        raw.push(Connection::<_, _, F>::new(reader, writer))?;
     }
     let mut monitor = Expects::of_peer(notes, true, peer);
     let result = attend(&mut Answers, &mut raw, &mut sockets, &mut monitor);
     Ok(result == Ok(()) && monitor.is_done())
 }
 
+/// Whether a station is told what this peer sent.
+fn hears<F: Framing + Drop>(rt: &HostRuntime, ending: &Ending) -> Result<bool, Fail> {
+    let (listening, address) = bound(rt)?;
+    let peer = ended(rt, address, ending)?;
+    is_told::<F>(rt, rt.alloc(), listening, peer.local_addr()?, ending.notes)
+}
+
 #[test]
-fn what_a_raw_peer_sent_before_it_ended_is_heard(rt: HostRuntime) -> Result<(), Fail> {
+fn what_a_peer_sent_before_it_ended_is_heard(rt: HostRuntime) -> Result<(), Fail> {
     for ending in ENDINGS {
-        let (listening, address) = bound(&rt)?;
-        let peer = ended(&rt, address, ending)?;
-        if !is_told(&rt, rt.alloc(), listening, peer.local_addr()?, ending.notes)? {
-            return Err(Fail::new(format_args!("{:?}", ending.octets)));
-        }
+        assert!(rt; hears::<Gaps>(&rt, ending)?, "{:?}", ending.octets);
     }
+    assert!(rt; hears::<SocketRecords>(&rt, &RECORD)?);
     Ok(())
 }

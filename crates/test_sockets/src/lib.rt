@@ -17,19 +17,15 @@ mod beginning;
 #[cfg(test)]
 mod ending;
 #[cfg(test)]
+mod far;
+#[cfg(test)]
 mod framings;
 #[cfg(test)]
 mod hosts;
 #[cfg(test)]
 mod hours;
 #[cfg(test)]
-mod largest;
-#[cfg(test)]
-mod late;
-#[cfg(test)]
 mod lengths;
-#[cfg(test)]
-mod longest;
 #[cfg(test)]
 mod machine;
 #[cfg(test)]

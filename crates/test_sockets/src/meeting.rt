@@ -1,42 +1,92 @@
 //! A station that listens, and the peers that connected to it.
 
-use crate::acts::{Act, Busy, Read4, begin, is_between, reads, station_goes};
+use crate::acts::{Act, Busy, begin as begins, is_between, station_goes};
+use crate::far::Far;
+use crate::stopped::input;
 use bsc_connections::{Awaited, Handled, Pace, Waiter};
-use bsc_peers::Networks;
-use bsc_sockets::{Begun, ConnectionSettings, Listening, Peers, Reception, SocketsError, listen};
-use std::alloc::Global;
+use bsc_peers::{Network, NetworkError, Networks};
+use bsc_sockets::{
+    Begun, ConnectionSettings, Listening, Peers, Reception, SocketsError, connect, listen,
+};
+use std::alloc::{Allocator, Global};
 use std::io;
 use std::io::{Read, Write};
-use std::net::{Shutdown, SocketAddr, TcpStream};
+use std::net::{Net, SocketAddr, TcpStream};
+use std::os::fd::AsRawFd;
 use std::test::Fail;
-use std::time::{Duration, Instant};
+use std::time::{Clock, Duration, Instant};
 
 /// A time so long that a test which waits for it has failed.
 pub(crate) fn patience() -> Duration {
     Duration::from_secs(5)
 }
 
-/// A time-out of 40 milliseconds, a gap of 10, and a pause of 15; a connection may be replaced
-/// after two time-outs.
+/// The times of a station in milliseconds.
+#[derive(Clone, Copy)]
+pub(crate) struct Times {
+    pub(crate) time_out: u64,
+
+    /// How long what the station sends is in time.
+    pub(crate) late_after: u64,
+
+    pub(crate) gap: u64,
+
+    /// How long after its last answer a connection may be replaced.
+    pub(crate) replace_after: u64,
+
+    pub(crate) pause: u64,
+}
+
+/// A connection may be replaced after two time-outs.
+pub(crate) const SHORT: Times = Times {
+    time_out: 40,
+    late_after: 5_000,
+    gap: 10,
+    replace_after: 80,
+    pause: 15,
+};
+
+impl Times {
+    /// The settings of a station with these times.
+    pub(crate) fn settings(&self) -> ConnectionSettings {
+        ConnectionSettings {
+            time_out: Duration::from_millis(self.time_out),
+            late_after: Duration::from_millis(self.late_after),
+            gap: Duration::from_millis(self.gap),
+            replace_after: Duration::from_millis(self.replace_after),
+            pause: Duration::from_millis(self.pause),
+            begins: false,
+            allowed: Networks::new(),
+            stops_with: None,
+            serves: None,
+        }
+    }
+}
+
+/// The settings of a station with short times.
 pub(crate) fn settings() -> ConnectionSettings {
-    ConnectionSettings {
-        time_out: Duration::from_millis(40),
-        late_after: patience(),
-        gap: Duration::from_millis(10),
-        replace_after: Duration::from_millis(80),
-        pause: Duration::from_millis(15),
-        begins: false,
-        allowed: Networks::new(),
-        stops_with: None,
-        serves: None,
+    SHORT.settings()
+}
+
+/// The addresses of this network.
+pub(crate) fn allowed(text: &str) -> Result<Networks, NetworkError> {
+    let network = Network::read(text)?;
+    match Networks::new().with(network) {
+        Some(allowed) => Ok(allowed),
+        None => Ok(Networks::new()),
     }
 }
 
 /// A listener on a port that the system chose, and its address.
 pub(crate) fn bound(rt: &HostRuntime) -> Result<(Listening, SocketAddr), SocketsError> {
-    let listening = Listening::bind(rt, "127.0.0.1:0")?;
+    let listening = bound_to(rt, "127.0.0.1:0")?;
     let address = listening.address()?;
     Ok((listening, address))
+}
+
+/// A listener at this address.
+pub(crate) fn bound_to(rt: &HostRuntime, address: &str) -> Result<Listening, SocketsError> {
+    Listening::bind(rt, address)
 }
 
 /// A peer that has connected to this address and waits at most `patience` for octets.
@@ -46,121 +96,144 @@ pub(crate) fn peer(rt: &HostRuntime, address: SocketAddr) -> io::Result<TcpStrea
     Ok(stream)
 }
 
-/// What is told while a station waits for its peers.
-#[derive(Clone, Copy, Debug)]
-pub(crate) struct Told {
+/// The most peers.
+pub(crate) const MOST: usize = 64;
+
+/// The sockets of a station that waits for at most 64 peers.
+pub(crate) fn begin<'a, N: Net + Clock, A: Allocator + Copy, H: Reception>(
+    machine: &'a N,
+    alloc: A,
+    listening: Listening,
+    peers: Peers,
+    settings: ConnectionSettings,
+    reception: &mut H,
+) -> Result<Begun<'a, N, A>, SocketsError> {
+    if peers.count > MOST {
+        return Err(SocketsError::Memory);
+    }
+    listen(machine, alloc, listening, peers, settings, reception)
+}
+
+/// The sockets of a station that connects to a peer at this address.
+pub(crate) fn reach<'a, N: Net + Clock, A: Allocator + Copy>(
+    machine: &'a N,
+    alloc: A,
+    address: &str,
+    settings: ConnectionSettings,
+) -> Result<Begun<'a, N, A>, SocketsError> {
+    connect(machine, alloc, address, patience(), settings)
+}
+
+/// This many peers. After they have connected, another one is a newcomer.
+pub(crate) fn peers(count: usize) -> Peers {
+    Peers {
+        count,
+        patience: patience(),
+        keeps_listening: true,
+    }
+}
+
+/// What is told while a station waits for these peers.
+#[derive(Drop)]
+pub(crate) struct Told<'a> {
+    far: &'a [TcpStream],
+
     /// The address at which they can connect.
     address: Option<SocketAddr>,
 
-    /// The number of waits; each has to be told of as many connections.
+    /// The number of waits that are told of as many connections, and of as many peers as are wanted.
     waits: usize,
 
-    /// The number of peers that are wanted, if each wait says the same.
-    wanted: Option<usize>,
-
-    /// The number of peers that joined; each has to be told of its place.
+    /// The number of peers that joined, each of which is told of by its place and its address.
     joined: usize,
 
-    /// The peers that joined, by place.
-    peers: [Option<SocketAddr>; 64],
-
-    /// The number of peers that were turned away.
-    pub(crate) refused: usize,
+    /// Whether anything else was told.
+    is_wrong: bool,
 }
 
-impl Told {
+impl<'a> Told<'a> {
     /// Nothing is told yet.
-    pub(crate) fn new() -> Told {
+    pub(crate) fn of(far: &'a [TcpStream]) -> Told<'a> {
         Told {
+            far,
             address: None,
             waits: 0,
-            wanted: None,
             joined: 0,
-            peers: [None; 64],
-            refused: 0,
+            is_wrong: false,
         }
     }
 
-    /// Whether this address was told, and that each of these peers was waited for and joined.
-    fn is_of(&self, address: SocketAddr, peers: &[TcpStream]) -> bool {
-        let count = peers.len();
-        let wanted = (count > 0).then_some(count);
-        self.address == Some(address)
-            && (self.waits, self.wanted, self.joined) == (count, wanted, count)
-            && self.are_named(peers)
-    }
-
-    /// Whether each of these peers was told by its address.
-    fn are_named(&self, peers: &[TcpStream]) -> bool {
-        for (peer, told) in peers.iter().zip(self.peers) {
-            if told.is_none() || peer.local_addr().ok() != told {
-                return false;
-            }
-        }
-        true
+    /// Whether this address was told, and that each peer was waited for and joined.
+    fn is_done(&self, address: SocketAddr) -> bool {
+        let count = self.far.len();
+        let is_there = self.address == Some(address) && !self.is_wrong;
+        is_there && self.waits == count && self.joined == count
     }
 }
 
-impl Reception for Told {
+impl Told<'static> {
+    /// The same of a station whose peers nobody asks for.
+    pub(crate) fn new() -> Told<'static> {
+        Told::of(&[])
+    }
+}
+
+impl Reception for Told<'_> {
     fn listens(&mut self, address: SocketAddr) {
         self.address = Some(address);
     }
 
     fn waits(&mut self, connected: usize, wanted: usize) {
-        let is_first = self.waits == 0;
-        if connected == self.waits && (is_first || self.wanted == Some(wanted)) {
-            self.waits = self.waits.saturating_add(1);
+        if connected != self.waits || wanted != self.far.len() {
+            self.is_wrong = true;
         }
-        self.wanted = Some(wanted);
+        self.waits = self.waits.saturating_add(1);
     }
 
     fn joined(&mut self, place: usize, peer: SocketAddr) {
-        if place == self.joined {
-            self.joined = self.joined.saturating_add(1);
+        let is_named = match self.far.get(place) {
+            Some(far) => far.local_addr().ok() == Some(peer),
+            None => false,
+        };
+        if !is_named || place != self.joined {
+            self.is_wrong = true;
         }
-        if place < self.peers.len() {
-            self.peers[place] = Some(peer);
-        }
+        self.joined = self.joined.saturating_add(1);
     }
 
     fn refused(&mut self, _peer: SocketAddr) {
-        self.refused = self.refused.saturating_add(1);
+        self.is_wrong = true;
     }
 }
 
 /// A station, and its peers in the order in which they connected.
 #[derive(Drop)]
 pub(crate) struct Meeting<'a> {
-    rt: &'a HostRuntime,
-    pub(crate) address: SocketAddr,
     pub(crate) begun: Begun<'a, HostRuntime, Global>,
-    pub(crate) peers: Vec<TcpStream>,
+    pub(crate) far: Far<'a>,
 }
 
 /// A station that waited until this many peers had connected, and still listens.
 pub(crate) fn meet<'a>(
     rt: &'a HostRuntime,
     alloc: Global,
-    count: u16,
+    count: usize,
     settings: ConnectionSettings,
 ) -> Result<Meeting<'a>, Fail> {
     let (listening, address) = bound(rt)?;
-    let peers = peers_of(rt, alloc, address, count)?;
-    let wanted = Peers {
-        count: usize::from(count),
-        patience: patience(),
-        keeps_listening: true,
-    };
-    let mut told = Told::new();
-    let begun = listen(rt, alloc, listening, wanted, settings, &mut told)?;
-    if !told.is_of(address, &peers) {
-        return Err(Fail::new(format_args!("{told:?}, and not of {count}")));
+    let far = peers_of(rt, alloc, address, count)?;
+    let mut told = Told::of(&far);
+    let begun = begin(rt, alloc, listening, peers(count), settings, &mut told)?;
+    if !told.is_done(address) {
+        return Err("another peer is told of".into());
     }
     Ok(Meeting {
-        rt,
-        address,
         begun,
-        peers,
+        far: Far {
+            rt,
+            address,
+            peers: far,
+        },
     })
 }
 
@@ -169,7 +242,7 @@ pub(crate) fn peers_of(
     rt: &HostRuntime,
     alloc: Global,
     address: SocketAddr,
-    count: u16,
+    count: usize,
 ) -> Result<Vec<TcpStream>, Fail> {
     let mut peers = Vec::new(alloc);
     for _ in 0..count {
@@ -184,193 +257,161 @@ pub(crate) struct Encounter {
     pub(crate) shows: &'static str,
 
     /// The number of peers that connect.
-    pub(crate) peers: u16,
+    pub(crate) peers: usize,
+
+    pub(crate) times: Times,
 
     /// Whether the station begins without delay.
     pub(crate) begins: bool,
 
+    /// Whether it ends when an input does. The other end of the input is then the first peer,
+    /// though it has no connection to the station.
+    pub(crate) stops: bool,
+
+    /// The network from which peers may connect; else any.
+    pub(crate) allows: Option<&'static str>,
+
     pub(crate) acts: &'static [Act],
 }
+
+/// A station with short times and one peer.
+pub(crate) const ONE: Encounter = Encounter {
+    shows: "",
+    peers: 1,
+    times: SHORT,
+    begins: false,
+    stops: false,
+    allows: None,
+    acts: &[],
+};
 
 /// Plays each of these cases with a new station.
 pub(crate) fn play(rt: &HostRuntime, alloc: Global, encounters: &[Encounter]) -> Result<(), Fail> {
     for encounter in encounters {
-        let mut settings = settings();
-        settings.begins = encounter.begins;
-        play_one(rt, alloc, settings, None, encounter)?;
+        if !encounter.goes(rt, alloc)? {
+            return Err(Fail::new(encounter.shows));
+        }
     }
     Ok(())
 }
 
-/// Plays this case with a new station that has these settings. A peer that is given is the first,
-/// though it has no connection to the station.
-pub(crate) fn play_one(
-    rt: &HostRuntime,
-    alloc: Global,
-    settings: ConnectionSettings,
-    first: Option<TcpStream>,
-    encounter: &Encounter,
-) -> Result<(), Fail> {
-    let mut meeting = meet(rt, alloc, encounter.peers, settings)?;
-    if let Some(first) = first {
-        meeting.peers.insert(0, first)?;
-    }
-    match meeting.first_wrong(encounter.acts) {
-        Some(place) => {
-            let shows = encounter.shows;
-            Err(Fail::new(format_args!("{shows}: not so at {place}")))
+impl Encounter {
+    /// Whether all acts have the expected result with a new station.
+    fn goes(&self, rt: &HostRuntime, alloc: Global) -> Result<bool, Fail> {
+        let (input, other) = input(rt)?;
+        let mut settings = self.times.settings();
+        settings.begins = self.begins;
+        if let Some(network) = self.allows {
+            settings.allowed = allowed(network)?;
         }
-        None => Ok(()),
-    }
-}
-
-impl<'a> Meeting<'a> {
-    /// Whether this act has the expected result.
-    fn goes(&mut self, act: &Act) -> bool {
-        match *act {
-            Act::Comes => self.comes(),
-            Act::PassesThough(busy, awaited, least, most) => {
-                is_between(self.passed(busy, awaited), least, most)
-            }
-            Act::Sends(..) | Act::Hears(..) | Act::Ends(_) | Act::Empties(_) => {
-                peer_goes(&mut self.peers, act)
-            }
-            _ => {
-                let Begun {
-                    sockets,
-                    connections,
-                } = &mut self.begun;
-                station_goes(self.rt, sockets, connections, act)
-            }
+        if self.stops {
+            settings.stops_with = Some(input.as_raw_fd());
         }
-    }
-
-    /// The place of the first of these acts with another result.
-    fn first_wrong(&mut self, acts: &[Act]) -> Option<usize> {
-        for (place, act) in acts.iter().enumerate() {
-            if !self.goes(act) {
-                return Some(place);
-            }
+        let Meeting { begun, mut far } = meet(rt, alloc, self.peers, settings)?;
+        if self.stops {
+            far.peers.insert(0, other)?;
         }
-        None
-    }
-
-    /// The number of milliseconds after which a wait has this result, though peers keep the station
-    /// busy, at most 200 times. The times begin with the first wait.
-    fn passed(&mut self, busy: Busy, expected: Awaited) -> Option<u128> {
-        begin(&mut self.begun.sockets, expected, Pace::AtOnce);
-        let start = Instant::now(self.rt).ok()?;
-        for _ in 0..200u32 {
-            let begun = Instant::now(self.rt).ok()?;
-            if !self.disturbs(busy) {
-                return None;
-            }
-            if self.serves(busy)? == expected {
-                return Some(start.elapsed(self.rt).ok()?.as_millis());
-            }
-            pause(self.rt, begun)?;
-        }
-        None
-    }
-
-    /// Whether a peer keeps the station busy once.
-    fn disturbs(&mut self, busy: Busy) -> bool {
-        match busy {
-            Busy::Octets | Busy::Transmissions => match self.peers.last_mut() {
-                Some(peer) => peer.write_all(b"x").is_ok(),
-                None => false,
-            },
-            Busy::Peers => self.comes(),
-            Busy::Nobody => true,
-        }
-    }
-
-    /// Waits once and serves what happened.
-    fn serves(&mut self, busy: Busy) -> Option<Awaited> {
         let Begun {
-            sockets,
-            connections,
-        } = &mut self.begun;
-        let awaited = sockets.wait().ok()?;
-        match awaited {
-            Awaited::Octets { connection } => {
-                let (reading, _) = connections.get_mut(connection)?;
-                let _ = reading.read(&mut [0u8; 64]);
-                sockets.nothing_left(connection);
-                if busy == Busy::Transmissions {
-                    sockets.handled(Handled::Unanswered { connection }, Pace::AtOnce);
-                }
-            }
-            Awaited::Newcomer | Awaited::NotAllowed => sockets.turn_away(),
-            Awaited::NotAccepted | Awaited::Gap { .. } | Awaited::TimeOut => {}
-            Awaited::Stopped | Awaited::Client => {}
-        }
-        Some(awaited)
-    }
-
-    fn comes(&mut self) -> bool {
-        match peer(self.rt, self.address) {
-            Ok(peer) => self.peers.push(peer).is_ok(),
-            Err(_) => false,
-        }
+            mut sockets,
+            mut connections,
+        } = begun;
+        Ok(all_go(&mut far, &mut sockets, &mut connections, self.acts))
     }
 }
 
-/// Lets time pass until 5 milliseconds after this moment. Returns None if the clock fails.
-fn pause(rt: &HostRuntime, begun: Instant) -> Option<()> {
-    for _ in 0..u64::MAX {
-        if 5 <= begun.elapsed(rt).ok()?.as_millis() {
-            return Some(());
+/// Whether each of these acts has the expected result.
+fn all_go<R: Read + Drop, W: Write + Drop, S: Waiter<R, W>>(
+    far: &mut Far<'_>,
+    sockets: &mut S,
+    connections: &mut Vec<(R, W)>,
+    acts: &[Act],
+) -> bool {
+    for act in acts {
+        if !goes(far, sockets, connections, act) {
+            return false;
+        }
+    }
+    true
+}
+
+/// Whether this act has the expected result.
+fn goes<R: Read + Drop, W: Write + Drop, S: Waiter<R, W>>(
+    far: &mut Far<'_>,
+    sockets: &mut S,
+    connections: &mut Vec<(R, W)>,
+    act: &Act,
+) -> bool {
+    match *act {
+        Act::Comes => far.comes(),
+        Act::PassesThough(busy, awaited, least, most) => {
+            is_between(
+                passed(far, sockets, connections, busy, awaited),
+                least,
+                most,
+            )
+        }
+        Act::Sends(..) | Act::Hears(..) | Act::Ends(_) | Act::Empties(_) => far.goes(act),
+        _ => station_goes(far.rt, sockets, connections, act),
+    }
+}
+
+/// The number of milliseconds after which a wait has this result, though peers keep the station
+/// busy, at most 200 times. The times begin with the first wait.
+fn passed<R: Read, W, S: Waiter<R, W>>(
+    far: &mut Far<'_>,
+    sockets: &mut S,
+    connections: &mut [(R, W)],
+    busy: Busy,
+    expected: Awaited,
+) -> Option<u128> {
+    begins(sockets, expected, Pace::AtOnce);
+    let start = Instant::now(far.rt).ok()?;
+    for _ in 0..200u32 {
+        if !far.disturbs(busy) {
+            return None;
+        }
+        if serves(sockets, connections, busy)? == expected {
+            return Some(start.elapsed(far.rt).ok()?.as_millis());
+        }
+        if !passes(far.rt, 5) {
+            return None;
         }
     }
     None
 }
 
-/// Whether an act of a peer has the expected result.
-fn peer_goes(peers: &mut [TcpStream], act: &Act) -> bool {
-    match *act {
-        Act::Sends(peer, octets) => sends_at(peers, peer, octets),
-        Act::Hears(peer, expected) => hears_at(peers, peer, expected),
-        Act::Ends(peer) => ends_at(peers, peer),
-        Act::Empties(peer) => empties_at(peers, peer),
-        _ => false,
+/// Waits once and serves what happened.
+fn serves<R: Read, W, S: Waiter<R, W>>(
+    sockets: &mut S,
+    connections: &mut [(R, W)],
+    busy: Busy,
+) -> Option<Awaited> {
+    let awaited = sockets.wait().ok()?;
+    match awaited {
+        Awaited::Octets { connection } => {
+            let (reading, _) = connections.get_mut(connection)?;
+            let _ = reading.read(&mut [0u8; 64]);
+            sockets.nothing_left(connection);
+            if let Busy::Transmissions = busy {
+                sockets.handled(Handled::Unanswered { connection }, Pace::AtOnce);
+            }
+        }
+        Awaited::Newcomer | Awaited::NotAllowed => sockets.turn_away(),
+        _ => {}
     }
+    Some(awaited)
 }
 
-fn sends_at(peers: &mut [TcpStream], peer: usize, octets: &[u8]) -> bool {
-    match peers.get_mut(peer) {
-        Some(peer) => peer.write_all(octets).is_ok(),
-        None => false,
-    }
-}
-
-fn hears_at(peers: &mut [TcpStream], peer: usize, expected: Read4) -> bool {
-    match peers.get_mut(peer) {
-        Some(peer) => reads(peer, expected),
-        None => false,
-    }
-}
-
-fn ends_at(peers: &[TcpStream], peer: usize) -> bool {
-    match peers.get(peer) {
-        Some(peer) => peer.shutdown(Shutdown::Both).is_ok(),
-        None => false,
-    }
-}
-
-fn empties_at(peers: &mut [TcpStream], peer: usize) -> bool {
-    match peers.get_mut(peer) {
-        Some(peer) => peer.set_nonblocking(true).is_ok() && empties(peer),
-        None => false,
-    }
-}
-
-/// Reads until nothing is left, and returns whether that happens.
-fn empties<R: Read>(reader: &mut R) -> bool {
-    let mut buffer = [0u8; 4_096];
-    for _ in 0..100_000u32 {
-        if reader.read(&mut buffer).is_err() {
-            return true;
+/// Lets this many milliseconds pass; false if the clock fails.
+pub(crate) fn passes(rt: &HostRuntime, milliseconds: u128) -> bool {
+    let Ok(start) = Instant::now(rt) else {
+        return false;
+    };
+    for _ in 0..u64::MAX {
+        match start.elapsed(rt) {
+            Ok(passed) if passed.as_millis() < milliseconds => {}
+            Ok(_) => return true,
+            Err(_) => return false,
         }
     }
     false

@@ -46,15 +46,21 @@ pub(crate) struct Expecting {
     pub(crate) rest: &'static [u8],
 }
 
+/// Whether these octets begin with the others.
+fn starts_with(octets: &[u8], first: &[u8]) -> bool {
+    octets.get(..first.len()) == Some(first)
+}
+
 impl Write for Expecting {
     fn write(&mut self, buf: &[u8]) -> io::Result<usize> {
-        match self.rest.strip_prefix(buf) {
-            Some(rest) => {
-                self.rest = rest;
-                Ok(buf.len())
-            }
-            None => Err(Error::from(ErrorKind::BrokenPipe)),
+        let count = buf.len();
+        if !starts_with(self.rest, buf) {
+            return Err(Error::from(ErrorKind::BrokenPipe));
         }
+        if let Some(rest) = self.rest.get(count..) {
+            self.rest = rest;
+        }
+        Ok(count)
     }
 
     fn flush(&mut self) -> io::Result<()> {
@@ -121,6 +127,13 @@ pub(crate) const NOT_TOLD: Counts = Counts {
     pauses: 0,
     gaps: 0,
 };
+
+impl Told {
+    /// Whether it has returned all results, and was told of these things.
+    pub(crate) fn is_done(&self, counts: &Counts) -> bool {
+        self.waits.is_empty() && self.nowhere == 0 && self.counts == *counts
+    }
+}
 
 impl Waiter<Pieces, Expecting> for Told {
     ghost use Rattle.std.specs.Prelude.{⊤};

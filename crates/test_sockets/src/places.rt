@@ -1,16 +1,20 @@
-//! Newcomers at each of as many places as there may be.
+//! Peers and newcomers at each of as many places as there may be.
 
 use crate::acts::{reads, reads_at, writes_at};
-use crate::meeting::{Meeting, meet, patience, peer, settings};
+use crate::far::Far;
+use crate::meeting::{MOST, Meeting, SHORT, Times, meet, peer};
 use bsc_connections::{Awaited, Waiter};
-use bsc_sockets::{Begun, ConnectionSettings};
+use bsc_sockets::Begun;
 use std::io::{Read, Write};
 use std::net::TcpStream;
 use std::test::Fail;
-use std::time::Duration;
 
-/// The most peers.
-const COUNT: u16 = 64;
+/// A time-out that does not pass in a test.
+const QUIET: Times = Times {
+    time_out: 600_000,
+    gap: 2,
+    ..SHORT
+};
 
 /// Whether the peer of a place is named there, what it sends is heard, a gap ends after that, and
 /// what the station sends arrives at the peer.
@@ -49,34 +53,35 @@ fn takes<R: Read + Drop, W: Write + Drop, S: Waiter<R, W>>(
     is_at(sockets, connections, place, newcomer)
 }
 
-/// The number of newcomers that take a place of their own, one after the other.
-fn taken(rt: &HostRuntime, meeting: &mut Meeting<'_>) -> Result<usize, Fail> {
-    let address = meeting.address;
-    let Begun {
-        sockets,
-        connections,
-    } = &mut meeting.begun;
-    let peers = &mut meeting.peers;
-    let mut count = 0usize;
-    for place in 0..usize::from(COUNT) {
-        let mut newcomer = peer(rt, address)?;
-        if takes(sockets, connections, place, &mut newcomer)? {
-            count = count.saturating_add(1);
+/// The number of places, from the first one on, at which a peer is heard and answered, and then a
+/// newcomer that takes the place.
+fn taken<R: Read + Drop, W: Write + Drop, S: Waiter<R, W>>(
+    far: &mut Far<'_>,
+    sockets: &mut S,
+    connections: &mut Vec<(R, W)>,
+) -> Result<usize, Fail> {
+    let mut newcomers = Vec::new(far.rt.alloc());
+    for first in far.peers.iter_mut() {
+        let place = newcomers.len();
+        if !is_at(sockets, connections, place, first)? {
+            break;
         }
-        peers.push(newcomer)?;
+        let mut newcomer = peer(far.rt, far.address)?;
+        if !takes(sockets, connections, place, &mut newcomer)? {
+            break;
+        }
+        newcomers.push(newcomer)?;
     }
-    Ok(count)
+    Ok(newcomers.len())
 }
 
 #[test]
 fn newcomers_take_each_of_64_places(rt: HostRuntime) -> Result<(), Fail> {
-    let set = ConnectionSettings {
-        time_out: Duration::from_secs(600),
-        late_after: patience(),
-        gap: Duration::from_millis(2),
-        ..settings()
-    };
-    let mut meeting = meet(&rt, rt.alloc(), COUNT, set)?;
-    assert_eq!(rt; taken(&rt, &mut meeting)?, 64);
+    let Meeting { begun, mut far } = meet(&rt, rt.alloc(), MOST, QUIET.settings())?;
+    let Begun {
+        mut sockets,
+        mut connections,
+    } = begun;
+    assert!(rt; taken(&mut far, &mut sockets, &mut connections)? == MOST);
     Ok(())
 }

@@ -1,16 +1,15 @@
 //! Programs that a station serves beside its line.
 
-use crate::beginning::is_told;
-use crate::meeting::{Told, bound, meet, patience, peer, settings};
-use crate::steps::{OCTETS, Step, long, play_with};
+use crate::beginning::{connections_with, is_told};
+use crate::meeting::{SHORT, meet, peer, settings};
+use crate::steps::{Course, HOURS, OCTETS, Step, play};
 use bsc_connections::{Awaited, Handled, Pace, Waiter};
-use bsc_sockets::{ConnectionSettings, Peers, SocketsError, listen};
+use bsc_sockets::{ConnectionSettings, SocketsError};
 use mio::net::TcpListener;
 use mio::{Interest, Poll, Token, Waker};
-use std::alloc::Global;
 use std::fs::File;
 use std::io;
-use std::os::fd::AsRawFd;
+use std::os::fd::{AsRawFd, RawFd};
 use std::test::Fail;
 
 /// What reports the sockets of programs, and calls a station.
@@ -21,7 +20,7 @@ pub(crate) struct Programs {
 }
 
 impl Programs {
-    fn new(rt: &HostRuntime) -> io::Result<Programs> {
+    pub(crate) fn new(rt: &HostRuntime) -> io::Result<Programs> {
         let poll = Poll::new(rt)?;
         let waker = Waker::new(poll.registry(), Token(0))?;
         Ok(Programs { poll, waker })
@@ -32,13 +31,102 @@ impl Programs {
         self.waker.wake().is_ok()
     }
 
-    /// These settings, for a station that these programs call.
-    fn serve(&self, settings: ConnectionSettings) -> ConnectionSettings {
-        ConnectionSettings {
-            serves: Some(self.poll.as_raw_fd()),
-            ..settings
-        }
+    /// What a station watches that these programs call.
+    pub(crate) fn descriptor(&self) -> RawFd {
+        self.poll.as_raw_fd()
     }
+}
+
+const CALLED: &[Course] = &[
+    Course {
+        shows: "octets and calls are there at all times and hide neither each other nor a time-out",
+        serves: true,
+        steps: &[
+            Step::Sends,
+            Step::SharesCalled,
+            Step::Minutes(60),
+            Step::ComesCalled(Awaited::TimeOut),
+            Step::Silence,
+            Step::Reads,
+            Step::ComesCalled(Awaited::Client),
+            Step::OftenCalled(100, Awaited::Client),
+            Step::Minutes(59),
+            Step::OftenCalled(100, Awaited::Client),
+            Step::Minutes(1),
+            Step::Calls,
+            Step::Waits(Awaited::TimeOut),
+            Step::Silence,
+            Step::Waits(Awaited::Client),
+        ],
+        ..HOURS
+    },
+    Course {
+        shows: "programs make nothing late; what is sent is late 20 minutes after what it answers",
+        serves: true,
+        steps: &[
+            Step::OftenCalled(5, Awaited::Client),
+            Step::Minutes(30),
+            Step::OftenCalled(5, Awaited::Client),
+            Step::Sends,
+            Step::ComesCalled(OCTETS),
+            Step::MaySend(true),
+            Step::OftenCalled(5, OCTETS),
+            Step::Minutes(25),
+            Step::SharesCalled,
+            Step::MaySend(false),
+        ],
+        ..HOURS
+    },
+    Course {
+        shows: "a call interrupts a pause, which goes on until its hour has passed",
+        serves: true,
+        steps: &[
+            Step::Sends,
+            Step::SilenceAndPause,
+            Step::OftenCalled(100, Awaited::Client),
+            Step::Minutes(59),
+            Step::OftenCalled(100, Awaited::Client),
+            Step::Minutes(1),
+            Step::Calls,
+            Step::Waits(OCTETS),
+            Step::Minutes(59),
+            Step::SharesCalled,
+            Step::Minutes(1),
+            Step::ComesCalled(Awaited::TimeOut),
+        ],
+        ..HOURS
+    },
+    Course {
+        shows: "a call is told once, and two of them once",
+        times: SHORT,
+        serves: true,
+        steps: &[
+            Step::Calls,
+            Step::Silence,
+            Step::Waits(Awaited::Client),
+            Step::Silence,
+            Step::Waits(Awaited::TimeOut),
+            Step::Calls,
+            Step::Calls,
+            Step::Silence,
+            Step::Waits(Awaited::Client),
+            Step::Silence,
+            Step::Waits(Awaited::TimeOut),
+        ],
+        ..HOURS
+    },
+];
+
+#[test]
+fn programs_call_a_station(rt: HostRuntime) -> Result<(), Fail> {
+    play(&rt, rt.alloc(), CALLED)
+}
+
+/// Settings of a station that serves programs by this descriptor.
+fn serving(descriptor: RawFd) -> ConnectionSettings {
+    let mut settings = settings();
+    settings.serves = Some(descriptor);
+    settings
 }
 
 /// Whether the next wait has this result, if the time-out begins with it.
@@ -48,132 +136,23 @@ fn waits<R, W, S: Waiter<R, W>>(sockets: &mut S, awaited: Awaited) -> bool {
 }
 
 #[test]
-fn a_call_is_told_once(rt: HostRuntime) -> Result<(), Fail> {
-    let programs = Programs::new(&rt)?;
-    assert!(rt; programs.call());
-    let mut meeting = meet(&rt, rt.alloc(), 1, programs.serve(settings()))?;
-    let sockets = &mut meeting.begun.sockets;
-    assert!(rt; waits(sockets, Awaited::Client));
-    assert!(rt; waits(sockets, Awaited::TimeOut));
-    assert!(rt; programs.call() && programs.call());
-    assert!(rt; waits(sockets, Awaited::Client));
-    assert!(rt; waits(sockets, Awaited::TimeOut));
-    Ok(())
-}
-
-#[test]
 fn a_program_that_connects_calls(rt: HostRuntime) -> Result<(), Fail> {
     let programs = Programs::new(&rt)?;
     let mut listener = TcpListener::bind(&rt, "127.0.0.1:0".parse()?)?;
     let address = listener.local_addr()?;
     let registry = programs.poll.registry();
     registry.register(&mut listener, Token(1), Interest::READABLE)?;
-    let mut meeting = meet(&rt, rt.alloc(), 0, programs.serve(settings()))?;
+    let mut meeting = meet(&rt, rt.alloc(), 0, serving(programs.descriptor()))?;
     let sockets = &mut meeting.begun.sockets;
     assert!(rt; waits(sockets, Awaited::TimeOut));
     let _program = peer(&rt, address)?;
-    assert!(rt; waits(sockets, Awaited::Client));
-    assert!(rt; waits(sockets, Awaited::TimeOut));
+    assert!(rt; waits(sockets, Awaited::Client) && waits(sockets, Awaited::TimeOut));
     Ok(())
-}
-
-/// The number of connections of a station without peers.
-fn connections_with(
-    rt: &HostRuntime,
-    alloc: Global,
-    settings: ConnectionSettings,
-) -> Result<usize, SocketsError> {
-    let (listening, _) = bound(rt)?;
-    let peers = Peers {
-        count: 0,
-        patience: patience(),
-        keeps_listening: true,
-    };
-    let begun = listen(rt, alloc, listening, peers, settings, &mut Told::new())?;
-    Ok(begun.connections.len())
 }
 
 #[test]
 fn what_cannot_call_is_refused(rt: HostRuntime) -> Result<(), Fail> {
     let device = File::open(&rt, "/dev/null")?;
-    let set = ConnectionSettings {
-        serves: Some(device.as_raw_fd()),
-        ..settings()
-    };
-    is_told(
-        connections_with(&rt, rt.alloc(), set),
-        SocketsError::Sockets,
-    )
-}
-
-/// Octets and calls are there at all times, until an hour has passed. Then the line is quiet, and
-/// calls are there at all times, until another hour has.
-const SHARED: &[Step] = &[
-    Step::Sends,
-    Step::SharesCalled,
-    Step::Minutes(60),
-    Step::ComesCalled(Awaited::TimeOut),
-    Step::Silence,
-    Step::Reads,
-    Step::ComesCalled(Awaited::Client),
-    Step::OftenCalled(100, Awaited::Client),
-    Step::Minutes(59),
-    Step::OftenCalled(100, Awaited::Client),
-    Step::Minutes(1),
-    Step::Calls,
-    Step::Waits(Awaited::TimeOut),
-    Step::Silence,
-    Step::Waits(Awaited::Client),
-];
-
-#[test]
-fn programs_hold_up_neither_octets_nor_a_time_out(rt: HostRuntime) -> Result<(), Fail> {
-    let programs = Programs::new(&rt)?;
-    let set = programs.serve(long());
-    play_with(&rt, rt.alloc(), set, None, Some(&programs), SHARED)
-}
-
-/// What is sent is late 20 minutes after what it answers may have arrived.
-const LATE: &[Step] = &[
-    Step::OftenCalled(5, Awaited::Client),
-    Step::Minutes(30),
-    Step::OftenCalled(5, Awaited::Client),
-    Step::Sends,
-    Step::ComesCalled(OCTETS),
-    Step::MaySend(true),
-    Step::OftenCalled(5, OCTETS),
-    Step::Minutes(25),
-    Step::SharesCalled,
-    Step::MaySend(false),
-];
-
-#[test]
-fn programs_make_nothing_late(rt: HostRuntime) -> Result<(), Fail> {
-    let programs = Programs::new(&rt)?;
-    let set = programs.serve(long());
-    play_with(&rt, rt.alloc(), set, None, Some(&programs), LATE)
-}
-
-/// A pause of an hour is interrupted at once, and goes on until its hour has passed. Then the
-/// time-out begins.
-const PAUSE: &[Step] = &[
-    Step::Sends,
-    Step::SilenceAndPause,
-    Step::OftenCalled(100, Awaited::Client),
-    Step::Minutes(59),
-    Step::OftenCalled(100, Awaited::Client),
-    Step::Minutes(1),
-    Step::Calls,
-    Step::Waits(OCTETS),
-    Step::Minutes(59),
-    Step::SharesCalled,
-    Step::Minutes(1),
-    Step::ComesCalled(Awaited::TimeOut),
-];
-
-#[test]
-fn a_program_interrupts_a_pause(rt: HostRuntime) -> Result<(), Fail> {
-    let programs = Programs::new(&rt)?;
-    let set = programs.serve(long());
-    play_with(&rt, rt.alloc(), set, None, Some(&programs), PAUSE)
+    let told = connections_with(&rt, rt.alloc(), serving(device.as_raw_fd()));
+    is_told(told, SocketsError::Sockets)
 }

@@ -1,14 +1,13 @@
 //! Each growth of memory is refused in turn.
 
-use crate::beginning::{connections_at, connections_to, text};
-use crate::meeting::{Told, bound, patience, peer, peers_of, settings};
+use crate::beginning::{connections_to, text};
+use crate::meeting::{MOST, SHORT, Times, Told, begin, bound, peer, peers, peers_of, settings};
 use bsc_connections::{Awaited, Waiter};
-use bsc_sockets::{ConnectionSettings, Peers, Sockets, SocketsError, listen};
+use bsc_sockets::{Sockets, SocketsError};
 use std::alloc::{Allocator, Global};
 use std::io::{Read, Write};
 use std::net::SocketAddr;
 use std::test::Fail;
-use std::time::Duration;
 use test_alloc::{Refusal, Refusing};
 
 /// Fails unless there is one connection, or a growth was refused and the result is out of memory.
@@ -16,7 +15,7 @@ fn is_told(alloc: &Refusing<Global>, begun: Result<usize, SocketsError>) -> Resu
     match begun {
         Ok(1) if alloc.refused() == 0 => Ok(()),
         Err(SocketsError::Memory) if alloc.refused() > 0 => Ok(()),
-        other => Err(Fail::new(format_args!("{other:?}"))),
+        _ => Err("another result".into()),
     }
 }
 
@@ -24,7 +23,11 @@ fn is_told(alloc: &Refusing<Global>, begun: Result<usize, SocketsError>) -> Resu
 fn listen_to_one(rt: &HostRuntime, alloc: &Refusing<Global>) -> Result<(), Fail> {
     let (listening, address) = bound(rt)?;
     let _far = peer(rt, address)?;
-    is_told(alloc, connections_at(rt, alloc, listening, 1, patience()))
+    let told = match begin(rt, alloc, listening, peers(1), settings(), &mut Told::new()) {
+        Ok(begun) => Ok(begun.connections.len()),
+        Err(why) => Err(why),
+    };
+    is_told(alloc, told)
 }
 
 #[test]
@@ -61,12 +64,7 @@ fn without_peer<'a, A: Allocator + Copy>(
 ) -> Result<(Sockets<'a, HostRuntime, A>, SocketAddr), Fail> {
     let (listening, address) = bound(rt)?;
     let _first = peer(rt, address)?;
-    let peers = Peers {
-        count: 1,
-        patience: patience(),
-        keeps_listening: true,
-    };
-    let begun = listen(rt, alloc, listening, peers, settings(), &mut Told::new())?;
+    let begun = begin(rt, alloc, listening, peers(1), settings(), &mut Told::new())?;
     Ok((begun.sockets, address))
 }
 
@@ -123,39 +121,6 @@ fn a_growth_for_a_newcomer(rt: HostRuntime) -> Result<(), Fail> {
     two_newcomers(&rt, &alloc, &mut sockets, address)
 }
 
-/// Whether a station that has begun tells of octets of its peer, and then of a newcomer.
-fn tells_of_both<R, W, S: Waiter<R, W>>(
-    rt: &HostRuntime,
-    sockets: &mut S,
-    address: SocketAddr,
-) -> Result<bool, Fail> {
-    let octets = sockets.wait()? == Awaited::Octets { connection: 0 };
-    sockets.nothing_left(0);
-    let _newcomer = peer(rt, address)?;
-    Ok(octets && sockets.wait()? == Awaited::Newcomer)
-}
-
-#[test]
-fn a_wait_needs_no_growth(rt: HostRuntime) -> Result<(), Fail> {
-    let alloc = Refusing::new(rt.alloc());
-    let (listening, address) = bound(&rt)?;
-    let mut far = peer(&rt, address)?;
-    let peers = Peers {
-        count: 1,
-        patience: patience(),
-        keeps_listening: true,
-    };
-    let mut begun = listen(&rt, &alloc, listening, peers, settings(), &mut Told::new())?;
-    alloc.refuse_nth(1);
-    far.write_all(b"here")?;
-    assert!(rt; tells_of_both(&rt, &mut begun.sockets, address)?);
-    assert_eq!(rt; alloc.refused(), 0);
-    Ok(())
-}
-
-/// The number of peers of a station that has as many as it may have.
-const COUNT: u16 = 64;
-
 /// How many of the connections and the newcomer of a station are told of in 260 waits.
 fn told_of<R, W, S: Waiter<R, W>>(sockets: &mut S) -> Result<usize, Fail> {
     let mut told = [false; 65];
@@ -169,31 +134,34 @@ fn told_of<R, W, S: Waiter<R, W>>(sockets: &mut S) -> Result<usize, Fail> {
             told[place] = true;
         }
     }
-    Ok(told.iter().filter(|told| **told).count())
+    let mut count = 0usize;
+    for told in told {
+        if told {
+            count = count.saturating_add(1);
+        }
+    }
+    Ok(count)
 }
+
+/// A time-out that does not pass in a test.
+const QUIET: Times = Times {
+    time_out: 600_000,
+    ..SHORT
+};
 
 /// All peers have sent something, and another one has connected, when the station waits first.
 #[test]
 fn a_wait_for_64_peers_and_another_needs_no_growth(rt: HostRuntime) -> Result<(), Fail> {
     let alloc = Refusing::new(rt.alloc());
     let (listening, address) = bound(&rt)?;
-    let mut far = peers_of(&rt, rt.alloc(), address, COUNT)?;
-    let peers = Peers {
-        count: usize::from(COUNT),
-        patience: patience(),
-        keeps_listening: true,
-    };
-    let set = ConnectionSettings {
-        time_out: Duration::from_secs(600),
-        ..settings()
-    };
-    let mut begun = listen(&rt, &alloc, listening, peers, set, &mut Told::new())?;
+    let mut far = peers_of(&rt, rt.alloc(), address, MOST)?;
+    let set = QUIET.settings();
+    let mut begun = begin(&rt, &alloc, listening, peers(MOST), set, &mut Told::new())?;
     for peer in far.iter_mut() {
         peer.write_all(b"here")?;
     }
     let _newcomer = peer(&rt, address)?;
     alloc.refuse_from(1);
-    assert_eq!(rt; told_of(&mut begun.sockets)?, 65);
-    assert_eq!(rt; alloc.refused(), 0);
+    assert!(rt; told_of(&mut begun.sockets)? == 65 && alloc.refused() == 0);
     Ok(())
 }

@@ -5,7 +5,7 @@ use crate::acts::Act::{
     PassesAfterPause, PassesThough, Reads, Replaceable, Sends, Shares, TurnsAway, Waits, Writes,
 };
 use crate::acts::{Act, Busy};
-use crate::meeting::{Encounter, play};
+use crate::meeting::{Encounter, ONE, play};
 use bsc_connections::Awaited;
 use std::io::ErrorKind;
 use std::test::Fail;
@@ -21,8 +21,6 @@ const NOTHING_THERE: Act = Reads(0, Err(ErrorKind::WouldBlock));
 const MEETINGS: &[Encounter] = &[
     Encounter {
         shows: "octets arrive in order, and are told of until nothing is left, and then no more",
-        peers: 1,
-        begins: false,
         acts: &[
             NOTHING_THERE,
             Sends(0, b"abcdef"),
@@ -37,17 +35,16 @@ const MEETINGS: &[Encounter] = &[
             Writes(0, b"def"),
             Hears(0, Ok(b"def")),
         ],
+        ..ONE
     },
     Encounter {
         shows: "a peer that ends its connection is told of, and reads as an end, again and again",
-        peers: 1,
-        begins: false,
         acts: &[Ends(0), Waits(FIRST), Reads(0, Ok(b"")), Reads(0, Ok(b""))],
+        ..ONE
     },
     Encounter {
         shows: "a peer that has gone is replaced by the next one, told of until it has a place",
         peers: 2,
-        begins: false,
         acts: &[
             Ends(0),
             Waits(FIRST),
@@ -65,11 +62,10 @@ const MEETINGS: &[Encounter] = &[
             Writes(0, b"too"),
             Hears(2, Ok(b"too")),
         ],
+        ..ONE
     },
     Encounter {
         shows: "a peer that is turned away reads an end, and is told of no more",
-        peers: 1,
-        begins: false,
         acts: &[
             Comes,
             Waits(Awaited::Newcomer),
@@ -77,6 +73,7 @@ const MEETINGS: &[Encounter] = &[
             Hears(1, Ok(b"")),
             Waits(Awaited::TimeOut),
         ],
+        ..ONE
     },
 ];
 
@@ -90,7 +87,6 @@ const REPLACED: &[Encounter] = &[
         shows: "the connection that nobody answers on for two time-outs may be replaced, unless \
             closed",
         peers: 2,
-        begins: false,
         acts: &[
             Replaceable(None),
             Waits(Awaited::TimeOut),
@@ -111,12 +107,12 @@ const REPLACED: &[Encounter] = &[
             Waits(Awaited::TimeOut),
             Replaceable(Some(0)),
         ],
+        ..ONE
     },
     Encounter {
         shows: "of two connections without an answer for as long, the one that never had one may \
             be replaced",
         peers: 2,
-        begins: false,
         acts: &[
             Replaceable(None),
             Answers(0),
@@ -124,6 +120,7 @@ const REPLACED: &[Encounter] = &[
             Waits(Awaited::TimeOut),
             Replaceable(Some(1)),
         ],
+        ..ONE
     },
 ];
 
@@ -135,7 +132,6 @@ fn a_connection_without_answers_is_replaced(rt: HostRuntime) -> Result<(), Fail>
 const BUSY: &[Encounter] = &[Encounter {
     shows: "one peer has octets at all times, a second one has some, and a third one comes",
     peers: 2,
-    begins: false,
     acts: &[
         Sends(0, b"without end"),
         Waits(FIRST),
@@ -143,6 +139,7 @@ const BUSY: &[Encounter] = &[Encounter {
         Comes,
         Shares(20),
     ],
+    ..ONE
 }];
 
 #[test]
@@ -152,7 +149,6 @@ fn no_peer_hides_another(rt: HostRuntime) -> Result<(), Fail> {
 
 const QUIET: &[Encounter] = &[Encounter {
     shows: "a time-out, a gap and a pause pass in their time, and the first wait at once",
-    peers: 1,
     begins: true,
     acts: &[
         Passes(Awaited::TimeOut, 0, 4_000),
@@ -165,18 +161,19 @@ const QUIET: &[Encounter] = &[Encounter {
         PassesAfterPause(FIRST, 15, 4_000),
         Passes(FIRST, 0, 4_000),
     ],
+    ..ONE
 }];
 
 const DISTURBED: &[Encounter] = &[Encounter {
     shows: "what peers send, and that they connect, moves neither a time-out nor another gap",
     peers: 2,
-    begins: false,
     acts: &[
         PassesThough(Busy::Octets, Awaited::TimeOut, 40, 4_000),
         PassesThough(Busy::Octets, GAP, 10, 4_000),
         PassesThough(Busy::Transmissions, Awaited::TimeOut, 40, 4_000),
         PassesThough(Busy::Peers, Awaited::TimeOut, 40, 4_000),
     ],
+    ..ONE
 }];
 
 #[test]
@@ -191,8 +188,6 @@ fn time_passes(rt: HostRuntime) -> Result<(), Fail> {
 
 const FULL: &[Encounter] = &[Encounter {
     shows: "a peer that reads nothing fails a write after the time-out, until it has read",
-    peers: 1,
-    begins: false,
     acts: &[
         Fills(0, 40, 4_000),
         Empties(0),
@@ -200,6 +195,7 @@ const FULL: &[Encounter] = &[Encounter {
         Empties(0),
         Writes(0, b"more"),
     ],
+    ..ONE
 }];
 
 #[test]

@@ -1,13 +1,15 @@
 //! What happens step by step at a station whose clock is moved.
 
 use crate::machine::{Due, Machine};
-use crate::meeting::{Told, bound, patience, peer, settings};
+use crate::meeting::{Times, Told, begin, bound, peer, peers};
 use crate::programs::Programs;
+use crate::stopped::input;
 use bsc_connections::{Awaited, Handled, Pace, Waiter};
-use bsc_sockets::{Begun, ConnectionSettings, Listening, Peers, SocketsError, listen};
+use bsc_sockets::{Begun, ConnectionSettings, Listening, SocketsError};
 use std::alloc::Global;
 use std::io::Read;
 use std::net::{Net, Shutdown, TcpStream};
+use std::os::fd::AsRawFd;
 use std::test::Fail;
 use std::time::{Clock, Duration, Instant};
 
@@ -76,28 +78,55 @@ pub(crate) const OCTETS: Awaited = Awaited::Octets { connection: 0 };
 pub(crate) const GAP: Awaited = Awaited::Gap { connection: 0 };
 
 /// This many minutes.
-pub(crate) fn minutes(number: u64) -> Duration {
+fn minutes(number: u64) -> Duration {
     Duration::from_secs(number.saturating_mul(60))
 }
 
 /// A time-out of 60 minutes, a gap of 5, and a pause of 60; what is sent is late after 20.
-pub(crate) fn long() -> ConnectionSettings {
-    ConnectionSettings {
-        time_out: minutes(60),
-        late_after: minutes(20),
-        gap: minutes(5),
-        pause: minutes(60),
-        ..settings()
-    }
+pub(crate) const LONG: Times = Times {
+    time_out: 3_600_000,
+    late_after: 1_200_000,
+    gap: 300_000,
+    replace_after: 80,
+    pause: 3_600_000,
+};
+
+/// A station with one peer, and what happens.
+pub(crate) struct Course {
+    /// What the case shows.
+    pub(crate) shows: &'static str,
+
+    pub(crate) times: Times,
+
+    /// Whether the station begins without delay.
+    pub(crate) begins: bool,
+
+    /// Whether it ends when an input does.
+    pub(crate) stops: bool,
+
+    /// Whether it serves programs.
+    pub(crate) serves: bool,
+
+    pub(crate) steps: &'static [Step],
 }
 
-/// The machine of a station, the other end of its input and what calls it, if it has them.
+/// A station with long times that nobody stops.
+pub(crate) const HOURS: Course = Course {
+    shows: "",
+    times: LONG,
+    begins: false,
+    stops: false,
+    serves: false,
+    steps: &[],
+};
+
+/// The machine of a station, the other end of its input and what calls it.
 #[derive(Clone, Copy)]
 struct Around<'a> {
     rt: &'a HostRuntime,
     machine: &'a Machine<'a>,
-    input: Option<&'a TcpStream>,
-    programs: Option<&'a Programs>,
+    input: &'a TcpStream,
+    programs: &'a Programs,
 }
 
 /// What is outside a station, and moves its clock.
@@ -131,14 +160,8 @@ impl Outside for Around<'_> {
                 self.machine.passes(minutes(number));
                 true
             }
-            Step::Ends => match self.input {
-                Some(input) => input.shutdown(Shutdown::Both).is_ok(),
-                None => false,
-            },
-            Step::Calls => match self.programs {
-                Some(programs) => programs.call(),
-                None => false,
-            },
+            Step::Ends => self.input.shutdown(Shutdown::Both).is_ok(),
+            Step::Calls => self.programs.call(),
             _ => false,
         }
     }
@@ -284,75 +307,71 @@ fn goes<O: Outside, R: Read, W, S: Waiter<R, W>>(
     }
 }
 
-/// The place of the first of these steps that has another result.
-fn first_wrong<O: Outside, R: Read, W, S: Waiter<R, W>>(
+/// Whether each of these steps has the expected result.
+fn all_go<O: Outside, R: Read, W, S: Waiter<R, W>>(
     around: &O,
     sockets: &mut S,
     connections: &mut [(R, W)],
     steps: &[Step],
-) -> Option<usize> {
-    for (place, step) in steps.iter().enumerate() {
+) -> bool {
+    for step in steps {
         if !goes(around, sockets, connections, *step) {
-            return Some(place);
+            return false;
         }
     }
-    None
+    true
 }
 
-/// The place of the first of these steps that has another result, at a station with these settings
-/// on this machine, that has a connection to one peer.
-fn wrong_at<N: Net + Clock, O: Outside>(
+/// Whether each of these steps has the expected result, at a station with these settings on this
+/// machine, that has a connection to one peer.
+fn all_go_at<N: Net + Clock, O: Outside>(
     machine: &N,
     alloc: Global,
     listening: Listening,
     settings: ConnectionSettings,
     around: &O,
     steps: &[Step],
-) -> Result<Option<usize>, SocketsError> {
-    let wanted = Peers {
-        count: 1,
-        patience: patience(),
-        keeps_listening: true,
-    };
+) -> Result<bool, SocketsError> {
     let told = &mut Told::new();
     let Begun {
         mut sockets,
         mut connections,
-    } = listen(machine, alloc, listening, wanted, settings, told)?;
-    Ok(first_wrong(around, &mut sockets, &mut connections, steps))
+    } = begin(machine, alloc, listening, peers(1), settings, told)?;
+    Ok(all_go(around, &mut sockets, &mut connections, steps))
 }
 
-/// Plays these steps at such a station, whose peer is there.
-pub(crate) fn play(
-    rt: &HostRuntime,
-    alloc: Global,
-    settings: ConnectionSettings,
-    input: Option<&TcpStream>,
-    steps: &[Step],
-) -> Result<(), Fail> {
-    play_with(rt, alloc, settings, input, None, steps)
+/// Plays each of these cases with a new station, whose peer is there.
+pub(crate) fn play(rt: &HostRuntime, alloc: Global, courses: &[Course]) -> Result<(), Fail> {
+    for course in courses {
+        if !course.goes(rt, alloc)? {
+            return Err(Fail::new(course.shows));
+        }
+    }
+    Ok(())
 }
 
-/// The same, with these programs that the station serves.
-pub(crate) fn play_with(
-    rt: &HostRuntime,
-    alloc: Global,
-    settings: ConnectionSettings,
-    input: Option<&TcpStream>,
-    programs: Option<&Programs>,
-    steps: &[Step],
-) -> Result<(), Fail> {
-    let (listening, address) = bound(rt)?;
-    let far = peer(rt, address)?;
-    let machine = Machine::with_far(rt, &far);
-    let around = Around {
-        rt,
-        machine: &machine,
-        input,
-        programs,
-    };
-    match wrong_at(&machine, alloc, listening, settings, &around, steps)? {
-        Some(place) => Err(Fail::new(format_args!("not so at {place}"))),
-        None => Ok(()),
+impl Course {
+    /// Whether each step has the expected result at a new station.
+    fn goes(&self, rt: &HostRuntime, alloc: Global) -> Result<bool, Fail> {
+        let (own, other) = input(rt)?;
+        let programs = Programs::new(rt)?;
+        let mut settings = self.times.settings();
+        settings.begins = self.begins;
+        if self.stops {
+            settings.stops_with = Some(own.as_raw_fd());
+        }
+        if self.serves {
+            settings.serves = Some(programs.descriptor());
+        }
+        let (listening, address) = bound(rt)?;
+        let far = peer(rt, address)?;
+        let machine = Machine::with_far(rt, &far);
+        let around = Around {
+            rt,
+            machine: &machine,
+            input: &other,
+            programs: &programs,
+        };
+        Ok(all_go_at(&machine, alloc, listening, settings, &around, self.steps)?)
     }
 }

@@ -1,11 +1,9 @@
 //! Stations that are asked to end.
 
-use crate::acts::Act::{Ends, PassesAfterPause, PassesThough, Sends, Waits};
-use crate::acts::Busy;
-use crate::beginning::{has_passed, is_told, text};
-use crate::meeting::{Encounter, Told, bound, patience, peer, play_one, settings};
+use crate::beginning::{connections_with, has_passed, is_told, text};
+use crate::meeting::{bound, peer, reach, settings};
 use bsc_connections::{Awaited, Waiter};
-use bsc_sockets::{ConnectionSettings, Peers, SocketsError, connect, listen};
+use bsc_sockets::{ConnectionSettings, SocketsError};
 use std::alloc::Global;
 use std::fs::File;
 use std::io;
@@ -23,55 +21,10 @@ pub(crate) fn input(rt: &HostRuntime) -> io::Result<(TcpStream, TcpStream)> {
 }
 
 /// Settings by which a station ends when this input does.
-pub(crate) fn stopping_with<I: AsRawFd>(input: &I) -> ConnectionSettings {
+fn stopping_with<I: AsRawFd>(input: &I) -> ConnectionSettings {
     let mut settings = settings();
     settings.stops_with = Some(input.as_raw_fd());
     settings
-}
-
-/// The first of the peers is the other end of the input.
-const STOPPED: Encounter = Encounter {
-    shows: "the end of an input stops the station at once, and again after a time-out, but no more",
-    peers: 1,
-    begins: false,
-    acts: &[
-        Waits(Awaited::TimeOut),
-        Sends(0, b"octets"),
-        Waits(Awaited::TimeOut),
-        Ends(0),
-        PassesAfterPause(Awaited::Stopped, 0, 4_000),
-        PassesThough(Busy::Nobody, Awaited::Stopped, 40, 4_000),
-        Waits(Awaited::TimeOut),
-        Waits(Awaited::TimeOut),
-    ],
-};
-
-#[test]
-fn the_end_of_an_input_stops_a_station(rt: HostRuntime) -> Result<(), Fail> {
-    let (input, other) = input(&rt)?;
-    play_one(
-        &rt,
-        rt.alloc(),
-        stopping_with(&input),
-        Some(other),
-        &STOPPED,
-    )
-}
-
-/// The number of connections of a station that waits for a peer that does not come.
-fn connections_with(
-    rt: &HostRuntime,
-    alloc: Global,
-    settings: ConnectionSettings,
-) -> Result<usize, SocketsError> {
-    let (listening, _) = bound(rt)?;
-    let peers = Peers {
-        count: 1,
-        patience: patience(),
-        keeps_listening: true,
-    };
-    let begun = listen(rt, alloc, listening, peers, settings, &mut Told::new())?;
-    Ok(begun.connections.len())
 }
 
 #[test]
@@ -100,7 +53,7 @@ fn first_event(
     address: &str,
     settings: ConnectionSettings,
 ) -> Result<Option<Awaited>, SocketsError> {
-    let mut begun = connect(rt, alloc, address, patience(), settings)?;
+    let mut begun = reach(rt, alloc, address, settings)?;
     Ok(begun.sockets.wait().ok())
 }
 
@@ -111,6 +64,6 @@ fn a_station_that_connects_is_stopped(rt: HostRuntime) -> Result<(), Fail> {
     let (_listening, address) = bound(&rt)?;
     let text = text(rt.alloc(), address)?;
     let first = first_event(&rt, rt.alloc(), text.as_str(), stopping_with(&input))?;
-    assert_eq!(rt; first, Some(Awaited::Stopped));
+    assert!(rt; first == Some(Awaited::Stopped));
     Ok(())
 }

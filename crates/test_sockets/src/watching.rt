@@ -61,43 +61,68 @@ pub(crate) struct Expects {
     peer: Option<SocketAddr>,
 }
 
-/// The octets of a note, the number of its connection, and the reason for closing it. Notes of
-/// different kinds never have the same parts.
-fn parts<'a>(
-    note: &Note<'a>,
-) -> (
-    Option<&'a [u8]>,
-    Option<usize>,
-    Option<Option<CarrierError>>,
-) {
-    match *note {
-        Note::Heard { connection, octets } => (Some(octets), Some(connection), None),
-        Note::Ignored { connection, octets } => (Some(octets), Some(connection), Some(None)),
-        Note::Silence => (None, None, None),
-        Note::Sent { octets } => (Some(octets), None, None),
-        Note::Withheld { octets } => (Some(octets), None, Some(None)),
-        Note::Joined {
+/// What a note tells: what happened, where, the octets, and the reason for closing a connection.
+#[derive(Clone, Copy)]
+struct Parts<'a> {
+    what: u8,
+    connection: usize,
+    octets: &'a [u8],
+    why: Option<CarrierError>,
+}
+
+impl<'a> Parts<'a> {
+    /// Of a note that tells what happened at this connection to these octets.
+    fn new(what: u8, connection: usize, octets: &'a [u8]) -> Parts<'a> {
+        Parts {
+            what,
             connection,
-            replaces: false,
-            ..
-        } => (None, Some(connection), None),
-        Note::Joined { connection, .. } => (Some(b"replaced"), Some(connection), None),
-        Note::Refused {
-            why: Refusal::NoPlace,
-            ..
-        } => (Some(b"refused"), None, None),
-        Note::Refused {
-            why: Refusal::NotAllowed,
-            ..
-        } => (Some(b"not allowed"), None, None),
-        Note::Refused { .. } => (Some(b"not accepted"), None, None),
-        Note::Closed {
-            connection,
-            why,
-            ..
-        } => (None, Some(connection), Some(why)),
-        Note::Stopped => (None, None, Some(None)),
-        Note::Client => (Some(b"program"), None, None),
+            octets,
+            why: None,
+        }
+    }
+
+    /// The parts of a note. Those of different kinds differ.
+    fn of(note: &Note<'a>) -> Parts<'a> {
+        match *note {
+            Note::Heard { connection, octets } => Parts::new(0, connection, octets),
+            Note::Ignored { connection, octets } => Parts::new(1, connection, octets),
+            Note::Silence => Parts::new(2, 0, &[]),
+            Note::Sent { octets } => Parts::new(3, 0, octets),
+            Note::Withheld { octets } => Parts::new(4, 0, octets),
+            Note::Joined {
+                connection,
+                replaces,
+                ..
+            } => Parts::new(if replaces { 5 } else { 6 }, connection, &[]),
+            Note::Refused { why, .. } => Parts::new(refusal(why), 0, &[]),
+            Note::Closed {
+                connection,
+                why,
+                ..
+            } => Parts {
+                why,
+                ..Parts::new(7, connection, &[])
+            },
+            Note::Stopped => Parts::new(8, 0, &[]),
+            Note::Client => Parts::new(9, 0, &[]),
+        }
+    }
+
+    /// Whether these tell the same.
+    fn are(&self, other: &Parts<'_>) -> bool {
+        self.what == other.what
+            && self.connection == other.connection
+            && self.octets == other.octets
+            && self.why == other.why
+    }
+}
+
+/// What a note of a refused peer tells.
+fn refusal(why: Refusal) -> u8 {
+    match why {
+        Refusal::NoPlace => 10,
+        Refusal::NotAllowed => 11,
+        Refusal::NotAccepted => 12,
     }
 }
 
@@ -162,7 +187,7 @@ impl Expects {
         let place = self.taken;
         self.taken = place.saturating_add(1);
         match self.notes.get(place) {
-            Some(expected) => parts(expected) == parts(note) && self.names_peer(note),
+            Some(expected) => Parts::of(expected).are(&Parts::of(note)) && self.names_peer(note),
             None => false,
         }
     }

@@ -1,13 +1,19 @@
 //! What is written while the system has no room for it.
 
 use crate::machine::{HasRead, Machine};
-use crate::meeting::{Told, bound, patience, peer, settings};
-use bsc_sockets::{ConnectionSettings, Listening, Peers, SocketsError, listen};
+use crate::meeting::{SHORT, Times, Told, begin, bound, peer, peers};
+use bsc_sockets::{Listening, SocketsError};
 use std::alloc::{AllocError, Global};
 use std::io::Write;
 use std::net::Net;
 use std::test::Fail;
 use std::time::Clock;
+
+/// A write waits so long for room that a test whose write fails has failed.
+const PATIENT: Times = Times {
+    time_out: 5_000,
+    ..SHORT
+};
 
 /// The octets 0 to 250, again and again: so many that the system never has room for all of them.
 fn counting(alloc: Global) -> Result<Vec<u8>, AllocError> {
@@ -61,16 +67,8 @@ fn written_to<N: Net + Clock>(
     machine: &Machine<'_>,
     octets: &[u8],
 ) -> Result<Option<usize>, SocketsError> {
-    let wanted = Peers {
-        count: 1,
-        patience: patience(),
-        keeps_listening: false,
-    };
-    let set = ConnectionSettings {
-        time_out: patience(),
-        ..settings()
-    };
-    let mut begun = listen(own, alloc, listening, wanted, set, &mut Told::new())?;
+    let set = PATIENT.settings();
+    let mut begun = begin(own, alloc, listening, peers(1), set, &mut Told::new())?;
     Ok(writes(machine, &mut begun.connections, octets))
 }
 
