@@ -1,6 +1,7 @@
-//! Lines that are refused, widths at their bounds, and streams that fail.
+//! Lines and words that are refused, by their bounds, and streams that fail.
 
 use crate::ladders::{Asked, BOXES, drawn, words_of};
+use crate::pictures::{HTML, SVG};
 use bsc_chart::{ChartError, draw};
 use bsc_input::Unreadable;
 use std::alloc::Global;
@@ -33,99 +34,143 @@ const LINES: &[(&str, bool)] = &[
     ("+0 terminal 0 has not answered", true),
 ];
 
-/// The place of the first line that is not read as it should be.
-fn first_misread(alloc: Global) -> Option<usize> {
-    for (place, (line, is_right)) in LINES.iter().enumerate() {
-        let due = match is_right {
-            true => Ok(()),
-            false => Err(ChartError::NotATraceAt { line: 1 }),
-        };
-        let (result, _) = drawn(alloc, line, BOXES);
-        if result != due {
-            return Some(place);
-        }
+/// Whether a line is one of a trace. If it is not, this is told of it.
+fn is_line(alloc: Global, line: &str) -> Result<bool, ChartError> {
+    match drawn(alloc, line, BOXES, &mut Vec::new(alloc)) {
+        Ok(()) => Ok(true),
+        Err(ChartError::NotATraceAt { line: 1 }) => Ok(false),
+        Err(error) => Err(error),
     }
-    None
 }
 
 #[test]
 fn lines_are_read(rt: HostRuntime) -> Result<(), Fail> {
-    assert_eq!(rt; first_misread(rt.alloc()), None);
+    for (line, is_right) in LINES {
+        assert!(rt; is_line(rt.alloc(), line)? == *is_right, "{line}");
+    }
     Ok(())
+}
+
+/// How a trace is drawn, and how many octets are written of it if its third line is none: the row
+/// before it, or nothing of a picture or a page.
+const WRONG: &[(Asked, bool)] = &[(BOXES, true), (SVG, false), (HTML, false)];
+
+/// Whether the third line of a trace is told as wrong, and whether anything was written before.
+fn tells_third(alloc: Global, asked: Asked, writes: bool) -> bool {
+    let mut out = Vec::new(alloc);
+    let answer = drawn(alloc, "\n+7 silence\n+8\n+9 silence\n", asked, &mut out);
+    matches!(answer, Err(ChartError::NotATraceAt { line: 3 })) && out.is_empty() != writes
 }
 
 /// The rows before a wrong line stay, and blank lines are counted.
 #[test]
-fn first_wrong_line_is_told(rt: HostRuntime) -> Result<(), Fail> {
-    let (result, out) = drawn(rt.alloc(), "\n+7 silence\n+8\n+9 silence\n", BOXES);
-    let (_, before) = drawn(rt.alloc(), "+7 silence", BOXES);
-    assert!(rt; result == Err(ChartError::NotATraceAt { line: 3 }));
-    assert!(rt; !before.is_empty());
-    assert!(rt; out.as_slice() == before.as_slice());
-    Ok(())
+fn first_wrong_line_is_told(rt: HostRuntime) {
+    for (asked, writes) in WRONG {
+        assert!(rt; tells_third(rt.alloc(), *asked, *writes));
+    }
 }
 
-/// Widths, and whether they are taken.
-const WIDTHS: &[(&str, bool)] = &[
-    ("39", false),
-    ("40", true),
-    ("1000", true),
-    ("1001", false),
-    ("", false),
-    ("x", false),
-    ("18446744073709551617", false),
+/// A width.
+const WIDE: Asked = Asked {
+    width: Some("1000"),
+    ..BOXES
+};
+
+/// Words, and whether they are taken: widths at their bounds, a width that the terminal tells and
+/// that is none, two forms, and numbers of lines that are none.
+const WORDS: &[(Asked, bool)] = &[
+    (WIDE, true),
+    (
+        Asked {
+            width: Some("40"),
+            ..BOXES
+        },
+        true,
+    ),
+    (
+        Asked {
+            width: Some("39"),
+            ..BOXES
+        },
+        false,
+    ),
+    (
+        Asked {
+            width: Some("1001"),
+            ..BOXES
+        },
+        false,
+    ),
+    (
+        Asked {
+            width: Some("18446744073709551617"),
+            ..BOXES
+        },
+        false,
+    ),
+    (
+        Asked {
+            columns: Some("x"),
+            ..BOXES
+        },
+        true,
+    ),
+    (Asked { text: true, ..SVG }, false),
+    (Asked { text: true, ..HTML }, false),
+    (Asked { svg: true, ..HTML }, false),
+    (
+        Asked {
+            from: Some("0"),
+            ..BOXES
+        },
+        false,
+    ),
+    (
+        Asked {
+            to: Some("x"),
+            ..BOXES
+        },
+        false,
+    ),
 ];
 
-/// The place of the first width with another result.
-fn first_wrong_width(alloc: Global) -> Option<usize> {
-    for (place, (width, is_right)) in WIDTHS.iter().enumerate() {
-        let words = Asked {
-            width: Some(*width),
-            ..BOXES
-        };
-        let told = Asked {
-            columns: Some(*width),
-            ..BOXES
-        };
-        let due = match is_right {
-            true => Ok(()),
-            false => Err(ChartError::Width),
-        };
-        if drawn(alloc, "+7 silence", words).0 != due {
-            return Some(place);
-        }
-        if drawn(alloc, "+7 silence", told).0 != Ok(()) {
-            return Some(place);
-        }
+/// Whether words are taken, or refused by a fault of words with nothing written.
+fn are_taken(alloc: Global, asked: Asked) -> Result<bool, ChartError> {
+    let mut out = Vec::new(alloc);
+    match drawn(alloc, "+7 silence", asked, &mut out) {
+        Ok(()) => Ok(true),
+        Err(ChartError::Width | ChartError::Forms | ChartError::Lines) => Ok(!out.is_empty()),
+        Err(error) => Err(error),
     }
-    None
 }
 
 #[test]
-fn widths_at_their_bounds(rt: HostRuntime) -> Result<(), Fail> {
-    assert_eq!(rt; first_wrong_width(rt.alloc()), None);
+fn words_are_taken_up_to_their_bounds(rt: HostRuntime) -> Result<(), Fail> {
+    let mut place = 0usize;
+    for (asked, is_right) in WORDS {
+        assert!(rt; are_taken(rt.alloc(), *asked)? == *is_right, "{place}");
+        place = place.saturating_add(1);
+    }
     Ok(())
 }
 
-/// The first of the first 20 numbers of successful writes after which a failing one is not told.
-fn first_untold(alloc: Global, asked: Asked) -> Option<usize> {
+/// Whether a write that fails after this many others is told.
+fn is_told(alloc: Global, asked: Asked, left: usize) -> bool {
     let Ok(words) = words_of(alloc, asked) else {
-        return Some(99);
+        return false;
     };
-    for left in 0..20 {
-        let mut trace = "+7 silence\n+8 terminal 0 heard TEXT ETX 1 161602c84919839bff".as_bytes();
-        let result = draw(alloc, &words, None, &mut trace, &mut Full { left });
-        if result != Err(ChartError::Output) {
-            return Some(left);
-        }
-    }
-    None
+    let mut trace = "+7 silence\n+8 terminal 0 heard TEXT ETX 1 161602c84919839bff".as_bytes();
+    let answer = draw(alloc, &words, None, &mut trace, &mut Full { left });
+    matches!(answer, Err(ChartError::Output))
 }
 
 #[test]
-fn failing_write(rt: HostRuntime) -> Result<(), Fail> {
-    assert_eq!(rt; first_untold(rt.alloc(), BOXES), None);
-    Ok(())
+fn failing_writes_are_told(rt: HostRuntime) {
+    for left in 0..20usize {
+        assert!(rt; is_told(rt.alloc(), BOXES, left), "{left}");
+        assert!(rt; is_told(rt.alloc(), SVG, left), "{left}");
+        assert!(rt; is_told(rt.alloc(), HTML, left), "{left}");
+    }
 }
 
 /// Gives this text, and then fails.
@@ -143,22 +188,23 @@ impl Read for Broken {
     }
 }
 
+/// Draws what this gives.
+fn drawn_of(alloc: Global, input: &mut Broken, out: &mut Vec<u8>) -> Result<(), ChartError> {
+    let words = words_of(alloc, BOXES)?;
+    draw(alloc, &words, None, input, out)
+}
+
 /// The rows before a read that fails are drawn, and a part of a line is not.
 #[test]
 fn failing_read(rt: HostRuntime) -> Result<(), Fail> {
-    let mut out = Vec::new(rt.alloc());
+    let (mut out, mut before) = (Vec::new(rt.alloc()), Vec::new(rt.alloc()));
     let mut input = Broken {
         text: b"+7 silence\n+8 silence",
     };
-    let words = words_of(rt.alloc(), BOXES)?;
-    let answer = draw(rt.alloc(), &words, None, &mut input, &mut out);
-    let (_, before) = drawn(rt.alloc(), "+7 silence", BOXES);
-    assert!(rt;
-        answer
-            == Err(ChartError::Input {
-                why: Unreadable::ReadFault
-            })
-    );
+    let answer = drawn_of(rt.alloc(), &mut input, &mut out);
+    let why = Unreadable::ReadFault;
+    assert!(rt; answer == Err(ChartError::Input { why }));
+    drawn(rt.alloc(), "+7 silence", BOXES, &mut before)?;
     assert!(rt; out.as_slice() == before.as_slice());
     Ok(())
 }

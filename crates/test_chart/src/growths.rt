@@ -1,7 +1,7 @@
 //! Growths are refused: each one in turn, and all from each one on.
 
 use crate::ladders::{Asked, BOXES, words_of};
-use crate::pages::HTML;
+use crate::pictures::HTML;
 use bsc_chart::{ChartError, draw};
 use std::alloc::Global;
 use std::test::Fail;
@@ -25,27 +25,28 @@ fn is_due(alloc: Global, asked: Asked, refusing: &Refusing<Global>) -> bool {
     }
 }
 
-/// The first number of a growth whose refusal has another result.
-fn first_wrong(
+/// Whether each refusal of a growth has the right result.
+fn is_each_due(
     alloc: Global,
     asked: Asked,
     refusing: &Refusing<Global>,
-) -> Result<Option<(Refusal, usize)>, TurnError> {
-    for refusal in [Refusal::Nth, Refusal::From] {
-        for number in refusing.in_turn(refusal, 4..99) {
-            let number = number?;
-            if !is_due(alloc, asked, refusing) {
-                return Ok(Some((refusal, number)));
-            }
+    refusal: Refusal,
+) -> Result<bool, TurnError> {
+    for number in refusing.in_turn(refusal, 4..99) {
+        number?;
+        if !is_due(alloc, asked, refusing) {
+            return Ok(false);
         }
     }
-    Ok(None)
+    Ok(true)
 }
 
 #[test]
 fn each_growth_is_refused(rt: HostRuntime) -> Result<(), Fail> {
     let refusing = Refusing::new(rt.alloc());
-    assert_eq!(rt; first_wrong(rt.alloc(), BOXES, &refusing)?, None);
-    assert_eq!(rt; first_wrong(rt.alloc(), HTML, &refusing)?, None);
+    for asked in [BOXES, HTML] {
+        assert!(rt; is_each_due(rt.alloc(), asked, &refusing, Refusal::Nth)?);
+        assert!(rt; is_each_due(rt.alloc(), asked, &refusing, Refusal::From)?);
+    }
     Ok(())
 }

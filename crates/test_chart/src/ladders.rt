@@ -3,10 +3,9 @@
 use bsc_asked::ChartWords;
 use bsc_chart::{ChartError, draw};
 use std::alloc::{AllocError, Global};
-use std::test::Fail;
 
 /// A trace, how it is drawn, and the ladder.
-pub(crate) type Row = (&'static str, Asked, &'static str);
+type Row = (&'static str, Asked, &'static str);
 
 /// The words, of which each is as it is given.
 #[derive(Clone, Copy)]
@@ -239,35 +238,27 @@ const DRAWN: &[Row] = &[
     ("\n \r\n", BOXES, ""),
 ];
 
-/// Draws a trace.
-pub(crate) fn drawn(alloc: Global, trace: &str, asked: Asked) -> (Result<(), ChartError>, Vec<u8>) {
-    let mut out = Vec::new(alloc);
-    let result = match words_of(alloc, asked) {
-        Ok(words) => draw(
-            alloc,
-            &words,
-            asked.columns,
-            &mut trace.as_bytes(),
-            &mut out,
-        ),
-        Err(_) => Err(ChartError::Memory),
-    };
-    (result, out)
+/// Draws a trace, and returns the answer.
+pub(crate) fn drawn(
+    alloc: Global,
+    trace: &str,
+    asked: Asked,
+    out: &mut Vec<u8>,
+) -> Result<(), ChartError> {
+    let words = words_of(alloc, asked)?;
+    draw(alloc, &words, asked.columns, &mut trace.as_bytes(), out)
 }
 
-/// The place of the first row with another ladder.
-fn first_wrong(alloc: Global) -> Option<usize> {
-    for (place, (trace, words, ladder)) in DRAWN.iter().enumerate() {
-        let (result, out) = drawn(alloc, trace, *words);
-        if result != Ok(()) || out.as_slice() != ladder.as_bytes() {
-            return Some(place);
-        }
-    }
-    None
+/// Whether this ladder is drawn of a trace.
+fn is_drawn(alloc: Global, trace: &str, asked: Asked, ladder: &str) -> bool {
+    let mut out = Vec::new(alloc);
+    let answer = drawn(alloc, trace, asked, &mut out);
+    answer.is_ok() && out.as_slice() == ladder.as_bytes()
 }
 
 #[test]
-fn traces_are_drawn(rt: HostRuntime) -> Result<(), Fail> {
-    assert_eq!(rt; first_wrong(rt.alloc()), None);
-    Ok(())
+fn traces_are_drawn(rt: HostRuntime) {
+    for (trace, asked, ladder) in DRAWN {
+        assert!(rt; is_drawn(rt.alloc(), trace, *asked, ladder), "{ladder}");
+    }
 }

@@ -1,5 +1,5 @@
-//! Tests of ladders: traces that are drawn, pictures, pages, faults, widths, streams that fail, and
-//! refused growths and large sizes.
+//! Tests of ladders: traces that are drawn, pictures, pages, faults, streams that fail, refused
+//! growths and large sizes.
 //!
 //! The transmissions are those of GA27-3004. Traces and ladders are this project's own.
 #![tactic(auto)]
@@ -10,8 +10,6 @@ mod faults;
 mod growths;
 #[cfg(test)]
 mod ladders;
-#[cfg(test)]
-mod pages;
 #[cfg(test)]
 mod pictures;
 #[cfg(test)]

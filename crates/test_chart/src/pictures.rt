@@ -1,120 +1,134 @@
-//! Pictures: what is written for names and records, their bounds, and streams that fail.
+//! Pictures and pages: what is written for names, records and addresses, the tables of a summary,
+//! and the bound of arrows.
 
-use crate::ladders::{Asked, BOXES, drawn, words_of};
-use bsc_chart::{ChartError, MAX_ARROWS, draw};
-use std::alloc::{AllocError, Global};
+use crate::ladders::{Asked, BOXES, drawn};
+use bsc_chart::{ChartError, MAX_ARROWS};
+use std::alloc::Global;
 use std::test::Fail;
-use test_fixtures::Full;
 
 /// As a picture.
 pub(crate) const SVG: Asked = Asked { svg: true, ..BOXES };
 
-/// Whether the text is in the octets.
-pub(crate) fn has(octets: &[u8], text: &str) -> bool {
-    match str::from_utf8(octets) {
-        Ok(all) => all.contains(text),
-        Err(_) => false,
-    }
-}
+/// As a page.
+pub(crate) const HTML: Asked = Asked {
+    html: true,
+    ..BOXES
+};
 
 /// What a trace tells with characters that have a meaning in a document, and with control codes.
 const MEANT: &str = "+1 control heard CALL < 161604ff1616bc85ff\n+2 <b> & \"q\" 'r' \x1b[m\n";
 
-#[test]
-fn names_and_texts_are_escaped(rt: HostRuntime) -> Result<(), Fail> {
-    let (result, out) = drawn(rt.alloc(), MEANT, SVG);
-    assert!(rt; result == Ok(()));
-    assert!(rt; has(&out, "<title>CALL &lt;, heard: 161604ff1616bc85ff</title>"));
-    assert!(rt;
-        has(
-            &out,
-            ">&lt;b&gt; &amp; &quot;q&quot; &apos;r&apos; .[m</text>"
-        )
-    );
-    Ok(())
+/// Texts of its picture.
+const MEANT_TEXTS: &[&str] = &[
+    "<title>CALL &lt;, heard: 161604ff1616bc85ff</title>",
+    ">&lt;b&gt; &amp; &quot;q&quot; &apos;r&apos; .[m</text>",
+];
+
+/// What a control station tells in 10,000 milliseconds, of which 3,000 are before a silence, and
+/// the fault with which it ended.
+const STATION: &str = "+1 listening at 127.0.0.1:2780
++1 control sent CALL A 161604ff1616c185ff
++4 connection 0 heard TEXT ETX 1 161602c84919839bff
++5 control sent ACK1 16161031ff
++3005 silence
++3006 connection 0 from 127.0.0.1:40404 closed
++9999 connection 0 ignored EOT 161604ff
++10000 connection 1 heard FAILED 16160285ff
++10001 control withheld ACK1 16161031ff
+bscline: records in doubt
+";
+
+/// The lines of the tables of its page.
+const STATION_LINES: &[&str] = &[
+    "<!DOCTYPE html>\n<html ",
+    "</svg>\n</div>\n</body>\n</html>\n",
+    "<th scope=\"row\">CALL</th><td>1</td><td></td><td></td><td></td></tr>\n",
+    "<th scope=\"row\">TEXT</th><td>1</td><td></td><td></td><td></td></tr>\n",
+    "<th scope=\"row\">EOT</th><td>1</td><td></td><td></td><td></td></tr>\n",
+    "<th scope=\"row\">ACK1</th><td>2</td><td></td><td></td><td></td></tr>\n",
+    "<th scope=\"row\">FAILED</th><td>1</td><td></td><td>1</td><td></td></tr>\n",
+    "<th scope=\"row\">all</th><td>6</td><td></td><td>1</td><td></td></tr>\n",
+    "<th scope=\"row\">control</th><td class=\"text\"></td><td>2</td><td></td></tr>\n",
+    "<th scope=\"row\">0</th><td class=\"text\"></td><td>2</td><td></td></tr>\n",
+    "<th scope=\"row\">1</th><td class=\"text\"></td><td>1</td><td></td></tr>\n",
+    "<th scope=\"row\">transmissions</th><td>7000</td><td>70.0%</td></tr>\n",
+    "<th scope=\"row\">silences</th><td>3000</td><td>30.0%</td></tr>\n",
+];
+
+/// What a run tells of two terminals, with addresses that have a meaning in a document.
+const RUN: &str = "+0 terminal 0 is <, selected as &.
++0 terminal 1 is B, selected as b.
++1 control lost at 0 CALL B 161604ff1616c285ff
++1 control heard at 1 CALL B 161604ff1616c285ff
++2 terminal 1 turned NAK 161615ff
++3 terminal 1 heard TEXT ETX 2 161602c849191f0719831aff
++3 arrived from 1: |HI|
++3 arrived from 1: ||
++4 arrived to 1.0: |BYE|
++5 silence
+";
+
+/// The lines of the tables of its page.
+const RUN_LINES: &[&str] = &[
+    "<th scope=\"row\">CALL</th><td>2</td><td>1</td><td></td><td></td></tr>\n",
+    "<th scope=\"row\">NAK</th><td>1</td><td></td><td></td><td>1</td></tr>\n",
+    "<th scope=\"row\">all</th><td>4</td><td>1</td><td></td><td>1</td></tr>\n",
+    "<th scope=\"row\">control</th><td class=\"text\"></td><td>2</td><td>2</td></tr>\n",
+    "<td class=\"text\">&lt;, selected as &amp;.</td><td></td><td></td></tr>\n",
+    "<td class=\"text\">B, selected as b.</td><td>2</td><td>1</td></tr>\n",
+];
+
+/// Traces, and texts that their pictures and pages have.
+const TEXTS: &[(&str, Asked, &[&str])] = &[
+    (MEANT, SVG, MEANT_TEXTS),
+    (STATION, HTML, STATION_LINES),
+    (RUN, HTML, RUN_LINES),
+];
+
+/// Whether all of the texts are in the octets.
+fn has_all(octets: &[u8], texts: &[&str]) -> bool {
+    let Ok(all) = str::from_utf8(octets) else {
+        return false;
+    };
+    for text in texts {
+        if !all.contains(text) {
+            return false;
+        }
+    }
+    true
 }
 
-/// Two forms exclude one another, and nothing is written.
-#[test]
-fn two_forms_are_refused(rt: HostRuntime) -> Result<(), Fail> {
-    for (text, svg, html) in [
-        (true, true, false),
-        (true, false, true),
-        (false, true, true),
-    ] {
-        let two = Asked {
-            text,
-            svg,
-            html,
-            ..BOXES
-        };
-        let (result, out) = drawn(rt.alloc(), MEANT, two);
-        assert!(rt; result == Err(ChartError::Forms));
-        assert!(rt; out.is_empty());
-    }
-    Ok(())
+/// Whether a trace is drawn with all of these texts.
+fn is_drawn_with(alloc: Global, trace: &str, asked: Asked, texts: &[&str]) -> bool {
+    let mut out = Vec::new(alloc);
+    drawn(alloc, trace, asked, &mut out).is_ok() && has_all(&out, texts)
 }
 
-/// Returns a trace of this many arrows.
-fn arrows(alloc: Global, count: usize) -> Result<Vec<u8>, AllocError> {
-    let mut trace = Vec::new(alloc);
-    for _ in 0..count {
-        trace.extend_from_slice(b"+1 control sent EOT 161604ff\n")?;
+#[test]
+fn pictures_and_pages_have_their_texts(rt: HostRuntime) {
+    for (trace, asked, texts) in TEXTS {
+        assert!(rt; is_drawn_with(rt.alloc(), trace, *asked, texts), "{trace}");
     }
-    Ok(trace)
 }
 
 /// Draws a picture of this many arrows.
-pub(crate) fn drawn_arrows(alloc: Global, count: usize, asked: Asked) -> Result<(), ChartError> {
-    let trace = arrows(alloc, count)?;
-    let words = words_of(alloc, asked)?;
-    let mut out = Vec::new(alloc);
-    draw(alloc, &words, None, &mut trace.as_slice(), &mut out)
+fn drawn_arrows(alloc: Global, count: usize, asked: Asked) -> Result<(), ChartError> {
+    let trace = "+1 control sent EOT 161604ff\n".repeat(alloc, count)?;
+    drawn(alloc, &trace, asked, &mut Vec::new(alloc))
 }
+
+/// From the second line on.
+const PART: Asked = Asked {
+    from: Some("2"),
+    ..SVG
+};
 
 /// 5,000 arrows are drawn and one more is refused, unless it is out of the range.
 #[test]
 fn arrows_at_their_bound(rt: HostRuntime) -> Result<(), Fail> {
-    let part = Asked {
-        from: Some("2"),
-        ..SVG
-    };
-    assert!(rt; drawn_arrows(rt.alloc(), MAX_ARROWS, SVG) == Ok(()));
-    assert!(rt; drawn_arrows(rt.alloc(), MAX_ARROWS + 1, SVG) == Err(ChartError::TooMany));
-    assert!(rt; drawn_arrows(rt.alloc(), MAX_ARROWS + 1, part) == Ok(()));
-    Ok(())
-}
-
-/// A wrong line is told, and nothing of the picture is written.
-#[test]
-fn nothing_is_written_before_a_wrong_line(rt: HostRuntime) -> Result<(), Fail> {
-    let (result, out) = drawn(rt.alloc(), "+7 silence\n+8\n", SVG);
-    assert!(rt; result == Err(ChartError::NotATraceAt { line: 2 }));
-    assert!(rt; out.is_empty());
-    Ok(())
-}
-
-/// The numbers of lines that are no numbers from 1 on.
-#[test]
-fn wrong_lines_are_refused(rt: HostRuntime) -> Result<(), Fail> {
-    let zero = Asked {
-        from: Some("0"),
-        ..BOXES
-    };
-    let word = Asked {
-        to: Some("x"),
-        ..BOXES
-    };
-    assert!(rt; drawn(rt.alloc(), "", zero).0 == Err(ChartError::Lines));
-    assert!(rt; drawn(rt.alloc(), "", word).0 == Err(ChartError::Lines));
-    Ok(())
-}
-
-#[test]
-fn failing_write_of_a_picture(rt: HostRuntime) -> Result<(), Fail> {
-    let words = words_of(rt.alloc(), SVG)?;
-    let mut trace = "+7 silence\n".as_bytes();
-    let result = draw(rt.alloc(), &words, None, &mut trace, &mut Full { left: 9 });
-    assert!(rt; result == Err(ChartError::Output));
+    assert!(rt; drawn_arrows(rt.alloc(), MAX_ARROWS, SVG).is_ok());
+    assert!(rt; drawn_arrows(rt.alloc(), MAX_ARROWS + 1, PART).is_ok());
+    let more = drawn_arrows(rt.alloc(), MAX_ARROWS + 1, HTML);
+    assert!(rt; matches!(more, Err(ChartError::TooMany)));
     Ok(())
 }

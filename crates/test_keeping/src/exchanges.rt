@@ -4,10 +4,9 @@ use crate::stations::{
     Kept, control, from_terminal, line, offering, record, terminal, to_terminal,
 };
 use bsc_config::Config;
-use bsc_connections::LiveError;
 use bsc_control::Control;
 use bsc_frame::Wire;
-use bsc_kept::{Change, Channel, Store, StoreFault};
+use bsc_kept::{Change, Channel, Store};
 use bsc_monitor::{LineTerminal, Party};
 use std::alloc::Global;
 use std::test::Fail;
@@ -156,27 +155,5 @@ fn all_records_arrive_in_order_and_once_over_kills(rt: HostRuntime) -> Result<()
         let steps = play(rt.alloc(), seed)?;
         assert!(rt; steps > 30);
     }
-    Ok(())
-}
-
-/// The octets of ACK0, as they are sent.
-const ACK0: &[u8] = &[0x16, 0x16, 0x10, 0xb0, 0xff];
-
-/// What the control station answers to ACK0 after it has selected a terminal, over a store that
-/// keeps nothing more.
-fn answered_over(store: Memory, alloc: Global) -> Result<bool, Fail> {
-    let config = line(alloc)?;
-    let mut station = control(alloc, &config, store)?;
-    let mut wire = Wire::new();
-    let called = station.silence(&mut wire)?;
-    let refused = matches!(station.hear(ACK0, &mut wire), Err(LiveError::Unkept));
-    Ok(called && refused && station.fault() == Some(StoreFault::Full))
-}
-
-#[test]
-fn a_text_that_is_not_kept_as_unanswered_is_refused(rt: HostRuntime) -> Result<(), Fail> {
-    let mut store = store_of(rt.alloc(), &[to_terminal(b'a')?])?;
-    store.left = 0;
-    assert!(rt; answered_over(store, rt.alloc())?);
     Ok(())
 }

@@ -1,7 +1,10 @@
 //! Records that are offered while a station runs.
 
-use crate::stations::{control, from_terminal, line, record, terminal, to_terminal};
+use crate::stations::{Kept, control, from_terminal, line, record, terminal, to_terminal};
+use bsc_bid::Station;
+use bsc_keeping::Sends;
 use bsc_kept::{Channel, Store, StoreFault};
+use bsc_monitor::Party;
 use std::alloc::Global;
 use std::test::Fail;
 use test_memory::Memory;
@@ -15,67 +18,49 @@ fn has_only(store: &mut Memory, channel: &Channel, number: usize) -> Result<bool
     }
 }
 
-/// Whether nothing is kept as offered on a channel.
-fn has_none(store: &mut Memory, channel: &Channel) -> Result<bool, Fail> {
-    Ok(store.progress(channel)?.offered == 0)
+/// Offers the record with this number to a station. Returns whether it is given back, and kept on
+/// this channel.
+fn keeps<S: Station + Party + Sends + Drop>(
+    station: Kept<S>,
+    select: usize,
+    number: usize,
+    channel: Channel,
+) -> Result<bool, Fail> {
+    let mut station = station;
+    let given_back = station.offer(0, select, record(number)?)?;
+    let is_same = given_back.chars() == record(number)?.chars();
+    Ok(is_same && has_only(&mut station.into_store(), &channel, number)?)
 }
 
+/// A record for a terminal is kept for its address.
 #[test]
-fn a_record_for_a_terminal_is_kept_for_its_address(rt: HostRuntime) -> Result<(), Fail> {
+fn a_record_is_kept_on_its_channel(rt: HostRuntime) -> Result<(), Fail> {
     let config = line(rt.alloc())?;
-    let mut station = control(rt.alloc(), &config, Memory::new(rt.alloc()))?;
-    let given_back = station.offer(0, 1, record(7)?)?;
-    assert!(rt; given_back.chars() == record(7)?.chars());
-    let mut store = station.into_store();
-    assert!(rt; has_only(&mut store, &to_terminal(b'c')?, 7)?);
-    assert!(rt; has_none(&mut store, &to_terminal(b'a')?)?);
+    let for_terminal = control(rt.alloc(), &config, Memory::new(rt.alloc()))?;
+    assert!(rt; keeps(for_terminal, 1, 7, to_terminal(b'c')?)?);
+    let of_terminal = terminal(rt.alloc(), &config, Memory::new(rt.alloc()))?;
+    assert!(rt; keeps(of_terminal, 0, 8, from_terminal()?)?);
     Ok(())
 }
 
-#[test]
-fn a_record_of_a_terminal_is_kept_on_its_channel(rt: HostRuntime) -> Result<(), Fail> {
-    let config = line(rt.alloc())?;
-    let mut station = terminal(rt.alloc(), &config, Memory::new(rt.alloc()))?;
-    let given_back = station.offer(0, 0, record(8)?)?;
-    assert!(rt; given_back.chars() == record(8)?.chars());
-    let mut store = station.into_store();
-    assert!(rt; has_only(&mut store, &from_terminal()?, 8)?);
-    Ok(())
-}
-
-/// Offers a record to an address of terminal 0 over a store that keeps nothing more. Returns the
-/// store if the offer fails with its fault, and the keeper has the fault.
-fn refused_over(alloc: Global, store: Memory) -> Result<Option<Memory>, Fail> {
+/// The fault with which an offer for an address of terminal 0 fails, over a store that keeps this
+/// many steps more. The keeper has it too.
+fn refused(alloc: Global, left: u32, select: usize) -> Result<Option<StoreFault>, Fail> {
     let config = line(alloc)?;
+    let mut store = Memory::new(alloc);
+    store.left = left;
     let mut station = control(alloc, &config, store)?;
-    let fault = station.offer(0, 0, record(9)?).err();
-    let is_named = station.fault() == fault && fault == Some(StoreFault::Full);
-    Ok(if is_named {
-        Some(station.into_store())
+    let fault = station.offer(0, select, record(9)?).err();
+    Ok(if station.fault() == fault {
+        fault
     } else {
         None
     })
 }
 
 #[test]
-fn an_offer_that_a_store_refuses_is_not_kept(rt: HostRuntime) -> Result<(), Fail> {
-    let mut store = Memory::new(rt.alloc());
-    store.left = 0;
-    let Some(mut store) = refused_over(rt.alloc(), store)? else {
-        return Err(Fail::new("another fault, or none"));
-    };
-    assert!(rt; has_none(&mut store, &to_terminal(b'a')?)?);
-    Ok(())
-}
-
-#[test]
-fn an_offer_for_an_address_that_is_none_is_refused(rt: HostRuntime) -> Result<(), Fail> {
-    let config = line(rt.alloc())?;
-    let mut station = control(rt.alloc(), &config, Memory::new(rt.alloc()))?;
-    assert!(rt; station.offer(0, 2, record(9)?).err() == Some(StoreFault::Refused));
-    assert!(rt; station.offer(2, 0, record(9)?).err() == Some(StoreFault::Refused));
-    assert!(rt; station.fault() == Some(StoreFault::Refused));
-    let store = station.into_store();
-    assert_eq!(rt; store.commits, 0);
+fn an_offer_is_refused_by_name(rt: HostRuntime) -> Result<(), Fail> {
+    assert!(rt; refused(rt.alloc(), 0, 0)? == Some(StoreFault::Full));
+    assert!(rt; refused(rt.alloc(), 9, 2)? == Some(StoreFault::Refused));
     Ok(())
 }

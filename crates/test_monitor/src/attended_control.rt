@@ -7,12 +7,11 @@ use crate::fakes::{
 use crate::stations::{control_of, sending_control};
 use bsc_connections::{Connection, LiveError, SocketRecords};
 use bsc_control::Control;
-use bsc_monitor::{
-    ControlWatch, Ended, LastWatch, Limits, Printing, Standing, Tracing, station_standing,
-    write_report,
-};
+use bsc_monitor::{ControlWatch, Ended, LastWatch, Limits, Printing, Tracing, write_report};
+use bsc_print::PrintError;
 use std::alloc::Global;
 use std::test::Fail;
+use test_fixtures::Full;
 use test_fixtures::configurations::TWO_TERMINALS;
 
 /// What the terminals send to a control station: ACK0, ACK1, a text, EOT; and EOT to its last call.
@@ -49,19 +48,176 @@ const CONTROL_TRACE: &[u8] = b"+1 silence
 +20 connection 0 heard EOT 161604ff
 ";
 
-/// How a control station prints records, with a trace.
-const ALL: Printing = Printing {
-    records: HEXADECIMAL,
-    trace: Tracing::All,
-};
+/// The trace of a control station that polls without an answer until it is asked to end, and is
+/// asked again before its last call is answered.
+const STOPPED_TRACE: &[u8] = b"+1 silence
++2 control sent CALL A 161604ff1616c185ff
++3 asked to end
++4 silence
++5 control sent CALL A 161604ff1616c185ff
++6 asked to end
+";
 
-/// The limits of a control station, the octets that it reads, and the waits before them: a time-out
-/// for each `t` of the steps, and octets to read for each `r`.
+/// What terminals send of which one answers the third of its polls with a text: EOT to each other.
+const TO_POLLS: &[u8] = b"\x00\x04\x16\x16\x04\xFF\
+\x00\x04\x16\x16\x04\xFF\
+\x00\x09\x16\x16\x02\xC8\x49\x19\x83\x9B\xFF\
+\x00\x04\x16\x16\x04\xFF\
+\x00\x04\x16\x16\x04\xFF\
+\x00\x04\x16\x16\x04\xFF";
+
+/// The trace of exchanges of the control station that hears this in two rounds: without idle polls.
+const EXCHANGES_TRACE: &[u8] = b"+1 silence
++6 control sent CALL A 161604ff1616c185ff
++7 connection 0 heard TEXT ETX 1 161602c84919839bff
++8 control sent ACK1 16161031ff
++9 connection 0 heard EOT 161604ff
+";
+
+/// The end of the trace of a control station in doubt.
+const DOUBT_TRACE: &[u8] = b"+29 control sent CALL A 161604ff1616c185ff
++30 terminal 1 has not answered
++31 silence
+";
+
+/// How a control station is attended: whether it has the record HI for terminal 0, its limits, the
+/// octets that it reads, and the waits before them: a time-out for each `t` of the steps, octets to
+/// read for each `r`, and that it is asked to end for each `s`. Then what it prints, with its
+/// report, and the end of its trace.
 struct Attended {
+    sends: bool,
+    trace: Tracing,
     limits: Limits,
     octets: &'static [u8],
     steps: &'static [u8],
+    printed: &'static [u8],
+    traced: &'static [u8],
 }
+
+const ATTENDED: &[Attended] = &[
+    // One round: a selection, a bid, a poll that is answered with a text, and four polls without an
+    // answer.
+    Attended {
+        sends: true,
+        trace: Tracing::All,
+        limits: ONE_ROUND,
+        octets: TO_CONTROL,
+        steps: b"trrrrrrrrttttrr",
+        printed: HEARD,
+        traced: CONTROL_TRACE,
+    },
+    // A trace of exchanges has all of that too: the call of the last poll stands before the line
+    // that says that a terminal has not answered.
+    Attended {
+        sends: true,
+        trace: Tracing::Exchanges,
+        limits: ONE_ROUND,
+        octets: TO_CONTROL,
+        steps: b"trrrrrrrrttttrr",
+        printed: HEARD,
+        traced: CONTROL_TRACE,
+    },
+    // It has no idle polls: of four polls in two rounds one is answered by a text, and the poll
+    // after the last round by EOT.
+    Attended {
+        sends: false,
+        trace: Tracing::Exchanges,
+        limits: TWO_ROUNDS,
+        octets: TO_POLLS,
+        steps: b"trrrrrrrrrrrrrr",
+        printed: HEARD_ONLY,
+        traced: EXCHANGES_TRACE,
+    },
+    // No terminal answers: the record waits, and no round is idle. The connection ends.
+    Attended {
+        sends: true,
+        trace: Tracing::All,
+        limits: ONE_IDLE_ROUND,
+        octets: b"",
+        steps: b"ttttttttttttttttttttttttt",
+        printed: WAITING,
+        traced: b" connection 0 closed\n",
+    },
+    // The selected terminal answers once: after four failures the record is in doubt. The round is
+    // idle, since nothing can be sent any more.
+    Attended {
+        sends: true,
+        trace: Tracing::All,
+        limits: ONE_IDLE_ROUND,
+        octets: ACK0_ALONE,
+        steps: b"trrttttttttttttttttttttttt",
+        printed: IN_DOUBT,
+        traced: DOUBT_TRACE,
+    },
+    // The station is asked to end, and does so at the next silence. It is asked again before its
+    // last call is answered.
+    Attended {
+        sends: false,
+        trace: Tracing::All,
+        limits: NINE_IDLE_ROUNDS,
+        octets: b"",
+        steps: b"tsts",
+        printed: NOTHING,
+        traced: STOPPED_TRACE,
+    },
+];
+
+const ONE_ROUND: Limits = Limits {
+    rounds: Some(1),
+    idle_rounds: 9,
+};
+
+const TWO_ROUNDS: Limits = Limits {
+    rounds: Some(2),
+    idle_rounds: 9,
+};
+
+const ONE_IDLE_ROUND: Limits = Limits {
+    rounds: None,
+    idle_rounds: 1,
+};
+
+const NINE_IDLE_ROUNDS: Limits = Limits {
+    rounds: None,
+    idle_rounds: 9,
+};
+
+/// What is printed if a record arrives from terminal 0 and one at it.
+const HEARD: &[u8] = b"from 0: 4849
+from 0: spooled 1
+to 0: offered 1, known 1
+from 1: spooled 0
+to 1: offered 0, known 0
+";
+
+/// What is printed if one arrives from it.
+const HEARD_ONLY: &[u8] = b"from 0: 4849
+from 0: spooled 1
+to 0: offered 0, known 0
+from 1: spooled 0
+to 1: offered 0, known 0
+";
+
+/// What is printed if the record for it waits.
+const WAITING: &[u8] = b"from 0: spooled 0
+to 0: offered 1, known 0
+from 1: spooled 0
+to 1: offered 0, known 0
+";
+
+/// What is printed if that record is in doubt.
+const IN_DOUBT: &[u8] = b"from 0: spooled 0
+to 0: offered 1, known 0, in doubt
+from 1: spooled 0
+to 1: offered 0, known 0
+";
+
+/// What is printed if there is no record.
+const NOTHING: &[u8] = b"from 0: spooled 0
+to 0: offered 0, known 0
+from 1: spooled 0
+to 1: offered 0, known 0
+";
 
 /// Attends the connections of a control station that has ended until the last call is answered.
 fn attend_last(
@@ -87,16 +243,19 @@ fn attend_and_last(
     attend_last(connections, waiter, watch.into_last())
 }
 
-/// Attends a control station in this way over such a connection.
+/// Attends a control station in this way.
 fn attend_control(
     alloc: Global,
     control: &mut Control<Global>,
-    printing: Printing,
     attended: &Attended,
     out: &mut Vec<u8>,
     trace: &mut Vec<u8>,
 ) -> Result<(), LiveError> {
     let mut connections = connections(alloc, attended.octets)?;
+    let printing = Printing {
+        records: HEXADECIMAL,
+        trace: attended.trace,
+    };
     let settings = (printing, attended.limits, false, trust_of(1_000));
     let watch = control_watch(alloc, control, settings, out, trace)?;
     let mut waiter = Scripted {
@@ -105,256 +264,37 @@ fn attend_control(
     attend_and_last(control, &mut connections, &mut waiter, watch)
 }
 
-/// Does the same for a control station with one record for terminal 0, and writes its report
-/// without the records that arrived. Returns the standing of its channels.
-fn attend_and_report(
-    alloc: Global,
-    attended: &Attended,
-    out: &mut Vec<u8>,
-    trace: &mut Vec<u8>,
-) -> Result<Standing, Fail> {
-    let mut control = sending_control(alloc)?;
-    attend_control(alloc, &mut control, ALL, attended, out, trace)?;
-    write_report(alloc, None, &control, out)?;
-    Ok(station_standing(&control))
-}
-
-/// Whether such a control station ends with this standing, prints these records and its report, and
-/// ends its trace with these lines.
-fn prints(
-    alloc: Global,
-    attended: &Attended,
-    standing: Standing,
-    printed: &[u8],
-    trace_end: &[u8],
-) -> Result<bool, Fail> {
-    let (mut out, mut trace) = (Vec::new(alloc), Vec::new(alloc));
-    let is_so = attend_and_report(alloc, attended, &mut out, &mut trace)? == standing;
-    Ok(is_so && out.as_slice() == printed && trace.ends_with(trace_end))
-}
-
-/// One round: a selection, a bid, a poll that is answered with a text, and four polls without an
-/// answer.
-#[test]
-fn a_control_station_ends_after_a_round(rt: HostRuntime) -> Result<(), Fail> {
-    const ATTENDED: Attended = Attended {
-        limits: Limits {
-            rounds: Some(1),
-            idle_rounds: 9,
-        },
-        octets: TO_CONTROL,
-        steps: b"trrrrrrrrttttrr",
-    };
-    const STANDING: Standing = Standing {
-        doubt: false,
-        waiting: false,
-    };
-    const PRINTED: &[u8] = b"from 0: 4849
-from 0: spooled 1
-to 0: offered 1, known 1
-from 1: spooled 0
-to 1: offered 0, known 0
-";
-    assert!(rt; prints(rt.alloc(), &ATTENDED, STANDING, PRINTED, CONTROL_TRACE)?);
-    Ok(())
-}
-
-/// No terminal answers: the record waits, and no round is idle. The connection ends.
-#[test]
-fn a_control_station_ends_with_its_connection(rt: HostRuntime) -> Result<(), Fail> {
-    const ATTENDED: Attended = Attended {
-        limits: Limits {
-            rounds: None,
-            idle_rounds: 1,
-        },
-        octets: b"",
-        steps: b"ttttttttttttttttttttttttt",
-    };
-    const STANDING: Standing = Standing {
-        doubt: false,
-        waiting: true,
-    };
-    const PRINTED: &[u8] = b"from 0: spooled 0
-to 0: offered 1, known 0
-from 1: spooled 0
-to 1: offered 0, known 0
-";
-    assert!(rt;
-        prints(
-            rt.alloc(),
-            &ATTENDED,
-            STANDING,
-            PRINTED,
-            b" connection 0 closed\n"
-        )?
-    );
-    Ok(())
-}
-
-/// The selected terminal answers once: after four failures the record is in doubt. The round is
-/// idle, since nothing can be sent any more.
-#[test]
-fn a_control_station_in_doubt_ends_idle(rt: HostRuntime) -> Result<(), Fail> {
-    const ATTENDED: Attended = Attended {
-        limits: Limits {
-            rounds: None,
-            idle_rounds: 1,
-        },
-        octets: ACK0_ALONE,
-        steps: b"trrttttttttttttttttttttttt",
-    };
-    const STANDING: Standing = Standing {
-        doubt: true,
-        waiting: false,
-    };
-    const PRINTED: &[u8] = b"from 0: spooled 0
-to 0: offered 1, known 0, in doubt
-from 1: spooled 0
-to 1: offered 0, known 0
-";
-    const END: &[u8] = b"+29 control sent CALL A 161604ff1616c185ff
-+30 terminal 1 has not answered
-+31 silence
-";
-    assert!(rt; prints(rt.alloc(), &ATTENDED, STANDING, PRINTED, END)?);
-    Ok(())
-}
-
-/// The end of a line which says that a terminal has not answered.
-const UNANSWERED: &[u8] = b" has not answered\n";
-
-/// The number of lines of a trace which say that a terminal has not answered.
-fn unanswered(trace: &[u8]) -> usize {
-    let mut count = 0usize;
-    for place in 0..trace.len() {
-        if trace[place..].starts_with(UNANSWERED) {
-            count = count.saturating_add(1);
-        }
+/// Returns the control station that is to be attended.
+fn control_for(alloc: Global, attended: &Attended) -> Result<Control<Global>, Fail> {
+    if attended.sends {
+        sending_control(alloc)
+    } else {
+        control_of(alloc, TWO_TERMINALS)
     }
-    count
 }
 
-/// Attends such a control station. Returns how often its trace says that a terminal has not
-/// answered.
-fn tells_of_unanswered(alloc: Global, attended: &Attended) -> Result<usize, Fail> {
-    let mut control = sending_control(alloc)?;
+/// Whether a control station that is attended in this way prints what it should.
+fn prints(alloc: Global, attended: &Attended) -> Result<bool, Fail> {
+    let mut control = control_for(alloc, attended)?;
     let (mut out, mut trace) = (Vec::new(alloc), Vec::new(alloc));
-    attend_control(alloc, &mut control, ALL, attended, &mut out, &mut trace)?;
-    Ok(unanswered(&trace))
+    attend_control(alloc, &mut control, attended, &mut out, &mut trace)?;
+    write_report(alloc, None, &control, &mut out)?;
+    Ok(out.as_slice() == attended.printed && trace.ends_with(attended.traced))
 }
 
-/// In two rounds nobody answers, but the first terminal a poll of the second one: it is told of
-/// again in the third.
 #[test]
-fn a_terminal_without_answers_is_told_of_once(rt: HostRuntime) -> Result<(), Fail> {
-    const LIMITS: Limits = Limits {
-        rounds: None,
-        idle_rounds: 9,
-    };
-    const NEVER: Attended = Attended {
-        limits: LIMITS,
-        octets: b"",
-        steps: b"tttttttttttttttttttttttttttttt",
-    };
-    const ONCE: Attended = Attended {
-        limits: LIMITS,
-        octets: b"\x00\x04\x16\x16\x04\xFF",
-        steps: b"tttttttttttttttttrrtttttttttttt",
-    };
-    assert_eq!(rt; tells_of_unanswered(rt.alloc(), &NEVER)?, 2);
-    assert_eq!(rt; tells_of_unanswered(rt.alloc(), &ONCE)?, 3);
+fn control_stations_print_what_happens_until_they_end(rt: HostRuntime) -> Result<(), Fail> {
+    for (place, attended) in ATTENDED.iter().enumerate() {
+        assert!(rt; prints(rt.alloc(), attended)?, "{place}");
+    }
     Ok(())
 }
 
-/// Whether this control station writes this trace when it is attended.
-fn traces(
-    alloc: Global,
-    mut control: Control<Global>,
-    printing: Printing,
-    attended: &Attended,
-    wanted: &[u8],
-) -> Result<bool, LiveError> {
-    let (mut out, mut trace) = (Vec::new(alloc), Vec::new(alloc));
-    attend_control(
-        alloc,
-        &mut control,
-        printing,
-        attended,
-        &mut out,
-        &mut trace,
-    )?;
-    Ok(trace.as_slice() == wanted)
-}
-
-/// A trace of exchanges.
-const EXCHANGES: Printing = Printing {
-    records: HEXADECIMAL,
-    trace: Tracing::Exchanges,
-};
-
-/// Two rounds: of four polls one is answered by a text, and the poll after the last round by EOT.
+/// A report that is not taken is told.
 #[test]
-fn a_trace_of_exchanges_has_no_idle_polls(rt: HostRuntime) -> Result<(), Fail> {
-    const ATTENDED: Attended = Attended {
-        limits: Limits {
-            rounds: Some(2),
-            idle_rounds: 9,
-        },
-        octets: b"\x00\x04\x16\x16\x04\xFF\
-\x00\x04\x16\x16\x04\xFF\
-\x00\x09\x16\x16\x02\xC8\x49\x19\x83\x9B\xFF\
-\x00\x04\x16\x16\x04\xFF\
-\x00\x04\x16\x16\x04\xFF\
-\x00\x04\x16\x16\x04\xFF",
-        steps: b"trrrrrrrrrrrrrr",
-    };
-    const TRACE: &[u8] = b"+1 silence
-+6 control sent CALL A 161604ff1616c185ff
-+7 connection 0 heard TEXT ETX 1 161602c84919839bff
-+8 control sent ACK1 16161031ff
-+9 connection 0 heard EOT 161604ff
-";
+fn a_report_may_fail(rt: HostRuntime) -> Result<(), Fail> {
     let control = control_of(rt.alloc(), TWO_TERMINALS)?;
-    assert!(rt; traces(rt.alloc(), control, EXCHANGES, &ATTENDED, TRACE)?);
-    Ok(())
-}
-
-/// The call of the last poll stands before the line that says that a terminal has not answered.
-#[test]
-fn a_trace_of_exchanges_has_all_else(rt: HostRuntime) -> Result<(), Fail> {
-    const ATTENDED: Attended = Attended {
-        limits: Limits {
-            rounds: Some(1),
-            idle_rounds: 9,
-        },
-        octets: TO_CONTROL,
-        steps: b"trrrrrrrrttttrr",
-    };
-    let control = sending_control(rt.alloc())?;
-    assert!(rt; traces(rt.alloc(), control, EXCHANGES, &ATTENDED, CONTROL_TRACE)?);
-    Ok(())
-}
-
-/// The station is asked to end, and does so at the next silence. It is asked again before its last
-/// call is answered.
-#[test]
-fn a_control_station_that_is_asked_twice_ends_at_once(rt: HostRuntime) -> Result<(), Fail> {
-    const ATTENDED: Attended = Attended {
-        limits: Limits {
-            rounds: None,
-            idle_rounds: 9,
-        },
-        octets: b"",
-        steps: b"tsts",
-    };
-    const TRACE: &[u8] = b"+1 silence
-+2 control sent CALL A 161604ff1616c185ff
-+3 asked to end
-+4 silence
-+5 control sent CALL A 161604ff1616c185ff
-+6 asked to end
-";
-    let control = control_of(rt.alloc(), TWO_TERMINALS)?;
-    assert!(rt; traces(rt.alloc(), control, ALL, &ATTENDED, TRACE)?);
+    let written = write_report(rt.alloc(), None, &control, &mut Full { left: 1 });
+    assert!(rt; matches!(written, Err(PrintError::Output)));
     Ok(())
 }

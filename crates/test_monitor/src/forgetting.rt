@@ -1,8 +1,7 @@
 //! What stations forget: at least 1,024 records at once, and no fewer than are left.
 
-use crate::stations::{control_of, offer, quiet_terminal};
+use crate::stations::{add, card, control_of, offer, quiet_terminal};
 use bsc_bid::KeptSender;
-use bsc_block::Record;
 use bsc_control::Control;
 use bsc_monitor::{Forgets, LineTerminal, Party};
 use std::alloc::Global;
@@ -66,22 +65,6 @@ const ROWS: &[Row] = &[
     },
 ];
 
-/// The record of these characters, if they are one.
-fn card(chars: &[u8]) -> Option<Record> {
-    Record::read(chars, 80).ok()
-}
-
-/// Adds this many records to those that arrived from terminal 0, if there is memory for them.
-fn add_to_control(control: &mut Control<Global>, count: usize) -> Option<()> {
-    for _ in 0..count {
-        if control.terminals() == 0 {
-            return None;
-        }
-        control.keep_arrived(0, card(b"HI")?).ok()?;
-    }
-    Some(())
-}
-
 /// Adds this many records to those that arrived at the first selection address, if there is memory
 /// for them.
 fn add_to_terminal(terminal: &mut LineTerminal<Global>, count: usize) -> Option<()> {
@@ -112,8 +95,8 @@ fn forgotten_of<S: Forgets>(station: &mut S, row: &Row) -> Option<usize> {
 fn a_control_station_forgets_many_records_at_once(rt: HostRuntime) -> Result<(), Fail> {
     for row in ROWS {
         let mut control = control_of(rt.alloc(), TWO_TERMINALS)?;
-        assert!(rt; add_to_control(&mut control, row.arrived).is_some());
-        assert_eq!(rt; forgotten_of(&mut control, row), Some(row.forgotten));
+        assert!(rt; add(&mut control, 0, b"HI", row.arrived).is_some());
+        assert!(rt; forgotten_of(&mut control, row) == Some(row.forgotten));
     }
     Ok(())
 }
@@ -123,7 +106,7 @@ fn a_terminal_forgets_many_records_at_once(rt: HostRuntime) -> Result<(), Fail> 
     for row in ROWS {
         let mut terminal = quiet_terminal(rt.alloc())?;
         assert!(rt; add_to_terminal(&mut terminal, row.arrived).is_some());
-        assert_eq!(rt; forgotten_of(&mut terminal, row), Some(row.forgotten));
+        assert!(rt; forgotten_of(&mut terminal, row) == Some(row.forgotten));
     }
     Ok(())
 }
@@ -154,14 +137,16 @@ fn offered(alloc: Global, count: usize) -> Result<Control<Global>, Fail> {
     Ok(control)
 }
 
-/// All records but 100 are known.
+/// How many records are offered, and how many are forgotten if all but 100 are known.
+const KNOWN: &[(usize, usize)] = &[(1_123, 0), (1_124, 1_024), (3_000, 2_900)];
+
 #[test]
 fn a_control_station_forgets_what_is_known(rt: HostRuntime) -> Result<(), Fail> {
-    for (count, forgotten) in [(1_123usize, 0usize), (1_124, 1_024), (3_000, 2_900)] {
-        let mut control = offered(rt.alloc(), count)?;
-        assert_eq!(rt; recall(&mut control, count - 100), Some(()));
+    for (count, forgotten) in KNOWN {
+        let mut control = offered(rt.alloc(), *count)?;
+        assert!(rt; recall(&mut control, count.saturating_sub(100)).is_some());
         control.forget_known();
-        assert_eq!(rt; forgotten_there(&control), Some(forgotten));
+        assert!(rt; forgotten_there(&control) == Some(*forgotten), "{count}");
     }
     Ok(())
 }

@@ -6,8 +6,6 @@
 #![tactic(auto)]
 
 #[cfg(test)]
-mod asked;
-#[cfg(test)]
 mod attended_control;
 #[cfg(test)]
 mod attended_terminal;
@@ -25,8 +23,6 @@ mod happenings;
 mod notes;
 #[cfg(test)]
 mod offered;
-#[cfg(test)]
-mod printed;
 #[cfg(test)]
 mod progress;
 #[cfg(test)]

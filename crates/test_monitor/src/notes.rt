@@ -2,10 +2,9 @@
 
 use crate::beginning::address;
 use crate::fakes::{HEXADECIMAL, NO_LIMITS, control_watch, tell_each, trust_of};
-use crate::happenings::{falls_silent, hears};
 use crate::stations::control_of;
 use bsc_carrier::CarrierError;
-use bsc_connections::{LiveError, Monitor, Note, Refusal};
+use bsc_connections::{LiveError, Note, Refusal};
 use bsc_control::Control;
 use bsc_monitor::{Printing, Tracing};
 use std::alloc::Global;
@@ -21,7 +20,7 @@ const PRINTING: Printing = Printing {
     trace: Tracing::All,
 };
 
-/// Notes that have lines of the trace.
+/// Notes that have lines of the trace, and that of a program to serve, which has none.
 const NOTES: &[Note<'static>] = &[
     Note::Silence,
     Note::Joined {
@@ -37,6 +36,7 @@ const NOTES: &[Note<'static>] = &[
         peer: None,
         why: Refusal::NotAllowed,
     },
+    Note::Client,
     Note::Sent { octets: EOT },
     Note::Withheld { octets: ACK1 },
     Note::Stopped,
@@ -73,19 +73,20 @@ fn notes_of_peer() -> [Note<'static>; 3] {
     ]
 }
 
-/// The lines of these notes.
+/// The lines of these notes. The watch reads the clock at each note, also at the one without a
+/// line.
 const TRACE: &[u8] = b"+1 silence
 +2 connection 1 joined
 +3 refused a peer: the system cannot accept it yet
 +4 refused a peer: its address is not allowed
-+5 control sent EOT 161604ff
-+6 control withheld ACK1 16161031ff
-+7 asked to end
-+8 connection 0 closed: the input ended within a record
-+9 connection 1 closed
-+10 connection 1 from 127.0.0.1:2780 joined in place of one that did not answer
-+11 refused 127.0.0.1:2780: every place is taken
-+12 connection 1 from 127.0.0.1:2780 closed
++6 control sent EOT 161604ff
++7 control withheld ACK1 16161031ff
++8 asked to end
++9 connection 0 closed: the input ended within a record
++10 connection 1 closed
++11 connection 1 from 127.0.0.1:2780 joined in place of one that did not answer
++12 refused 127.0.0.1:2780: every place is taken
++13 connection 1 from 127.0.0.1:2780 closed
 ";
 
 /// Passes these notes to a watch.
@@ -106,73 +107,17 @@ fn a_trace_has_a_line_for_each_note(rt: HostRuntime) -> Result<(), Fail> {
     let control = control_of(rt.alloc(), TWO_TERMINALS)?;
     let mut trace = Vec::new(rt.alloc());
     tell(rt.alloc(), &control, &mut trace)?;
-    assert_eq!(rt; trace.as_slice(), TRACE);
+    assert!(rt; trace.as_slice() == TRACE);
     Ok(())
 }
 
-/// Lets each write of the trace fail in turn, until all of them succeed. Returns how many writes
-/// failed; each has to be reported as an output fault.
-fn failing_writes(alloc: Global, control: &Control<Global>) -> Result<usize, LiveError> {
-    for left in 0..200usize {
-        match tell(alloc, control, &mut Full { left }) {
-            Ok(()) => return Ok(left),
-            Err(LiveError::Output) => {}
-            Err(error) => return Err(error),
-        }
-    }
-    Ok(200)
-}
-
-/// Each line is written in at least one part.
+/// A line that is not taken is told, whichever of its first writes fails.
 #[test]
 fn a_line_of_a_trace_that_is_not_taken_is_told(rt: HostRuntime) -> Result<(), Fail> {
     let control = control_of(rt.alloc(), TWO_TERMINALS)?;
-    let count = failing_writes(rt.alloc(), &control)?;
-    assert!(rt; NOTES.len() <= count && count < 200);
-    Ok(())
-}
-
-/// Polls a terminal, tells the watch of a program that has to be served, and has the terminal
-/// answer that it has nothing to send. Returns whether the station is to be attended further after
-/// each of the three.
-fn is_polled_beside_a_program(
-    alloc: Global,
-    tracing: Tracing,
-    trace: &mut Vec<u8>,
-) -> Result<bool, Fail> {
-    let mut control = control_of(alloc, TWO_TERMINALS)?;
-    let mut out = Vec::new(alloc);
-    let printing = Printing {
-        records: HEXADECIMAL,
-        trace: tracing,
-    };
-    let settings = (printing, NO_LIMITS, true, trust_of(1_000));
-    let mut watch = control_watch(alloc, &control, settings, &mut out, trace)?;
-    let polls = falls_silent(&mut control, &mut watch)?;
-    let serves = watch.note(&control, Note::Client)?;
-    let goes_on = hears(&mut control, &mut watch, 0, EOT)?;
-    Ok(polls && serves && goes_on)
-}
-
-/// The lines of a trace that tells all. The watch asks the clock also when it is told of a program.
-const POLLED: &[u8] = b"+1 silence
-+2 control sent CALL A 161604ff1616c185ff
-+4 connection 0 heard EOT 161604ff
-+5 control sent CALL B 161604ff1616c285ff
-";
-
-#[test]
-fn a_program_to_serve_has_no_line_and_ends_nothing(rt: HostRuntime) -> Result<(), Fail> {
-    let mut trace = Vec::new(rt.alloc());
-    assert!(rt; is_polled_beside_a_program(rt.alloc(), Tracing::All, &mut trace)?);
-    assert_eq!(rt; trace.as_slice(), POLLED);
-    Ok(())
-}
-
-#[test]
-fn a_program_to_serve_leaves_an_idle_poll_without_a_line(rt: HostRuntime) -> Result<(), Fail> {
-    let mut trace = Vec::new(rt.alloc());
-    assert!(rt; is_polled_beside_a_program(rt.alloc(), Tracing::Exchanges, &mut trace)?);
-    assert_eq!(rt; trace.as_slice(), b"+1 silence\n".as_slice());
+    for left in 0..NOTES.len() {
+        let told = tell(rt.alloc(), &control, &mut Full { left });
+        assert!(rt; matches!(told, Err(LiveError::Output)), "{left}");
+    }
     Ok(())
 }

@@ -1,10 +1,9 @@
 //! Records that are printed a few at a time.
 
-use crate::stations::control_of;
-use bsc_block::Record;
+use crate::stations::{add, control_of};
 use bsc_control::Control;
 use bsc_monitor::{Party, RecordLines, print_some};
-use bsc_print::{Form, PrintError};
+use bsc_print::Form;
 use std::alloc::Global;
 use std::test::Fail;
 use test_fixtures::Full;
@@ -60,22 +59,6 @@ const AT_ONCE: &[Turn] = &[Turn {
     text: "from 0 0: A\nfrom 0 1: A\nfrom 1 0: B\nfrom 1 1: B\nfrom 1 2: B\n",
 }];
 
-/// The record of these characters, if they are one.
-fn card(chars: &[u8]) -> Option<Record> {
-    Record::read(chars, 144).ok()
-}
-
-/// Adds this many of these records to those that arrived from this terminal.
-fn add(control: &mut Control<Global>, terminal: usize, chars: &[u8], count: usize) -> Option<()> {
-    for _ in 0..count {
-        if control.terminals() <= terminal {
-            return None;
-        }
-        control.keep_arrived(terminal, card(chars)?).ok()?;
-    }
-    Some(())
-}
-
 /// The same records, two on the first channel and three on the other.
 fn add_five(control: &mut Control<Global>) -> Option<()> {
     add(control, 0, b"A", 2)?;
@@ -109,12 +92,21 @@ fn first_wrong(alloc: Global, control: &Control<Global>, turns: &[Turn]) -> Opti
     None
 }
 
+/// Whether a record is told that is not taken.
+fn is_refused(alloc: Global, control: &Control<Global>) -> bool {
+    if control.spools() != 2 {
+        return false;
+    }
+    print_some(alloc, LINES, control, &mut [0; 2], 2, &mut Full { left: 1 }).is_err()
+}
+
 #[test]
 fn records_are_printed_in_turns(rt: HostRuntime) -> Result<(), Fail> {
     let mut control = control_of(rt.alloc(), TWO_TERMINALS)?;
     assert!(rt; add_five(&mut control).is_some());
-    assert_eq!(rt; first_wrong(rt.alloc(), &control, TURNS), None);
-    assert_eq!(rt; first_wrong(rt.alloc(), &control, AT_ONCE), None);
+    assert!(rt; first_wrong(rt.alloc(), &control, TURNS).is_none());
+    assert!(rt; first_wrong(rt.alloc(), &control, AT_ONCE).is_none());
+    assert!(rt; is_refused(rt.alloc(), &control));
     Ok(())
 }
 
@@ -127,37 +119,8 @@ fn the_longest_line_has_less_than_640_octets(rt: HostRuntime) -> Result<(), Fail
     assert!(rt; add(&mut control, 0, &[0x07; 144], 1).is_some());
     let mut out = Vec::new(rt.alloc());
     let left = print_turn(rt.alloc(), &control, &mut [0; 2], 1, &mut out);
-    assert_eq!(rt; left, Some(0));
-    assert_eq!(rt; out.len(), LONGEST);
+    assert!(rt; left == Some(0) && out.len() == LONGEST);
     // The longest number has 19 digits more, and the longest name of a channel two characters.
     assert!(rt; LONGEST + 19 + 2 <= 640);
-    Ok(())
-}
-
-/// How printing fails with room for this many octets.
-fn fault_with_room_for(
-    alloc: Global,
-    control: &Control<Global>,
-    left: usize,
-) -> Option<PrintError> {
-    if control.spools() != 2 {
-        return None;
-    }
-    print_some(alloc, LINES, control, &mut [0; 2], 2, &mut Full { left }).err()
-}
-
-#[test]
-fn records_that_are_not_taken_are_told(rt: HostRuntime) -> Result<(), Fail> {
-    let mut control = control_of(rt.alloc(), TWO_TERMINALS)?;
-    assert!(rt; add_five(&mut control).is_some());
-    assert_eq!(rt;
-        fault_with_room_for(rt.alloc(), &control, 0),
-        Some(PrintError::Output)
-    );
-    assert_eq!(rt;
-        fault_with_room_for(rt.alloc(), &control, 1),
-        Some(PrintError::Output)
-    );
-    assert_eq!(rt; fault_with_room_for(rt.alloc(), &control, 99), None);
     Ok(())
 }

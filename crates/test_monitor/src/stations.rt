@@ -3,6 +3,7 @@
 ghost use Rattle.std.specs.Prelude.{◌≡◌, IfOk};
 
 use bsc_bid::Setup;
+use bsc_block::Record;
 use bsc_config::{Config, read_config};
 use bsc_control::Control;
 use bsc_monitor::{
@@ -74,4 +75,26 @@ pub(crate) fn sending_control(alloc: Global) -> Result<Control<Global>, Fail> {
     let mut control = control_of(alloc, TWO_TERMINALS)?;
     offer(alloc, &mut control, 0)?;
     Ok(control)
+}
+
+/// The record of these characters, if they are one.
+pub(crate) fn card(chars: &[u8]) -> Option<Record> {
+    Record::read(chars, 144).ok()
+}
+
+/// Adds this many of these records to those that arrived from this terminal, if there is memory for
+/// them.
+pub(crate) fn add(
+    control: &mut Control<Global>,
+    terminal: usize,
+    chars: &[u8],
+    count: usize,
+) -> Option<()> {
+    for _ in 0..count {
+        if control.terminals() <= terminal {
+            return None;
+        }
+        control.keep_arrived(terminal, card(chars)?).ok()?;
+    }
+    Some(())
 }

@@ -7,9 +7,9 @@ use crate::trusted::Event::{Arrives, Silence};
 use bsc_connections::{LiveError, Monitor, Note};
 use bsc_control::Control;
 use bsc_frame::{TextBuffer, decode};
-use bsc_monitor::{Ended, Limits, Printing, Tracing, write_trust};
+use bsc_monitor::{Limits, Printing, Tracing, write_trust};
 use bsc_print::PrintError;
-use bsc_trust::{Distrust, TerminalPeers, Trust};
+use bsc_trust::{TerminalPeers, Trust};
 use std::alloc::Global;
 use std::test::Fail;
 use test_fixtures::Full;
@@ -110,62 +110,43 @@ fn settings(trace: Tracing, time_out: u64) -> (Printing, Limits, bool, Trust) {
     (Printing { records, trace }, NO_LIMITS, true, trust)
 }
 
-/// Lets these events happen to a control station of two terminals, with this trace and this
-/// time-out. Returns what is known of the line after them.
-fn trust_after(
-    alloc: Global,
-    trace: Tracing,
-    time_out: u64,
-    events: &[Event],
-    errors: &mut Vec<u8>,
-) -> Result<Trust, Fail> {
+/// Lets the events happen to a control station of two terminals, with this trace.
+fn happen_all(alloc: Global, trace: Tracing, told: &mut Vec<u8>) -> Result<(), Fail> {
     let mut control = control_of(alloc, TWO_TERMINALS)?;
     let mut out = Vec::new(alloc);
-    let settings = settings(trace, time_out);
-    let mut watch = control_watch(alloc, &control, settings, &mut out, errors)?;
-    happen_each(&mut control, &mut watch, events)?;
-    Ok(watch.trust())
+    let settings = settings(trace, 1_000);
+    let mut watch = control_watch(alloc, &control, settings, &mut out, told)?;
+    Ok(happen_each(&mut control, &mut watch, EVENTS)?)
 }
 
 #[test]
 fn what_is_not_due_is_ignored_and_told(rt: HostRuntime) -> Result<(), Fail> {
-    let mut told = Vec::new(rt.alloc());
-    let trust = trust_after(rt.alloc(), Tracing::Off, 1_000, EVENTS, &mut told)?;
-    assert_eq!(rt; told.as_slice(), TOLD);
-    assert_eq!(rt;
-        trust.distrust(),
-        Some(Distrust::NothingSent { connection: 3 })
-    );
-    let mut trace = Vec::new(rt.alloc());
-    trust_after(rt.alloc(), Tracing::All, 1_000, EVENTS, &mut trace)?;
-    assert!(rt; trace.ends_with(TRACE_END));
+    let (mut told, mut traced) = (Vec::new(rt.alloc()), Vec::new(rt.alloc()));
+    happen_all(rt.alloc(), Tracing::Off, &mut told)?;
+    happen_all(rt.alloc(), Tracing::All, &mut traced)?;
+    assert!(rt; told.as_slice() == TOLD && traced.ends_with(TRACE_END));
     Ok(())
 }
 
-/// Each text arrives three milliseconds after the poll or the reply before it.
-#[test]
-fn the_first_late_answer_is_told(rt: HostRuntime) -> Result<(), Fail> {
-    const EVENTS: &[Event] = &[
-        Silence,
-        Arrives(0, NOISE),
-        Arrives(0, NOISE),
-        Arrives(0, TEXT_HI),
-        Arrives(0, NOISE),
-        Arrives(0, NOISE),
-        Arrives(0, TEXT_HI),
-    ];
-    const LATE: &[u8] = b"not trusted: an answer took longer than the time-out\n";
-    let mut told = Vec::new(rt.alloc());
-    let trust = trust_after(rt.alloc(), Tracing::Off, 2, EVENTS, &mut told)?;
-    assert_eq!(rt; told.as_slice(), LATE);
-    assert_eq!(rt; trust.slowest_share(), Some(150));
-    let trust = trust_after(rt.alloc(), Tracing::Off, 3, EVENTS, &mut told)?;
-    assert_eq!(rt;
-        (trust.distrust(), trust.slowest_share()),
-        (None, Some(100))
-    );
-    Ok(())
-}
+/// The text arrives three milliseconds after the poll.
+const LATE_ANSWER: &[Note<'static>] = &[
+    Note::Silence,
+    Note::Sent {
+        octets: CALL_POLL_A,
+    },
+    Note::Heard {
+        connection: 0,
+        octets: NOISE,
+    },
+    Note::Heard {
+        connection: 0,
+        octets: NOISE,
+    },
+    Note::Heard {
+        connection: 0,
+        octets: TEXT_HI,
+    },
+];
 
 /// The reply to the text is sent three milliseconds after it was heard.
 const LATE_REPLY: &[Note<'static>] = &[
@@ -214,8 +195,30 @@ const WITHHELD_REPLY: &[Note<'static>] = &[
     Note::Sent { octets: ACK1 },
 ];
 
-/// Tells the watch of a control station with this time-out of the reply.
-fn tell_reply(
+/// What happens at a control station with a time-out of so many milliseconds, and what is told.
+/// What is withheld has a line without a trace, and nothing of it speaks against trust.
+const TIMED: &[(&[Note<'static>], u64, &[u8])] = &[
+    (LATE_ANSWER, 3, b""),
+    (
+        LATE_ANSWER,
+        2,
+        b"not trusted: an answer took longer than the time-out\n",
+    ),
+    (LATE_REPLY, 3, b""),
+    (
+        LATE_REPLY,
+        2,
+        b"not trusted: a reply was sent later than the time-out\n",
+    ),
+    (
+        WITHHELD_REPLY,
+        2,
+        b"a transmission was withheld: it would have been late\n",
+    ),
+];
+
+/// Tells the watch of a control station with this time-out of these notes.
+fn tell(
     alloc: Global,
     time_out: u64,
     notes: &[Note<'static>],
@@ -228,64 +231,14 @@ fn tell_reply(
     Ok(tell_each(&control, &mut watch, notes)?)
 }
 
+/// The times are those of the clock.
 #[test]
-fn a_late_reply_is_told(rt: HostRuntime) -> Result<(), Fail> {
-    const LATE: &[u8] = b"not trusted: a reply was sent later than the time-out\n";
-    let mut told = Vec::new(rt.alloc());
-    tell_reply(rt.alloc(), 3, LATE_REPLY, &mut told)?;
-    assert!(rt; told.is_empty());
-    tell_reply(rt.alloc(), 2, LATE_REPLY, &mut told)?;
-    assert_eq!(rt; told.as_slice(), LATE);
-    Ok(())
-}
-
-/// What is withheld has a line without a trace, and nothing of it speaks against trust.
-#[test]
-fn a_withheld_reply_ends_no_trust(rt: HostRuntime) -> Result<(), Fail> {
-    const WITHHELD: &[u8] = b"a transmission was withheld: it would have been late\n";
-    let mut told = Vec::new(rt.alloc());
-    tell_reply(rt.alloc(), 2, WITHHELD_REPLY, &mut told)?;
-    assert_eq!(rt; told.as_slice(), WITHHELD);
-    Ok(())
-}
-
-/// Whether an answer of connection 0 is admitted, whether the station is attended further after it
-/// was ignored, whether an answer of connection 1 is admitted, and whether the station is attended
-/// further after that was heard.
-fn last_answers<M: Monitor<Ended>>(last: &mut M) -> Result<[bool; 4], LiveError> {
-    let ignored = Note::Ignored {
-        connection: 0,
-        octets: EOT,
-    };
-    let heard = Note::Heard {
-        connection: 1,
-        octets: EOT,
-    };
-    let admits_first = last.admits(&Ended, 0, EOT);
-    let after_ignored = last.note(&Ended, ignored)?;
-    let admits_second = last.admits(&Ended, 1, EOT);
-    let after_heard = last.note(&Ended, heard)?;
-    Ok([admits_first, after_ignored, admits_second, after_heard])
-}
-
-/// The last answers of a control station that has ended after the answer of terminal 0, and whether
-/// anything speaks against trust after them.
-fn after_last(alloc: Global) -> Result<([bool; 4], bool), Fail> {
-    let mut control = control_of(alloc, TWO_TERMINALS)?;
-    let (mut out, mut told) = (Vec::new(alloc), Vec::new(alloc));
-    let settings = settings(Tracing::Off, 1_000);
-    let mut watch = control_watch(alloc, &control, settings, &mut out, &mut told)?;
-    happen_each(&mut control, &mut watch, &[Silence, Arrives(0, EOT)])?;
-    let mut last = watch.into_last();
-    let answers = last_answers(&mut last)?;
-    Ok((answers, last.trust().distrust().is_some()))
-}
-
-/// A control station that has ended awaits the answer of the terminal that it called last. An
-/// answer of another one does not end it.
-#[test]
-fn the_last_answer_is_that_of_the_last_call(rt: HostRuntime) -> Result<(), Fail> {
-    assert_eq!(rt; after_last(rt.alloc())?, ([false, true, true, false], true));
+fn what_is_late_is_told(rt: HostRuntime) -> Result<(), Fail> {
+    for (notes, time_out, wanted) in TIMED {
+        let mut told = Vec::new(rt.alloc());
+        tell(rt.alloc(), *time_out, notes, &mut told)?;
+        assert!(rt; told.as_slice() == *wanted, "{time_out}");
+    }
     Ok(())
 }
 
@@ -314,22 +267,24 @@ not trusted: an answer took longer than the time-out
     ),
 ];
 
-/// Whether the last lines of the report are these, and each write of them that fails is told.
+/// Writes the last lines of the report, and returns whether they are these.
 fn reports(alloc: Global, trust: &Trust, wanted: &[u8]) -> Result<bool, PrintError> {
     let mut out = Vec::new(alloc);
     write_trust(trust, &mut out)?;
-    let full = write_trust(trust, &mut Full { left: 0 });
-    let half = write_trust(trust, &mut Full { left: 1 });
-    let is_told = full == Err(PrintError::Output) && half == Err(PrintError::Output);
-    Ok(is_told && out.as_slice() == wanted)
+    Ok(out.as_slice() == wanted)
 }
 
+/// Lines that are not taken are told.
 #[test]
 fn the_report_ends_with_what_is_known_of_the_line(rt: HostRuntime) -> Result<(), Fail> {
     let nothing = Trust::new(true, 100, TerminalPeers::new());
     assert!(rt; reports(rt.alloc(), &nothing, b"slowest answer: none\ntrusted\n")?);
-    for &(time, wanted) in REPORTS {
-        assert!(rt; reports(rt.alloc(), &after_answer(time), wanted)?);
+    for (time, wanted) in REPORTS {
+        assert!(rt;
+            reports(rt.alloc(), &after_answer(*time), wanted)?,
+            "{time}"
+        );
     }
+    assert!(rt; write_trust(&nothing, &mut Full { left: 1 }).is_err());
     Ok(())
 }

@@ -155,65 +155,55 @@ pub(crate) fn keep<S: Store>(
     store.commit(&step)
 }
 
-/// Returns the mark of what was found, if it has these characters.
-fn mark_of(found: Option<Found>, chars: &str) -> Option<i64> {
-    match found {
-        Some(found) if found.record.chars() == chars.as_bytes() => Some(found.mark),
-        _ => None,
+/// Which records of a channel are meant.
+#[derive(Clone, Copy)]
+pub(crate) enum Side {
+    Offered,
+    Arrived,
+}
+
+/// Returns the record after this mark and this many more, if there is one.
+fn found<S: Store>(
+    store: &mut S,
+    channel: &Channel,
+    side: Side,
+    mark: i64,
+    more: u32,
+) -> Result<Option<Found>, StoreFault> {
+    match side {
+        Side::Offered => store.offered(channel, mark, more),
+        Side::Arrived => store.arrived(channel, mark, more),
     }
 }
 
-/// Returns the mark of the offered record after this mark, if it has these characters.
-fn offered<S: Store>(
-    store: &mut S,
-    channel: &Channel,
-    mark: i64,
-    chars: &str,
-) -> Result<Option<i64>, StoreFault> {
-    Ok(mark_of(store.offered(channel, mark, 0)?, chars))
+/// Returns the mark of what was found, if it has these characters, and else 0.
+fn mark_of(found: Option<Found>, chars: &str) -> i64 {
+    match found {
+        Some(found) if found.record.chars() == chars.as_bytes() => found.mark,
+        _ => 0,
+    }
 }
 
-/// Tells whether these are the offered records of a channel, in order, and all of them. Each is
-/// found after the one before it, and by its number.
-pub(crate) fn are_offered<S: Store>(
+/// Tells whether these are the records of a channel, in order, and all of them. Each is found after
+/// the one before it, and by its number.
+pub(crate) fn are_kept<S: Store>(
     store: &mut S,
     channel: &Channel,
+    side: Side,
     records: &[&str],
 ) -> Result<bool, StoreFault> {
     let mut mark = 0;
     let mut number = 0u32;
     for chars in records {
-        let Some(next) = offered(store, channel, mark, chars)? else {
-            return Ok(false);
-        };
-        let found = store.offered(channel, 0, number)?;
-        if mark_of(found, chars) != Some(next) {
+        let next = mark_of(found(store, channel, side, mark, 0)?, chars);
+        let again = mark_of(found(store, channel, side, 0, number)?, chars);
+        if next == 0 || next != again {
             return Ok(false);
         }
         mark = next;
         number = number.saturating_add(1);
     }
-    Ok(store.offered(channel, mark, 0)?.is_none())
-}
-
-/// Tells the same of the records that arrived.
-pub(crate) fn have_arrived<S: Store>(
-    store: &mut S,
-    channel: &Channel,
-    records: &[&str],
-) -> Result<bool, StoreFault> {
-    let mut mark = 0;
-    let mut number = 0u32;
-    for chars in records {
-        let next = mark_of(store.arrived(channel, mark, 0)?, chars);
-        let found = mark_of(store.arrived(channel, 0, number)?, chars);
-        match next {
-            Some(next) if found == Some(next) => mark = next,
-            _ => return Ok(false),
-        }
-        number = number.saturating_add(1);
-    }
-    Ok(store.arrived(channel, mark, 0)?.is_none())
+    Ok(found(store, channel, side, mark, 0)?.is_none())
 }
 
 /// Tells whether these are the numbers of a channel.

@@ -1,54 +1,61 @@
 //! Each fault, by its name, and that what is kept is as it was.
 
-use crate::facts::{Chars, are_offered, is_at, keep, know, offer, sent};
-use crate::files::{LINE, Task, create, faults_in_use, in_memory, not_made, not_opened, within};
+use crate::facts::{Chars, Side, are_kept, is_at, keep, know, offer, sent};
+use crate::files::{LINE, Task, create, delete, in_memory, is_in_use, resumed, within};
 use bsc_kept::{Channel, Store, StoreFault};
-use sqlite::{Connection, Error};
 use std::alloc::Global;
 use std::fs;
 use std::rt::HostRuntime;
 use std::test::Fail;
 
+/// Paths that are opened with a line, and the fault.
+const OPENED: &[(&str, &str, StoreFault)] = &[
+    ("store_none", LINE, StoreFault::Missing),
+    ("store_made", "another", StoreFault::OtherLine),
+    ("store_text", LINE, StoreFault::Damaged),
+    (".", LINE, StoreFault::Unreachable),
+];
+
+/// Paths at which a store is made, and the fault.
+const MADE: &[(&str, StoreFault)] = &[
+    ("store_made", StoreFault::Taken),
+    ("store_text", StoreFault::Damaged),
+    ("store_none/below", StoreFault::Unreachable),
+];
+
 #[test]
 fn files_are_refused_by_name(rt: HostRuntime) -> Result<(), Fail> {
-    let _ = fs::remove_dir_all(&rt, "store_faults");
-    fs::create_dir(&rt, "store_faults")?;
-    create(&rt, "store_faults/a")?;
-    fs::write(&rt, "store_faults/b", "no database, but a text")?;
-    let opened = [
-        ("store_faults/none", LINE, Some(StoreFault::Missing)),
-        ("store_faults/a", "another", Some(StoreFault::OtherLine)),
-        ("store_faults/a", LINE, None),
-        ("store_faults/b", LINE, Some(StoreFault::Damaged)),
-        ("store_faults", LINE, Some(StoreFault::Unreachable)),
-    ];
-    for (path, line, fault) in opened {
-        assert_eq!(rt; not_opened(&rt, path, line), fault);
+    delete(&rt, "store_made");
+    create(&rt, "store_made")?;
+    fs::write(&rt, "store_text", "no database, but a text")?;
+    for (path, line, fault) in OPENED {
+        assert!(rt;
+            within(&rt, path, line, Task::Nothing) == Err(*fault),
+            "{path}"
+        );
     }
-    assert_eq!(rt; fs::exists(&rt, "store_faults/none")?, false);
-    let made = [
-        ("store_faults/a", Some(StoreFault::Taken)),
-        ("store_faults/b", Some(StoreFault::Damaged)),
-        ("store_faults/c/d", Some(StoreFault::Unreachable)),
-    ];
-    for (path, fault) in made {
-        assert_eq!(rt; not_made(&rt, path), fault);
+    assert!(rt; !fs::exists(&rt, "store_none")?);
+    for (path, fault) in MADE {
+        assert!(rt; create(&rt, path) == Err(*fault), "{path}");
     }
-    fs::remove_dir_all(&rt, "store_faults")?;
+    assert!(rt; is_in_use(&rt, "store_made")?);
+    assert!(rt; within(&rt, "store_made", LINE, Task::Nothing)?);
+    delete(&rt, "store_made");
+    delete(&rt, "store_text");
     Ok(())
 }
 
-/// Offers a record and keeps that it is in doubt.
-pub(crate) fn hold_doubt<S: Store>(
-    alloc: Global,
-    store: &mut S,
-    channel: &Channel,
-) -> Result<(), StoreFault> {
-    let step = [offer(channel, Chars::First), know(channel, 0, 1)];
-    keep(alloc, store, &step)
-}
+/// Makes a store of the line of the tests with a record in doubt.
+const SOUND: &str = "CREATE TABLE line (version INTEGER, line TEXT);
+CREATE TABLE offered (id INTEGER PRIMARY KEY, way TEXT, address BLOB, record BLOB);
+CREATE TABLE known (way TEXT, address BLOB, known INTEGER, in_doubt INTEGER);
+CREATE TABLE arrived (id INTEGER PRIMARY KEY, way TEXT, address BLOB, record BLOB);
+CREATE TABLE printed (way TEXT, address BLOB, printed INTEGER);
+INSERT INTO line VALUES (1, 'terminal 41 select 61; this is control');
+INSERT INTO offered VALUES (1, 'from', x'41', x'4849');
+INSERT INTO known VALUES ('from', x'41', 0, 1);";
 
-/// Statements after which a store is refused, and the fault.
+/// Statements after which it is refused, and the fault.
 const CHANGES: &[(&str, StoreFault)] = &[
     (
         "UPDATE line SET version = 2",
@@ -66,35 +73,15 @@ const CHANGES: &[(&str, StoreFault)] = &[
     ),
 ];
 
-/// Runs statements on the database at a path.
-fn change(rt: &HostRuntime, path: &str, sql: &str) -> Result<(), Error> {
-    let mut conn = Connection::open(rt, path)?;
-    conn.execute_batch(sql)
-}
-
 #[test]
 fn changed_stores_are_refused_by_name(rt: HostRuntime) -> Result<(), Fail> {
-    for (sql, fault) in CHANGES {
-        let _ = fs::remove_dir_all(&rt, "store_changed");
-        fs::create_dir(&rt, "store_changed")?;
-        create(&rt, "store_changed/a")?;
-        assert!(rt; within(&rt, "store_changed/a", Task::HoldDoubt)?);
-        change(&rt, "store_changed/a", sql)?;
-        assert_eq!(rt; not_opened(&rt, "store_changed/a", LINE), Some(*fault));
+    assert!(rt; resumed(rt.alloc(), SOUND, "DELETE FROM printed") == Ok(()));
+    for (changed, fault) in CHANGES {
+        assert!(rt;
+            resumed(rt.alloc(), SOUND, changed) == Err(*fault),
+            "{changed}"
+        );
     }
-    fs::remove_dir_all(&rt, "store_changed")?;
-    Ok(())
-}
-
-#[test]
-fn a_store_is_opened_once(rt: HostRuntime) -> Result<(), Fail> {
-    let _ = fs::remove_dir_all(&rt, "store_in_use");
-    fs::create_dir(&rt, "store_in_use")?;
-    create(&rt, "store_in_use/a")?;
-    let in_use = Some(StoreFault::InUse);
-    assert_eq!(rt; faults_in_use(&rt, "store_in_use/a")?, (in_use, in_use));
-    assert_eq!(rt; not_opened(&rt, "store_in_use/a", LINE), None);
-    fs::remove_dir_all(&rt, "store_in_use")?;
     Ok(())
 }
 
@@ -105,12 +92,16 @@ pub(crate) fn is_unchanged<S: Store>(
     store: &mut S,
     channel: &Channel,
 ) -> Result<bool, StoreFault> {
-    hold_doubt(alloc, store, channel)?;
+    keep(
+        alloc,
+        store,
+        &[offer(channel, Chars::First), know(channel, 0, 1)],
+    )?;
     let step = [offer(channel, Chars::Second), know(channel, 0, 8)];
     let refused = keep(alloc, store, &step) == Err(StoreFault::Refused);
     let before = is_at(store, channel, sent(1, 0, 1))?;
     keep(alloc, store, &[offer(channel, Chars::Second)])?;
-    Ok(refused && before && are_offered(store, channel, &["first", "second"])?)
+    Ok(refused && before && are_kept(store, channel, Side::Offered, &["first", "second"])?)
 }
 
 #[test]

@@ -1,12 +1,10 @@
-//! What is kept is read back: from memory, from a file that was closed, and from one that was not.
+//! What is kept is read back: from memory, from a file that was closed, and from a copy of one that
+//! was not.
 
-use crate::facts::{
-    Chars, are_offered, arrive, have_arrived, heard, is_at, keep, know, offer, print, sent,
-};
-use crate::files::{Task, create, in_memory, left_open, within};
+use crate::facts::{Chars, Side, are_kept, arrive, heard, is_at, keep, know, offer, print, sent};
+use crate::files::{LINE, Task, copied, create, delete, in_memory, within};
 use bsc_kept::{Channel, Store, StoreFault};
 use std::alloc::Global;
-use std::fs;
 use std::rt::HostRuntime;
 use std::test::Fail;
 
@@ -32,9 +30,9 @@ pub(crate) fn is_filled<S: Store>(
     one: &Channel,
     other: &Channel,
 ) -> Result<bool, StoreFault> {
-    let offered = are_offered(store, one, &["first", "", "third"])?;
-    let none = are_offered(store, other, &[])?;
-    let arrived = have_arrived(store, other, &["second", ""])?;
+    let offered = are_kept(store, one, Side::Offered, &["first", "", "third"])?;
+    let none = are_kept(store, other, Side::Offered, &[])?;
+    let arrived = are_kept(store, other, Side::Arrived, &["second", ""])?;
     let sent = is_at(store, one, sent(3, 1, 2))?;
     Ok(offered && none && arrived && sent && is_at(store, other, heard(2, 1))?)
 }
@@ -45,17 +43,15 @@ fn memory_keeps_what_was_committed(rt: HostRuntime) -> Result<(), Fail> {
     Ok(())
 }
 
+/// The copy has what stands in the files while the store is open, as after a process was killed.
 #[test]
 fn a_file_keeps_what_was_committed(rt: HostRuntime) -> Result<(), Fail> {
-    let _ = fs::remove_dir_all(&rt, "store_kept");
-    fs::create_dir(&rt, "store_kept")?;
-    create(&rt, "store_kept/a")?;
-    assert!(rt; within(&rt, "store_kept/a", Task::Fill)?);
-    assert!(rt; within(&rt, "store_kept/a", Task::Read)?);
-    create(&rt, "store_kept/b")?;
-    assert!(rt; left_open(&rt, "store_kept/b", Task::Fill)?);
-    assert!(rt; left_open(&rt, "store_kept/b", Task::Read)?);
-    assert!(rt; within(&rt, "store_kept/b", Task::Read)?);
-    fs::remove_dir_all(&rt, "store_kept")?;
+    delete(&rt, "store_kept");
+    create(&rt, "store_kept")?;
+    assert!(rt; copied(&rt, "store_kept", Task::Fill, "store_copied")?);
+    assert!(rt; within(&rt, "store_kept", LINE, Task::Read)?);
+    assert!(rt; within(&rt, "store_copied", LINE, Task::Read)?);
+    delete(&rt, "store_kept");
+    delete(&rt, "store_copied");
     Ok(())
 }
