@@ -1,8 +1,10 @@
 //! A station that programs feed while it runs.
 
-ghost use Rattle.std.specs.Prelude.{◌≡◌, IfErr, IfOk, is_some, option_map};
+ghost use Rattle.std.specs.Prelude.{◌≡◌, ◌&&◌, IfErr, IfOk, false, is_ok, is_some, not};
+ghost use Rattle.std.specs.Prelude.{option_map};
 ghost use Rattle.bsc_attending.specs.Errors.{IsCutShort};
-ghost use Rattle.bsc_attending.specs.Serving.{IsCalledBy, IsPlace};
+ghost use Rattle.bsc_attending.specs.Runs.{Runs, at, station_parts};
+ghost use Rattle.bsc_attending.specs.Serving.{IsCalledBy, IsPlace, TellsStopped};
 ghost use Rattle.bsc_attending.specs.Sparing.{ForgetsAtTimes};
 ghost use Rattle.bsc_options.specs.Serves.{serves_value};
 
@@ -91,7 +93,10 @@ fn attend_until_called<C: Attend, S: Station + Feeds + Forgets, M: Monitor<S> + 
     connections: &mut C,
     station: &mut S,
     watch: &mut M,
-) -> Result<bool, LiveError> {
+) -> Result<bool, LiveError>
+    ensures ran { C.runs (station_parts S.Station S.Party S.kept_at S.forgets_sent
+        S.forgets_arrived) connections.old station.old (is_ok result) connections.new station.new }
+{
     let mut pausing = Pausing::new(watch);
     connections.attend_watched(station, &mut pausing)?;
     Ok(!pausing.is_ended())
@@ -108,7 +113,11 @@ fn attend_kept_until_called<
     station: &mut S,
     watch: &mut M,
     keeper: &mut Keeper<K>,
-) -> Result<bool, LiveError> {
+) -> Result<bool, LiveError>
+    ensures kept { C.reached connections.old ≡ false →
+        Runs (station_parts S.Station S.Party S.kept_at S.forgets_sent S.forgets_arrived)
+        K.Store (is_ok result) (at station.old keeper.old) (at station.new keeper.new) }
+{
     let mut pausing = Pausing::new(watch);
     connections.attend_kept(station, &mut pausing, keeper)?;
     Ok(!pausing.is_ended())
@@ -121,7 +130,10 @@ fn tell_stopped<S, M: Monitor<S>>(
     watch: &mut M,
     is_asked: bool,
     told: &mut bool,
-) -> Result<bool, LiveError> {
+) -> Result<bool, LiveError>
+    ensures { TellsStopped M.is_told station.now (is_asked && not told.old) told.old told.new
+        watch.old result watch.new }
+{
     if !is_asked || *told {
         return Ok(true);
     }
