@@ -17,6 +17,7 @@ mod readiness;
 mod receiving;
 mod screen;
 mod stores;
+mod streams;
 
 pub use connecting::{Peer, connect_within};
 pub use machine::Machine;
@@ -24,3 +25,4 @@ pub use output::Output;
 pub use readiness::OutputReadiness;
 pub use screen::{Errors, Progress, Screen, Showing, Since};
 pub use stores::KeptFile;
+pub use streams::Streams;

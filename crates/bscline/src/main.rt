@@ -5,10 +5,8 @@
 #![tactic(auto)]
 
 use bsc_command::{Fault, command, fail, given_words};
-use bsc_machine::{Errors, Machine, Output, Screen};
-use std::cell::Cell;
+use bsc_machine::Streams;
 use std::fs::File;
-use std::io;
 use std::io::{BufWriter, IsTerminal};
 use std::process::ExitCode;
 
@@ -23,29 +21,12 @@ fn main(rt: HostRuntime) -> ExitCode {
         File::open(&rt, NULL_DEVICE),
         File::open(&rt, NULL_DEVICE),
     );
-    let screen = Screen {
-        is_terminal: rt.stderr().is_terminal(),
-        shows: Cell::new(false),
-    };
-    let mut errors = Errors {
-        runtime: &rt,
-        screen: &screen,
-    };
-    let syncs = Cell::new(false);
-    let output = Output {
-        runtime: &rt,
-        writer: io::writer(&rt),
-        syncs: &syncs,
-        screen: &screen,
-    };
-    let status = match BufWriter::new(rt.alloc(), output) {
+    let streams = Streams::new(rt.stderr().is_terminal());
+    let mut errors = streams.errors(&rt);
+    let status = match BufWriter::new(rt.alloc(), streams.output(&rt)) {
         Ok(mut out) => {
             let mut input = rt.reader();
-            let mut machine = Machine {
-                runtime: &rt,
-                syncs: &syncs,
-                screen: &screen,
-            };
+            let mut machine = streams.machine(&rt);
             command(
                 rt.alloc(),
                 given_words(&rt),
@@ -57,6 +38,6 @@ fn main(rt: HostRuntime) -> ExitCode {
         }
         Err(_) => fail(&Fault::OutOfMemory, &mut errors),
     };
-    screen.clear(&rt);
+    streams.clear(&rt);
     ExitCode::from(status)
 }
