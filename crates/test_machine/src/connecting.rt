@@ -1,9 +1,8 @@
 //! How the machine connects to a peer, and how long it tries.
 
 use crate::fake::{Fake, NO_FILE};
-use crate::lent::Lent;
 use bsc_attending::{Network, Wanted};
-use bsc_machine::{Peer, connect_within};
+use bsc_machine::{Peer, Streams, connect_within};
 use bsc_options::Place;
 use bsc_peers::Networks;
 use bsc_sockets::SocketsError;
@@ -39,8 +38,8 @@ pub(crate) fn opened<R: AllocGlobal + Clock + Eprint + Files + Net>(
     runtime: &R,
     wanted: &Wanted<'_>,
 ) -> Result<usize, SocketsError> {
-    let lent = Lent::new(false);
-    let opened = lent.machine(runtime).open(wanted)?;
+    let streams = Streams::new(false);
+    let opened = streams.machine(runtime).open(wanted)?;
     Ok(opened.connections.len())
 }
 
@@ -194,6 +193,14 @@ fn a_station_tries_until_its_patience_ends(rt: HostRuntime) -> Result<(), Fail> 
         assert!(rt; tries(&fake, *attempts), "{place}");
     }
     let fake = Fake::new(&rt, NO_FILE);
+    let late = Late {
+        fake: &fake,
+        takes: 0,
+        misses: 35_999,
+        answer: Ok("there"),
+        tried: RefCell::new(Vec::new(rt.alloc())),
+    };
+    assert!(rt; connect_within(&fake, Duration::from_secs(3_600), &late) == Ok("there"));
     fake.ticks.set(false);
     let none = Attempts {
         result: Err(SocketsError::Sockets),

@@ -68,6 +68,12 @@ pub(crate) struct Fake<'a> {
     /// How often it was opened.
     pub(crate) opened: Cell<usize>,
 
+    /// The addresses of each host; those that the system knows if this has none.
+    pub(crate) hosts: Cell<Option<[SocketAddr; 2]>>,
+
+    /// How long the last attempt to connect might wait, if it was limited.
+    pub(crate) patience: Cell<Option<Duration>>,
+
     /// How many peers connect once a station tells that it listens, and those that have.
     pub(crate) due: Cell<usize>,
     peers: RefCell<Vec<TcpStream>>,
@@ -87,6 +93,8 @@ impl<'a> Fake<'a> {
             columns: Cell::new(None),
             taken,
             opened: Cell::new(0),
+            hosts: Cell::new(None),
+            patience: Cell::new(None),
             due: Cell::new(0),
             peers: RefCell::new(Vec::new(alloc)),
         }
@@ -120,7 +128,7 @@ impl<'a> Fake<'a> {
     }
 
     /// Lets happen what follows the lines that are on standard error: peers connect to a station
-    /// that listens, and an hour passes when a peer is turned away.
+    /// that listens, and half a minute passes when a peer is turned away.
     fn happens(&self) -> io::Result<()> {
         let told = self.told.try_borrow()?;
         let Ok(text) = str::from_utf8(told.as_slice()) else {
@@ -133,7 +141,7 @@ impl<'a> Fake<'a> {
             return Ok(());
         };
         if line.contains(REFUSED) {
-            self.passes(3_600_000);
+            self.passes(30_000);
         }
         match address_in(line) {
             Some(address) => self.meets(address),
@@ -262,11 +270,17 @@ impl Net for Fake<'_> {
     }
 
     fn connect_timeout(&self, address: SocketAddr, patience: Duration) -> io::Result<TcpStream> {
+        self.patience.set(Some(patience));
         self.host.connect_timeout(address, patience)
     }
 
     fn lookup_host(&self, host: &str, port: u16, found: &mut [SocketAddr]) -> io::Result<usize> {
-        self.host.lookup_host(host, port, found)
+        let Some(hosts) = self.hosts.get() else {
+            return self.host.lookup_host(host, port, found);
+        };
+        let count = hosts.len().min(found.len());
+        found[..count].copy_from_slice(&hosts[..count]);
+        Ok(count)
     }
 }
 

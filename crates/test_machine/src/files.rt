@@ -2,9 +2,9 @@
 //! there is none.
 
 use crate::fake::{Fake, NO_FILE};
-use crate::lent::Lent;
 use bsc_chart::Traces;
 use bsc_input::{Files, InputError, MAX_INPUT, Unreadable};
+use bsc_machine::Streams;
 use std::alloc::Global;
 use std::fs;
 use std::io::Read;
@@ -22,8 +22,8 @@ fn octets(alloc: Global, count: usize) -> Result<Vec<u8>, Fail> {
 
 /// The result of reading the file at this path: the octets.
 fn read(host: &HostRuntime, path: &str) -> Result<Vec<u8>, InputError> {
-    let lent = Lent::new(false);
-    lent.machine(host).read_file(path)
+    let streams = Streams::new(false);
+    streams.machine(host).read_file(path)
 }
 
 /// Whether the file at this path has these octets.
@@ -70,9 +70,9 @@ fn it_is_told_why_a_text_cannot_be_read(rt: HostRuntime) -> Result<(), Fail> {
 
 /// Whether the trace at this path has these octets, or the reason why it cannot be opened.
 fn has_trace(host: &HostRuntime, path: &str, octets: &[u8]) -> Result<bool, Unreadable> {
-    let lent = Lent::new(false);
+    let streams = Streams::new(false);
     let mut read = Vec::new(host.alloc());
-    match lent.machine(host).open_trace(path) {
+    match streams.machine(host).open_trace(path) {
         Ok(mut file) => {
             let is_read = file.read_to_end(&mut read).is_ok();
             Ok(is_read && read.as_slice() == octets)
@@ -99,8 +99,8 @@ fn traces_are_opened(rt: HostRuntime) -> Result<(), Fail> {
 /// The width is what the environment tells, whatever it is.
 #[test]
 fn the_environment_tells_the_width(rt: HostRuntime) -> Result<(), Fail> {
-    let (fake, lent) = (Fake::new(&rt, NO_FILE), Lent::new(false));
-    let mut machine = lent.machine(&fake);
+    let (fake, streams) = (Fake::new(&rt, NO_FILE), Streams::new(false));
+    let mut machine = streams.machine(&fake);
     for width in ["132", "", "wide"] {
         fake.columns.set(Some(width));
         assert!(rt;

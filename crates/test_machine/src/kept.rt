@@ -1,18 +1,18 @@
 //! The stores of the machine: files that keep what is kept in them.
 
-use crate::lent::Lent;
 use bsc_attending::Stores;
 use bsc_block::Record;
 use bsc_frame::Address;
 use bsc_kept::{Change, Channel, Found, Progress, Store, StoreFault};
-use bsc_machine::Machine;
+use bsc_machine::{Machine, Streams};
 use bsc_storing::StoreFiles;
 use std::alloc::Global;
+use std::fs;
 use std::rt::HostRuntime;
 use std::test::Fail;
 
 /// The text of the line of a store.
-const LINE: &str = "terminal 41 select 61; this is control";
+const LINE: &str = "terminal 0\nfull length 80\npolled 41 selected 61\n";
 
 /// Returns the address of these codes.
 fn address(codes: &[u8]) -> Result<Address, StoreFault> {
@@ -88,6 +88,9 @@ fn has_kept<S: Store>(store: &mut S, text: &str) -> Result<bool, StoreFault> {
     )
 }
 
+/// The path of a copy of a store.
+const COPY: &str = "copy.db";
+
 /// Makes a store at a path and keeps this in it.
 fn make(machine: &mut Machine<'_, HostRuntime>, path: &str) -> Result<(), StoreFault> {
     machine.make_kept(path, LINE)?;
@@ -95,19 +98,24 @@ fn make(machine: &mut Machine<'_, HostRuntime>, path: &str) -> Result<(), StoreF
     keep(machine.runtime.alloc(), &mut store, path)
 }
 
-/// Whether the store at a path has its line and what was kept, and is in use until it is closed.
+/// Whether the store at a path has its line and what was kept, and is in use until it is closed. A
+/// copy of its file, made after that, has the same.
 fn found(machine: &mut Machine<'_, HostRuntime>, path: &str) -> Result<bool, StoreFault> {
     let mut opened = machine.open_kept(path)?;
     let is_whole = opened.line.as_str() == LINE && has_kept(&mut opened.store, path)?;
     let is_used = machine.open_kept(path).err() == Some(StoreFault::InUse);
     machine.close_kept(opened)?;
-    Ok(is_whole && is_used)
+    let is_copied = fs::copy(machine.runtime, path, COPY).is_ok();
+    let mut copy = machine.open_kept(COPY)?;
+    let is_same = copy.line.as_str() == LINE && has_kept(&mut copy.store, path)?;
+    machine.close_kept(copy)?;
+    Ok(is_whole && is_used && is_copied && is_same)
 }
 
 #[test]
 fn each_store_keeps_what_is_kept_in_it(rt: HostRuntime) -> Result<(), Fail> {
-    let lent = Lent::new(false);
-    let mut machine = lent.machine(&rt);
+    let streams = Streams::new(false);
+    let mut machine = streams.machine(&rt);
     for path in ["first.db", "second.db"] {
         assert!(rt; make(&mut machine, path).is_ok(), "{path}");
     }
@@ -124,8 +132,8 @@ fn not_opened(machine: &mut Machine<'_, HostRuntime>, path: &str, own: &str) -> 
 
 #[test]
 fn it_is_told_why_a_store_is_refused(rt: HostRuntime) -> Result<(), Fail> {
-    let lent = Lent::new(false);
-    let mut machine = lent.machine(&rt);
+    let streams = Streams::new(false);
+    let mut machine = streams.machine(&rt);
     assert!(rt; machine.make_kept("deck.db", LINE) == Ok(()));
     assert!(rt; machine.make_kept("deck.db", LINE) == Err(StoreFault::Taken));
     assert!(rt; not_opened(&mut machine, "deck.db", LINE).is_none());

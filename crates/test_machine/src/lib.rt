@@ -15,8 +15,6 @@ mod files;
 #[cfg(test)]
 mod kept;
 #[cfg(test)]
-mod lent;
-#[cfg(test)]
 mod listening;
 #[cfg(test)]
 mod outputs;

@@ -75,9 +75,10 @@ const TRACED: &str = "+0 listening at 127.0.0.2:~
 +0 connection 0 from 127.0.0.1:~ joined
 ";
 
-/// What a terminal tells that turns a peer away.
+/// What a terminal tells that turns two peers away, after which its 60 seconds have passed.
 const TURNED_AWAY: &str = "listening at 127.0.0.2:~
 waiting for the control station
+refused 127.0.0.1:~: its address is not allowed
 refused 127.0.0.1:~: its address is not allowed
 ";
 
@@ -119,7 +120,7 @@ fn cases() -> [Waits; 4] {
                 allowed: elsewhere(),
                 ..one
             },
-            peers: 1,
+            peers: 3,
             result: Err(SocketsError::NobodyConnected),
             told: TURNED_AWAY,
         },

@@ -1,23 +1,17 @@
 //! Standard output: what it takes, and when it is synced.
 
 use crate::fake::{Fake, NO_FILE, Taken};
-use crate::lent::Lent;
 use bsc_attending::Network;
-use bsc_machine::Output;
+use bsc_machine::Streams;
 use std::fs;
-use std::io::{ErrorKind, Write, writer};
+use std::io::{ErrorKind, Write};
 use std::rt::HostRuntime;
 use std::test::Fail;
 
 /// Prints this on standard output, and flushes it. The result is the kind of the error, if it
 /// fails.
-fn print(fake: &Fake<'_>, lent: &Lent, octets: &[u8]) -> Result<(), ErrorKind> {
-    let mut output = Output {
-        runtime: fake,
-        writer: writer(fake),
-        syncs: &lent.syncs,
-        screen: &lent.screen,
-    };
+fn print(fake: &Fake<'_>, streams: &Streams, octets: &[u8]) -> Result<(), ErrorKind> {
+    let mut output = streams.output(fake);
     match output.write_all(octets) {
         Ok(()) => output.flush().map_err(|error| error.kind()),
         Err(error) => Err(error.kind()),
@@ -29,11 +23,11 @@ const OCTETS: &[u8] = &[b'x', 0xff, b'\n', 0];
 
 /// What comes of printing if standard output is this file, and how often the file is opened.
 fn printed(host: &HostRuntime, syncs: bool, taken: Taken) -> (Result<(), ErrorKind>, usize) {
-    let (fake, lent) = (Fake::new(host, taken), Lent::new(false));
+    let (fake, streams) = (Fake::new(host, taken), Streams::new(false));
     if syncs {
-        lent.machine(&fake).sync_output();
+        streams.machine(&fake).sync_output();
     }
-    let result = print(&fake, &lent, OCTETS);
+    let result = print(&fake, &streams, OCTETS);
     if !fake.has_printed(OCTETS) || !fake.has_told("") {
         return (Err(ErrorKind::InvalidData), 0);
     }
@@ -83,9 +77,9 @@ fn a_flush_syncs_a_regular_file_once_it_is_asked_for(rt: HostRuntime) -> Result<
 /// What standard output refuses is told.
 #[test]
 fn standard_output_may_refuse(rt: HostRuntime) -> Result<(), Fail> {
-    let (fake, lent) = (Fake::new(&rt, NO_FILE), Lent::new(false));
+    let (fake, streams) = (Fake::new(&rt, NO_FILE), Streams::new(false));
     fake.takes.set(false);
-    assert!(rt; print(&fake, &lent, b"x") == Err(ErrorKind::StorageFull));
+    assert!(rt; print(&fake, &streams, b"x") == Err(ErrorKind::StorageFull));
     assert!(rt; fake.has_printed(b""));
     Ok(())
 }

@@ -1,7 +1,7 @@
 //! Whether standard output takes more without waiting.
 
-use crate::lent::Lent;
 use bsc_attending::{Network, Readiness};
+use bsc_machine::Streams;
 use std::test::Fail;
 
 /// How many octets standard output takes, asked twice, and again after the descriptor was to become
@@ -23,8 +23,8 @@ fn is_own<R: Readiness>(readiness: &R) -> bool {
 /// A test prints nothing before its result, so that its output is ready whatever it is.
 #[test]
 fn standard_output_is_ready_each_time_that_it_is_asked(rt: HostRuntime) -> Result<(), Fail> {
-    let lent = Lent::new(false);
-    let mut readiness = lent.machine(&rt).readiness();
+    let streams = Streams::new(false);
+    let mut readiness = streams.machine(&rt).readiness();
     assert_eq!(rt; rooms(&mut readiness), [4_096; 3]);
     assert!(rt; is_own(&readiness));
     Ok(())

@@ -1,17 +1,17 @@
 //! How the machine lets programs reach a station, and how it reaches one.
 
 use crate::fake::{Fake, NO_FILE};
-use crate::lent::Lent;
 use bsc_attending::{Network, Reachable};
 use bsc_clients::{ClientsError, ServedAt};
 use bsc_feeding::{FeedError, Stations};
+use bsc_machine::Streams;
 use bsc_serving::{Called, Programs};
 use std::io;
 use std::io::{Error, ErrorKind, Read, Write};
-use std::net::Net;
+use std::net::{IpAddr, Ipv4Addr, Net, SocketAddr};
 use std::rt::Files;
 use std::test::Fail;
-use std::time::Clock;
+use std::time::{Clock, Duration};
 
 /// How often a program is asked for what it says.
 const ASKS: usize = 1_000_000;
@@ -60,14 +60,27 @@ fn is_answered<H: Stations, P: Programs + Drop>(
     Ok(hears(&mut reached.heard, b"ok\n"))
 }
 
-/// Returns whether programs reach a station of this machine at an address of the network, which is
-/// told.
+/// Returns an address at which nothing can be served, one at which programs can be, at a port that
+/// the system chooses, and one at which nobody listens.
+fn addresses() -> [SocketAddr; 3] {
+    let here = IpAddr::V4(Ipv4Addr::new(127, 0, 0, 1));
+    [
+        SocketAddr::new(IpAddr::V4(Ipv4Addr::new(192, 0, 2, 1)), 0),
+        SocketAddr::new(here, 0),
+        SocketAddr::new(here, 1),
+    ]
+}
+
+/// Returns whether programs reach a station of this machine by a host, of whose addresses the
+/// station can listen at the second one only, and at the first one of which nobody listens later.
 fn are_served(fake: &Fake<'_>) -> io::Result<bool> {
-    let lent = Lent::new(false);
-    let mut machine = lent.machine(fake);
+    let streams = Streams::new(false);
+    let mut machine = streams.machine(fake);
+    let [elsewhere, here, closed] = addresses();
+    fake.hosts.set(Some([elsewhere, here]));
     let at = ServedAt::Address {
-        address: "127.0.0.1:0",
-        anyone: false,
+        address: "host:0",
+        anyone: true,
     };
     let Ok(mut reachable) = machine.serve(at) else {
         return Ok(false);
@@ -76,13 +89,21 @@ fn are_served(fake: &Fake<'_>) -> io::Result<bool> {
     let Some(address) = told.strip_prefix("serving programs at ") else {
         return Ok(false);
     };
-    is_answered(&mut machine, address.trim_end(), &mut reachable)
+    let Ok(served) = address.trim_end().parse() else {
+        return Ok(false);
+    };
+    fake.hosts.set(Some([closed, served]));
+    Ok(
+        reachable.descriptor == reachable.programs.descriptor()
+            && is_answered(&mut machine, "host:1", &mut reachable)?,
+    )
 }
 
 #[test]
 fn programs_reach_a_station(rt: HostRuntime) -> Result<(), Fail> {
     let fake = Fake::new(&rt, NO_FILE);
     assert!(rt; are_served(&fake)?);
+    assert!(rt; fake.patience.get() == Some(Duration::from_secs(3)));
     Ok(())
 }
 
@@ -91,14 +112,14 @@ fn unserved<R: AllocGlobal + Clock + Eprint + Files + Net>(
     runtime: &R,
     at: ServedAt<'_>,
 ) -> Option<ClientsError> {
-    let lent = Lent::new(false);
-    lent.machine(runtime).serve(at).err()
+    let streams = Streams::new(false);
+    streams.machine(runtime).serve(at).err()
 }
 
 /// Why a machine does not reach a station there.
 fn unreached<R: AllocGlobal + Net>(runtime: &R, address: &str) -> Option<FeedError> {
-    let lent = Lent::new(false);
-    lent.machine(runtime).reach(address).err()
+    let streams = Streams::new(false);
+    streams.machine(runtime).reach(address).err()
 }
 
 #[test]
