@@ -26,7 +26,7 @@ const CALLED: Scene = Scene {
 };
 
 /// The results of terminal 0 that a program fed with a record.
-const FED_TERMINAL: Due = Due {
+pub(crate) const FED_TERMINAL: Due = Due {
     asking: Some(Asking {
         pause: 100,
         serves: true,
@@ -69,8 +69,8 @@ const TERMINAL: Case = Case {
     due: FED_TERMINAL,
 };
 
-/// A terminal with a store, which a program may feed, and which hears nothing.
-const KEPT: Case = Case {
+/// A terminal with a store, which a program may feed.
+pub(crate) const KEPT: Case = Case {
     words: Some(&[
         "station",
         "line.toml",
@@ -83,13 +83,20 @@ const KEPT: Case = Case {
         "--store",
         "kept",
     ]),
-    due: Due {
-        out: "from 0: offered 2, known 0\nto 0: spooled 0\n",
-        errors: "bscline: records not delivered\n",
-        status: 4,
-        ..FED_TERMINAL
-    },
     ..TERMINAL
+};
+
+/// The results of a terminal that hears nothing before it ends, and to which nothing was offered.
+const IDLE_TERMINAL: Due = Due {
+    out: "from 0: offered 0, known 0\nto 0: spooled 0\n",
+    ..FED_TERMINAL
+};
+
+/// A program asks a station to end, and after that the machine fails.
+const STOPPED: Scene = Scene {
+    steps: b"cf",
+    fed: b"stop\n",
+    ..CALLED
 };
 
 /// The control station, which a program may feed.
@@ -128,6 +135,12 @@ const FED: &[Fed] = &[
                 pieces: &[],
                 fed: b"offer from 0 ONE\noffer-hex from 0 54574F\n",
                 ..CALLED
+            },
+            due: Due {
+                out: "from 0: offered 2, known 0\nto 0: spooled 0\n",
+                errors: "bscline: records not delivered\n",
+                status: 4,
+                ..FED_TERMINAL
             },
             ..KEPT
         },
@@ -171,6 +184,41 @@ const FED: &[Fed] = &[
         },
         told: "ok\n",
         kept: "",
+    },
+    // It ends with that visit, too, if a program asks it to once more.
+    Fed {
+        case: Case {
+            scene: Scene {
+                pieces: ANSWERS,
+                steps: b"ctrrrrrrr",
+                fed: b"offer to 0 HI\nx\nx\nx\nx\nstop\nx\nx\nx\nx\nstop\n",
+                ..SILENT
+            },
+            ..CONTROL
+        },
+        told: "ok 0\nfault not a command\nfault not a command\nfault not a command\n\
+            fault not a command\nok\nfault not a command\nfault not a command\n\
+            fault not a command\nfault not a command\nok\n",
+        kept: "",
+    },
+    // A terminal that nobody has called ends at once, with a store and without one.
+    Fed {
+        case: Case {
+            scene: STOPPED,
+            due: IDLE_TERMINAL,
+            ..TERMINAL
+        },
+        told: "ok\n",
+        kept: "",
+    },
+    Fed {
+        case: Case {
+            scene: STOPPED,
+            due: IDLE_TERMINAL,
+            ..KEPT
+        },
+        told: "ok\n",
+        kept: "from 0: offered 0, known 0, in doubt 0\nto 0: arrived 0, printed 0\n",
     },
     // Programs cannot reach it at another place.
     Fed {

@@ -268,10 +268,12 @@ fn a_record_that_could_not_be_printed_is_printed_again(rt: HostRuntime) -> Resul
     Ok(())
 }
 
-/// Terminal 0 with its store, to which a record arrives.
+/// Terminal 0 with its store, to which a record arrives. Its output is on a disk that fails, which
+/// it is not asked to sync.
 const ARRIVING: Case = Case {
     scene: Scene {
         pieces: RECORDS,
+        disk_fails: true,
         ..SILENT
     },
     due: Due {

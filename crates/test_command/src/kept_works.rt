@@ -7,7 +7,7 @@ use crate::stations::{POLLED, RECORDS};
 use std::test::Fail;
 
 /// Two records of terminal 0 are in doubt: it sends them, and hears no answer.
-const DOUBT: Case = Case {
+pub(crate) const DOUBT: Case = Case {
     scene: Scene {
         pieces: POLLED,
         ..SILENT

@@ -1,10 +1,12 @@
-//! Tests of the command: its words, its faults, whole runs and stations on a machine made for tests,
-//! and the largest inputs.
+//! Tests of the command: its words, its faults, whole runs and stations on a machine made for
+//! tests, and the largest inputs.
 //!
 //! Words, texts, traces and exit statuses are this project's own; the messages in them are the
 //! standard's (GA27-3004).
 #![tactic(auto)]
 
+#[cfg(test)]
+mod backlogs;
 #[cfg(test)]
 mod cases;
 #[cfg(test)]

@@ -233,11 +233,12 @@ pub(crate) const SILENT: Scene = Scene {
 
 /// Whether standard output takes more: at first not, this many times.
 #[derive(Drop)]
-pub(crate) struct Rooms {
+pub(crate) struct Rooms<'a> {
     unready: u32,
+    record: &'a Record,
 }
 
-impl Readiness for Rooms {
+impl Readiness for Rooms<'_> {
     ghost tells = { λ _ _. Unit {0} };
 
     fn room(&mut self) -> usize {
@@ -248,7 +249,10 @@ impl Readiness for Rooms {
         0
     }
 
-    fn call_when_ready(&mut self) {}
+    fn call_when_ready(&mut self) {
+        let calls = self.record.calls.get();
+        self.record.calls.set(calls.saturating_add(1));
+    }
 
     fn descriptor(&self) -> Option<RawFd> {
         match self.unready {
@@ -370,7 +374,7 @@ impl<'a> Network for Machine<'a> {
 
     type Trace = Tracer<'a>;
 
-    type Readiness = Rooms;
+    type Readiness = Rooms<'a>;
 
     fn open(
         &mut self,
@@ -452,9 +456,10 @@ impl<'a> Network for Machine<'a> {
         }
     }
 
-    fn readiness(&mut self) -> Rooms {
+    fn readiness(&mut self) -> Rooms<'a> {
         Rooms {
             unready: self.scene.unready,
+            record: self.record,
         }
     }
 

@@ -17,6 +17,9 @@ pub(crate) struct Record {
     /// Whether a flush of standard output also syncs it.
     pub(crate) syncs: Cell<bool>,
 
+    /// How often the station asked to be called when standard output takes more.
+    pub(crate) calls: Cell<usize>,
+
     /// What was shown of the progress last.
     pub(crate) shown: Cell<Option<(Work, Counts)>>,
 
@@ -37,6 +40,7 @@ impl Record {
         Record {
             sent: Cell::new(0),
             syncs: Cell::new(false),
+            calls: Cell::new(0),
             shown: Cell::new(None),
             trace: RefCell::new(Vec::new(alloc)),
             told: RefCell::new(Vec::new(alloc)),

@@ -169,6 +169,18 @@ const REFUSED: &[Case] = &[
         },
     },
     Case {
+        words: Some(&["store", "kept", "offer", "0", "longest.cards"]),
+        input: Some(""),
+        takes: true,
+        scene: SILENT,
+        due: Due {
+            asking: None,
+            out: "",
+            errors: "bscline: longest.cards line 1: record too long\n",
+            status: 1,
+        },
+    },
+    Case {
         words: Some(&["store", "kept", "release", "0", "1"]),
         input: Some(""),
         takes: true,
@@ -178,6 +190,18 @@ const REFUSED: &[Case] = &[
             out: "",
             errors: "bscline: not in doubt\n",
             status: 3,
+        },
+    },
+    Case {
+        words: Some(&["store", "kept", "reconcile", "other"]),
+        input: Some(""),
+        takes: true,
+        scene: SILENT,
+        due: Due {
+            asking: None,
+            out: "",
+            errors: "bscline: the stores are not of two ends of one line\n",
+            status: 1,
         },
     },
     Case {

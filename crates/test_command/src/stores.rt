@@ -72,6 +72,10 @@ impl Store for Lent<'_> {
 const KEPT_LINE: &str = "terminal 0\nfull length 80\npolled 41 selected 61\n\
     polled 42 selected 62\n";
 
+/// The text of the line of the store at `other`, which is that of terminal 1.
+const OTHER_LINE: &str = "terminal 1\nfull length 80\npolled 41 selected 61\n\
+    polled 42 selected 62\n";
+
 /// The text of the line of the store at `control`, which is that of the control station.
 const CONTROL_LINE: &str = "control station\nfull length 80\npolled 41 selected 61\n\
     polled 42 selected 62\n";
@@ -93,6 +97,7 @@ fn line_at(path: &str) -> Result<&'static str, StoreFault> {
         "threes" => Ok(THREES_LINE),
         "kept" => Ok(KEPT_LINE),
         "control" => Ok(CONTROL_LINE),
+        "other" => Ok(OTHER_LINE),
         "busy" => Err(StoreFault::InUse),
         _ => Err(StoreFault::Missing),
     }

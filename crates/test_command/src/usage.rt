@@ -129,6 +129,18 @@ const CHARTS: &[Row] = &[
     ),
 ];
 
+const FEEDS: &[Row] = &[(
+    &["bscline", "feed", "p:1", "status\nstop"],
+    "COMMAND is more than one line",
+)];
+
+#[test]
+fn wrong_words_of_feed_have_their_reason(rt: HostRuntime) -> Result<(), Fail> {
+    let usage = "feed <ADDRESS> [COMMAND]...";
+    assert_eq!(rt; first_untold(rt.alloc(), usage, FEEDS)?, None);
+    Ok(())
+}
+
 #[test]
 fn wrong_words_of_store_have_their_reason(rt: HostRuntime) -> Result<(), Fail> {
     let usage = "store [OPTIONS] <FILE> <WORK> [FIRST] [SECOND]";
