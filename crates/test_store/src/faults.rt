@@ -45,13 +45,12 @@ fn files_are_refused_by_name(rt: HostRuntime) -> Result<(), Fail> {
     Ok(())
 }
 
-/// Makes a store of the line of the tests with a record in doubt.
-const SOUND: &str = "CREATE TABLE line (version INTEGER, line TEXT);
+/// Makes the tables of a store with a record in doubt. Its line is not kept yet.
+pub(crate) const SOUND: &str = "CREATE TABLE line (version INTEGER, line TEXT);
 CREATE TABLE offered (id INTEGER PRIMARY KEY, way TEXT, address BLOB, record BLOB);
 CREATE TABLE known (way TEXT, address BLOB, known INTEGER, in_doubt INTEGER);
 CREATE TABLE arrived (id INTEGER PRIMARY KEY, way TEXT, address BLOB, record BLOB);
 CREATE TABLE printed (way TEXT, address BLOB, printed INTEGER);
-INSERT INTO line VALUES (1, 'terminal 41 select 61; this is control');
 INSERT INTO offered VALUES (1, 'from', x'41', x'4849');
 INSERT INTO known VALUES ('from', x'41', 0, 1);";
 
@@ -75,12 +74,13 @@ const CHANGES: &[(&str, StoreFault)] = &[
 
 #[test]
 fn changed_stores_are_refused_by_name(rt: HostRuntime) -> Result<(), Fail> {
-    assert!(rt; resumed(rt.alloc(), SOUND, "DELETE FROM printed") == Ok(()));
-    for (changed, fault) in CHANGES {
-        assert!(rt;
-            resumed(rt.alloc(), SOUND, changed) == Err(*fault),
-            "{changed}"
-        );
+    for any in [false, true] {
+        let is_sound = resumed(rt.alloc(), SOUND, "DELETE FROM printed", any, Task::Nothing);
+        assert!(rt; is_sound == Ok(true));
+        for (changed, fault) in CHANGES {
+            let refused = resumed(rt.alloc(), SOUND, changed, any, Task::Nothing);
+            assert!(rt; refused == Err(*fault), "{any} {changed}");
+        }
     }
     Ok(())
 }

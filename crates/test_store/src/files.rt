@@ -4,15 +4,30 @@ use crate::cut::{has_step, keep_step};
 use crate::facts::{from_terminal, to_terminal};
 use crate::faults::is_unchanged;
 use crate::kept::{fill, is_filled};
+use crate::many::{are_marked, keeps_many};
 use bsc_kept::{Store, StoreFault};
 use bsc_store::TableStore;
-use sqlite::Connection;
+use sqlite::{Connection, params};
 use std::alloc::Global;
 use std::rt::HostRuntime;
 use std::{fs, io};
 
-/// The line of the tests.
-pub(crate) const LINE: &str = "terminal 41 select 61; this is control";
+/// The line of the tests: many lines, of more than 900 octets.
+pub(crate) const LINE: &str = "control station
+full length 80
+polled 41414141414141 selected 61414141414141 62414141414141 63414141414141 64414141414141
+polled 42424242424242 selected 61424242424242 62424242424242 63424242424242 64424242424242
+polled 43434343434343 selected 61434343434343 62434343434343 63434343434343 64434343434343
+polled 44444444444444 selected 61444444444444 62444444444444 63444444444444 64444444444444
+polled 45454545454545 selected 61454545454545 62454545454545 63454545454545 64454545454545
+polled 46464646464646 selected 61464646464646 62464646464646 63464646464646 64464646464646
+polled 47474747474747 selected 61474747474747 62474747474747 63474747474747 64474747474747
+polled 48484848484848 selected 61484848484848 62484848484848 63484848484848 64484848484848
+polled 49494949494949 selected 61494949494949 62494949494949 63494949494949 64494949494949
+polled 4a4a4a4a4a4a4a selected 614a4a4a4a4a4a 624a4a4a4a4a4a 634a4a4a4a4a4a 644a4a4a4a4a4a
+polled 4b4b4b4b4b4b4b selected 614b4b4b4b4b4b 624b4b4b4b4b4b 634b4b4b4b4b4b 644b4b4b4b4b4b
+polled 4c4c4c4c4c4c4c selected 614c4c4c4c4c4c 624c4c4c4c4c4c 634c4c4c4c4c4c 644c4c4c4c4c4c
+";
 
 /// What is done with a store while it is open. The answer is whether all was as it should be.
 #[derive(Clone, Copy)]
@@ -34,6 +49,12 @@ pub(crate) enum Task {
 
     /// Find that step as a whole, or nothing of it.
     HasStep { whole: bool },
+
+    /// Keep a step of many changes, and find its records.
+    Many,
+
+    /// Find the records that have great marks.
+    Marked,
 
     /// Nothing.
     Nothing,
@@ -59,6 +80,8 @@ fn perform<S: Store>(alloc: Global, store: &mut S, task: Task) -> Result<bool, S
             Ok(true)
         }
         Task::HasStep { whole } => has_step(store, &one, whole),
+        Task::Many => keeps_many(alloc, store, &one),
+        Task::Marked => are_marked(store, &one),
         Task::Nothing => Ok(true),
     }
 }
@@ -133,16 +156,32 @@ pub(crate) fn in_memory(alloc: Global, task: Task) -> Result<bool, StoreFault> {
     perform(alloc, &mut store, task)
 }
 
-/// Goes on with the store that these statements make in memory.
-pub(crate) fn resumed(alloc: Global, made: &str, changed: &str) -> Result<(), StoreFault> {
+/// Keeps the line of the tests.
+const NAME: &str = "INSERT INTO line (version, line) VALUES (1, ?1)";
+
+/// Goes on with the store that these statements make in memory, of the line of the tests, and uses
+/// it. If `any` is true it is opened as one of whatever line, and the text of its line is read.
+pub(crate) fn resumed(
+    alloc: Global,
+    made: &str,
+    changed: &str,
+    any: bool,
+    task: Task,
+) -> Result<bool, StoreFault> {
     let Ok(mut conn) = Connection::open_in_memory(alloc) else {
         return Err(StoreFault::OutOfMemory);
     };
-    if conn.execute_batch(made).is_err() || conn.execute_batch(changed).is_err() {
+    let is_made = conn.execute_batch(made).is_ok() && conn.execute(NAME, params![LINE]).is_ok();
+    if !is_made || conn.execute_batch(changed).is_err() {
         return Err(StoreFault::Refused);
     }
-    let _ = TableStore::resume(conn, LINE)?;
-    Ok(())
+    if any {
+        let (mut store, line) = TableStore::resume_any(conn)?;
+        Ok(line.as_str() == LINE && perform(alloc, &mut store, task)?)
+    } else {
+        let mut store = TableStore::resume(conn, LINE)?;
+        perform(alloc, &mut store, task)
+    }
 }
 
 /// Whether the store at a path is in use while it is open, to one who opens it and to one who makes

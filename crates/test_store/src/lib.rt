@@ -12,3 +12,5 @@ mod faults;
 mod files;
 #[cfg(test)]
 mod kept;
+#[cfg(test)]
+mod many;
