@@ -4,9 +4,13 @@
 #[cfg(test)]
 mod doubts;
 #[cfg(test)]
+mod failing;
+#[cfg(test)]
 mod lines;
 #[cfg(test)]
 mod machine;
+#[cfg(test)]
+mod texts;
 #[cfg(test)]
 mod unprinted;
 #[cfg(test)]

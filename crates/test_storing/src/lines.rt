@@ -1,7 +1,7 @@
-//! Stores of the longest line, and stores of two lines.
+//! Stores of the longest line, and stores of two lines that differ in one thing.
 
 use crate::machine::{Given, Machine, keep, no_stores, told};
-use crate::works::{BARE, RECONCILE, Row, address, first_wrong, record};
+use crate::works::{BARE, NOT_TWO_ENDS, RECONCILE, Row, address, first_wrong, record};
 use bsc_block::Record;
 use bsc_kept::{Change, Channel, StoreFault};
 use std::alloc::Global;
@@ -171,27 +171,52 @@ fn doubts_on_all_channels_of_a_terminal_are_ended(rt: HostRuntime) -> Result<(),
     Ok(())
 }
 
-/// What the store of the control station of the shorter line is made of.
-const INIT_OTHER: Given = Given {
-    first: "line.toml",
-    ..INIT_CONTROL
-};
+/// The full length of a line of one terminal, its polling address and its selection addresses.
+type Line = (u8, &'static str, &'static str);
 
-/// The stores are those of a control station and of a terminal, but of two lines.
-const OF_TWO_LINES: &[Row] = &[
-    (INIT_OTHER, "", "control station: store made\n"),
+/// The line of the control station.
+const LINE: Line = (80, "A", "\"a\", \"c\"");
+
+/// Lines that differ from it in one thing each: the full length, an address, the order of
+/// addresses, and the number of addresses and of terminals.
+const OTHERS: &[Line] = &[
+    (81, "A", "\"a\", \"c\""),
+    (80, "B", "\"a\", \"c\""),
+    (80, "A", "\"a\", \"d\""),
+    (80, "A", "\"c\", \"a\""),
+    (80, "A", "\"a\""),
     (
-        RECONCILE,
-        "",
-        "refused: the stores are not of two ends of one line",
+        80,
+        "A",
+        "\"a\", \"c\"]\n[[terminals]]\npoll = \"B\"\nselect = [\"b\"",
     ),
 ];
+
+/// Returns the configuration of a line.
+fn config_of(alloc: Global, (full, poll, selects): Line) -> Result<String, Fail> {
+    Ok(format!(in alloc;
+        "version = 2\nfull = {full}\npoll_list = [0]\n\
+        [[terminals]]\npoll = \"{poll}\"\nselect = [{selects}]\n"
+    )?)
+}
+
+/// The words that make the store of terminal 0 of the line on standard input.
+const INIT_FIRST: Given = Given {
+    terminal: "0",
+    ..INIT_LAST
+};
+
+/// The refusal of two lines.
+const OF_TWO_LINES: &[Row] = &[(RECONCILE, "", NOT_TWO_ENDS)];
 
 #[test]
 fn stores_of_two_lines_are_not_reconciled(rt: HostRuntime) -> Result<(), Fail> {
     let alloc = rt.alloc();
-    let mut machine = no_stores(alloc);
-    told(alloc, &mut machine, INIT_LAST, &config(alloc, 64)?)?;
-    assert_eq!(rt; first_wrong(alloc, &mut machine, OF_TWO_LINES), None);
+    for other in OTHERS {
+        let mut machine = no_stores(alloc);
+        told(alloc, &mut machine, INIT_CONTROL, &config_of(alloc, LINE)?)?;
+        told(alloc, &mut machine, INIT_FIRST, &config_of(alloc, *other)?)?;
+        assert_eq!(rt; first_wrong(alloc, &mut machine, OF_TWO_LINES), None);
+    }
     Ok(())
 }

@@ -1,8 +1,8 @@
-//! A machine with stores in memory, and two files.
+//! A machine with stores in memory, of which calls fail, and with files.
 
 use bsc_asked::StoreWords;
 use bsc_input::{Files, InputError, Unreadable};
-use bsc_kept::{Change, Store, StoreFault};
+use bsc_kept::{Change, Channel, Found, Progress, Store, StoreFault};
 use bsc_options::read_store_work;
 use bsc_store::TableStore;
 use bsc_storing::{Opened, StoreFiles, StoringError, store};
@@ -12,24 +12,106 @@ use std::io::Write;
 use test_fixtures::Full;
 use test_fixtures::configurations::THREE_ADDRESSES;
 
-/// A machine with a store at the paths `control` and `terminal`, once they are made, and with the
-/// files `line.toml` and `cards.txt`.
+/// Which calls of a store fail.
+#[derive(Clone, Copy, PartialEq, Eq)]
+pub(crate) enum Fails {
+    Nothing,
+    Reads,
+    Commits,
+    Closes,
+}
+
+/// A store in memory, of which some calls fail.
+#[derive(Drop)]
+pub(crate) struct Kept {
+    table: TableStore<MemStore>,
+    fails: Fails,
+}
+
+impl Kept {
+    /// Fails with this fault, if such calls fail.
+    fn call(&self, what: Fails, fault: StoreFault) -> Result<(), StoreFault> {
+        if self.fails == what {
+            return Err(fault);
+        }
+        Ok(())
+    }
+}
+
+impl Store for Kept {
+    ghost keeps = { λ _ _ _. Unit {0} };
+
+    ghost stays = { λ _ _. Unit {0} };
+
+    ghost survives = { λ _ _ _. Unit {0} };
+
+    ghost sound = { λ _. Unit {0} };
+
+    ghost reads = { λ _ _. Unit {0} };
+
+    ghost counts = { λ _ _ _ _. Unit {0} };
+
+    ghost finds_offered = { λ _ _ _ _ _ _. Unit {0} };
+
+    ghost finds_arrived = { λ _ _ _ _ _ _. Unit {0} };
+
+    fn commit(&mut self, step: &[Change]) -> Result<(), StoreFault> {
+        self.call(Fails::Commits, StoreFault::Full)?;
+        self.table.commit(step)
+    }
+
+    fn progress(&mut self, channel: &Channel) -> Result<Progress, StoreFault> {
+        self.call(Fails::Reads, StoreFault::Unreachable)?;
+        self.table.progress(channel)
+    }
+
+    fn offered(
+        &mut self,
+        channel: &Channel,
+        mark: i64,
+        more: u32,
+    ) -> Result<Option<Found>, StoreFault> {
+        self.call(Fails::Reads, StoreFault::Unreachable)?;
+        self.table.offered(channel, mark, more)
+    }
+
+    fn arrived(
+        &mut self,
+        channel: &Channel,
+        mark: i64,
+        more: u32,
+    ) -> Result<Option<Found>, StoreFault> {
+        self.call(Fails::Reads, StoreFault::Unreachable)?;
+        self.table.arrived(channel, mark, more)
+    }
+}
+
+/// A machine with a store at the paths `control`, `terminal` and `other`, once they are made, and
+/// with the files `line.toml` and `cards.txt`, and two whose last line is no record.
 #[derive(Drop)]
 pub(crate) struct Machine {
     alloc: Global,
-    control: Option<Opened<TableStore<MemStore>>>,
-    terminal: Option<Opened<TableStore<MemStore>>>,
+    control: Option<Opened<Kept>>,
+    terminal: Option<Opened<Kept>>,
+
+    /// The store of terminal 1.
+    other: Option<Opened<Kept>>,
+
+    /// The path of a store, and which of its calls fail.
+    pub(crate) fails: (&'static str, Fails),
 }
 
 /// Makes a store in memory, with this text of its line.
-fn store_of(alloc: Global, text: &str) -> Result<Opened<TableStore<MemStore>>, StoreFault> {
+fn store_of(alloc: Global, text: &str) -> Result<Opened<Kept>, StoreFault> {
     let Ok(line) = String::from_str(alloc, text) else {
         return Err(StoreFault::OutOfMemory);
     };
     let Ok(conn) = Connection::open_in_memory(alloc) else {
         return Err(StoreFault::OutOfMemory);
     };
-    let store = TableStore::begin(conn, text)?;
+    let table = TableStore::begin(conn, text)?;
+    let fails = Fails::Nothing;
+    let store = Kept { table, fails };
     Ok(Opened { store, line })
 }
 
@@ -39,8 +121,18 @@ pub(crate) fn no_stores(alloc: Global) -> Machine {
         alloc,
         control: None,
         terminal: None,
+        other: None,
+        fails: ("", Fails::Nothing),
     }
 }
+
+/// A record of the full length of `line.toml`, and one that is longer by one.
+pub(crate) const LONGEST: &str = "0123456789012345678901234567890123456789\
+    0123456789012345678901234567890123456789";
+
+const LONGER: &str = "HI
+0123456789012345678901234567890123456789\
+    01234567890123456789012345678901234567890";
 
 impl Files for Machine {
     fn read_file(&mut self, path: &str) -> Result<Vec<u8>, InputError> {
@@ -48,6 +140,7 @@ impl Files for Machine {
             "line.toml" => THREE_ADDRESSES,
             "cards.txt" => "ONE\nTWO\n\n",
             "wrong.txt" => "ONE\n\x02\n",
+            "long.txt" => LONGER,
             _ => {
                 let why = Unreadable::NoSuchFile;
                 return Err(InputError::Device { why });
@@ -61,33 +154,44 @@ impl Files for Machine {
 }
 
 impl StoreFiles for Machine {
-    type Kept = TableStore<MemStore>;
+    type Kept = Kept;
 
-    fn open_kept(&mut self, path: &str) -> Result<Opened<TableStore<MemStore>>, StoreFault> {
+    fn open_kept(&mut self, path: &str) -> Result<Opened<Kept>, StoreFault> {
         let opened = match path {
             "control" => self.control.take(),
             "terminal" => self.terminal.take(),
+            "other" => self.other.take(),
             "none" => return Err(StoreFault::Missing),
             _ => return Err(StoreFault::Damaged),
         };
-        match opened {
-            Some(opened) => Ok(opened),
-            None => Err(StoreFault::InUse),
-        }
+        let Some(mut opened) = opened else {
+            return Err(StoreFault::InUse);
+        };
+        let (failing, fails) = self.fails;
+        opened.store.fails = if path == failing {
+            fails
+        } else {
+            Fails::Nothing
+        };
+        Ok(opened)
     }
 
-    fn close_kept(&mut self, opened: Opened<TableStore<MemStore>>) -> Result<(), StoreFault> {
+    fn close_kept(&mut self, opened: Opened<Kept>) -> Result<(), StoreFault> {
+        let closed = opened.store.call(Fails::Closes, StoreFault::Full);
         if opened.line.as_str().starts_with("control station\n") {
             self.control = Some(opened);
+        } else if opened.line.as_str().starts_with("terminal 1\n") {
+            self.other = Some(opened);
         } else {
             self.terminal = Some(opened);
         }
-        Ok(())
+        closed
     }
 
     fn make_kept(&mut self, path: &str, line: &str) -> Result<(), StoreFault> {
         let is_there = match path {
             "control" => self.control.is_some(),
+            "other" => self.other.is_some(),
             _ => self.terminal.is_some(),
         };
         if is_there {

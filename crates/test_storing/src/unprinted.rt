@@ -37,7 +37,7 @@ fn an_offer_that_could_not_be_printed_is_kept(rt: HostRuntime) -> Result<(), Fai
 }
 
 /// Returns a machine with a doubt of the terminal about two records, which have arrived.
-fn in_doubt(alloc: Global) -> Result<Machine, Fail> {
+pub(crate) fn in_doubt(alloc: Global) -> Result<Machine, Fail> {
     let mut machine = two_stores(alloc)?;
     told(alloc, &mut machine, OFFER, "")?;
     hold_doubt(&mut machine)?;

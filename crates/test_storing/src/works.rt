@@ -1,7 +1,7 @@
 //! What each work prints and keeps.
 
 use crate::doubts::RELEASE;
-use crate::machine::{Given, Machine, keep, no_stores, told};
+use crate::machine::{Given, LONGEST, Machine, keep, no_stores, told};
 use bsc_block::Record;
 use bsc_frame::Address;
 use bsc_kept::{Change, Channel, StoreFault};
@@ -55,7 +55,7 @@ pub(crate) const RECONCILE: Given = Given {
 };
 
 /// The words that print what arrived at the control station.
-const ARRIVED: Given = Given {
+pub(crate) const ARRIVED: Given = Given {
     file: "control",
     work: "arrived",
     first: "0",
@@ -67,7 +67,7 @@ const ARRIVED: Given = Given {
 pub(crate) type Row = (Given, &'static str, &'static str);
 
 /// Whether a work is told in this way.
-fn is_told(alloc: Global, machine: &mut Machine, row: &Row) -> bool {
+pub(crate) fn is_told(alloc: Global, machine: &mut Machine, row: &Row) -> bool {
     let (given, input, text) = row;
     match told(alloc, machine, *given, input) {
         Ok(out) => out.as_slice() == text.as_bytes(),
@@ -141,7 +141,7 @@ const OFFERED: &[Row] = &[
             second: "-",
             ..OFFER
         },
-        "FOUR",
+        LONGEST,
         "from 0: offered 1\n",
     ),
     (
@@ -151,6 +151,14 @@ const OFFERED: &[Row] = &[
         },
         "",
         "refused: wrong.txt line 2: wrong character at 0",
+    ),
+    (
+        Given {
+            second: "long.txt",
+            ..OFFER
+        },
+        "",
+        "refused: long.txt line 2: record too long",
     ),
     (
         Given {
@@ -219,8 +227,27 @@ fn what_arrived_is_printed(rt: HostRuntime) -> Result<(), Fail> {
     Ok(())
 }
 
-/// Works that are refused.
+/// The words that make the store of terminal 1 of the same line.
+const INIT_OTHER: Given = Given {
+    file: "other",
+    terminal: "1",
+    ..INIT_TERMINAL
+};
+
+/// What is said of stores that are not those of a control station and a terminal of one line.
+pub(crate) const NOT_TWO_ENDS: &str = "refused: the stores are not of two ends of one line";
+
+/// Works that are refused. Two terminals are not two ends.
 const REFUSED: &[Row] = &[
+    (INIT_OTHER, "", "terminal 1: store made\n"),
+    (
+        Given {
+            file: "other",
+            ..RECONCILE
+        },
+        "",
+        NOT_TWO_ENDS,
+    ),
     (
         Given {
             first: "0.1",
