@@ -1,12 +1,12 @@
 //! What stations forget: at least 1,024 records at once, and no fewer than are left.
 
-use crate::stations::{add, card, control_of, offer, quiet_terminal};
+use crate::stations::{add, card, control_of, offer_for, quiet_terminal};
 use bsc_bid::KeptSender;
 use bsc_control::Control;
 use bsc_monitor::{Forgets, LineTerminal, Party};
 use std::alloc::Global;
 use std::test::Fail;
-use test_fixtures::configurations::TWO_TERMINALS;
+use test_fixtures::configurations::{THREE_ADDRESSES, TWO_TERMINALS};
 
 /// How many records have arrived, how many of these are to be forgotten, once or twice, and how
 /// many are forgotten after that.
@@ -111,30 +111,33 @@ fn a_terminal_forgets_many_records_at_once(rt: HostRuntime) -> Result<(), Fail> 
     Ok(())
 }
 
-/// Recalls that this many records are known to have arrived at the first address of terminal 0.
-fn recall(control: &mut Control<Global>, known: usize) -> Option<()> {
-    if control.terminals() == 0 || control.addresses(0) == 0 {
-        return None;
-    }
-    let kept = KeptSender { known, doubt: None };
-    control.recall(0, 0, kept).ok()
-}
+/// The terminals and the selection addresses of the channels from the control station.
+const CHANNELS: &[(usize, usize)] = &[(0, 0), (0, 1), (1, 0)];
 
-/// How many records for that address are forgotten.
-fn forgotten_there(control: &Control<Global>) -> Option<usize> {
-    if control.terminals() == 0 || control.addresses(0) == 0 {
-        return None;
-    }
-    Some(control.queue(0, 0).offered().forgotten())
-}
-
-/// A control station to which this many records were offered for that address.
-fn offered(alloc: Global, count: usize) -> Result<Control<Global>, Fail> {
-    let mut control = control_of(alloc, TWO_TERMINALS)?;
+/// Offers this many records on a channel, and recalls that all but 100 are known to have arrived.
+fn offer_and_recall(
+    alloc: Global,
+    control: &mut Control<Global>,
+    (terminal, select): (usize, usize),
+    count: usize,
+) -> Result<(), Fail> {
     for _ in 0..count {
-        offer(alloc, &mut control, 0)?;
+        offer_for(alloc, control, terminal, select)?;
     }
-    Ok(control)
+    if control.terminals() <= terminal || control.addresses(terminal) <= select {
+        return Err(Fail::new("no such address"));
+    }
+    let known = count.saturating_sub(100);
+    let kept = KeptSender { known, doubt: None };
+    Ok(control.recall(terminal, select, kept)?)
+}
+
+/// How many records of a channel are forgotten.
+fn forgotten_on(control: &Control<Global>, (terminal, select): (usize, usize)) -> Option<usize> {
+    if control.terminals() <= terminal || control.addresses(terminal) <= select {
+        return None;
+    }
+    Some(control.queue(terminal, select).offered().forgotten())
 }
 
 /// How many records are offered, and how many are forgotten if all but 100 are known.
@@ -143,10 +146,17 @@ const KNOWN: &[(usize, usize)] = &[(1_123, 0), (1_124, 1_024), (3_000, 2_900)];
 #[test]
 fn a_control_station_forgets_what_is_known(rt: HostRuntime) -> Result<(), Fail> {
     for (count, forgotten) in KNOWN {
-        let mut control = offered(rt.alloc(), *count)?;
-        assert!(rt; recall(&mut control, count.saturating_sub(100)).is_some());
+        let mut control = control_of(rt.alloc(), THREE_ADDRESSES)?;
+        for channel in CHANNELS {
+            offer_and_recall(rt.alloc(), &mut control, *channel, *count)?;
+        }
         control.forget_known();
-        assert!(rt; forgotten_there(&control) == Some(*forgotten), "{count}");
+        for channel in CHANNELS {
+            assert!(rt;
+                forgotten_on(&control, *channel) == Some(*forgotten),
+                "{count}"
+            );
+        }
     }
     Ok(())
 }

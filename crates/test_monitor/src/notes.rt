@@ -1,12 +1,12 @@
 //! The lines of a trace for the notes that a watch receives.
 
 use crate::beginning::address;
-use crate::fakes::{HEXADECIMAL, NO_LIMITS, control_watch, tell_each, trust_of};
+use crate::fakes::{Counting, HEXADECIMAL, NO_LIMITS, control_watch, tell_each, trust_of};
 use crate::stations::control_of;
 use bsc_carrier::CarrierError;
 use bsc_connections::{LiveError, Note, Refusal};
 use bsc_control::Control;
-use bsc_monitor::{Printing, Tracing};
+use bsc_monitor::{ControlWatch, Printing, Tracing, Watch};
 use std::alloc::Global;
 use std::io::Write;
 use std::test::Fail;
@@ -118,6 +118,42 @@ fn a_line_of_a_trace_that_is_not_taken_is_told(rt: HostRuntime) -> Result<(), Fa
     for left in 0..NOTES.len() {
         let told = tell(rt.alloc(), &control, &mut Full { left });
         assert!(rt; matches!(told, Err(LiveError::Output)), "{left}");
+    }
+    Ok(())
+}
+
+/// Tells a watch of a silence, after its clock has told this many milliseconds.
+fn tell_silence(
+    alloc: Global,
+    control: &Control<Global>,
+    asked: u64,
+    trace: &mut Vec<u8>,
+) -> Result<(), LiveError> {
+    let (mut out, timer) = (Vec::<u8>::new(alloc), Counting { asked });
+    let Ok(watch) = Watch::new(alloc, control, PRINTING, timer, &mut out, trace) else {
+        return Err(LiveError::Memory);
+    };
+    let mut watch = ControlWatch::new(control, watch, NO_LIMITS, true, trust_of(1_000));
+    tell_each(control, &mut watch, &[Note::Silence])
+}
+
+/// Times of a clock, and the line of a silence after each.
+const TIMES: &[(u64, &str)] = &[
+    (65_535, "+65536 silence\n"),
+    (4_294_967_295, "+4294967296 silence\n"),
+    (
+        18_446_744_073_709_551_614,
+        "+18446744073709551615 silence\n",
+    ),
+];
+
+#[test]
+fn a_line_of_a_trace_has_its_time_after_years(rt: HostRuntime) -> Result<(), Fail> {
+    let control = control_of(rt.alloc(), TWO_TERMINALS)?;
+    for (asked, line) in TIMES {
+        let mut trace = Vec::new(rt.alloc());
+        tell_silence(rt.alloc(), &control, *asked, &mut trace)?;
+        assert!(rt; trace.as_slice() == line.as_bytes(), "{line}");
     }
     Ok(())
 }

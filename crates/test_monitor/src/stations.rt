@@ -57,17 +57,27 @@ pub(crate) fn control_of(alloc: Global, document: &str) -> Result<Control<Global
     Ok(new_control(alloc, &config)?)
 }
 
+/// Offers the record HI for this selection address of this terminal.
+pub(crate) fn offer_for(
+    alloc: Global,
+    control: &mut Control<Global>,
+    terminal: usize,
+    select: usize,
+) -> Result<(), Fail> {
+    if control.terminals() <= terminal || control.addresses(terminal) <= select {
+        return Err(Fail::new("no such address"));
+    }
+    let records = read_records(alloc, b"HI\n", control.setup().format().full())?;
+    Ok(offer_for_terminal(control, terminal, select, records)?)
+}
+
 /// Offers the record HI for this selection address of terminal 0.
 pub(crate) fn offer(
     alloc: Global,
     control: &mut Control<Global>,
     select: usize,
 ) -> Result<(), Fail> {
-    if control.terminals() == 0 || control.addresses(0) <= select {
-        return Err(Fail::new("no such address"));
-    }
-    let records = read_records(alloc, b"HI\n", control.setup().format().full())?;
-    Ok(offer_for_terminal(control, 0, select, records)?)
+    offer_for(alloc, control, 0, select)
 }
 
 /// The control station of a line of two terminals, with the record HI to send to terminal 0.
