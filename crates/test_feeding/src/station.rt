@@ -77,16 +77,14 @@ fn goes(alloc: Global, session: &Session<'_>, piece: usize) -> Result<bool, Fail
         piece,
         fails: session.heard_fails,
     };
-    let mut said = Takes {
-        taken: Vec::new(alloc),
-        room: session.said_room,
-    };
-    let mut out = Takes {
-        taken: Vec::new(alloc),
-        room: session.out_room,
-    };
+    let mut said = Takes::new(alloc, session.said_room);
+    let mut out = Takes::new(alloc, session.out_room);
     let ended = feed(alloc, &words, &mut input, &mut heard, &mut said, &mut out);
-    Ok(ended == session.ended && said.took(session.said) && out.took(session.out))
+    let is_seen = match ended {
+        Ok(()) | Err(FeedError::Refused) => out.flushed == out.lines(),
+        Err(_) => true,
+    };
+    Ok(is_seen && ended == session.ended && said.took(session.said) && out.took(session.out))
 }
 
 /// The words of the command.
@@ -128,9 +126,31 @@ impl Read for Gives<'_> {
 struct Takes {
     taken: Vec<u8>,
     room: usize,
+
+    /// How often it was flushed. Each line that is printed is flushed, so that it is seen at once.
+    flushed: usize,
 }
 
 impl Takes {
+    fn new(alloc: Global, room: usize) -> Takes {
+        Takes {
+            taken: Vec::new(alloc),
+            room,
+            flushed: 0,
+        }
+    }
+
+    /// How many lines it has taken.
+    fn lines(&self) -> usize {
+        let mut count = 0usize;
+        'octets: for octet in self.taken.as_slice() {
+            if *octet == b'\n' {
+                count = count.saturating_add(1);
+            }
+        }
+        count
+    }
+
     /// Whether it has taken these octets.
     fn took(&self, octets: &[u8]) -> bool {
         &self.taken[..] == octets
@@ -149,6 +169,7 @@ impl Write for Takes {
     }
 
     fn flush(&mut self) -> io::Result<()> {
+        self.flushed = self.flushed.saturating_add(1);
         Ok(())
     }
 }
