@@ -3,7 +3,7 @@
 use crate::station::{refused, unreached};
 use bsc_clients::{Clients, ClientsError, ServedAt};
 use std::fs;
-use std::os::unix::fs::PermissionsExt;
+use std::os::unix::fs::{PermissionsExt, symlink};
 use std::os::unix::net::{UnixListener, UnixStream};
 use std::test::Fail;
 
@@ -44,6 +44,8 @@ fn a_path_is_in_use_while_somebody_listens(rt: HostRuntime) -> Result<(), Fail> 
 
 #[test]
 fn a_file_of_another_kind_is_kept(rt: HostRuntime) -> Result<(), Fail> {
+    // A socket file at which nobody listens any more would be replaced, but no link to one.
+    drop(UnixListener::bind(&rt, "socket")?);
     fs::write(&rt, "file", b"kept")?;
     let file = refused(&rt, ServedAt::Path { path: "file" });
     assert!(rt; file == Some(ClientsError::OtherFile));
@@ -51,6 +53,10 @@ fn a_file_of_another_kind_is_kept(rt: HostRuntime) -> Result<(), Fail> {
     fs::create_dir(&rt, "folder")?;
     let folder = refused(&rt, ServedAt::Path { path: "folder" });
     assert!(rt; folder == Some(ClientsError::OtherFile));
+    symlink(&rt, "socket", "link")?;
+    let link = refused(&rt, ServedAt::Path { path: "link" });
+    assert!(rt; link == Some(ClientsError::OtherFile));
+    assert!(rt; fs::symlink_metadata(&rt, "link")?.is_symlink());
     Ok(())
 }
 

@@ -46,6 +46,11 @@ pub(crate) enum Act {
         program: usize,
     },
 
+    /// The connection of a program is reset.
+    Reset {
+        program: usize,
+    },
+
     /// A read or a write of a program moves at most this many octets from now on.
     Piece {
         program: usize,
@@ -95,6 +100,12 @@ pub(crate) enum Act {
     Unread {
         program: usize,
         octets: usize,
+    },
+
+    /// There were this many reads and writes of a program.
+    ReadsAndWrites {
+        program: usize,
+        count: usize,
     },
 
     /// The station has this many records to send to a selection address of a terminal.
@@ -245,7 +256,7 @@ fn arrives(control: &mut Control<Global>, chars: &[u8]) -> Result<bool, Fail> {
     if control.terminals() == 0 {
         return Ok(false);
     }
-    Ok(control.keep_arrived(0, Record::read(chars, 80)?).is_ok())
+    Ok(control.keep_arrived(0, Record::read(chars, 144)?).is_ok())
 }
 
 /// Plays an act in which nobody is served, and returns whether what it says of the programs holds.
@@ -255,6 +266,7 @@ fn shows(world: &World, act: Act) -> Result<bool, Fail> {
         Act::Lines { program, count } => Ok(world.at(program)?.lines() == count),
         Act::FewerLines { program, than } => Ok(world.at(program)?.lines() < than),
         Act::Unread { program, octets } => Ok(world.at(program)?.unread() == octets),
+        Act::ReadsAndWrites { program, count } => Ok(world.at(program)?.calls.get() == count),
         Act::TurnedAway { count } => Ok(world.turned_away.get() == count),
         Act::Calls { count } => Ok(world.calls.get() == count),
         Act::FewerCalls { than } => Ok(world.calls.get() < than),
@@ -276,6 +288,7 @@ fn acts(world: &World, act: Act) -> Result<(), Fail> {
             times,
         } => world.at(program)?.say_often(octets, times)?,
         Act::End { program } => world.at(program)?.end(),
+        Act::Reset { program } => world.at(program)?.reset(),
         Act::Piece { program, octets } => world.at(program)?.piece.set(octets),
         Act::Room { program, octets } => world.at(program)?.make_room(octets),
         _ => return Err(Fail::new("no act of a program")),

@@ -126,6 +126,15 @@ to 1: offered 0, known 0\nok\n",
                 program: 0,
                 octets: b"ok\narrived from 0 0 OLD\narrived from 0 1 \narrived from 0 2 NEW\n",
             },
+            // A record has no longer line than this one.
+            Act::Arrive {
+                chars: &[0x07; 144],
+            },
+            Act::Serve { times: 4 },
+            Act::Lines {
+                program: 0,
+                count: 5,
+            },
         ],
         ..ONE
     },
@@ -161,6 +170,52 @@ to 1: offered 0, known 0\nok\n",
                 octets: b"ok 1\n",
             },
             Act::TurnedAway { count: 2 },
+        ],
+        ..ONE
+    },
+    Scene {
+        shows: "a program whose connection is reset gives its place back",
+        programs: MAX_PROGRAMS + 1,
+        acts: &[
+            Act::Connect {
+                programs: MAX_PROGRAMS,
+            },
+            Act::Serve { times: 1 },
+            Act::Reset { program: 5 },
+            Act::Serve { times: 2 },
+            Act::Connect {
+                programs: MAX_PROGRAMS + 1,
+            },
+            Act::Say {
+                program: MAX_PROGRAMS,
+                octets: b"offer to 1 A\n",
+            },
+            Act::Serve { times: 2 },
+            Act::Told {
+                program: MAX_PROGRAMS,
+                octets: b"ok 0\n",
+            },
+            Act::TurnedAway { count: 0 },
+        ],
+        ..ONE
+    },
+    Scene {
+        shows: "more programs than are turned away at once are called for again",
+        programs: 2 * MAX_PROGRAMS + 1,
+        acts: &[
+            Act::Connect {
+                programs: 2 * MAX_PROGRAMS + 1,
+            },
+            Act::Serve { times: 1 },
+            Act::TurnedAway {
+                count: MAX_PROGRAMS,
+            },
+            Act::Calls { count: 1 },
+            Act::Serve { times: 1 },
+            Act::TurnedAway {
+                count: MAX_PROGRAMS + 1,
+            },
+            Act::Calls { count: 1 },
         ],
         ..ONE
     },

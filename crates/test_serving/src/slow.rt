@@ -170,6 +170,41 @@ const SLOW: &[Scene] = &[
         ],
         ..ONE
     },
+    Scene {
+        shows: "what would have to wait is not tried again before the system tells of the program",
+        acts: &[
+            Act::Connect { programs: 1 },
+            Act::Serve { times: 3 },
+            Act::ReadsAndWrites {
+                program: 0,
+                count: 1,
+            },
+            Act::Room {
+                program: 0,
+                octets: 0,
+            },
+            Act::Say {
+                program: 0,
+                octets: b"offer to 0 A\n",
+            },
+            Act::Serve { times: 1 },
+            Act::Told {
+                program: 0,
+                octets: b"",
+            },
+            // One read, and two writes, the first of which is interrupted.
+            Act::ReadsAndWrites {
+                program: 0,
+                count: 4,
+            },
+            Act::Serve { times: 3 },
+            Act::ReadsAndWrites {
+                program: 0,
+                count: 4,
+            },
+        ],
+        ..ONE
+    },
 ];
 
 #[test]

@@ -17,6 +17,9 @@ pub(crate) struct Program {
     /// Whether it says nothing more.
     ended: Cell<bool>,
 
+    /// Whether its connection is reset.
+    reset: Cell<bool>,
+
     /// How many octets it takes yet.
     pub(crate) room: Cell<usize>,
 
@@ -29,8 +32,8 @@ pub(crate) struct Program {
     /// Whether the system has something to tell of it.
     changed: Cell<bool>,
 
-    /// How many reads there were.
-    pub(crate) reads: Cell<usize>,
+    /// How many reads and writes there were.
+    pub(crate) calls: Cell<usize>,
 }
 
 impl Program {
@@ -39,11 +42,12 @@ impl Program {
             said: RefCell::new(VecDeque::new(alloc)),
             told: RefCell::new(Vec::new(alloc)),
             ended: Cell::new(false),
+            reset: Cell::new(false),
             room: Cell::new(usize::MAX),
             piece: Cell::new(usize::MAX),
             place: Cell::new(None),
             changed: Cell::new(false),
-            reads: Cell::new(0),
+            calls: Cell::new(0),
         }
     }
 
@@ -65,6 +69,12 @@ impl Program {
     /// Ends its side.
     pub(crate) fn end(&self) {
         self.ended.set(true);
+        self.changed.set(true);
+    }
+
+    /// Resets its connection.
+    pub(crate) fn reset(&self) {
+        self.reset.set(true);
         self.changed.set(true);
     }
 
@@ -239,18 +249,22 @@ pub(crate) struct End<'a> {
     program: &'a Program,
 }
 
-/// Each third call is interrupted.
-fn interrupts(program: &Program) -> bool {
-    let reads = program.reads.get();
-    program.reads.set(reads.wrapping_add(1));
-    reads % 3 == 2
+/// Counts a call, which fails if the connection is reset. Each third call is interrupted.
+fn called(program: &Program) -> io::Result<()> {
+    let calls = program.calls.get();
+    program.calls.set(calls.wrapping_add(1));
+    if calls % 3 == 2 {
+        return Err(Error::from(ErrorKind::Interrupted));
+    }
+    if program.reset.get() {
+        return Err(Error::from(ErrorKind::ConnectionReset));
+    }
+    Ok(())
 }
 
 impl Read for End<'_> {
     fn read(&mut self, buffer: &mut [u8]) -> io::Result<usize> {
-        if interrupts(self.program) {
-            return Err(Error::from(ErrorKind::Interrupted));
-        }
+        called(self.program)?;
         let mut said = self.program.said.try_borrow_mut()?;
         if said.is_empty() && !self.program.ended.get() {
             return Err(Error::from(ErrorKind::WouldBlock));
@@ -262,9 +276,7 @@ impl Read for End<'_> {
 
 impl Write for End<'_> {
     fn write(&mut self, octets: &[u8]) -> io::Result<usize> {
-        if interrupts(self.program) {
-            return Err(Error::from(ErrorKind::Interrupted));
-        }
+        called(self.program)?;
         let room = self.program.room.get();
         let most = octets.len().min(self.program.piece.get()).min(room);
         if most == 0 {
