@@ -1,13 +1,14 @@
 //! Hosts with several addresses.
 
-use crate::beginning::{is_told, left};
+use crate::beginning::{has_passed, is_told, left};
 use crate::machine::Machine;
 use crate::meeting::{bound, patience, reach, settings};
 use bsc_connections::Waiter;
 use bsc_sockets::{Listening, SocketsError, connect_to_any};
 use std::alloc::Global;
-use std::net::{Ipv4Addr, SocketAddr, SocketAddrV4};
+use std::net::{Ipv4Addr, SocketAddr, SocketAddrV4, TcpListener, TcpStream};
 use std::test::Fail;
+use std::time::{Duration, Instant};
 
 /// The address to which a station connects that connects to a host, whose name needs a port.
 fn connected(machine: &Machine<'_>, alloc: Global) -> Result<Option<SocketAddr>, SocketsError> {
@@ -56,6 +57,32 @@ fn a_host_where_nobody_listens_is_told(rt: HostRuntime) -> Result<(), Fail> {
     let host = [left(&rt)?; 32];
     let nobody = connected(&Machine::new(&rt, &host), rt.alloc());
     is_told(nobody, SocketsError::NobodyThere)
+}
+
+/// As many connections to a listener as wait to be accepted there. The system does not answer
+/// another one.
+fn waiting(rt: &HostRuntime, alloc: Global, address: SocketAddr) -> Result<Vec<TcpStream>, Fail> {
+    let mut waiting = Vec::new(alloc);
+    'peers: for _ in 0..10_000u32 {
+        match TcpStream::connect_timeout(rt, &address, Duration::from_millis(200)) {
+            Ok(peer) => waiting.push(peer)?,
+            Err(_) => return Ok(waiting),
+        }
+    }
+    Err("the listener has no limit".into())
+}
+
+/// A station waits for the answer of a peer as long as it is patient, and no longer.
+#[test]
+fn an_address_that_does_not_answer_is_told_in_time(rt: HostRuntime) -> Result<(), Fail> {
+    let listener = TcpListener::bind(&rt, "127.0.0.1:0")?;
+    let address = listener.local_addr()?;
+    let _waiting = waiting(&rt, rt.alloc(), address)?;
+    let start = Instant::now(&rt)?;
+    let patience = Duration::from_millis(60);
+    let begun = connect_to_any(&rt, rt.alloc(), &[address], patience, settings());
+    is_told(begun, SocketsError::NobodyThere)?;
+    has_passed(&rt, start, 60)
 }
 
 /// An address with this IPv4 address, whose port the system chooses.

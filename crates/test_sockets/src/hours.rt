@@ -8,7 +8,7 @@ use std::test::Fail;
 
 const COURSES: &[Course] = &[
     Course {
-        shows: "an hour is a time-out, which begins with the wait after a silence, and is told then",
+        shows: "an hour is a time-out, which begins with the wait after a silence; it is told then",
         steps: &[
             Step::Sends,
             Step::Waits(OCTETS),
@@ -55,7 +55,7 @@ const COURSES: &[Course] = &[
         ..HOURS
     },
     Course {
-        shows: "what is sent is late after twenty minutes; sending in time and a time-out begin them",
+        shows: "what is sent is late after 20 minutes; sending in time and a time-out begin them",
         steps: &[
             Step::MaySend(false),
             Step::Sends,

@@ -141,7 +141,8 @@ pub(crate) struct Told<'a> {
     /// The address at which they can connect.
     address: Option<SocketAddr>,
 
-    /// The number of waits that are told of as many connections, and of as many peers as are wanted.
+    /// The number of waits that are told of as many connections, and of as many peers as are
+    /// wanted.
     waits: usize,
 
     /// The number of peers that joined, each of which is told of by its place and its address.

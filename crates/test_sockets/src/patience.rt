@@ -3,14 +3,16 @@
 use crate::beginning::has_passed;
 use crate::machine::Machine;
 use crate::meeting;
-use crate::meeting::{allowed, begin, bound, passes, peer, settings};
+use crate::meeting::{allowed, begin, bound, passes, peers_of, settings};
+use crate::stopped::input;
 use bsc_sockets::{Peers, Reception, SocketsError};
 use std::net::{SocketAddr, TcpStream};
+use std::os::fd::AsRawFd;
 use std::test::Fail;
 use std::time::{Duration, Instant};
 
-/// What a station waits for at whose listener one peer has connected, what happens meanwhile, and
-/// what the station tells before it tells that nobody has connected. Times are in milliseconds.
+/// What a station waits for, what happens meanwhile, and what it tells before it ends. Times are in
+/// milliseconds.
 #[derive(Clone, Copy)]
 struct Case {
     shows: &'static str,
@@ -19,6 +21,9 @@ struct Case {
     peers: usize,
     patience: u64,
 
+    /// How many connect before the station waits.
+    come: usize,
+
     /// The network from which peers may connect. They connect from 127.0.0.1.
     allows: &'static str,
 
@@ -26,69 +31,82 @@ struct Case {
     held_up: u128,
 
     /// How often another peer connects, 5 milliseconds after one was refused.
-    comes_again: u32,
+    comes_again: usize,
 
     /// How far the clock moves on when a peer is refused.
     jump: u64,
 
-    /// The least time after which the station gives up, without that of jumps.
+    /// Whether the station is asked to end before it waits. Else it tells that nobody connected.
+    stops: bool,
+
+    /// The least time after which the station ends, without that of jumps.
     least: u128,
 
     /// The number of peers that join.
     joined: usize,
 
     /// The least and the greatest number of peers that are refused.
-    refused: (u32, u32),
+    refused: (usize, usize),
 }
+
+/// A station that waits for one peer, and at whose listener one has connected.
+const ONE: Case = Case {
+    shows: "",
+    peers: 1,
+    patience: 3_600_000,
+    come: 1,
+    allows: "127.0.0.1",
+    held_up: 0,
+    comes_again: 0,
+    jump: 0,
+    stops: false,
+    least: 0,
+    joined: 0,
+    refused: (0, 0),
+};
 
 const CASES: &[Case] = &[
     Case {
         shows: "peers that are missing are told in time",
         peers: 2,
         patience: 40,
-        allows: "127.0.0.1",
-        held_up: 0,
-        comes_again: 0,
-        jump: 0,
         least: 40,
         joined: 1,
-        refused: (0, 0),
+        ..ONE
     },
     Case {
         shows: "the patience begins anew for each peer",
         peers: 2,
         patience: 200,
-        allows: "127.0.0.1",
         held_up: 300,
-        comes_again: 0,
-        jump: 0,
         least: 500,
         joined: 1,
-        refused: (0, 0),
+        ..ONE
     },
     Case {
         shows: "peers that are refused use up the patience",
-        peers: 1,
         patience: 60,
         allows: "127.0.0.2/32",
-        held_up: 0,
         comes_again: 200,
-        jump: 0,
         least: 60,
-        joined: 0,
         refused: (2, 199),
+        ..ONE
     },
     Case {
         shows: "an hour of patience is an hour, of which a tenth of a second is left",
-        peers: 1,
-        patience: 3_600_000,
         allows: "127.0.0.2",
-        held_up: 0,
-        comes_again: 0,
         jump: 3_599_900,
         least: 100,
-        joined: 0,
         refused: (1, 1),
+        ..ONE
+    },
+    Case {
+        shows: "peers that are refused do not hide that the station is asked to end",
+        come: 40,
+        allows: "127.0.0.2",
+        stops: true,
+        refused: (0, 39),
+        ..ONE
     },
 ];
 
@@ -99,19 +117,21 @@ struct Waits<'a> {
     machine: &'a Machine<'a>,
     case: Case,
     address: SocketAddr,
-    last: Option<TcpStream>,
-    joined: usize,
-    refused: u32,
 
-    /// How many of these were named by the address of the last peer.
-    named: u32,
+    /// The peers that have connected, in order.
+    far: Vec<TcpStream>,
+    joined: usize,
+    refused: usize,
+
+    /// How many of these were named by their addresses.
+    named: usize,
 }
 
 impl Waits<'_> {
-    /// Whether this is the address of the last peer.
-    fn is_last(&self, peer: SocketAddr) -> bool {
-        match &self.last {
-            Some(last) => last.local_addr().ok() == Some(peer),
+    /// Whether this is the address of the peer that is refused next.
+    fn is_next(&self, peer: SocketAddr) -> bool {
+        match self.far.get(self.refused) {
+            Some(next) => next.local_addr().ok() == Some(peer),
             None => false,
         }
     }
@@ -140,13 +160,15 @@ impl Reception for Waits<'_> {
     }
 
     fn refused(&mut self, peer: SocketAddr) {
-        self.refused = self.refused.saturating_add(1);
-        if self.is_last(peer) {
+        if self.is_next(peer) {
             self.named = self.named.saturating_add(1);
         }
+        self.refused = self.refused.saturating_add(1);
         self.machine.passes(Duration::from_millis(self.case.jump));
         if self.refused < self.case.comes_again && passes(self.rt, 5) {
-            self.last = meeting::peer(self.rt, self.address).ok();
+            if let Ok(next) = meeting::peer(self.rt, self.address) {
+                let _ = self.far.push(next);
+            }
         }
     }
 }
@@ -154,13 +176,15 @@ impl Reception for Waits<'_> {
 /// Whether a station tells what the case says.
 fn goes(rt: &HostRuntime, case: &Case) -> Result<bool, Fail> {
     let (listening, address) = bound(rt)?;
+    let (input, other) = input(rt)?;
+    drop(other);
     let machine = Machine::new(rt, &[]);
     let mut waits = Waits {
         rt,
         machine: &machine,
         case: *case,
         address,
-        last: Some(peer(rt, address)?),
+        far: peers_of(rt, rt.alloc(), address, case.come)?,
         joined: 0,
         refused: 0,
         named: 0,
@@ -171,6 +195,11 @@ fn goes(rt: &HostRuntime, case: &Case) -> Result<bool, Fail> {
     };
     let mut settings = settings();
     settings.allowed = allowed(case.allows)?;
+    let mut why = SocketsError::NobodyConnected;
+    if case.stops {
+        settings.stops_with = Some(input.as_raw_fd());
+        why = SocketsError::Stopped;
+    }
     let start = Instant::now(rt)?;
     let begun = begin(
         &machine,
@@ -181,7 +210,7 @@ fn goes(rt: &HostRuntime, case: &Case) -> Result<bool, Fail> {
         &mut waits,
     );
     has_passed(rt, start, case.least)?;
-    Ok(begun.err() == Some(SocketsError::NobodyConnected) && waits.is_right())
+    Ok(begun.err() == Some(why) && waits.is_right())
 }
 
 #[test]

@@ -1,6 +1,6 @@
 //! Stations that are asked to end.
 
-use crate::beginning::{connections_with, has_passed, is_told, text};
+use crate::beginning::{connections_with, has_passed, is_told, left, text};
 use crate::meeting::{bound, peer, reach, settings};
 use bsc_connections::{Awaited, Waiter};
 use bsc_sockets::{ConnectionSettings, SocketsError};
@@ -42,6 +42,10 @@ fn an_input_that_is_a_device_is_refused(rt: HostRuntime) -> Result<(), Fail> {
     let input = File::open(&rt, "/dev/null")?;
     let start = Instant::now(&rt)?;
     let begun = connections_with(&rt, rt.alloc(), stopping_with(&input));
+    is_told(begun, SocketsError::CannotWatchInput)?;
+    // Also where nobody listens, which is found only after that.
+    let text = text(rt.alloc(), left(&rt)?)?;
+    let begun = reach(&rt, rt.alloc(), text.as_str(), stopping_with(&input));
     is_told(begun, SocketsError::CannotWatchInput)?;
     has_passed(&rt, start, 0)
 }
