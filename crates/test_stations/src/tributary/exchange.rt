@@ -76,8 +76,8 @@ pub(crate) struct Exchange<'a> {
     pub(crate) steps: &'a [Step<'a>],
 }
 
-/// Lets a terminal hear these octets, or a silence if there are none, and returns whether it reports
-/// that it sends.
+/// Lets a terminal hear these octets, or a silence if there are none, and returns whether it
+/// reports that it sends.
 fn hears<A: Allocator>(tributary: &mut Tributary<A>, heard: &[u8], wire: &mut Wire) -> bool
     requires { tributary.old.queue.format.full ≡ 80 }
     ensures terminal { tributary.new.terminal ≡ tributary.old.terminal }

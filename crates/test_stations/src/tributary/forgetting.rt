@@ -1,5 +1,5 @@
-//! Exchanges of a terminal that forgets records: what it sends and what it knows of its records stay
-//! the same.
+//! Exchanges of a terminal that forgets records: what it sends and what it knows of its records
+//! stay the same.
 
 use crate::hearing::{QUIET, SILENCE};
 use crate::tributary::exchange::Exchange;
