@@ -8,7 +8,7 @@ ghost use Rattle.bsc_spool.specs.Spool.{ForgetsRecords, GainsRecord};
 ghost use Rattle.bsc_bid.specs.Sender.{release_step};
 ghost use Rattle.bsc_bid.specs.Stored.{kept_of, recall_step};
 ghost use Rattle.bsc_bid.specs.Terminal.{HasDistinctAddresses};
-ghost use Rattle.bsc_tributary.specs.Kept.{IsNewTerminal};
+ghost use Rattle.bsc_tributary.specs.Kept.{IsNewTerminal, IsTributary};
 ghost use Rattle.bsc_tributary.specs.Stored.{after_recall};
 ghost use Rattle.bsc_tributary.specs.Tributary.{after_release, is_control_mode, spool_at};
 
@@ -94,7 +94,10 @@ impl<A: Allocator> LineTerminal<A> {
             ≡ with_own_queue self.old (with_offered self.old.tributary.queue «record»)) }
         ensures err { OnErr result (self.new ≡ self.old) }
         ensures given_back { IfErr result (λ r. r ≡ «record») }
+        ensures tributary { IsTributary self.old.tributary }
     {
+        // Reading the queue makes known here what is known of every tributary.
+        let _ = self.tributary.queue();
         self.tributary.offer(record)
     }
 
@@ -130,6 +133,7 @@ impl<A: Allocator> LineTerminal<A> {
             ≡ line_terminal_of self.old.number (after_release self.old.tributary count) }
         ensures answer { result
             ≡ (release_step self.old.tributary.sender self.old.tributary.queue count).answer }
+        ensures tributary { IsTributary self.new.tributary }
     {
         self.tributary.release(count)
     }
