@@ -5,6 +5,8 @@ use Rattle.bsc_frame.specs.declared.message.Heard.{Heard}
 use Rattle.bsc_frame.specs.declared.message.Message.{Message}
 use Rattle.bsc_bid.specs.declared.kept.KeptSender.{KeptSender}
 use Rattle.bsc_bid.specs.declared.station.Station as station_of
+use Rattle.bsc_directory.specs.Ways.{select_of}
+use Rattle.bsc_directory.specs.declared.way.Way.{Way}
 use Rattle.bsc_kept.specs.declared.fault.StoreFault.{StoreFault}
 use Rattle.bsc_kept.specs.declared.store.Store as store_of
 use Rattle.bsc_connections.specs.declared.awaited.LiveError.{LiveError}
@@ -14,6 +16,7 @@ use Rattle.bsc_connections.specs.Histories.{Happening, all_sent}
 use Rattle.bsc_connections.specs.Parts.{SessionParts}
 use Rattle.bsc_monitor.specs.declared.party.Party as party_of
 use Rattle.bsc_keeping.specs.Keeping.{KeepsChanged, KeepsStep, SurvivesAll, step_of}
+use Rattle.bsc_keeping.specs.Offers.{KeepsOffer}
 use Rattle.bsc_keeping.specs.declared.keeper.Keeper.{Keeper}
 use Rattle.bsc_keeping.specs.declared.keeping.Keeping.{Keeping}
 
@@ -25,6 +28,31 @@ pub record Moment (S K : Type 0) : Type 0 where
 -- Those of a session.
 abbrev pub moment_of : {S C M K T : Type 0} → Session S C (Keeping M K) T → Moment S K
 moment_of now = record { station = now.station; keeper = now.monitor.keeper.now }
+
+-- What a station does for programs that feed it, between sessions: whether they can ask for
+-- something, and how it is after a record was offered on the channel of a terminal in a direction,
+-- after the doubt of the channel was ended with a count, and after another request, which is to
+-- change nothing that is kept.
+pub record ForPrograms (S : Type 0) : Type 1 where
+  pub asks : Type 0
+  pub offers : S → ℕ → Way → List ℕ → S → Type 0
+  pub releases : S → ℕ → Way → ℕ → S → Type 0
+  pub sets : S → S → Type 0
+
+-- A station that no program can feed does none of that.
+abbrev pub for_none : {S : Type 0} → ForPrograms S
+for_none =
+    record {
+      asks = ⊥;
+      offers = λ old terminal way chars new. ⊥;
+      releases = λ old terminal way count new. ⊥;
+      sets = λ old new. ⊥;
+    }
+
+-- What a station does for programs, if they can feed it.
+abbrev pub if_fed : {S : Type 0} → Bool → ForPrograms S → ForPrograms S
+if_fed true does = does
+if_fed false does = for_none
 
 -- What is known of a station with memory of type Z, what it says of the channels on which it sends,
 -- and what is known of its store.
@@ -71,10 +99,14 @@ module _ {S K Z : Type 0} (station : station_of.Ghosts S) (party : party_of.Ghos
     given_up : {first now : Moment S K} → KeptSteps true first now → KeptSteps false first now
 
   -- The same, what the station forgets of the records that are known to have arrived, and of those
-  -- that arrived.
-  module _ (forgets_sent : S → S → Type 0) (forgets_arrived : S → ℕ → ℕ → S → Type 0) where
-    -- A run of a station: sessions, and between them records are forgotten, and what has changed is
-    -- kept. The flag says whether all of it succeeded; nothing follows what fails.
+  -- that arrived, and what it does for programs.
+  module _ (forgets_sent : S → S → Type 0) (forgets_arrived : S → ℕ → ℕ → S → Type 0)
+      (does : ForPrograms S) where
+    -- A run of a station: sessions, and between them records are forgotten, what has changed is
+    -- kept, and programs are served. A record that they offer is kept, and only then offered; if
+    -- the station has no memory for it, the run fails, and only the store has the record. The end
+    -- of a doubt is kept once the station has ended it. The flag says whether all of it succeeded;
+    -- nothing follows what fails.
     pub data KeptRun : Bool → Moment S K → Moment S K → Type 0 where
       begins : {first now : Moment S K} → now ≡ first → KeptRun true first now
       attended : {first old new : Moment S K} {fine : Bool} → KeptRun true first old
@@ -93,4 +125,26 @@ module _ {S K Z : Type 0} (station : station_of.Ghosts S) (party : party_of.Ghos
           {new : Keeper K} → KeptRun true first old
           → KeepsStep party kept_at store printed old.station (Err fault) old.keeper new
           → KeptRun false first (record { station = old.station; keeper = new })
+      offered : {first old : Moment S K} {terminal : ℕ} {way : Way} {chars : List ℕ}
+          {keeper : Keeper K} {new : S} → KeptRun true first old
+          → KeepsOffer store terminal (select_of way) chars (Ok chars) old.keeper keeper
+          → does.offers old.station terminal way chars new
+          → KeptRun true first (record { station = new; keeper = keeper })
+      not_offered : {first old : Moment S K} {terminal : ℕ} (way : Way) {chars : List ℕ}
+          {given : Result (List ℕ) StoreFault} {keeper : Keeper K} → KeptRun true first old
+          → does.asks → KeepsOffer store terminal (select_of way) chars given old.keeper keeper
+          → KeptRun false first (record { station = old.station; keeper = keeper })
+      released : {first old : Moment S K} {terminal : ℕ} {way : Way} {count : ℕ}
+          {printed : ℕ → Option ℕ} {done : Unit {0}} {keeper : Keeper K} {new : S}
+          → KeptRun true first old → does.releases old.station terminal way count new
+          → KeepsStep party kept_at store printed new (Ok done) old.keeper keeper
+          → KeptRun true first (record { station = new; keeper = keeper })
+      not_released : {first old : Moment S K} {terminal : ℕ} {way : Way} {count : ℕ}
+          {printed : ℕ → Option ℕ} {fault : StoreFault} {keeper : Keeper K} {new : S}
+          → KeptRun true first old → does.releases old.station terminal way count new
+          → KeepsStep party kept_at store printed new (Err fault) old.keeper keeper
+          → KeptRun false first (record { station = new; keeper = keeper })
+      set : {first old : Moment S K} {new : S} → KeptRun true first old
+          → does.sets old.station new
+          → KeptRun true first (record { station = new; keeper = old.keeper })
       stopped : {first now : Moment S K} → KeptRun true first now → KeptRun false first now
