@@ -27,3 +27,10 @@ pub record OffersRecord {S : Type 0} (offered : S → ℕ → Way → List (List
   pub refused : OnErr result (offered new t way ≡ offered old t way)
   pub others : (u : ℕ) (other : Way) → (u ≡ t → other ≡ way → ⊥)
       → offered new u other ≡ offered old u other
+
+-- A record is offered so, and the station does what is given.
+abbrev pub OffersBy : {S : Type 0} → (S → ℕ → Way → List (List ℕ)) → (S → ℕ → Way → ℕ → Type 0)
+    → (S → ℕ → Way → List ℕ → Result ℕ Fault → S → Type 0) → S → ℕ → Way → List ℕ
+    → Result ℕ Fault → S → Type 0
+OffersBy offered is_kept offers old t way chars result new =
+    OffersRecord offered is_kept old t way chars result new × offers old t way chars result new

@@ -4,7 +4,7 @@ ghost use Rattle.std.specs.Prelude.{◌≡◌, ℕ, Option, option_map, true, un
 ghost use Rattle.bsc_feed.specs.Answering.{Answers, Does, FollowsIf, Offers, OffersAt, Releases};
 ghost use Rattle.bsc_feed.specs.Answering.{ReleasesAt, counted, done_or, kept_or, serving};
 ghost use Rattle.bsc_feed.specs.Commands.{asked_by};
-ghost use Rattle.bsc_feed.specs.Offering.{OffersRecord, is_sending};
+ghost use Rattle.bsc_feed.specs.Offering.{OffersBy, is_sending};
 ghost use Rattle.bsc_feed.specs.Places.{IsFound, end_at as at_place, is_there};
 
 use crate::follows::Follows;
@@ -24,7 +24,8 @@ pub(crate) fn answer<A: Allocator + Copy, S: Served>(
     station: &mut S,
 ) -> Option<Told>
     ensures { Answers S.Party
-        (serving (OffersRecord S.offered S.is_kept) S.full S.releases S.readies S.urges S.stops)
+        (serving (OffersBy S.offered S.is_kept S.offers) S.full S.releases S.readies S.urges
+        S.stops)
         (option_map (λ l. l.now) line.entry)
         follows.old station.old result follows.new station.new }
 {
@@ -44,7 +45,8 @@ fn answer_line<A: Allocator + Copy, S: Served>(
     station: &mut S,
 ) -> Option<Told>
     ensures { Answers S.Party
-        (serving (OffersRecord S.offered S.is_kept) S.full S.releases S.readies S.urges S.stops)
+        (serving (OffersBy S.offered S.is_kept S.offers) S.full S.releases S.readies S.urges
+        S.stops)
         (Some line.now)
         follows.old station.old result follows.new station.new }
 {
@@ -61,8 +63,8 @@ fn obey<A: Allocator, S: Served>(
     follows: &mut Follows,
     station: &mut S,
 ) -> Option<Told>
-    ensures { Does S.Party (serving (OffersRecord S.offered S.is_kept) S.full S.releases S.readies
-        S.urges S.stops)
+    ensures { Does S.Party (serving (OffersBy S.offered S.is_kept S.offers) S.full S.releases
+        S.readies S.urges S.stops)
         (asked_by command.entry)
         follows.old station.old result follows.new station.new }
 {
@@ -94,7 +96,7 @@ fn done(outcome: Result<(), Fault>) -> Told
 /// Offers a record of these codes on the channel with this name.
 fn offer<S: Served>(channel: Channel, codes: &[u8], station: &mut S) -> Told
     ensures { (found : Option ℕ) × IsFound S.Party station.old channel found
-        × Offers S.Party (OffersRecord S.offered S.is_kept) S.full found codes.now station.old
+        × Offers S.Party (OffersBy S.offered S.is_kept S.offers) S.full found codes.now station.old
         result station.new }
 {
     match find(station, channel) {
@@ -118,7 +120,7 @@ fn sends<P: Party>(station: &P, place: usize) -> bool
 /// Offers a record of these codes on the channel at a place.
 fn offer_at<S: Served>(place: usize, codes: &[u8], station: &mut S) -> Told
     requires { is_there S.Party station.old place ≡ true }
-    ensures { OffersAt (OffersRecord S.offered S.is_kept) S.full place codes.now
+    ensures { OffersAt (OffersBy S.offered S.is_kept S.offers) S.full place codes.now
         (at_place S.Party station.old place) station.old result station.new }
 {
     if !sends(station, place) {

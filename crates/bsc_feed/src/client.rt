@@ -2,7 +2,7 @@
 
 ghost use Rattle.std.specs.Prelude.{◌≡◌, Option, option_map};
 ghost use Rattle.bsc_feed.specs.Answering.{serving};
-ghost use Rattle.bsc_feed.specs.Offering.{OffersRecord};
+ghost use Rattle.bsc_feed.specs.Offering.{OffersBy};
 ghost use Rattle.bsc_feed.specs.Clients.{IsNew, Nexts, TakesOctets, TellsState};
 ghost use Rattle.bsc_feed.specs.Clients.{is_skipped as skipped};
 ghost use Rattle.bsc_feed.specs.Texts.{IsWritten};
@@ -84,8 +84,8 @@ impl Client {
         out: &mut W,
     ) -> Result<bool, PrintError>
         ensures { (told : Option ToldValue)
-            × Nexts S.Party (serving (OffersRecord S.offered S.is_kept) S.full S.releases S.readies
-            S.urges S.stops) self.old station.old told self.new station.new
+            × Nexts S.Party (serving (OffersBy S.offered S.is_kept S.offers) S.full S.releases
+            S.readies S.urges S.stops) self.old station.old told self.new station.new
             × IsWritten S.Party station.new told result (W.contents out.old) (W.contents out.new) }
     {
         match self.next(alloc, station) {
@@ -100,7 +100,7 @@ impl Client {
     /// Takes the next step that has something to tell, and returns it: an answer, or what happened
     /// on a channel that is followed.
     fn next<A: Allocator + Copy, S: Served>(&mut self, alloc: A, station: &mut S) -> Option<Told>
-        ensures { Nexts S.Party (serving (OffersRecord S.offered S.is_kept) S.full S.releases
+        ensures { Nexts S.Party (serving (OffersBy S.offered S.is_kept S.offers) S.full S.releases
             S.readies S.urges S.stops) self.old station.old result self.new station.new }
     {
         if let Some(place) = self.telling {

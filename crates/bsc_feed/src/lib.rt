@@ -7,7 +7,7 @@
 //!
 //! | command | what it does | answer |
 //! |---|---|---|
-//! | `offer CHANNEL TEXT` | a record is offered; without the space before TEXT the empty one | `ok N` |
+//! | `offer CHANNEL TEXT` | a record is offered; the empty one if TEXT is left out | `ok N` |
 //! | `offer-hex CHANNEL HEX` | a record is offered, in hexadecimal text | `ok N` |
 //! | `status` | the state of each channel is told, a line for each | `ok` |
 //! | `release CHANNEL COUNT` | a doubt is ended, of which the other end has COUNT records | `ok` |

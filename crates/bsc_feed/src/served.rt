@@ -4,7 +4,7 @@ ghost use Rattle.std.specs.Prelude.{◌≡◌, ◌<◌, ◌≤◌, ℕ, Bool, Li
 ghost use Rattle.bsc_block.specs.Format.{IsFormat};
 ghost use Rattle.bsc_directory.specs.declared.way.Way.{Way as WayValue};
 ghost use Rattle.bsc_feed.specs.declared.fault.Fault.{Fault as FaultValue};
-ghost use Rattle.bsc_feed.specs.Offering.{IsSending, OffersRecord};
+ghost use Rattle.bsc_feed.specs.Offering.{IsSending, OffersBy};
 ghost use Rattle.bsc_monitor.specs.Ends.{IsWay};
 
 use crate::Fault;
@@ -20,6 +20,10 @@ pub trait Served: Party {
 
     /// The record of this number, counted from 0, is kept: with a store, on the disk.
     ghost is_kept: { Self → ℕ → WayValue → ℕ → Type 0 };
+
+    /// What else an offer does: the station before, the terminal, the direction, the characters,
+    /// the result, the station after.
+    ghost offers: { Self → ℕ → WayValue → List ℕ → Result ℕ FaultValue → Self → Type 0 };
 
     /// The full length of its records.
     ghost full: { Self → ℕ };
@@ -48,7 +52,7 @@ pub trait Served: Party {
         requires its_way { IsWay way (Self.selects self.old terminal) }
         requires sends { IsSending (Self.ends self.old terminal way) }
         requires short { length new ≤ full self.old }
-        ensures { OffersRecord offered is_kept self.old terminal way new result self.new };
+        ensures { OffersBy offered is_kept offers self.old terminal way new result self.new };
 
     /// Ends the doubt of a channel on which the station sends, of which the other end has this many
     /// records. Fails with `NotInDoubt`, `CountMismatch` or `NotKept`.

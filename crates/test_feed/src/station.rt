@@ -156,6 +156,8 @@ impl Served for Station {
 
     ghost is_kept = { λ _ _ _ _. Unit {0} };
 
+    ghost offers = { λ _ _ _ _ _ _. Unit {0} };
+
     ghost full = { λ _. 80 };
 
     ghost releases = { λ _ _ _ _ _ _. Unit {0} };
