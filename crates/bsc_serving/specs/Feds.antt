@@ -1,7 +1,7 @@
 -- What a station does for programs whose records are kept.
-use Rattle.std.specs.Prelude.{◌≡◌, ℕ, List, Option, Some, Result, Ok, Err, slice_get}
+use Rattle.std.specs.Prelude.{◌≡◌, ℕ, List, Option, Some, Result, Ok, Err, OnErr, slice_get}
 use Rattle.bsc_connections.specs.declared.awaited.LiveError.{LiveError}
-use Rattle.bsc_connections.specs.declared.awaited.LiveError.TheVariants.{Unkept}
+use Rattle.bsc_connections.specs.declared.awaited.LiveError.TheVariants.{Memory, Unkept}
 use Rattle.bsc_directory.specs.declared.way.Way.{Way}
 use Rattle.bsc_feed.specs.declared.fault.Fault.{Fault}
 use Rattle.bsc_feed.specs.declared.fault.Fault.TheVariants.{NotKept}
@@ -14,7 +14,39 @@ module _ {S Q : Type 0} (offered : S → ℕ → Way → List (List ℕ))
   pub record HasKeptNumber (fed : Fed S Q) (t : ℕ) (way : Way) (number : ℕ) : Type 0 where
     pub chars : List ℕ
     pub at : slice_get (offered fed.station.now t way) number ≡ Some chars
-    pub kept : has_kept fed.keeps t way chars
+    pub kept : has_kept fed.keeps.now t way chars
+
+-- The station, what keeps its records, and whether it is to end are the same.
+pub record IsSameFed {S Q : Type 0} (old new : Fed S Q) : Type 0 where
+  pub station : new.station.ghost_name ≡ old.station.ghost_name
+  pub keeps : new.keeps.ghost_name ≡ old.keeps.ghost_name
+  pub stopped : new.stopped ≡ old.stopped
+
+-- Why a station has to end that has this answer to an offer, once the record is kept.
+abbrev pub failure_after : Result ℕ Fault → Option LiveError → Option LiveError
+failure_after (Ok number) before = before
+failure_after (Err fault) before = Some Memory
+
+module _ {S Q : Type 0} (offers : S → ℕ → Way → List ℕ → Result ℕ Fault → S → Type 0)
+    (keeps_offer : Q → ℕ → Way → List ℕ → Result (List ℕ) StoreFault → Q → Type 0) where
+  -- The station offers a record if it was kept; else it offers nothing, and has to end.
+  abbrev pub OffersIfKept : Result (List ℕ) StoreFault → Fed S Q → ℕ → Way → List ℕ
+      → Result ℕ Fault → Fed S Q → Type 0
+  OffersIfKept (Ok given) old t way chars result new =
+      (given ≡ chars) × offers old.station.now t way chars result new.station.now
+      × OnErr result (new.station.now ≡ old.station.now)
+      × (new.failure ≡ failure_after result old.failure)
+  OffersIfKept (Err fault) old t way chars result new =
+      (result ≡ Err NotKept) × (new.station.now ≡ old.station.now)
+      × (new.failure ≡ Some Unkept)
+
+  -- A record is kept, and then the station offers it.
+  pub record KeepsAndOffers (old : Fed S Q) (t : ℕ) (way : Way) (chars : List ℕ)
+      (result : Result ℕ Fault) (new : Fed S Q) : Type 0 where
+    pub given : Result (List ℕ) StoreFault
+    pub keeps : keeps_offer old.keeps.now t way chars given new.keeps.now
+    pub done : OffersIfKept given old t way chars result new
+    pub same : IsSameFed old new
 
 module _ {S Q : Type 0}
     (keeps_changes : Q → S → Result (Unit {0}) StoreFault → Q → Type 0) where
@@ -30,10 +62,10 @@ module _ {S Q : Type 0}
   pub record KeepsRelease (old : Fed S Q) (result : Result (Unit {0}) Fault) (new : Fed S Q)
       : Type 0 where
     pub kept : Result (Unit {0}) StoreFault
-    pub keeps : keeps_changes old.keeps old.station.now kept new.keeps
+    pub keeps : keeps_changes old.keeps.now old.station.now kept new.keeps.now
     pub answers : AnswersKept kept old.failure result new.failure
-    pub same : new.station ≡ old.station
-    pub stopped : new.stopped ≡ old.stopped
+    pub unchanged : new.station.now ≡ old.station.now
+    pub same : IsSameFed old new
 
 module _ {S Q : Type 0}
     (releases : S → ℕ → Way → ℕ → Result (Unit {0}) Fault → S → Type 0)
@@ -50,14 +82,15 @@ module _ {S Q : Type 0}
     pub answer : Result (Unit {0}) Fault
     pub between : Fed S Q
     pub released : releases old.station.now t way count answer between.station.now
-    pub keeps_rest : (between.keeps ≡ old.keeps) × (between.stopped ≡ old.stopped)
-        × (between.failure ≡ old.failure)
+    pub refused : OnErr answer (between.station.now ≡ old.station.now)
+    pub keeps_rest : (between.keeps.now ≡ old.keeps.now) × (between.failure ≡ old.failure)
+    pub same : IsSameFed old between
     pub keeps : KeepsIfDone answer between result new
 
 -- The station changes so, and nothing else does.
 pub record ChangesStation {S Q : Type 0} (changes : S → S → Type 0) (old new : Fed S Q)
     : Type 0 where
   pub changed : changes old.station.now new.station.now
-  pub keeps : new.keeps ≡ old.keeps
-  pub stopped : new.stopped ≡ old.stopped
+  pub keeps : new.keeps.now ≡ old.keeps.now
   pub failure : new.failure ≡ old.failure
+  pub same : IsSameFed old new

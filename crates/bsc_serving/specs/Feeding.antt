@@ -1,17 +1,20 @@
 -- What a control station and a terminal do for programs.
-use Rattle.std.specs.Prelude.{◌≡◌, ℕ, zero, suc, Bool, true, List, [], Result, Ok, Err}
+use Rattle.std.specs.Prelude.{◌≡◌, ◌<◌, ℕ, zero, suc, Bool, true, List, [], length, Result, Ok}
+use Rattle.std.specs.Prelude.{Err, OnOk}
 use Rattle.bsc_bid.specs.Sender.{release_step}
 use Rattle.bsc_bid.specs.declared.sender.ReleaseError.{ReleaseError}
 use Rattle.bsc_control.specs.Control.{ControlValue, peer_at, with_peer}
-use Rattle.bsc_control.specs.Kept.{outbound_of}
+use Rattle.bsc_control.specs.Kept.{IsControl, outbound_of}
 use Rattle.bsc_control.specs.Peer.{outbound_released, with_outbound}
-use Rattle.bsc_directory.specs.Ways.{select_of}
+use Rattle.bsc_directory.specs.Ways.{IsSelection, select_of}
 use Rattle.bsc_directory.specs.declared.way.Way.{Way}
 use Rattle.bsc_directory.specs.declared.way.Way.TheVariants.{FromTerminal, ToTerminal}
 use Rattle.bsc_feed.specs.Faults.{release_fault}
 use Rattle.bsc_feed.specs.declared.fault.Fault.{Fault}
 use Rattle.bsc_feed.specs.declared.fault.Fault.TheVariants.{NotATerminal}
+use Rattle.bsc_keeping.specs.OffersKept.{control_with, terminal_with}
 use Rattle.bsc_monitor.specs.LineTerminal.{LineTerminalValue, line_terminal_of}
+use Rattle.bsc_tributary.specs.Kept.{IsTributary}
 use Rattle.bsc_tributary.specs.Tributary.{after_release}
 
 -- Whether a record is kept is no matter of the station.
@@ -28,6 +31,18 @@ abbrev pub offered_control : ControlValue → ℕ → Way → List (List ℕ)
 offered_control c t FromTerminal = []
 offered_control c t (ToTerminal s) = (outbound_of c t s).queue.offered
 
+-- A record was offered for a selection address of a terminal, which there is.
+pub record IsOfferedTo (c : ControlValue) (t : ℕ) (way : Way) (chars : List ℕ)
+    (new : ControlValue) : Type 0 where
+  pub control : IsControl c
+  pub terminal : t < length c.peers
+  pub address : IsSelection way (length (peer_at c t).outbounds)
+  pub state : new ≡ control_with c t (select_of way) chars
+
+abbrev pub OffersToControl : ControlValue → ℕ → Way → List ℕ → Result ℕ Fault → ControlValue
+    → Type 0
+OffersToControl c t way chars result new = OnOk result (IsOfferedTo c t way chars new)
+
 -- The doubt of a selection address is ended, as the rules of a bid say.
 pub record ReleasesControl (c : ControlValue) (t : ℕ) (way : Way) (count : ℕ)
     (result : Result (Unit {0}) Fault) (new : ControlValue) : Type 0 where
@@ -38,6 +53,7 @@ pub record ReleasesControl (c : ControlValue) (t : ℕ) (way : Way) (count : ℕ
       ≡ released_as
       (release_step (outbound_of c t (select_of way)).sender
       (outbound_of c t (select_of way)).queue count).answer
+  pub control : IsControl new
 
 -- A control station refuses what is asked of a terminal only.
 pub record IsNoTerminal (c : ControlValue) (result : Result (Unit {0}) Fault) (new : ControlValue)
@@ -52,12 +68,23 @@ offered_terminal l zero FromTerminal = l.tributary.queue.offered
 offered_terminal l zero (ToTerminal s) = []
 offered_terminal l (suc t) way = []
 
+-- A record was offered at a terminal.
+pub record IsOfferedAt (l : LineTerminalValue) (t : ℕ) (way : Way) (chars : List ℕ)
+    (new : LineTerminalValue) : Type 0 where
+  pub tributary : IsTributary l.tributary
+  pub state : new ≡ terminal_with l t (select_of way) chars
+
+abbrev pub OffersToTerminal : LineTerminalValue → ℕ → Way → List ℕ → Result ℕ Fault
+    → LineTerminalValue → Type 0
+OffersToTerminal l t way chars result new = OnOk result (IsOfferedAt l t way chars new)
+
 -- The doubt of a terminal is ended, as the rules of a bid say.
 pub record ReleasesTerminal (l : LineTerminalValue) (count : ℕ) (result : Result (Unit {0}) Fault)
     (new : LineTerminalValue) : Type 0 where
   pub state : new ≡ line_terminal_of l.number (after_release l.tributary count)
   pub answer : result
       ≡ released_as (release_step l.tributary.sender l.tributary.queue count).answer
+  pub tributary : IsTributary new.tributary
 
 -- A terminal starts or stops accepting selections.
 pub record ReadiesTerminal (l : LineTerminalValue) (ready : Bool)

@@ -5,3 +5,4 @@ pub mod Feds
 pub mod Sessions
 pub mod Serves
 pub mod Pauses
+pub mod Turns

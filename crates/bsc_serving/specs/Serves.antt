@@ -36,15 +36,18 @@ served_as (Some error) stopped = Err error
 served_as None stopped = Ok stopped
 
 -- Programs are served at a station whose records are kept by this. It is asked only by steps of
--- programs, none of which begins once it has to end; what is returned is what the last of them
--- left.
+-- programs, none of which begins once it has to end. The result, the station and what keeps its
+-- records are as the last of these steps left them.
 pub record ServesPrograms {S Q : Type 0} (asks : Fed S Q → Fed S Q → Type 0) (station : S)
-    (keeps : Q) (result : Result Bool LiveError) : Type 0 where
+    (keeps : Q) (result : Result Bool LiveError) (new_station : S) (new_keeps : Q)
+    : Type 0 where
   pub begun : Fed S Q
   pub last : Fed S Q
   pub station_is : begun.station.now ≡ station
-  pub keeps_is : begun.keeps ≡ keeps
+  pub keeps_is : begun.keeps.now ≡ keeps
   pub goes_on : begun.stopped ≡ false
   pub fine : begun.failure ≡ None
   pub are_asked : asks begun last
   pub answer : result ≡ served_as last.failure last.stopped
+  pub station_left : new_station ≡ last.station.now
+  pub keeps_left : new_keeps ≡ last.keeps.now

@@ -19,7 +19,7 @@ pub struct Fed<'a, S, Q> {
     station: &'a mut S,
 
     /// What keeps its records.
-    keeps: Q,
+    keeps: &'a mut Q,
 
     /// Whether a program asked the station to end.
     stopped: bool,
@@ -30,9 +30,9 @@ pub struct Fed<'a, S, Q> {
 
 impl<'a, S: Feeds, Q: Keeps<S>> Fed<'a, S, Q> {
     /// Returns the station that is fed, with what keeps its records.
-    pub fn new(station: &'a mut S, keeps: Q) -> Fed<'a, S, Q>
+    pub fn new(station: &'a mut S, keeps: &'a mut Q) -> Fed<'a, S, Q>
         ensures station { result.station ≡ station.entry }
-        ensures keeps { result.keeps ≡ keeps }
+        ensures keeps { result.keeps ≡ keeps.entry }
         ensures stopped { result.stopped ≡ false }
         ensures failure { result.failure ≡ None }
     {
@@ -131,11 +131,14 @@ impl<'a, S: Feeds, Q: Keeps<S>> Party for Fed<'a, S, Q> {
 
 impl<'a, S: Feeds, Q: Keeps<S>> Served for Fed<'a, S, Q> {
     ghost use Rattle.std.specs.Prelude.{◌≡◌, true};
-    ghost use Rattle.bsc_serving.specs.Feds.{ChangesStation, HasKeptNumber, ReleasesAndKeeps};
+    ghost use Rattle.bsc_serving.specs.Feds.{ChangesStation, HasKeptNumber, KeepsAndOffers};
+    ghost use Rattle.bsc_serving.specs.Feds.{ReleasesAndKeeps};
 
     ghost offered = { λ f. S.offered f.station.now };
 
     ghost is_kept = { HasKeptNumber S.offered Q.has_kept };
+
+    ghost offers = { KeepsAndOffers S.offers Q.keeps_offer };
 
     ghost full = { λ f. S.full f.station.now };
 

@@ -1,9 +1,9 @@
 //! Stations that programs may feed.
 
-ghost use Rattle.std.specs.Prelude.{◌≡◌, ◌<◌, ◌≤◌, ℕ, Bool, List, Result, length};
+ghost use Rattle.std.specs.Prelude.{◌≡◌, ◌<◌, ◌≤◌, ℕ, Bool, List, OnErr, Result, length};
 ghost use Rattle.bsc_directory.specs.declared.way.Way.{Way as WayValue};
 ghost use Rattle.bsc_feed.specs.declared.fault.Fault.{Fault as FaultValue};
-ghost use Rattle.bsc_feed.specs.Offering.{IsSending, OffersRecord};
+ghost use Rattle.bsc_feed.specs.Offering.{IsSending, OffersBy};
 ghost use Rattle.bsc_monitor.specs.Ends.{IsWay};
 ghost use Rattle.bsc_serving.specs.Feeding.{needs_no_keeping};
 
@@ -20,6 +20,10 @@ use std::alloc::Allocator;
 pub trait Feeds: Party + Sends {
     /// The records that were offered on each channel on which the station sends, in order.
     ghost offered: { Self → ℕ → WayValue → List (List ℕ) };
+
+    /// What an offer does: the station before, the terminal, the direction, the characters, the
+    /// result, the station after.
+    ghost offers: { Self → ℕ → WayValue → List ℕ → Result ℕ FaultValue → Self → Type 0 };
 
     /// The full length of its records.
     ghost full: { Self → ℕ };
@@ -39,21 +43,24 @@ pub trait Feeds: Party + Sends {
         ensures { result.full ≡ full self.now };
 
     /// Offers a record on a channel on which the station sends, and returns its number, counted
-    /// from 0. Fails with `OutOfMemory`; then nothing is offered.
+    /// from 0. Fails with `OutOfMemory`; then nothing changes.
     fn offer(&mut self, terminal: usize, way: Way, new: Record) -> Result<usize, Fault>
         requires known { terminal < Self.count self.old }
         requires its_way { IsWay way (Self.selects self.old terminal) }
         requires sends { IsSending (Self.ends self.old terminal way) }
         requires short { length new ≤ full self.old }
-        ensures { OffersRecord offered needs_no_keeping self.old terminal way new result self.new };
+        ensures offers { OffersBy offered needs_no_keeping offers self.old terminal way new result
+            self.new }
+        ensures refused { OnErr result (self.new ≡ self.old) };
 
     /// Ends the doubt of a channel on which the station sends, of which the other end has this many
-    /// records. Fails with `NotInDoubt` or `CountMismatch`.
+    /// records. Fails with `NotInDoubt` or `CountMismatch`; then nothing changes.
     fn release(&mut self, terminal: usize, way: Way, count: usize) -> Result<(), Fault>
         requires known { terminal < Self.count self.old }
         requires its_way { IsWay way (Self.selects self.old terminal) }
         requires sends { IsSending (Self.ends self.old terminal way) }
-        ensures { releases self.old terminal way count result self.new };
+        ensures releases { releases self.old terminal way count result self.new }
+        ensures refused { OnErr result (self.new ≡ self.old) };
 
     /// Starts or stops accepting selections. Fails with `NotATerminal` at a control station.
     fn set_ready(&mut self, ready: bool) -> Result<(), Fault>
@@ -65,9 +72,12 @@ pub trait Feeds: Party + Sends {
 }
 
 impl<A: Allocator> Feeds for Control<A> {
-    ghost use Rattle.bsc_serving.specs.Feeding.{IsNoTerminal, ReleasesControl, offered_control};
+    ghost use Rattle.bsc_serving.specs.Feeding.{IsNoTerminal, OffersToControl, ReleasesControl};
+    ghost use Rattle.bsc_serving.specs.Feeding.{offered_control};
 
     ghost offered = { offered_control };
+
+    ghost offers = { OffersToControl };
 
     ghost full = { λ c. c.setup.format.full };
 
@@ -110,9 +120,11 @@ impl<A: Allocator> Feeds for Control<A> {
 
 impl<A: Allocator> Feeds for LineTerminal<A> {
     ghost use Rattle.bsc_serving.specs.Feeding.{ReadiesTerminal, ReleasesTerminal, UrgesTerminal};
-    ghost use Rattle.bsc_serving.specs.Feeding.{offered_terminal};
+    ghost use Rattle.bsc_serving.specs.Feeding.{OffersToTerminal, offered_terminal};
 
     ghost offered = { offered_terminal };
+
+    ghost offers = { OffersToTerminal };
 
     ghost full = { λ l. l.tributary.queue.format.full };
 

@@ -1,9 +1,9 @@
 //! What keeps the records of a station while programs feed it.
 
 ghost use Rattle.std.specs.Prelude.{◌≡◌, ℕ, List, Result, IfOk, OnOk};
+ghost use Rattle.bsc_directory.specs.Ways.{select_of};
 ghost use Rattle.bsc_directory.specs.declared.way.Way.{Way as WayValue};
 ghost use Rattle.bsc_kept.specs.declared.fault.StoreFault.{StoreFault as StoreFaultValue};
-ghost use Rattle.bsc_serving.specs.Keeping.{select_in};
 
 use bsc_block::Record;
 use bsc_directory::Way;
@@ -17,6 +17,11 @@ pub trait Keeps<S> {
     /// direction, and nothing was kept after it.
     ghost has_kept: { Self → ℕ → WayValue → List ℕ → Type 0 };
 
+    /// What it does to keep a record: what keeps, the terminal, the direction, the characters, the
+    /// result, what keeps after it.
+    ghost keeps_offer: { Self → ℕ → WayValue → List ℕ → Result (List ℕ) StoreFaultValue → Self
+        → Type 0 };
+
     /// What it does to keep what the station has changed: what keeps, the station, the result, what
     /// keeps after it.
     ghost keeps_changes: { Self → S → Result (Unit {0}) StoreFaultValue → Self → Type 0 };
@@ -25,6 +30,7 @@ pub trait Keeps<S> {
     /// returns it. Fails if it is not kept; then nothing is.
     fn offered(&mut self, terminal: usize, way: Way, new: Record) -> Result<Record, StoreFault>
         ensures kept { OnOk result (has_kept self.new terminal way new) }
+        ensures keeps { keeps_offer self.old terminal way new result self.new }
         ensures same { IfOk result (λ r. r ≡ new) };
 
     /// Keeps what the station has changed since what is kept.
@@ -40,6 +46,8 @@ impl<S> Keeps<S> for Unkept {
     ghost use Rattle.std.specs.Prelude.{◌≡◌, Ok};
 
     ghost has_kept = { λ _ _ _ _. Unit {0} };
+
+    ghost keeps_offer = { λ old _ _ chars result new. (result ≡ Ok chars) × (new ≡ old) };
 
     ghost keeps_changes = { λ old _ result new. (result ≡ Ok tt) × (new ≡ old) };
 
@@ -74,7 +82,7 @@ impl<'a, K: Store + Drop, V: Prints> KeptBy<'a, K, V> {
 
 /// Returns the number of the selection address of a channel; 0 for the channel from a terminal.
 fn select_in(way: Way) -> usize
-    ensures { result ≡ select_in way }
+    ensures { result ≡ select_of way }
 {
     match way {
         Way::FromTerminal => 0,
@@ -83,13 +91,13 @@ fn select_in(way: Way) -> usize
 }
 
 impl<'a, S: Party + Sends, K: Store + Drop, V: Prints> Keeps<S> for KeptBy<'a, K, V> {
-    ghost use Rattle.bsc_keeping.specs.Keeping.{KeepsStep};
-    ghost use Rattle.bsc_serving.specs.Keeping.{HasKept};
+    ghost use Rattle.bsc_serving.specs.Keeping.{HasKept, KeepsChangesBy, KeepsOfferBy};
 
     ghost has_kept = { λ k terminal way chars. HasKept K.Store terminal way chars k.keeper.now };
 
-    ghost keeps_changes = { λ old station result new. KeepsStep S.Party S.kept_at K.Store
-        (V.printed old.watch.now) station result old.keeper.now new.keeper.now };
+    ghost keeps_offer = { KeepsOfferBy K.Store };
+
+    ghost keeps_changes = { KeepsChangesBy S.Party S.kept_at K.Store V.printed };
 
     fn offered(&mut self, terminal: usize, way: Way, new: Record) -> Result<Record, StoreFault> {
         self.keeper.offer(terminal, select_in(way), new)

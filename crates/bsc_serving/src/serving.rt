@@ -1,17 +1,22 @@
 //! The programs of a station and their sessions.
 
-ghost use Rattle.std.specs.Prelude.{◌≡◌, IfOk, None, replicate};
+ghost use Rattle.std.specs.Prelude.{◌≡◌, IfOk, None, is_ok, replicate};
 ghost use Rattle.bsc_feed.specs.Answering.{serving};
-ghost use Rattle.bsc_feed.specs.Offering.{OffersRecord};
+ghost use Rattle.bsc_feed.specs.Offering.{OffersBy};
+ghost use Rattle.bsc_keeping.specs.Runs.{KeptRun};
 ghost use Rattle.bsc_serving.specs.Serves.{IsAsked, IsServed, ServesPrograms, failure_of};
+ghost use Rattle.bsc_serving.specs.Turns.{for_programs};
 ghost use Rattle.bsc_serving.specs.declared.programs.TheConstants.{MAX_PROGRAMS};
 
 use crate::failing::Failing;
 use crate::session::{Session, Step};
-use crate::{Called, Fed, Feeds, Keeps, MAX_PROGRAMS, Programs};
+use crate::{Called, Fed, Feeds, Keeps, KeptBy, MAX_PROGRAMS, Programs};
+use bsc_bid::Station;
 use bsc_connections::LiveError;
 use bsc_feed::Served;
-use bsc_monitor::Party;
+use bsc_keeping::{Keeper, Prints};
+use bsc_kept::Store;
+use bsc_monitor::{Forgets, Party};
 use std::alloc::{AllocError, Global};
 use std::io::{Read, Write};
 
@@ -64,28 +69,83 @@ impl<P: Programs + Drop> Serving<P> {
     /// all sessions, and what they then have to tell. Returns whether a program asked the station
     /// to end. Fails with `Unkept` or `Memory` if what a program offered or released could not be
     /// kept, or not be offered after that; its line is then not answered, and no program is served
-    /// after it.
-    pub fn serve<'s, S: Feeds, Q: Keeps<S> + Drop>(
+    /// after it. The station, and what keeps its records, are as the last step of a program left
+    /// them.
+    pub fn serve<'s, S: Feeds, Q: Keeps<S>>(
         &mut self,
         station: &'s mut S,
-        keeps: Q,
+        keeps: &'s mut Q,
     ) -> Result<bool, LiveError>
         ensures { ServesPrograms
             (IsAsked ⟦<Fed<'s, S, Q> as Party>⟧
-            (serving (OffersRecord ⟦<Fed<'s, S, Q> as Served>⟧.offered
-            ⟦<Fed<'s, S, Q> as Served>⟧.is_kept) ⟦<Fed<'s, S, Q> as Served>⟧.full
-            ⟦<Fed<'s, S, Q> as Served>⟧.releases ⟦<Fed<'s, S, Q> as Served>⟧.readies
+            (serving (OffersBy ⟦<Fed<'s, S, Q> as Served>⟧.offered
+            ⟦<Fed<'s, S, Q> as Served>⟧.is_kept ⟦<Fed<'s, S, Q> as Served>⟧.offers)
+            ⟦<Fed<'s, S, Q> as Served>⟧.full ⟦<Fed<'s, S, Q> as Served>⟧.releases
+            ⟦<Fed<'s, S, Q> as Served>⟧.readies
             ⟦<Fed<'s, S, Q> as Served>⟧.urges ⟦<Fed<'s, S, Q> as Served>⟧.stops) (λ f. f.failure))
-            station.old keeps result }
+            station.old keeps.old result station.new keeps.new }
     {
         self.programs.ask();
         self.hear();
         self.admit();
         let mut fed = Fed::new(station, keeps);
-        match self.serve_all(&mut fed) {
+        match self.serve_fed(&mut fed) {
             Ok(()) => Ok(fed.is_stopped()),
             Err(failure) => Err(failure),
         }
+    }
+
+    /// Serves the programs of a station whose records this keeper keeps, as [`Serving::serve`]
+    /// does; `watch` tells how many records were printed. The turn is part of the run of such a
+    /// station: each record that a program offers is kept, and only then offered, and the end of a
+    /// doubt is kept before the next step. The run has not failed unless the turn does.
+    pub fn serve_kept<S: Station + Feeds + Forgets, K: Store + Drop, V: Prints>(
+        &mut self,
+        station: &mut S,
+        keeper: &mut Keeper<K>,
+        watch: &V,
+    ) -> Result<bool, LiveError>
+        ensures { KeptRun S.Station S.Party S.kept_at K.Store S.forgets_sent S.forgets_arrived
+            (for_programs S.offers S.releases S.readies S.urges) (is_ok result)
+            (record { station = station.old; keeper = keeper.old })
+            (record { station = station.new; keeper = keeper.new }) }
+    {
+        let mut keeps = KeptBy::new(keeper, watch);
+        self.serve_with(station, &mut keeps)
+    }
+
+    /// Does the same with what keeps the records.
+    fn serve_with<'a, S: Station + Feeds + Forgets, K: Store + Drop, V: Prints>(
+        &mut self,
+        station: &mut S,
+        keeps: &mut KeptBy<'a, K, V>,
+    ) -> Result<bool, LiveError>
+        ensures ran { KeptRun S.Station S.Party S.kept_at K.Store S.forgets_sent S.forgets_arrived
+            (for_programs S.offers S.releases S.readies S.urges) (is_ok result)
+            (record { station = station.old; keeper = keeps.old.keeper.now })
+            (record { station = station.new; keeper = keeps.new.keeper.now }) }
+        ensures same { keeps.new.keeper.ghost_name ≡ keeps.old.keeper.ghost_name }
+    {
+        self.serve(station, keeps)
+    }
+
+    /// Serves the programs at one place after another, of the same station all the time.
+    fn serve_fed<'s, S: Feeds, Q: Keeps<S>>(
+        &mut self,
+        fed: &mut Fed<'s, S, Q>,
+    ) -> Result<(), LiveError>
+        requires { fed.old.failure ≡ None }
+        ensures served { IsServed ⟦<Fed<'s, S, Q> as Party>⟧
+            (serving (OffersBy ⟦<Fed<'s, S, Q> as Served>⟧.offered
+            ⟦<Fed<'s, S, Q> as Served>⟧.is_kept ⟦<Fed<'s, S, Q> as Served>⟧.offers)
+            ⟦<Fed<'s, S, Q> as Served>⟧.full ⟦<Fed<'s, S, Q> as Served>⟧.releases
+            ⟦<Fed<'s, S, Q> as Served>⟧.readies ⟦<Fed<'s, S, Q> as Served>⟧.urges
+            ⟦<Fed<'s, S, Q> as Served>⟧.stops) (λ f. f.failure) fed.old (failure_of result)
+            fed.new }
+        ensures same_station { fed.new.station.ghost_name ≡ fed.old.station.ghost_name }
+        ensures same_keeps { fed.new.keeps.ghost_name ≡ fed.old.keeps.ghost_name }
+    {
+        self.serve_all(fed)
     }
 
     /// Takes note of what has happened to the programs.
@@ -115,8 +175,8 @@ impl<P: Programs + Drop> Serving<P> {
     /// Serves the programs at one place after another, until all are served or the turn has ended.
     fn serve_all<F: Failing>(&mut self, fed: &mut F) -> Result<(), LiveError>
         requires { F.fails fed.old ≡ None }
-        ensures { IsServed F.Party (serving (OffersRecord F.offered F.is_kept) F.full F.releases
-            F.readies F.urges F.stops) F.fails fed.old (failure_of result) fed.new }
+        ensures { IsServed F.Party (serving (OffersBy F.offered F.is_kept F.offers) F.full
+            F.releases F.readies F.urges F.stops) F.fails fed.old (failure_of result) fed.new }
     {
         let mut left = MAX_STEPS;
         'turns: for _ in 0..MAX_PROGRAMS {
@@ -187,7 +247,7 @@ fn serve_place<T: Read + Write + Drop, F: Failing>(
     left: &mut usize,
 ) -> Result<(), LiveError>
     requires { F.fails fed.old ≡ None }
-    ensures { IsServed F.Party (serving (OffersRecord F.offered F.is_kept) F.full F.releases
+    ensures { IsServed F.Party (serving (OffersBy F.offered F.is_kept F.offers) F.full F.releases
         F.readies F.urges F.stops) F.fails fed.old (failure_of result) fed.new }
 {
     let Some(at) = places.get_mut(place) else {
@@ -215,7 +275,7 @@ fn serve_session<T: Read + Write + Drop, F: Failing>(
     left: &mut usize,
 ) -> Result<Step, LiveError>
     requires { F.fails fed.old ≡ None }
-    ensures { IsServed F.Party (serving (OffersRecord F.offered F.is_kept) F.full F.releases
+    ensures { IsServed F.Party (serving (OffersBy F.offered F.is_kept F.offers) F.full F.releases
         F.readies F.urges F.stops) F.fails fed.old (failure_of result) fed.new }
 {
     'steps: for _ in 0..MAX_STEPS + MAX_WRITES {

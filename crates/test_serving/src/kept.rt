@@ -8,7 +8,7 @@ use bsc_control::Control;
 use bsc_frame::Address;
 use bsc_keeping::{Keeper, Own, Owner, begin_control};
 use bsc_kept::{Change, Channel, Store, StoreFault};
-use bsc_serving::{KeptBy, Serving};
+use bsc_serving::Serving;
 use std::alloc::Global;
 use std::test::Fail;
 use test_memory::Memory;
@@ -43,7 +43,7 @@ fn second() -> Result<Channel, Fail> {
 /// Serves the programs once.
 fn served(serving: &mut Serving<Scripted<'_>>, kept: &mut Kept) -> Result<bool, LiveError> {
     let watch = Quiet::new();
-    serving.serve(&mut kept.station, KeptBy::new(&mut kept.keeper, &watch))
+    serving.serve_kept(&mut kept.station, &mut kept.keeper, &watch)
 }
 
 /// What one program says, and what it has to be told.

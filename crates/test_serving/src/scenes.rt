@@ -231,7 +231,7 @@ pub(crate) fn served<S: Feeds>(
 ) -> Result<bool, Fail> {
     let mut stopped = false;
     for _ in 0..times {
-        stopped |= serving.serve(station, Unkept)?;
+        stopped |= serving.serve(station, &mut Unkept)?;
     }
     Ok(stopped)
 }

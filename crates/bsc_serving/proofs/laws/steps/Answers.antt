@@ -1,11 +1,11 @@
 -- The steps of a session, from the lemmas about them.
 use Rattle.bsc_feed.specs.Answering.{serving}
-use Rattle.bsc_feed.specs.Offering.{OffersRecord}
+use Rattle.bsc_feed.specs.Offering.{OffersBy}
 use Rattle.bsc_serving.proofs.Steps.{steps_of_clients}
 use Rattle.bsc_serving.proofs.laws.steps.Goals as goal
 
 pub returns : goal.returns
 returns g c =
     let served = g.S.Served in
-    steps_of_clients g.S.Party (serving (OffersRecord served.offered served.is_kept) served.full
+    steps_of_clients g.S.Party (serving (OffersBy served.offered served.is_kept served.offers) served.full
     served.releases served.readies served.urges served.stops) g.T.Read g.T.Write

@@ -6,8 +6,10 @@ pub returns-in-Ok : goal.returns-in-Ok
 returns-in-Ok g c = record {
   answer = Ok c.in-Ok.field-0;
   between = _;
-  released = c.in-Ok.ensures;
-  keeps_rest = (refl, refl, refl);
+  released = c.in-Ok.ensures.releases;
+  refused = tt;
+  keeps_rest = (refl, refl);
+  same = record { station = refl; keeps = refl; stopped = refl };
   keeps = c.keep_release.ensures;
 }
 
@@ -15,7 +17,9 @@ pub returns-in-Err : goal.returns-in-Err
 returns-in-Err g c = record {
   answer = Err c.in-Err.fault;
   between = _;
-  released = c.in-Err.ensures;
-  keeps_rest = (refl, refl, refl);
+  released = c.in-Err.ensures.releases;
+  refused = c.in-Err.ensures.refused;
+  keeps_rest = (refl, refl);
+  same = record { station = refl; keeps = refl; stopped = refl };
   keeps = (refl, refl);
 }
