@@ -80,7 +80,7 @@ next_call_stays : (c : ControlValue) (after : After)
 next_call_stays c after = way_call_stays c (next_call c after).place (next_call c after).way
 
 -- an element that knows more takes the place of one
-know_at_set : (xs : List OutboundValue) (i j : ℕ) (x : OutboundValue)
+pub know_at_set : (xs : List OutboundValue) (i j : ℕ) (x : OutboundValue)
     → KnowsMore (slice_index_or xs i no_outbound).queue x.queue
     → KnowsMore (slice_index_or xs j no_outbound).queue
     (slice_index_or (slice_set xs i x) j no_outbound).queue
@@ -90,7 +90,7 @@ know_at_set (y ∷ ys) zero (suc j) x more = knows_as_many (slice_index_or ys j 
 know_at_set (y ∷ ys) (suc i) zero x more = knows_as_many y.queue
 know_at_set (y ∷ ys) (suc i) (suc j) x more = know_at_set ys i j x more
 
-know_at_peer : (ps : List PeerValue) (i j s : ℕ) (p : PeerValue)
+pub know_at_peer : (ps : List PeerValue) (i j s : ℕ) (p : PeerValue)
     → KnowsMore (outbound_at (slice_index_or ps i no_peer) s).queue (outbound_at p s).queue
     → KnowsMore (outbound_at (slice_index_or ps j no_peer) s).queue
     (outbound_at (slice_index_or (slice_set ps i p) j no_peer) s).queue
@@ -209,7 +209,7 @@ pub record ControlGrows (old new : ControlValue) : Type 0 where
   pub outbounds : (t : ℕ) → length (peer_at new t).outbounds ≡ length (peer_at old t).outbounds
   pub received : (n : ℕ) → ReceivedGrows (received_from old n) (received_from new n)
 
-grown_from : (old new : ControlValue) (n : ℕ) → length new.peers ≡ length old.peers
+pub grown_from : (old new : ControlValue) (n : ℕ) → length new.peers ≡ length old.peers
     → ReceivedGrows (peer_at old n).spool.records (peer_at new n).spool.records
     → ReceivedGrows (received_from old n) (received_from new n)
 grown_from old new n peers grows =

@@ -23,3 +23,4 @@ mod Offered
 mod Offers
 mod Works
 mod ControlWorks
+mod Programs

@@ -13,7 +13,7 @@ use Rattle.bsc_bid.specs.declared.kept.KeptSender.{KeptSender}
 use Rattle.bsc_tributary.specs.Kept.{IsTributary}
 use Rattle.bsc_directory.specs.Addresses.{AreDistinct}
 use Rattle.bsc_control.specs.Control.{ControlValue, peer_at, with_peer}
-use Rattle.bsc_control.specs.Kept.{outbound_of}
+use Rattle.bsc_control.specs.Kept.{IsControl, outbound_of}
 use Rattle.bsc_control.specs.Peer.{OutboundValue, PeerValue, no_outbound, no_peer, offered}
 use Rattle.bsc_control.specs.Peer.{offered_to, outbound_at, with_outbound}
 use Rattle.bsc_control.specs.Stored.{kept_of_side}
@@ -27,7 +27,7 @@ use Rattle.bsc_kept.specs.declared.fault.StoreFault.{StoreFault}
 use Rattle.bsc_kept.specs.declared.store.Store as store_of
 use Rattle.bsc_monitor.specs.LineTerminal.{LineTerminalValue}
 use Rattle.bsc_keeping.specs.Ends.{kept_at_control}
-use Rattle.bsc_keeping.specs.Offers.{OffersIf, channel_of, channel_to, is_end_to}
+use Rattle.bsc_keeping.specs.Offers.{KeepsOffer, OffersIf, channel_of, channel_to, is_end_to}
 use Rattle.bsc_keeping.specs.OffersKept.{control_with, terminal_with}
 use Rattle.bsc_keeping.specs.Own.{each_of, receiving_of, selection_of, selections_at, sending_of}
 use Rattle.bsc_keeping.specs.Own.{sends_from, spools_of, terminal_at}
@@ -85,14 +85,14 @@ module _ (IsSide : ℕ → ℕ → Type 0) where
 module _ {S K : Type 0} (kept_at : S → ℕ → ℕ → Option KeptSender)
     (waits : S → ℕ → ℕ → List (List ℕ)) (records : S → ℕ → List (List ℕ))
     (store : store_of.Ghosts K) (sending : List Sending) (receiving : List Receiving)
-    (is_station : S → Type 0) (offered_to_it : S → ℕ → ℕ → List ℕ → S)
+    (offered_to_it : S → ℕ → ℕ → List ℕ → S)
     (IsSide : ℕ → ℕ → Type 0) (sides : AreSides IsSide sending)
     (differ : ChannelsDiffer sending receiving) (most : (t s : ℕ) → AtMostOne t s sending)
-    (gains : (t s : ℕ) (chars : List ℕ) (its : Channel) (station : S) → is_station station
-    → channel_to t s sending ≡ Some its
-    → Gains kept_at waits records t s chars station (offered_to_it station t s chars) IsSide)
     (has : K → Channel → Contents) (given : KeepsGiven store has) (t s : ℕ) (chars : List ℕ)
-    (station : S) (is : is_station station) (old new : Keeper K)
+    (station : S)
+    (gains : (its : Channel) → channel_to t s sending ≡ Some its
+    → Gains kept_at waits records t s chars station (offered_to_it station t s chars) IsSide)
+    (old new : Keeper K)
     (knows : Knows (has old.store) sending receiving old)
     (all : HasStation kept_at waits records (has old.store) sending receiving station)
     (same_sending : new.sending ≡ old.sending) (same_receiving : new.receiving ≡ old.receiving)
@@ -113,7 +113,7 @@ module _ {S K : Type 0} (kept_at : S → ℕ → ℕ → Option KeptSender)
         let rs = old.receiving.items in
         let here : channel_to t s sending ≡ Some its =
         ap (channel_to t s) (sym knows.sends) ∙ find_bare t s ss ∙ found in
-        let g = gains t s chars its station is here in
+        let g = gains its here in
         let had =
         has_with kept_at waits records (has old.store) station sending ss receiving rs knows.sends
         knows.receives all in
@@ -252,11 +252,10 @@ pub terminal_outlives_offers : {K : Type 0} (store : store_of.Ghosts K) (termina
 terminal_outlives_offers store terminal distinct has given t s chars l result old new is knows all
     keeps =
     by_result kept_at_terminal waiting_at_terminal arrived_at_terminal store
-    (sends_from (Some terminal)) (spools_of terminal)
-    (λ (x : LineTerminalValue). IsTributary x.tributary) terminal_with IsOwnSide
+    (sends_from (Some terminal)) (spools_of terminal) terminal_with IsOwnSide
     ((refl, refl), tt) (terminal_channels_differ terminal distinct) (λ i j. (λ at. tt, tt))
-    (own_gains terminal) has given t s chars l is old new knows all keeps.sending keeps.receiving
-    result (channel_to t s old.sending.items) refl keeps.offers
+    has given t s chars l (λ its found. own_gains terminal t s chars its l is found) old new knows
+    all keeps.sending keeps.receiving result (channel_to t s old.sending.items) refl keeps.offers
 
 -- at most one end is found in lists of which at most one has any
 at_most_both : (t s : ℕ) (xs ys : List Sending) → AtMostOne t s xs → AtMostOne t s ys
@@ -384,12 +383,11 @@ control_place ts t s its c is found =
       ),
     )
 
-pub control_gains : (ts : List TerminalValue) (t s : ℕ) (chars : List ℕ) (its : Channel)
-    (c : ControlValue) → IsControlOf ts c → channel_to t s (sending_of ts Control) ≡ Some its
+pub gains_there : (IsSide : ℕ → ℕ → Type 0) (t s : ℕ) (chars : List ℕ) (c : ControlValue)
+    → IsControl c → t < length c.peers → s < length (peer_at c t).outbounds
     → Gains kept_at_control waiting_at_control arrived_at_control t s chars c
-    (control_with c t s chars) (HasAddress ts)
-control_gains ts t s chars its c is found =
-    let (terminal, address) = control_place ts t s its c is found in
+    (control_with c t s chars) IsSide
+gains_there IsSide t s chars c is terminal address =
     let p = peer_at c t in
     let o = outbound_of c t s in
     let q = offered_to p s chars in
@@ -409,7 +407,7 @@ control_gains ts t s chars its c is found =
       waits_here =
           ap (λ (x : OutboundValue). waiting x.queue) side
           ∙ drop-append-le o.queue.known o.queue.offered (chars ∷ [])
-          (sides_within c is.control t s);
+          (sides_within c is t s);
       waits_there = λ i j its_side elsewhere.
           ap (λ (x : OutboundValue). waiting x.queue)
           (other_side c t s n i j (nat_eq i t) refl elsewhere);
@@ -419,13 +417,41 @@ control_gains ts t s chars its c is found =
           else [];
     }
 
+pub control_gains : (ts : List TerminalValue) (t s : ℕ) (chars : List ℕ) (its : Channel)
+    (c : ControlValue) → IsControlOf ts c → channel_to t s (sending_of ts Control) ≡ Some its
+    → Gains kept_at_control waiting_at_control arrived_at_control t s chars c
+    (control_with c t s chars) (HasAddress ts)
+control_gains ts t s chars its c is found =
+    let (terminal, address) = control_place ts t s its c is found in
+    gains_there (HasAddress ts) t s chars c is.control terminal address
+
 pub control_outlives_offers : {K : Type 0} (store : store_of.Ghosts K) (ts : List TerminalValue)
     → AreDistinct ts
     → OutlivesOffers kept_at_control waiting_at_control arrived_at_control store
     (sending_of ts Control) (receiving_of ts Control) (IsControlOf ts) control_with
 control_outlives_offers store ts distinct has given t s chars c result old new is knows all keeps =
     by_result kept_at_control waiting_at_control arrived_at_control store (sending_of ts Control)
-    (receiving_of ts Control) (IsControlOf ts) control_with (HasAddress ts) (control_sides ts)
-    (control_channels_differ ts distinct) (at_most_of_control ts) (control_gains ts) has given t s
-    chars c is old new knows all keeps.sending keeps.receiving result
-    (channel_to t s old.sending.items) refl keeps.offers
+    (receiving_of ts Control) control_with (HasAddress ts) (control_sides ts)
+    (control_channels_differ ts distinct) (at_most_of_control ts) has given t s chars c
+    (λ its found. control_gains ts t s chars its c is found) old new knows all keeps.sending
+    keeps.receiving result (channel_to t s old.sending.items) refl keeps.offers
+
+-- the same of one of which less is known, at an address that it has
+pub control_offered_there : {K : Type 0} (store : store_of.Ghosts K) (ts : List TerminalValue)
+    → AreDistinct ts → (has : K → Channel → Contents) → KeepsGiven store has → (t s : ℕ)
+    (chars : List ℕ) (c : ControlValue) (result : Result (List ℕ) StoreFault) (old new : Keeper K)
+    → IsControl c → t < length c.peers → s < length (peer_at c t).outbounds
+    → Knows (has old.store) (sending_of ts Control) (receiving_of ts Control) old
+    → HasStation kept_at_control waiting_at_control arrived_at_control (has old.store)
+    (sending_of ts Control) (receiving_of ts Control) c
+    → KeepsOffer store t s chars result old new
+    → LeavesOffer kept_at_control waiting_at_control arrived_at_control store
+    (sending_of ts Control) (receiving_of ts Control) has c (control_with c t s chars) chars result
+    old new
+control_offered_there store ts distinct has given t s chars c result old new is terminal address
+    knows all keeps =
+    by_result kept_at_control waiting_at_control arrived_at_control store (sending_of ts Control)
+    (receiving_of ts Control) control_with (HasAddress ts) (control_sides ts)
+    (control_channels_differ ts distinct) (at_most_of_control ts) has given t s chars c
+    (λ its found. gains_there (HasAddress ts) t s chars c is terminal address) old new knows all
+    keeps.sending keeps.receiving result (channel_to t s old.sending.items) refl keeps.offers

@@ -1,28 +1,35 @@
 -- A store has all that is to be kept of a station throughout a session, whatever a crash leaves.
 use Rattle.std.proofs.Common.{drop, arith, ◌-◌, ◌≡◌, ◌∙◌, ℕ, Bool, true, false, List, [], ◌∷◌, ◌++◌, map}
-use Rattle.std.proofs.Common.{Option, None, Some, Result, Ok, Err, ◌⊎◌, inl, inr, refl, sym, ap}
+use Rattle.std.proofs.Common.{Option, None, Some, Result, Ok, ◌⊎◌, inl, inr, refl, sym, ap}
 use Rattle.std.proofs.Common.{subst}
 use Rattle.std.specs.List.{AllByRecursion}
 use Rattle.bsc_bid.specs.declared.kept.KeptSender.{KeptSender}
 use Rattle.bsc_bid.specs.declared.station.Station as station_of
+use Rattle.bsc_directory.specs.Ways.{select_of}
+use Rattle.bsc_directory.specs.declared.way.Way.{Way}
 use Rattle.bsc_kept.specs.Contents.{Contents}
 use Rattle.bsc_kept.specs.declared.change.Change.{Change}
+use Rattle.bsc_kept.specs.declared.change.Change.TheVariants.{Offered}
 use Rattle.bsc_kept.specs.declared.channel.Channel.{Channel}
 use Rattle.bsc_kept.specs.declared.ends.Receiving.{Receiving}
 use Rattle.bsc_kept.specs.declared.ends.Sending.{Sending}
+use Rattle.bsc_kept.specs.declared.fault.StoreFault.{StoreFault}
 use Rattle.bsc_kept.specs.declared.store.Store as store_of
 use Rattle.bsc_monitor.specs.declared.party.Party as party_of
 use Rattle.bsc_keeping.specs.Changes.{known_now, receiving_now, sending_now}
-use Rattle.bsc_keeping.specs.Keeping.{KeepsAll, KeepsChanged, SurvivesAll, step_of}
-use Rattle.bsc_keeping.specs.Runs.{IsEvent, KeptRun, KeptStep, KeptSteps, Moment, attended, begins}
-use Rattle.bsc_keeping.specs.Runs.{begun, forgot_arrived, forgot_sent, kept, one_more}
+use Rattle.bsc_keeping.specs.Keeping.{KeepsAll, KeepsChanged, KeepsStep, SurvivesAll, step_of}
+use Rattle.bsc_keeping.specs.Offers.{KeepsOffer, OffersIf, channel_to}
+use Rattle.bsc_keeping.specs.Runs.{ForPrograms, IsEvent, KeptRun, KeptStep, KeptSteps, Moment}
+use Rattle.bsc_keeping.specs.Runs.{if_fed}
+use Rattle.bsc_keeping.specs.Runs.{attended, begins, begun, forgot_arrived, forgot_sent, kept}
+use Rattle.bsc_keeping.specs.Runs.{offered, one_more, released, set}
 use Rattle.bsc_keeping.specs.declared.keeper.Keeper.{Keeper}
-use Rattle.bsc_restarts.specs.Between.{OutlivesForgetting, OutlivesKeeping}
+use Rattle.bsc_restarts.specs.Between.{LeavesOffer, OutlivesForgetting, OutlivesKeeping}
 use Rattle.bsc_restarts.specs.Crashes.{AllDiffer, CrashLeaves, IsSame, KeepsEach, KeepsGiven}
 use Rattle.bsc_restarts.specs.Kept.{ChannelsDiffer, HasReceivedOn, HasSentOn, HasStation, Knows}
 use Rattle.bsc_restarts.specs.Kept.{KnowsReceived, KnowsSent, receiving_channels, bare_receiving}
 use Rattle.bsc_restarts.specs.Kept.{sending_channels, bare_sending}
-use Rattle.bsc_restarts.specs.Sessions.{IsKeptIn, LeavesEither, OutlivesCrashes}
+use Rattle.bsc_restarts.specs.Sessions.{CrashLeavesEither, IsKeptIn, LeavesEither, OutlivesCrashes}
 use Rattle.bsc_restarts.proofs.Ends.{SentGrowsIf, grows_not}
 use Rattle.bsc_restarts.proofs.Stepping.{HasAfter, StationGrows, arrived_of, has_after, has_same}
 
@@ -118,6 +125,12 @@ module _ {K : Type 0} (store : store_of.Ghosts K) (has : K → Channel → Conte
   all_sound changes old new (inr survives) sound =
       given.was_sound changes old new survives sound
 
+  offer_sound : (found : Option Channel) (chars : List ℕ) (old new : K)
+      → OffersIf store found chars (Ok chars) old new → store.sound new → store.sound old
+  offer_sound None chars old new (refused, same) sound = subst store.sound same sound
+  offer_sound (Some its) chars old new offers sound =
+      all_sound (Offered its chars ∷ []) old new offers.crash sound
+
   all_kept : (changes : List Change) (old new : K) → KeepsAll store changes old new
       → store.sound new → KeepsEach changes (has old) (has new)
   all_kept [] old new same sound = λ channel. ap (λ k. has k channel) same
@@ -130,13 +143,50 @@ module _ {K : Type 0} (store : store_of.Ghosts K) (has : K → Channel → Conte
   all_left changes old new (inl same) left leaves = inl (leaves.same same)
   all_left changes old new (inr survives) left leaves = leaves.step changes survives
 
+-- what programs have a station do is followed: what it is once a record was offered, once a doubt
+-- was ended, and once something else was set
+module _ {S K Z : Type 0} (party : party_of.Ghosts S Z) (kept_at : S → ℕ → ℕ → Option KeptSender)
+    (waits : S → ℕ → ℕ → List (List ℕ)) (store : store_of.Ghosts K) (sending : List Sending)
+    (receiving : List Receiving) (does : ForPrograms S) where
+  pub record FollowsPrograms : Type 0 where
+    pub offers : (has : K → Channel → Contents) → KeepsGiven store has → (terminal : ℕ) (way : Way)
+        (chars : List ℕ) (given : Result (List ℕ) StoreFault) (old new : S) (before after : Keeper K)
+        → does.offers old terminal way chars new
+        → Knows (has before.store) sending receiving before
+        → HasStation kept_at waits (arrived_of party) (has before.store) sending receiving old
+        → KeepsOffer store terminal (select_of way) chars given before after
+        → LeavesOffer kept_at waits (arrived_of party) store sending receiving has old new chars given
+        before after
+    pub releases : (terminal : ℕ) (way : Way) (count : ℕ) (old new : S)
+        → does.releases old terminal way count new → StationGrows party kept_at waits old new
+    pub sets : (has : Channel → Contents) (old new : S) → does.sets old new
+        → HasStation kept_at waits (arrived_of party) has sending receiving old
+        → HasStation kept_at waits (arrived_of party) has sending receiving new
+
+-- so it is also of a station that no program can feed, which does nothing for programs
+module _ {S K Z : Type 0} (party : party_of.Ghosts S Z) (kept_at : S → ℕ → ℕ → Option KeptSender)
+    (waits : S → ℕ → ℕ → List (List ℕ)) (store : store_of.Ghosts K) (sending : List Sending)
+    (receiving : List Receiving) (does : ForPrograms S) where
+  pub followed_if : (is_fed : Bool)
+      → FollowsPrograms party kept_at waits store sending receiving does
+      → FollowsPrograms party kept_at waits store sending receiving (if_fed is_fed does)
+  followed_if true following = following
+  followed_if false following =
+      record {
+        offers = λ has given t way chars result old new before after offers. absurd offers;
+        releases = λ t way count old new releases. absurd releases;
+        sets = λ has old new sets. absurd sets;
+      }
+
 module _ {S K Z : Type 0} (station : station_of.Ghosts S) (party : party_of.Ghosts S Z)
     (kept_at : S → ℕ → ℕ → Option KeptSender) (waits : S → ℕ → ℕ → List (List ℕ))
     (store : store_of.Ghosts K) (sending : List Sending) (receiving : List Receiving)
     (forgets_sent : S → S → Type 0) (forgets_arrived : S → ℕ → ℕ → S → Type 0)
+    (does : ForPrograms S)
     (grows : (old new : S) → IsEvent station party kept_at store old new
     → StationGrows party kept_at waits old new)
     (forgetting : OutlivesForgetting kept_at waits (arrived_of party) forgets_sent forgets_arrived)
+    (following : FollowsPrograms party kept_at waits store sending receiving does)
     (differ : ChannelsDiffer sending receiving)
     (has : K → Channel → Contents) (given : KeepsGiven store has) where
   abbrev Kept : Moment S K → Type 0
@@ -279,7 +329,7 @@ module _ {S K Z : Type 0} (station : station_of.Ghosts S) (party : party_of.Ghos
 
   -- a run
   pub after_run : (fine : Bool) → fine ≡ true → (first now : Moment S K) → Kept first
-      → KeptRun station party kept_at store forgets_sent forgets_arrived fine first now
+      → KeptRun station party kept_at store forgets_sent forgets_arrived does fine first now
       → store.sound now.keeper.store → Kept now
   after_run true fine first now kept_first (begins same) sound = subst Kept (sym same) kept_first
   after_run true fine first now kept_first (attended {old = mid} before steps) sound =
@@ -315,27 +365,91 @@ module _ {S K Z : Type 0} (station : station_of.Ghosts S) (party : party_of.Ghos
         receiving = keeps.receiving;
       })
       sound
+  after_run true fine first now kept_first
+      (offered {old = mid} {terminal = terminal} {way = way} {chars = chars} before keeps offers)
+      sound =
+      let was =
+      after_run true refl first mid kept_first before
+      (offer_sound store has given (channel_to terminal (select_of way) mid.keeper.sending.items)
+      chars mid.keeper.store now.keeper.store keeps.offers sound) in
+      let out =
+      following.offers has given terminal way chars (Ok chars) mid.station now.station mid.keeper
+      now.keeper offers was.knows was.has_all keeps in
+      record { knows = out.knows refl sound; has_all = out.kept refl sound }
+  after_run true fine first now kept_first
+      (released {old = mid} {terminal = terminal} {way = way} {count = count} {printed = printed}
+      before releases keeps) sound =
+      let was =
+      after_run true refl first mid kept_first before
+      (all_sound store has given (changes_in printed now.station mid.keeper) mid.keeper.store
+      now.keeper.store keeps.commits.crash sound) in
+      after_step mid printed now.station now.keeper
+      (following.releases terminal way count mid.station now.station releases) was
+      (record {
+        changes = keeps.commits.kept;
+        sending = keeps.sending;
+        receiving = keeps.receiving;
+      })
+      sound
+  after_run true fine first now kept_first (set {old = mid} before sets) sound =
+      let was = after_run true refl first mid kept_first before sound in
+      record {
+        knows = was.knows;
+        has_all = following.sets _ mid.station _ sets was.has_all;
+      }
   after_run false fine first now kept_first run sound =
       let clash : false ≡ true = fine in absurd cc
+
+  -- while the end of a doubt is kept
+  pub while_released : (old : Moment S K) (printed : ℕ → Option ℕ) (new : S)
+      (result : Result (Unit {0}) StoreFault) (keeper : Keeper K)
+      → StationGrows party kept_at waits old.station new → Kept old
+      → KeepsStep party kept_at store printed new result old.keeper keeper
+      → CrashLeavesEither kept_at waits (arrived_of party) store sending receiving has old.station
+      new old.keeper keeper
+  while_released old printed new result keeper growth whole keeps left leaves = elim
+      (all_left store has given (changes_in printed new old.keeper) old.keeper.store keeper.store
+      keeps.commits.crash left leaves) [
+        | inl same ↦
+            inl
+            (has_same kept_at waits (arrived_of party) sending receiving old.station
+            (has old.keeper.store) left same whole.has_all)
+        | inr each ↦
+            inr
+            (has_without kept_at waits (arrived_of party) left new sending old.keeper.sending.items
+            receiving old.keeper.receiving.items whole.knows.sends whole.knows.receives
+            (stepped old printed new growth whole left each).has_all)
+      ]
 
 module _ {S K Z : Type 0} (station : station_of.Ghosts S) (party : party_of.Ghosts S Z)
     (kept_at : S → ℕ → ℕ → Option KeptSender) (waits : S → ℕ → ℕ → List (List ℕ))
     (store : store_of.Ghosts K) (sending : List Sending) (receiving : List Receiving)
     (forgets_sent : S → S → Type 0) (forgets_arrived : S → ℕ → ℕ → S → Type 0)
+    (does : ForPrograms S)
     (grows : (old new : S) → IsEvent station party kept_at store old new
     → StationGrows party kept_at waits old new)
     (forgetting : OutlivesForgetting kept_at waits (arrived_of party) forgets_sent forgets_arrived)
+    (following : FollowsPrograms party kept_at waits store sending receiving does)
     (differ : ChannelsDiffer sending receiving) where
   pub outlives : OutlivesCrashes kept_at waits (arrived_of party) store sending receiving station
-      party forgets_sent forgets_arrived
+      party forgets_sent forgets_arrived does
   outlives =
       record {
         between = λ has given first now whole run sound.
             after_run station party kept_at waits store sending receiving forgets_sent
-            forgets_arrived grows forgetting differ has given true refl first now whole run sound;
+            forgets_arrived does grows forgetting following differ has given true refl first now
+            whole run sound;
         within = λ has given old new sent goes_on whole step sound.
             leaves_either station party kept_at waits store sending receiving forgets_sent
-            forgets_arrived grows forgetting differ has given old new sent goes_on whole step sound;
+            forgets_arrived does grows forgetting following differ has given old new sent goes_on
+            whole step sound;
+        offering = λ has given old terminal way chars result keeper new whole offers keeps.
+            (following.offers has given terminal way chars result old.station new old.keeper keeper
+            offers whole.knows whole.has_all keeps).crash;
+        releasing = λ has given old terminal way count printed result keeper new whole releases keeps.
+            while_released station party kept_at waits store sending receiving forgets_sent
+            forgets_arrived does grows forgetting following differ has given old printed new result
+            keeper (following.releases terminal way count old.station new releases) whole keeps;
       }
 
 -- what is kept at the end of a station, which does not change any more

@@ -1,7 +1,7 @@
 //! The laws of stations that begin again from their stores, stated over the definitions that the
 //! contracts cite.
 
-ghost use Rattle.std.specs.Prelude.{List, Some};
+ghost use Rattle.std.specs.Prelude.{Bool, List, Some};
 ghost use Rattle.bsc_bid.specs.Terminal.{HasDistinctAddresses, TerminalValue};
 ghost use Rattle.bsc_tributary.specs.Kept.{IsTributary};
 ghost use Rattle.bsc_directory.specs.Addresses.{AreDistinct};
@@ -11,8 +11,10 @@ ghost use Rattle.bsc_kept.specs.declared.channel.Channel.{Channel as ChannelValu
 ghost use Rattle.bsc_monitor.specs.LineTerminal.{LineTerminalValue};
 ghost use Rattle.bsc_keeping.specs.Ends.{kept_at_control};
 ghost use Rattle.bsc_keeping.specs.OffersKept.{control_with, terminal_with};
+ghost use Rattle.bsc_keeping.specs.Runs.{if_fed};
 ghost use Rattle.bsc_keeping.specs.Own.{receiving_of, sending_of, sends_from, spools_of};
 ghost use Rattle.bsc_keeping.specs.declared.own_text.Owner.TheVariants.{Control as ControlOwner};
+ghost use Rattle.bsc_serving.specs.Turns.{for_programs};
 ghost use Rattle.bsc_restarts.specs.AfterCrash.{ControlBeginsAfterCrash, TerminalBeginsAfterCrash};
 ghost use Rattle.bsc_restarts.specs.AfterCrash.{arrived_at_control, arrived_at_terminal};
 ghost use Rattle.bsc_restarts.specs.AfterCrash.{kept_at_terminal, waiting_at_control};
@@ -35,6 +37,7 @@ use bsc_control::Control;
 use bsc_control::laws::made_again;
 use bsc_kept::Store;
 use bsc_monitor::{Forgets, LineTerminal, Party};
+use bsc_serving::Feeds;
 use std::alloc::Allocator;
 
 /// A new station that is filled from a store that has all that is to be kept of a station is that
@@ -53,26 +56,33 @@ pub fn begun_again()
 
 /// The process of a terminal may end at any moment of its run. Whatever that leaves in its store is
 /// all that is to be kept of the terminal as it is before the step of that moment or after it. Once
-/// something is sent, and at each moment between the steps, all is kept that is to be kept. The
-/// store is any that keeps what it is given, and it had all at the beginning.
-/// [`attend_kept`](bsc_keeping::attend_kept) is part of such a run, and the program runs so each
-/// station whose records are kept and that no program feeds.
+/// something is sent, and at each moment between the steps, all is kept that is to be kept. So it
+/// is also if programs feed the terminal: they offer records, release doubts, start or stop
+/// accepting selections, and ask for the line. The store is any that keeps what it is given, and it
+/// had all at the beginning. [`attend_kept`](bsc_keeping::attend_kept) is part of such a run, and
+/// the program runs so each station whose records are kept.
 pub fn terminal_outlives_crashes<A: Allocator, K: Store + Drop>()
-    ensures { (terminal : TerminalValue) → HasDistinctAddresses terminal
+    ensures { (terminal : TerminalValue) → HasDistinctAddresses terminal → (is_fed : Bool)
         → OutlivesCrashes kept_at_terminal waiting_at_terminal arrived_at_terminal K.Store
         (sends_from (Some terminal)) (spools_of terminal)
         ⟦<LineTerminal<A> as Station>⟧ ⟦<LineTerminal<A> as Party>⟧
         ⟦<LineTerminal<A> as Forgets>⟧.forgets_sent
-        ⟦<LineTerminal<A> as Forgets>⟧.forgets_arrived }
+        ⟦<LineTerminal<A> as Forgets>⟧.forgets_arrived
+        (if_fed is_fed (for_programs ⟦<LineTerminal<A> as Feeds>⟧.offers
+        ⟦<LineTerminal<A> as Feeds>⟧.releases ⟦<LineTerminal<A> as Feeds>⟧.readies
+        ⟦<LineTerminal<A> as Feeds>⟧.urges)) }
 {}
 
 /// The same of a control station.
 pub fn control_outlives_crashes<A: Allocator, K: Store + Drop>()
-    ensures { (terminals : List TerminalValue) → AreDistinct terminals
+    ensures { (terminals : List TerminalValue) → AreDistinct terminals → (is_fed : Bool)
         → OutlivesCrashes kept_at_control waiting_at_control arrived_at_control K.Store
         (sending_of terminals ControlOwner) (receiving_of terminals ControlOwner)
         ⟦<Control<A> as Station>⟧ ⟦<Control<A> as Party>⟧ ⟦<Control<A> as Forgets>⟧.forgets_sent
-        ⟦<Control<A> as Forgets>⟧.forgets_arrived }
+        ⟦<Control<A> as Forgets>⟧.forgets_arrived
+        (if_fed is_fed (for_programs ⟦<Control<A> as Feeds>⟧.offers
+        ⟦<Control<A> as Feeds>⟧.releases ⟦<Control<A> as Feeds>⟧.readies
+        ⟦<Control<A> as Feeds>⟧.urges)) }
 {}
 
 /// A station that begins again from what a crash left is the one of which it was left, after a
