@@ -1,7 +1,7 @@
 -- What a station answers, by how it was prepared and how it ran.
 use Rattle.std.proofs.Common.{◌≡◌, ℕ, Bool, true, false, List, Option, Some, None, is_some}
-use Rattle.std.proofs.Common.{if◌then◌else◌, Result, Ok, Err, inl, inr, subst, sym, is_none}
-use Rattle.std.proofs.Common.{IfSome, IsSome, IsSomeAnd, IsErrAnd, option_map}
+use Rattle.std.proofs.Common.{if◌then◌else◌, Result, Ok, Err, inl, inr, subst, sym}
+use Rattle.std.proofs.Common.{IfSome, IsSome, IsSomeAnd, IsErrAnd}
 use Rattle.bsc_asked.specs.StationWords.{AskedWords}
 use Rattle.bsc_config.specs.Settings.{ConfigValue}
 use Rattle.bsc_kept.specs.declared.store.Store as store_of
@@ -268,9 +268,3 @@ module _ {K W : Type 0} (store : store_of.Ghosts K)
   asked_after None result ready is_some ran =
       let clash : false ≡ true = is_some in absurd cc
   asked_after (Some own) result ready is_some ran = asked_by own result ready ran
-
--- settings have no place of programs if the options have none
-pub none_asked : {A B : Type 0} (f : A → B) (it : Option A)
-    → is_none (option_map f it) ≡ true → is_none it ≡ true
-none_asked f None is = is
-none_asked f (Some a) is = is

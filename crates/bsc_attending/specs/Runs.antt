@@ -1,10 +1,12 @@
 -- How a station runs whose records are kept.
-use Rattle.std.specs.Prelude.{◌≡◌, ◌⊎◌, ℕ, Bool, true, false, List, Option, is_none, Result, Ok}
+use Rattle.std.specs.Prelude.{◌≡◌, ◌⊎◌, ℕ, Bool, false, List, Option, is_some, Result, Ok}
 use Rattle.std.specs.Prelude.{IsErrAnd}
 use Rattle.bsc_asked.specs.StationWords.{AskedWords}
 use Rattle.bsc_bid.specs.declared.kept.KeptSender.{KeptSender}
 use Rattle.bsc_bid.specs.declared.station.Station as station_of
 use Rattle.bsc_control.specs.Control.{ControlValue}
+use Rattle.bsc_directory.specs.declared.way.Way.{Way}
+use Rattle.bsc_feed.specs.declared.fault.Fault.{Fault}
 use Rattle.bsc_kept.specs.Contents.{Contents, GivesBack, IsRead}
 use Rattle.bsc_kept.specs.declared.channel.Channel.{Channel}
 use Rattle.bsc_kept.specs.declared.ends.Receiving.{Receiving}
@@ -14,7 +16,7 @@ use Rattle.bsc_monitor.specs.LineTerminal.{LineTerminalValue}
 use Rattle.bsc_monitor.specs.declared.party.Party as party_of
 use Rattle.bsc_keeping.specs.Filled.{IsControlFilledFrom, IsTerminalFilledFrom, KeepsFrom}
 use Rattle.bsc_keeping.specs.Own.{receiving_of, sending_of}
-use Rattle.bsc_keeping.specs.Runs.{KeptRun, Moment}
+use Rattle.bsc_keeping.specs.Runs.{ForPrograms, KeptRun, Moment, if_fed}
 use Rattle.bsc_keeping.specs.declared.keeper.Keeper.{Keeper}
 use Rattle.bsc_options.specs.Settings.{SettingsValue, settings_in}
 use Rattle.bsc_options.specs.declared.settings.Role.{Role}
@@ -26,38 +28,47 @@ use Rattle.bsc_attending.specs.Sparing.{forgets_printed_in}
 use Rattle.bsc_attending.specs.declared.error.AttendingError.{AttendingError}
 use Rattle.bsc_attending.specs.declared.preparing.Prepared.{Prepared}
 use Rattle.bsc_attending.specs.declared.preparing.Prepared.TheVariants as prepared
+use Rattle.bsc_serving.specs.Turns.{for_programs}
 
 -- What is known of a station with memory of type Z, what it says of the channels on which it sends,
--- and what it forgets of the records that are known to have arrived, and of those that arrived.
+-- what it forgets of the records that are known to have arrived, and of those that arrived, and
+-- what it does for programs.
 pub record StationParts (S Z : Type 0) : Type 1 where
   pub station : station_of.Ghosts S
   pub party : party_of.Ghosts S Z
   pub kept_at : S → ℕ → ℕ → Option KeptSender
   pub forgets_sent : S → S → Type 0
   pub forgets_arrived : S → ℕ → ℕ → S → Type 0
+  pub does : ForPrograms S
 
 abbrev pub station_parts : {S Z : Type 0} → station_of.Ghosts S → party_of.Ghosts S Z
     → (S → ℕ → ℕ → Option KeptSender) → (S → S → Type 0) → (S → ℕ → ℕ → S → Type 0)
-    → StationParts S Z
-station_parts station party kept_at forgets_sent forgets_arrived =
+    → (S → ℕ → Way → List ℕ → Result ℕ Fault → S → Type 0)
+    → (S → ℕ → Way → ℕ → Result (Unit {0}) Fault → S → Type 0)
+    → (S → Bool → Result (Unit {0}) Fault → S → Type 0)
+    → (S → Result (Unit {0}) Fault → S → Type 0) → StationParts S Z
+station_parts station party kept_at forgets_sent forgets_arrived offers releases readies urges =
     record {
       station = station;
       party = party;
       kept_at = kept_at;
       forgets_sent = forgets_sent;
       forgets_arrived = forgets_arrived;
+      does = for_programs offers releases readies urges;
     }
 
 -- A station and its keeper.
 abbrev pub at : {S K : Type 0} → S → Keeper K → Moment S K
 at station keeper = record { station = station; keeper = keeper }
 
--- A station is attended whose records are kept in a store, and between it records are forgotten.
--- The flag says whether that ended without an error.
-abbrev pub Runs : {S K Z : Type 0} → StationParts S Z → store_of.Ghosts K → Bool → Moment S K
-    → Moment S K → Type 0
-Runs parts store =
+-- A station is attended whose records are kept in a store. Meanwhile it forgets records, and, if
+-- the first flag says that programs can feed it, does what they ask for. The other flag says
+-- whether that ended without an error.
+abbrev pub Runs : {S K Z : Type 0} → StationParts S Z → Bool → store_of.Ghosts K → Bool
+    → Moment S K → Moment S K → Type 0
+Runs parts is_fed store =
     KeptRun parts.station parts.party parts.kept_at store parts.forgets_sent parts.forgets_arrived
+    (if_fed is_fed parts.does)
 
 -- A station was attended over connections, for which `runs` says what that means, and something
 -- failed only if this is so.
@@ -176,18 +187,19 @@ RunsAsked store runs contents w role form forgets_printed input result new =
     IsErrAnd result IsUnbegun
     ⊎ HasRunAsked store runs contents w role form forgets_printed input result new
 
--- So it is of a station whose records are to be kept, and that no program feeds.
-pub record RunsIfUnfed {K W : Type 0} (store : store_of.Ghosts K)
-    (runs : Prepared → Keeper K → Type 0 → Prepared → Type 0) (contents : W → Option (List ℕ))
-    (w : AskedWords) (input : Option (List ℕ)) (result : Result (Unit {0}) AttendingError)
-    (new : W) : Type 0 where
+-- So it is of a station whose records are to be kept, with the settings that the words have. It
+-- does something for programs only if it serves them.
+pub record RunsAsSet {K W : Type 0} (store : store_of.Ghosts K)
+    (runs : Bool → Prepared → Keeper K → Type 0 → Prepared → Type 0)
+    (contents : W → Option (List ℕ)) (w : AskedWords) (input : Option (List ℕ))
+    (result : Result (Unit {0}) AttendingError) (new : W) : Type 0 where
   pub settings : SettingsValue
   pub read : settings_in w ≡ Ok settings
-  pub unfed : is_none settings.serves ≡ true → RunsAsked store runs contents w settings.role
+  pub ran : RunsAsked store (runs (is_some settings.serves)) contents w settings.role
       settings.reported (forgets_printed_in settings) input result new
 
 abbrev pub IsKeptRun : {K W : Type 0} → store_of.Ghosts K
-    → (Prepared → Keeper K → Type 0 → Prepared → Type 0) → (W → Option (List ℕ)) → AskedWords
+    → (Bool → Prepared → Keeper K → Type 0 → Prepared → Type 0) → (W → Option (List ℕ)) → AskedWords
     → Option (List ℕ) → Result (Unit {0}) AttendingError → W → Type 0
 IsKeptRun store runs contents w input result new =
-    IsErrAnd result IsUnbegun ⊎ RunsIfUnfed store runs contents w input result new
+    IsErrAnd result IsUnbegun ⊎ RunsAsSet store runs contents w input result new

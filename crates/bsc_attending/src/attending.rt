@@ -19,6 +19,7 @@ use bsc_monitor::{
     ControlWatch, Ended, Forgets, Limits, LineTerminal, Party, Printing, TerminalWatch, Watch,
 };
 use bsc_progress::{Meter, Timer};
+use bsc_serving::Feeds;
 use bsc_trust::Trust;
 use std::alloc::Global;
 use std::io::Write;
@@ -94,7 +95,9 @@ fn attend_control<C: Attend, T: Timer + Meter + Drop, O: Write, D: Write>(
     ensures cut { IfErr result IsCutShort }
     ensures ran { HasRunOver (C.runs (station_parts ⟦<Control<Global> as Station>⟧
         ⟦<Control<Global> as Party>⟧ ⟦<Control<Global> as Sends>⟧.kept_at
-        ⟦<Control<Global> as Forgets>⟧.forgets_sent ⟦<Control<Global> as Forgets>⟧.forgets_arrived))
+        ⟦<Control<Global> as Forgets>⟧.forgets_sent ⟦<Control<Global> as Forgets>⟧.forgets_arrived
+        ⟦<Control<Global> as Feeds>⟧.offers ⟦<Control<Global> as Feeds>⟧.releases
+        ⟦<Control<Global> as Feeds>⟧.readies ⟦<Control<Global> as Feeds>⟧.urges))
         connections.old control.old (IsErr result) control.new }
 {
     let Watching {
@@ -144,7 +147,9 @@ fn attend_until_answered<C: Attend, T: Timer + Meter + Drop, O: Write, D: Write>
 ) -> Result<Trust, LiveError>
     ensures ran { HasRunOver (C.runs (station_parts ⟦<Control<Global> as Station>⟧
         ⟦<Control<Global> as Party>⟧ ⟦<Control<Global> as Sends>⟧.kept_at
-        ⟦<Control<Global> as Forgets>⟧.forgets_sent ⟦<Control<Global> as Forgets>⟧.forgets_arrived))
+        ⟦<Control<Global> as Forgets>⟧.forgets_sent ⟦<Control<Global> as Forgets>⟧.forgets_arrived
+        ⟦<Control<Global> as Feeds>⟧.offers ⟦<Control<Global> as Feeds>⟧.releases
+        ⟦<Control<Global> as Feeds>⟧.readies ⟦<Control<Global> as Feeds>⟧.urges))
         connections.old control.old (IsErr result) control.new }
 {
     connections.attend_watched(control, &mut watch)?;
@@ -167,7 +172,9 @@ fn attend_terminal<C: Attend, T: Timer + Meter + Drop, O: Write, D: Write>(
     ensures ran { HasRunOver (C.runs (station_parts ⟦<LineTerminal<Global> as Station>⟧
         ⟦<LineTerminal<Global> as Party>⟧ ⟦<LineTerminal<Global> as Sends>⟧.kept_at
         ⟦<LineTerminal<Global> as Forgets>⟧.forgets_sent
-        ⟦<LineTerminal<Global> as Forgets>⟧.forgets_arrived))
+        ⟦<LineTerminal<Global> as Forgets>⟧.forgets_arrived
+        ⟦<LineTerminal<Global> as Feeds>⟧.offers ⟦<LineTerminal<Global> as Feeds>⟧.releases
+        ⟦<LineTerminal<Global> as Feeds>⟧.readies ⟦<LineTerminal<Global> as Feeds>⟧.urges))
         connections.old terminal.old (IsErr result) terminal.new }
 {
     let Watching {

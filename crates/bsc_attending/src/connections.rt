@@ -116,7 +116,7 @@ pub(crate) trait Attend {
     /// How many records of the channel with this number were printed before the station began.
     ghost printed_before: { Self → ℕ → ℕ };
 
-    /// Whether programs reach a station that is attended over the connections.
+    /// Whether programs can feed a station that is attended over the connections.
     ghost reached: { Self → Bool };
 
     /// How a station runs that is attended over the connections until its monitor ends it, if its
@@ -133,16 +133,17 @@ pub(crate) trait Attend {
         ensures { OnOk result (M.has_ended monitor.new ≡ true) };
 
     /// Attends a station over the connections until its monitor ends it, and keeps what it changes
-    /// before it sends. The station forgets what it does not need any more.
+    /// before it sends. The station forgets what it does not need any more. If programs can feed
+    /// it, it does what they ask for meanwhile.
     fn attend_kept<S: Station + Feeds + Forgets, M: Monitor<S> + Prints, K: Store + Drop>(
         &mut self,
         station: &mut S,
         watch: &mut M,
         keeper: &mut Keeper<K>,
     ) -> Result<(), LiveError>
-        ensures { reached self.old ≡ false →
-            Runs (station_parts S.Station S.Party S.kept_at S.forgets_sent S.forgets_arrived)
-            K.Store (is_ok result) (at station.old keeper.old) (at station.new keeper.new) };
+        ensures { Runs (station_parts S.Station S.Party S.kept_at S.forgets_sent
+            S.forgets_arrived S.offers S.releases S.readies S.urges) (reached self.old) K.Store
+            (is_ok result) (at station.old keeper.old) (at station.new keeper.new) };
 
     /// Attends a station whose monitor prints the records that arrive. If its records are kept,
     /// they are before it sends, and so is at the end how many were printed. The station forgets
@@ -152,7 +153,8 @@ pub(crate) trait Attend {
         station: &mut S,
         watch: &mut M,
     ) -> Result<(), LiveError>
-        ensures { runs (station_parts S.Station S.Party S.kept_at S.forgets_sent S.forgets_arrived)
+        ensures { runs (station_parts S.Station S.Party S.kept_at S.forgets_sent
+            S.forgets_arrived S.offers S.releases S.readies S.urges)
             self.old station.old (is_ok result) self.new station.new };
 
     /// Returns how many records of the channel with this number were printed before the station

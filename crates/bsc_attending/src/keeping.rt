@@ -85,7 +85,7 @@ pub(crate) struct Kept<'a, C: Drop, K: Drop, W, D: Drop, R: Drop> {
 
 impl<'a, C: Attend + Drop, K: Store + Drop, W: Write, D: Write + Drop, R: Readiness + Drop> Attend
     for Kept<'a, C, K, W, D, R> {
-    ghost use Rattle.std.specs.Prelude.{◌≡◌, false, slice_get};
+    ghost use Rattle.std.specs.Prelude.{◌≡◌, Bool, slice_get};
     ghost use Rattle.bsc_attending.specs.Runs.{Runs, at};
     ghost use Rattle.bsc_keeping.specs.Changes.{printed_of};
 
@@ -97,8 +97,9 @@ impl<'a, C: Attend + Drop, K: Store + Drop, W: Write, D: Write + Drop, R: Readin
 
     ghost reached = { λ k. C.reached k.connections };
 
-    ghost runs = { λ parts old station fine new after. C.reached old.connections ≡ false
-        → Runs parts K.Store fine (at station old.keeper) (at after new.keeper) };
+    ghost runs = { λ parts old station fine new after. (is_fed : Bool)
+        → C.reached old.connections ≡ is_fed
+        → Runs parts is_fed K.Store fine (at station old.keeper) (at after new.keeper) };
 
     fn attend<S: Station, M: Monitor<S>>(
         &mut self,

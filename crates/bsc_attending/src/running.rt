@@ -10,6 +10,7 @@ use bsc_bid::Station;
 use bsc_control::Control;
 use bsc_keeping::Sends;
 use bsc_monitor::{Forgets, LineTerminal, Party};
+use bsc_serving::Feeds;
 use std::alloc::Global;
 
 /// A station that can run.
@@ -20,10 +21,11 @@ pub(crate) trait Running {
         → ((S Z : Type 0) → StationParts S Z → C → S → Bool → C → S → Type 0) → C → Self → Type 0
         → Self → Type 0 };
 
-    /// Its records are kept in a store: what is known of the store, the station and its keeper
-    /// before, what is so if something fails, and the station after.
-    ghost runs_kept: { (K : Type 0) → store_of.Ghosts K → Self → KeeperValue K → Type 0 → Self
-        → Type 0 };
+    /// Its records are kept in a store: what is known of the store, whether programs can feed the
+    /// station, the station and its keeper before, what is so if something fails, and the station
+    /// after.
+    ghost runs_kept: { (K : Type 0) → store_of.Ghosts K → Bool → Self → KeeperValue K → Type 0
+        → Self → Type 0 };
 }
 
 impl Running for Prepared {
@@ -32,18 +34,28 @@ impl Running for Prepared {
 
     ghost runs_over = { λ C runs. PreparedRunsOver
         (runs _ _ (station_parts ⟦<Control<Global> as Station>⟧ ⟦<Control<Global> as Party>⟧
-        ⟦<Control<Global> as Sends>⟧.kept_at ⟦<Control<Global> as Forgets>⟧.forgets_sent
-        ⟦<Control<Global> as Forgets>⟧.forgets_arrived))
+        ⟦<Control<Global> as Sends>⟧.kept_at
+        ⟦<Control<Global> as Forgets>⟧.forgets_sent ⟦<Control<Global> as Forgets>⟧.forgets_arrived
+        ⟦<Control<Global> as Feeds>⟧.offers ⟦<Control<Global> as Feeds>⟧.releases
+        ⟦<Control<Global> as Feeds>⟧.readies ⟦<Control<Global> as Feeds>⟧.urges))
         (runs _ _ (station_parts ⟦<LineTerminal<Global> as Station>⟧
         ⟦<LineTerminal<Global> as Party>⟧ ⟦<LineTerminal<Global> as Sends>⟧.kept_at
         ⟦<LineTerminal<Global> as Forgets>⟧.forgets_sent
-        ⟦<LineTerminal<Global> as Forgets>⟧.forgets_arrived)) };
+        ⟦<LineTerminal<Global> as Forgets>⟧.forgets_arrived
+        ⟦<LineTerminal<Global> as Feeds>⟧.offers ⟦<LineTerminal<Global> as Feeds>⟧.releases
+        ⟦<LineTerminal<Global> as Feeds>⟧.readies ⟦<LineTerminal<Global> as Feeds>⟧.urges)) };
 
-    ghost runs_kept = { λ K store. PreparedRunsKept
+    ghost runs_kept = { λ K store is_fed. PreparedRunsKept
         (Runs (station_parts ⟦<Control<Global> as Station>⟧ ⟦<Control<Global> as Party>⟧
-        ⟦<Control<Global> as Sends>⟧.kept_at ⟦<Control<Global> as Forgets>⟧.forgets_sent
-        ⟦<Control<Global> as Forgets>⟧.forgets_arrived) store)
+        ⟦<Control<Global> as Sends>⟧.kept_at
+        ⟦<Control<Global> as Forgets>⟧.forgets_sent ⟦<Control<Global> as Forgets>⟧.forgets_arrived
+        ⟦<Control<Global> as Feeds>⟧.offers ⟦<Control<Global> as Feeds>⟧.releases
+        ⟦<Control<Global> as Feeds>⟧.readies ⟦<Control<Global> as Feeds>⟧.urges) is_fed store)
         (Runs (station_parts ⟦<LineTerminal<Global> as Station>⟧ ⟦<LineTerminal<Global> as Party>⟧
-        ⟦<LineTerminal<Global> as Sends>⟧.kept_at ⟦<LineTerminal<Global> as Forgets>⟧.forgets_sent
-        ⟦<LineTerminal<Global> as Forgets>⟧.forgets_arrived) store) };
+        ⟦<LineTerminal<Global> as Sends>⟧.kept_at
+        ⟦<LineTerminal<Global> as Forgets>⟧.forgets_sent
+        ⟦<LineTerminal<Global> as Forgets>⟧.forgets_arrived
+        ⟦<LineTerminal<Global> as Feeds>⟧.offers ⟦<LineTerminal<Global> as Feeds>⟧.releases
+        ⟦<LineTerminal<Global> as Feeds>⟧.readies ⟦<LineTerminal<Global> as Feeds>⟧.urges)
+        is_fed store) };
 }

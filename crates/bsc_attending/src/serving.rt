@@ -1,7 +1,7 @@
 //! A station that programs feed while it runs.
 
 ghost use Rattle.std.specs.Prelude.{◌≡◌, ◌&&◌, IfErr, IfOk, false, is_ok, is_some, not};
-ghost use Rattle.std.specs.Prelude.{option_map};
+ghost use Rattle.std.specs.Prelude.{option_map, true};
 ghost use Rattle.bsc_attending.specs.Errors.{IsCutShort};
 ghost use Rattle.bsc_attending.specs.Runs.{Runs, at, station_parts};
 ghost use Rattle.bsc_attending.specs.Serving.{IsCalledBy, IsPlace, TellsStopped};
@@ -18,7 +18,7 @@ use bsc_keeping::{Keeper, Prints};
 use bsc_kept::Store;
 use bsc_monitor::Forgets;
 use bsc_options::Serves;
-use bsc_serving::{Feeds, KeptBy, Pausing, Programs, Serving, Unkept};
+use bsc_serving::{Feeds, Pausing, Programs, Serving, Unkept};
 use std::alloc::Global;
 use std::net::IpAddr;
 use std::os::fd::RawFd;
@@ -47,7 +47,8 @@ pub(crate) fn reachable<H: Network>(
     serves: Option<Serves<'_>>,
     machine: &mut H,
 ) -> Result<Option<Reachable<H::Programs>>, AttendingError>
-    ensures served { IfOk result (λ reachable. is_some reachable ≡ is_some serves.entry) }
+    ensures served { IfOk result (λ reachable.
+        is_some reachable ≡ is_some (option_map (λ s. serves_value s) serves.entry)) }
     ensures cut { IfErr result IsCutShort }
 {
     match serves {
@@ -95,7 +96,8 @@ fn attend_until_called<C: Attend, S: Station + Feeds + Forgets, M: Monitor<S> + 
     watch: &mut M,
 ) -> Result<bool, LiveError>
     ensures ran { C.runs (station_parts S.Station S.Party S.kept_at S.forgets_sent
-        S.forgets_arrived) connections.old station.old (is_ok result) connections.new station.new }
+        S.forgets_arrived S.offers S.releases S.readies S.urges)
+        connections.old station.old (is_ok result) connections.new station.new }
 {
     let mut pausing = Pausing::new(watch);
     connections.attend_watched(station, &mut pausing)?;
@@ -114,8 +116,8 @@ fn attend_kept_until_called<
     watch: &mut M,
     keeper: &mut Keeper<K>,
 ) -> Result<bool, LiveError>
-    ensures kept { C.reached connections.old ≡ false →
-        Runs (station_parts S.Station S.Party S.kept_at S.forgets_sent S.forgets_arrived)
+    ensures kept { Runs (station_parts S.Station S.Party S.kept_at S.forgets_sent
+        S.forgets_arrived S.offers S.releases S.readies S.urges) (C.reached connections.old)
         K.Store (is_ok result) (at station.old keeper.old) (at station.new keeper.new) }
 {
     let mut pausing = Pausing::new(watch);
@@ -164,7 +166,7 @@ fn attend_fed<C: Attend, P: Programs + Drop, S: Station + Feeds + Forgets, M: Mo
         if !attend_until_called(connections, station, watch)? {
             return Ok(());
         }
-        let is_asked = programs.serve(station, Unkept)?;
+        let is_asked = programs.serve(station, &mut Unkept)?;
         if !tell_stopped(station, watch, is_asked, &mut told)? {
             return Ok(());
         }
@@ -185,14 +187,18 @@ fn attend_fed_and_kept<
     station: &mut S,
     watch: &mut M,
     keeper: &mut Keeper<K>,
-) -> Result<(), LiveError> {
+) -> Result<(), LiveError>
+    ensures ran { Runs (station_parts S.Station S.Party S.kept_at S.forgets_sent
+        S.forgets_arrived S.offers S.releases S.readies S.urges) true K.Store
+        (is_ok result) (at station.old keeper.old) (at station.new keeper.new) }
+{
     let mut told = false;
     'calls: for count in 0..u64::MAX {
         forget_at_times(station, watch, count);
         if !attend_kept_until_called(connections, station, watch, keeper)? {
             return Ok(());
         }
-        let is_asked = programs.serve(station, KeptBy::new(keeper, &*watch))?;
+        let is_asked = programs.serve_kept(station, keeper, watch)?;
         if !tell_stopped(station, watch, is_asked, &mut told)? {
             return Ok(());
         }

@@ -1,6 +1,6 @@
 //! One station of a line: prepares it, makes its connections, and attends it until it ends.
 
-ghost use Rattle.std.specs.Prelude.{◌≡◌, IfErr, IfOk, IfSome, IsErr, IsErrAnd, IsSome, is_none};
+ghost use Rattle.std.specs.Prelude.{◌≡◌, Bool, IfErr, IfOk, IfSome, IsErr, IsErrAnd, IsSome, is_some};
 ghost use Rattle.std.specs.Prelude.{IsSomeAnd, false, true};
 ghost use Rattle.bsc_asked.specs.StationWords.{asked_words};
 ghost use Rattle.bsc_options.specs.Settings.{place_value, settings_value};
@@ -51,7 +51,8 @@ struct Options<'a> {
 /// printed, and so is `Closed`, when a fault closed the connection of a terminal. `Unprinted` is
 /// returned when records that arrived could not be printed; they were not acknowledged, and the
 /// report is tried. A station whose records are to be kept begins with what its store has. What it
-/// changes is kept before it sends what rests on it; the clause `kept` says before its next step.
+/// changes is kept before it sends what rests on it; the clause `kept` says before its next step,
+/// and that a record that a program offers is kept before the station offers it.
 pub fn station<R: Read, H: Files + Network + Stores, W: Write>(
     alloc: Global,
     words: &StationWords,
@@ -91,8 +92,9 @@ fn prepare_and_run<R: Read, H: Files + Network + Stores, W: Write>(
     ensures reported { IsReportedFor W.contents (asked_words words.now)
         options.entry.settings.role options.entry.settings.reported (R.remaining input.old) result
         out.new }
-    ensures kept { IsSome words.now.store → is_none options.entry.settings.serves ≡ true
-        → RunsAsked H.Store.Store (⟦<Prepared as Running>⟧.runs_kept _ H.Store.Store) W.contents
+    ensures kept { IsSome words.now.store
+        → RunsAsked H.Store.Store (⟦<Prepared as Running>⟧.runs_kept _ H.Store.Store
+        (is_some (settings_value options.entry.settings).serves)) W.contents
         (asked_words words.now) options.entry.settings.role options.entry.settings.reported
         (forgets_printed_in (settings_value options.entry.settings)) (R.remaining input.old) result
         out.new }
@@ -118,9 +120,11 @@ fn begin_and_run<H: Network + Stores, W: Write>(
     ensures early { IfErr result (λ error. IsEarly error → out.new ≡ out.old) }
     ensures ran { HasBegunAndRun W.contents options.now.settings.reported prepared.old
         prepared.new result out.new }
-    ensures kept { IsSome words.now.store → is_none options.now.settings.serves ≡ true
+    ensures kept { IsSome words.now.store
         → IfSome own (λ own. BeginsAndRuns H.Store.Store
-        (⟦<Prepared as Running>⟧.runs_kept _ H.Store.Store) W.contents options.now.settings.reported
+        (⟦<Prepared as Running>⟧.runs_kept _ H.Store.Store
+        (is_some (settings_value options.now.settings).serves)) W.contents
+        options.now.settings.reported
         (forgets_printed_in (settings_value options.now.settings)) own.sending.items
         own.receiving.items prepared.old prepared.new result out.new) }
 {
@@ -167,8 +171,9 @@ fn run<H: Network, K: Store + Drop, W: Write>(
     ensures late { IfErr result IsLate }
     ensures ran { HasRun W.contents options.now.settings.reported prepared.old prepared.new result
         out.new }
-    ensures kept { is_none options.now.settings.serves ≡ true → IfSome keeper (λ keeper.
-        ⟦<Prepared as Running>⟧.runs_kept _ K.Store prepared.old keeper
+    ensures kept { IfSome keeper (λ keeper.
+        ⟦<Prepared as Running>⟧.runs_kept _ K.Store
+        (is_some (settings_value options.now.settings).serves) prepared.old keeper
         (IsErrAnd result IsCutShort) prepared.new) }
 {
     let reported = options.settings.reported;
@@ -196,8 +201,9 @@ fn open<H: Network, K: Store + Drop, W: Write>(
 ) -> Result<Left, AttendingError>
     ensures cut { IfErr result IsCutShort }
     ensures left { IfOk result (λ left. IsLeftBy prepared.old left × IsLeftBy prepared.new left) }
-    ensures ran { is_none options.now.settings.serves ≡ true → IfSome keeper (λ keeper.
-        ⟦<Prepared as Running>⟧.runs_kept _ K.Store prepared.old keeper
+    ensures ran { IfSome keeper (λ keeper.
+        ⟦<Prepared as Running>⟧.runs_kept _ K.Store
+        (is_some (settings_value options.now.settings).serves) prepared.old keeper
         (IsErrAnd result IsCutShort) prepared.new) }
 {
     let reachable = reachable(options.settings.serves, machine)?;
@@ -287,8 +293,8 @@ fn attend_kept<
 ) -> Result<Left, AttendingError>
     ensures cut { IfErr result IsCutShort }
     ensures left { IfOk result (λ left. IsLeftBy prepared.old left × IsLeftBy prepared.new left) }
-    ensures ran { C.reached kept.entry.connections ≡ false →
-        ⟦<Prepared as Running>⟧.runs_kept _ K.Store prepared.old kept.entry.keeper
+    ensures ran { (is_fed : Bool) → C.reached kept.entry.connections ≡ is_fed
+        → ⟦<Prepared as Running>⟧.runs_kept _ K.Store is_fed prepared.old kept.entry.keeper
         (IsErrAnd result IsCutShort) prepared.new }
 {
     let mut kept = kept;

@@ -9,9 +9,9 @@ returns-clause-ran g c =
     c.keeper_of.ensures.kind c.run.ensures.ran
 
 pub returns-clause-kept : goal.returns-clause-kept
-returns-clause-kept g c stored unfed =
+returns-clause-kept g c stored =
     ran_kept _ _ g.W.Write.contents c.args.options.now.settings.reported
     c.forgets_printed-forgets.result _ c.forgets_printed-forgets.ensures c.args.prepared.now
     c.keeper_of.new.prepared c.run.new.prepared c.run.result c.run.new.out c.args.own
-    c.in_ok-keeper.keeper (c.in_ok-keeper.ensures.begins stored) (c.run.ensures.kept unfed)
+    c.in_ok-keeper.keeper (c.in_ok-keeper.ensures.begins stored) c.run.ensures.kept
     c.run.ensures.ran

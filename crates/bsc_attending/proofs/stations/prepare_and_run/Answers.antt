@@ -21,10 +21,10 @@ returns-clause-reported g c =
     c.begin_and_run.new.prepared c.begin_and_run.new.out c.begin_and_run.result c.begin_and_run.ensures.ran
 
 pub returns-clause-kept : goal.returns-clause-kept
-returns-clause-kept g c stored unfed =
+returns-clause-kept g c stored =
     let left = g.R.Read.remaining in
     asked_after _ _ g.W.Write.contents (asked_words c.args.words.now) c.args.options.settings.role
     c.args.options.settings.reported _ (left c.args.input.now) (left c.prepare.new.input)
     c.in_ok-ready.ready.prepared c.begin_and_run.new.prepared c.begin_and_run.new.out
     c.in_ok-ready.ready.own c.begin_and_run.result c.in_ok-ready.ensures.ready
-    (c.in_ok-ready.ensures.kept stored) (c.begin_and_run.ensures.kept stored unfed)
+    (c.in_ok-ready.ensures.kept stored) (c.begin_and_run.ensures.kept stored)

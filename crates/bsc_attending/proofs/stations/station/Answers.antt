@@ -2,9 +2,8 @@
 use Rattle.std.proofs.Common.{rules, ◌≡◌, Ok, inr}
 use Rattle.bsc_asked.specs.StationWords.{asked_words}
 use Rattle.bsc_options.specs.Admission.{IsAdmission}
-use Rattle.bsc_options.specs.Serves.{serves_value}
 use Rattle.bsc_options.specs.Settings.{settings_in, settings_value}
-use Rattle.bsc_attending.proofs.Outcomes.{none_asked, reported_by}
+use Rattle.bsc_attending.proofs.Outcomes.{reported_by}
 use Rattle.bsc_attending.proofs.stations.station.Goals as goal
 
 pub returns-clause-answers : goal.returns-clause-answers
@@ -38,7 +37,5 @@ returns-clause-kept g c stored =
     inr (record {
       settings = settings;
       read = read;
-      unfed = λ none.
-          c.prepare_and_run.ensures.kept stored
-          (none_asked serves_value c.in_ok-settings.settings.serves none);
+      ran = c.prepare_and_run.ensures.kept stored;
     })

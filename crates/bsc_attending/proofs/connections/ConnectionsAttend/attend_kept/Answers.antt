@@ -1,5 +1,5 @@
 -- Shows that the station runs from span to span.
-use Rattle.std.proofs.Common.{refl}
+use Rattle.std.proofs.Common.{false, refl}
 use Rattle.bsc_keeping.specs.Runs.{attended, begins, stopped}
 use Rattle.bsc_attending.specs.Runs.{station_parts}
 use Rattle.bsc_attending.proofs.GoingOn.{failed_as, once_forgotten}
@@ -11,21 +11,23 @@ spans-init g c = begins refl
 pub spans-preserved : goal.spans-preserved
 spans-preserved g c =
     once_forgotten (station_parts g.S.Station g.S.Party g.S.Sends.kept_at
-    g.S.Forgets.forgets_sent g.S.Forgets.forgets_arrived) g.K.Store _ _ g.S.Party.receives
+    g.S.Forgets.forgets_sent g.S.Forgets.forgets_arrived g.S.Feeds.offers g.S.Feeds.releases
+    g.S.Feeds.readies g.S.Feeds.urges) false g.K.Store _ _ g.S.Party.receives
     _ _ _ _ (attended c.spans.invariant (c.in_ok-attend_and_keep_for_a_span.ensures))
     c.forget_unneeded.ensures
 
 pub returns-in_err-attend_and_keep_for_a_span :
     goal.returns-in_err-attend_and_keep_for_a_span
-returns-in_err-attend_and_keep_for_a_span g c unreached =
+returns-in_err-attend_and_keep_for_a_span g c =
     failed_as (station_parts g.S.Station g.S.Party g.S.Sends.kept_at
-    g.S.Forgets.forgets_sent g.S.Forgets.forgets_arrived) g.K.Store _ _
+    g.S.Forgets.forgets_sent g.S.Forgets.forgets_arrived g.S.Feeds.offers g.S.Feeds.releases
+    g.S.Feeds.readies g.S.Feeds.urges) false g.K.Store _ _
     c.from_residual.result c.from_residual.ensures.0
     (attended c.spans.invariant (c.in_err-attend_and_keep_for_a_span.ensures))
 
 pub returns-then-not-branch : goal.returns-then-not-branch
-returns-then-not-branch g c unreached =
+returns-then-not-branch g c =
     attended c.spans.invariant (c.in_ok-attend_and_keep_for_a_span.ensures)
 
 pub returns : goal.returns
-returns g c unreached = stopped c.spans.invariant
+returns g c = stopped c.spans.invariant
