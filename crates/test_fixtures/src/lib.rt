@@ -9,6 +9,7 @@
 
 pub mod configurations;
 mod full;
+mod heap;
 pub mod lines;
 pub mod octets;
 mod random;
@@ -17,4 +18,5 @@ pub mod records;
 mod tests;
 
 pub use full::Full;
+pub use heap::on_heap;
 pub use random::Random;

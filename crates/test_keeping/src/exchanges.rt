@@ -9,6 +9,7 @@ use bsc_frame::Wire;
 use bsc_kept::{Change, Channel, Store};
 use bsc_monitor::{LineTerminal, Party};
 use std::alloc::Global;
+use std::mem::replace;
 use std::test::Fail;
 use test_fixtures::Random;
 use test_memory::Memory;
@@ -27,8 +28,8 @@ enum Sent {
 /// The control station, a terminal, and what is on the way between them.
 #[derive(Drop)]
 struct Line {
-    control: Kept<Control<Global>>,
-    terminal: Kept<LineTerminal<Global>>,
+    control: Box<Kept<Control<Global>>>,
+    terminal: Box<Kept<LineTerminal<Global>>>,
     wire: Wire,
     sent: Sent,
 }
@@ -44,16 +45,25 @@ fn store_of(alloc: Global, channels: &[Channel]) -> Result<Memory, Fail> {
     Ok(store)
 }
 
-/// Returns the line with all records to send.
-fn begun(alloc: Global, config: &Config) -> Result<Line, Fail> {
-    let outward = store_of(alloc, &[to_terminal(b'a')?, to_terminal(b'c')?])?;
-    let inward = store_of(alloc, &[from_terminal()?])?;
+/// Returns the line whose stations begin with these stores.
+fn line_of(
+    alloc: Global,
+    config: &Config,
+    (outward, inward): (Memory, Memory),
+) -> Result<Line, Fail> {
     Ok(Line {
         control: control(alloc, config, outward)?,
         terminal: terminal(alloc, config, inward)?,
         wire: Wire::new(),
         sent: Sent::Nothing,
     })
+}
+
+/// Returns the stores of both ends with all records to send.
+fn stores_to_send(alloc: Global) -> Result<(Memory, Memory), Fail> {
+    let outward = store_of(alloc, &[to_terminal(b'a')?, to_terminal(b'c')?])?;
+    let inward = store_of(alloc, &[from_terminal()?])?;
+    Ok((outward, inward))
 }
 
 /// Delivers what is on the way, or tells a station of a silence.
@@ -85,23 +95,34 @@ fn reconcile(store: &mut Memory, channel: Channel, other: &mut Memory) -> Result
     Ok(())
 }
 
-/// Kills both stations, releases their doubts, and begins both again.
-fn killed(alloc: Global, config: &Config, line: Line) -> Result<Line, Fail> {
+/// Kills both stations, and returns what outlives them.
+fn stores_left_by(line: Line) -> (Memory, Memory) {
     let Line {
-        control: first,
-        terminal: second,
+        control,
+        terminal,
         ..
     } = line;
-    let (mut outward, mut inward) = (first.into_store(), second.into_store());
-    reconcile(&mut outward, to_terminal(b'a')?, &mut inward)?;
-    reconcile(&mut outward, to_terminal(b'c')?, &mut inward)?;
-    reconcile(&mut inward, from_terminal()?, &mut outward)?;
-    Ok(Line {
-        control: control(alloc, config, outward)?,
-        terminal: terminal(alloc, config, inward)?,
-        wire: Wire::new(),
-        sent: Sent::Nothing,
-    })
+    (
+        Box::into_inner(control).into_store(),
+        Box::into_inner(terminal).into_store(),
+    )
+}
+
+/// Releases each doubt of these stores.
+fn reconcile_all(stores: &mut (Memory, Memory)) -> Result<(), Fail> {
+    let (outward, inward) = stores;
+    reconcile(outward, to_terminal(b'a')?, inward)?;
+    reconcile(outward, to_terminal(b'c')?, inward)?;
+    reconcile(inward, from_terminal()?, outward)
+}
+
+/// Kills both stations, releases their doubts, and begins both again.
+fn kill(alloc: Global, config: &Config, line: &mut Line) -> Result<(), Fail> {
+    let empty = line_of(alloc, config, (Memory::new(alloc), Memory::new(alloc)))?;
+    let mut stores = stores_left_by(replace(line, empty));
+    reconcile_all(&mut stores)?;
+    *line = line_of(alloc, config, stores)?;
+    Ok(())
 }
 
 /// Whether a station has received all records of the channel with this number, each once and in
@@ -119,25 +140,33 @@ fn has_all<S: Party>(station: &S, number: usize) -> Result<bool, Fail> {
     Ok(records.len() == RECORDS)
 }
 
-/// Plays a line whose stations are killed and whose transmissions are lost at random, until all has
-/// arrived. Returns how many steps that took.
-fn play(alloc: Global, seed: u64) -> Result<usize, Fail> {
-    let config = line(alloc)?;
-    let mut random = Random::new(seed);
-    let mut line = begun(alloc, &config)?;
+/// Plays the line, of which transmissions are lost and whose stations are killed at random, until
+/// all has arrived. Returns how many steps that took.
+fn play(
+    alloc: Global,
+    config: &Config,
+    line: &mut Line,
+    random: &mut Random,
+) -> Result<usize, Fail> {
     for steps in 0..5_000 {
         if random.one_in(12) {
             line.sent = Sent::Nothing;
         }
         if random.one_in(15) {
-            line = killed(alloc, &config, line)?;
+            kill(alloc, config, line)?;
         }
-        step(&mut line)?;
-        if arrived(&line)? {
+        step(line)?;
+        if arrived(line)? {
             return Ok(steps);
         }
     }
     Err(Fail::new("not all records arrived"))
+}
+
+/// Plays a new line. Returns how many steps it took until all had arrived.
+fn play_new(alloc: Global, config: &Config, seed: u64) -> Result<usize, Fail> {
+    let mut line = line_of(alloc, config, stores_to_send(alloc)?)?;
+    play(alloc, config, &mut line, &mut Random::new(seed))
 }
 
 /// Whether all records of the line have arrived.
@@ -151,9 +180,9 @@ fn arrived(line: &Line) -> Result<bool, Fail> {
 
 #[test]
 fn all_records_arrive_in_order_and_once_over_kills(rt: HostRuntime) -> Result<(), Fail> {
+    let config = line(rt.alloc())?;
     for seed in 1..20 {
-        let steps = play(rt.alloc(), seed)?;
-        assert!(rt; steps > 30);
+        assert!(rt; play_new(rt.alloc(), &config, seed)? > 30);
     }
     Ok(())
 }

@@ -2,6 +2,8 @@
 
 use crate::stations::{Kept, control, from_terminal, line, record, terminal, to_terminal};
 use bsc_bid::Station;
+use bsc_config::Config;
+use bsc_control::Control;
 use bsc_keeping::Sends;
 use bsc_kept::{Channel, Store, StoreFault};
 use bsc_monitor::Party;
@@ -21,7 +23,7 @@ fn has_only(store: &mut Memory, channel: &Channel, number: usize) -> Result<bool
 /// Offers the record with this number to a station. Returns whether it is given back, and kept on
 /// this channel.
 fn keeps<S: Station + Party + Sends + Drop>(
-    station: Kept<S>,
+    station: Box<Kept<S>>,
     select: usize,
     number: usize,
     channel: Channel,
@@ -29,18 +31,40 @@ fn keeps<S: Station + Party + Sends + Drop>(
     let mut station = station;
     let given_back = station.offer(0, select, record(number)?)?;
     let is_same = given_back.chars() == record(number)?.chars();
-    Ok(is_same && has_only(&mut station.into_store(), &channel, number)?)
+    Ok(is_same && has_only(&mut Box::into_inner(station).into_store(), &channel, number)?)
 }
 
-/// A record for a terminal is kept for its address.
+/// Whether the control station keeps a record for a terminal for its address.
+fn control_keeps(alloc: Global, config: &Config) -> Result<bool, Fail> {
+    let station = control(alloc, config, Memory::new(alloc))?;
+    keeps(station, 1, 7, to_terminal(b'c')?)
+}
+
+/// Whether a terminal keeps a record.
+fn terminal_keeps(alloc: Global, config: &Config) -> Result<bool, Fail> {
+    let station = terminal(alloc, config, Memory::new(alloc))?;
+    keeps(station, 0, 8, from_terminal()?)
+}
+
 #[test]
 fn a_record_is_kept_on_its_channel(rt: HostRuntime) -> Result<(), Fail> {
     let config = line(rt.alloc())?;
-    let for_terminal = control(rt.alloc(), &config, Memory::new(rt.alloc()))?;
-    assert!(rt; keeps(for_terminal, 1, 7, to_terminal(b'c')?)?);
-    let of_terminal = terminal(rt.alloc(), &config, Memory::new(rt.alloc()))?;
-    assert!(rt; keeps(of_terminal, 0, 8, from_terminal()?)?);
+    assert!(rt; control_keeps(rt.alloc(), &config)?);
+    assert!(rt; terminal_keeps(rt.alloc(), &config)?);
     Ok(())
+}
+
+/// The fault with which an offer for an address of terminal 0 fails, if the keeper has it too.
+fn fault_of(
+    station: &mut Kept<Control<Global>>,
+    select: usize,
+) -> Result<Option<StoreFault>, Fail> {
+    let fault = station.offer(0, select, record(9)?).err();
+    Ok(if station.fault() == fault {
+        fault
+    } else {
+        None
+    })
 }
 
 /// The fault with which an offer for an address of terminal 0 fails, over a store that keeps this
@@ -49,13 +73,7 @@ fn refused(alloc: Global, left: u32, select: usize) -> Result<Option<StoreFault>
     let config = line(alloc)?;
     let mut store = Memory::new(alloc);
     store.left = left;
-    let mut station = control(alloc, &config, store)?;
-    let fault = station.offer(0, select, record(9)?).err();
-    Ok(if station.fault() == fault {
-        fault
-    } else {
-        None
-    })
+    fault_of(&mut *control(alloc, &config, store)?, select)
 }
 
 #[test]

@@ -155,11 +155,11 @@ pub(crate) fn control(
     alloc: Global,
     config: &Config,
     store: Memory,
-) -> Result<Kept<Control<Global>>, Fail> {
-    let mut control = new_control(alloc, config)?;
+) -> Result<Box<Kept<Control<Global>>>, Fail> {
     let own = Own::of(alloc, config, Owner::Control)?;
+    let mut control = new_control(alloc, config)?;
     let keeper = begin_control(alloc, &mut control, own, store, false)?;
-    Ok(Kept::new(control, keeper))
+    Ok(Box::new(alloc, Kept::new(control, keeper))?)
 }
 
 /// Returns terminal 0 of the line, made again from its store.
@@ -167,14 +167,14 @@ pub(crate) fn terminal(
     alloc: Global,
     config: &Config,
     store: Memory,
-) -> Result<Kept<LineTerminal<Global>>, Fail> {
+) -> Result<Box<Kept<LineTerminal<Global>>>, Fail> {
     if config.terminals() == 0 {
         return Err(Fail::new("no terminal"));
     }
-    let mut terminal = new_terminal(alloc, config, 0);
     let own = Own::of(alloc, config, Owner::Terminal { number: 0 })?;
+    let mut terminal = new_terminal(alloc, config, 0);
     let keeper = begin_terminal(alloc, &mut terminal, own, store, false)?;
-    Ok(Kept::new(terminal, keeper))
+    Ok(Box::new(alloc, Kept::new(terminal, keeper))?)
 }
 
 /// The address of these codes.

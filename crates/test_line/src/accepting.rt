@@ -195,8 +195,10 @@ fn play_with(alloc: &Refusing, of: Settings, steps: usize) -> Result<States, Fai
     let setup = Setup::new(of.chars, of.block_chars, of.tries, of.waits)?;
     let most = most_terminals()?;
     let terminals = most.get(..of.terminals).ok_or("too few terminals")?;
-    let mut line = Line::new(alloc, setup, terminals, &[0])?;
-    Ok(play_and_offer(&mut line, of.chars, steps)?)
+    match Line::new(alloc, setup, terminals, &[0]) {
+        Ok(mut line) => Ok(play_and_offer(&mut line, of.chars, steps)?),
+        Err(why) => Err(why.into()),
+    }
 }
 
 #[test]

@@ -164,7 +164,10 @@ pub(crate) fn line_of<A: Allocator + Copy>(
     terminals: &[Terminal],
     poll_list: &[u8],
 ) -> Result<Line<A>, Fail> {
-    Ok(Line::new(alloc, setup, terminals, poll_list)?)
+    match Line::new(alloc, setup, terminals, poll_list) {
+        Ok(line) => Ok(line),
+        Err(why) => Err(why.into()),
+    }
 }
 
 /// A new line as `on` describes it.
@@ -196,8 +199,10 @@ pub(crate) type Answer = Result<bool, LineError>;
 /// Plays this on a new line, whose allocations are not refused while it is made.
 pub(crate) fn play_on<P: Play>(alloc: &Refusing, on: &On<'_>, play: &P) -> Result<P::Answer, Fail> {
     alloc.refuse_none();
-    let mut line = line_on(alloc, on)?;
-    Ok(play.play(&mut line))
+    match line_on(alloc, on) {
+        Ok(mut line) => Ok(play.play(&mut line)),
+        Err(why) => Err(why),
+    }
 }
 
 /// The error of a new line with these terminals and this poll list; None if it can be made.

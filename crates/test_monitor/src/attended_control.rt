@@ -265,7 +265,7 @@ fn attend_control(
 }
 
 /// Returns the control station that is to be attended.
-fn control_for(alloc: Global, attended: &Attended) -> Result<Control<Global>, Fail> {
+fn control_for(alloc: Global, attended: &Attended) -> Result<Box<Control<Global>>, Fail> {
     if attended.sends {
         sending_control(alloc)
     } else {
@@ -278,7 +278,7 @@ fn prints(alloc: Global, attended: &Attended) -> Result<bool, Fail> {
     let mut control = control_for(alloc, attended)?;
     let (mut out, mut trace) = (Vec::new(alloc), Vec::new(alloc));
     attend_control(alloc, &mut control, attended, &mut out, &mut trace)?;
-    write_report(alloc, None, &control, &mut out)?;
+    write_report(alloc, None, &*control, &mut out)?;
     Ok(out.as_slice() == attended.printed && trace.ends_with(attended.traced))
 }
 
@@ -294,7 +294,7 @@ fn control_stations_print_what_happens_until_they_end(rt: HostRuntime) -> Result
 #[test]
 fn a_report_may_fail(rt: HostRuntime) -> Result<(), Fail> {
     let control = control_of(rt.alloc(), TWO_TERMINALS)?;
-    let written = write_report(rt.alloc(), None, &control, &mut Full { left: 1 });
+    let written = write_report(rt.alloc(), None, &*control, &mut Full { left: 1 });
     assert!(rt; matches!(written, Err(PrintError::Output)));
     Ok(())
 }

@@ -176,7 +176,7 @@ fn attend_terminal<W: Write>(
 }
 
 /// Returns the terminal that is to be attended.
-fn terminal_for(alloc: Global, attended: &Attended) -> Result<LineTerminal<Global>, Fail> {
+fn terminal_for(alloc: Global, attended: &Attended) -> Result<Box<LineTerminal<Global>>, Fail> {
     if attended.sends {
         sending_terminal(alloc)
     } else {
@@ -190,7 +190,7 @@ fn prints(alloc: Global, attended: &Attended) -> Result<bool, Fail> {
     let (mut out, mut trace) = (Vec::new(alloc), Vec::new(alloc));
     let closed = attend_terminal(alloc, &mut terminal, attended, &mut out, &mut trace)?;
     let form = attended.printing.records.form;
-    write_report(alloc, Some(form), &terminal, &mut out)?;
+    write_report(alloc, Some(form), &*terminal, &mut out)?;
     let is_told = match closed {
         Some(why) => attended.is_cut && why == CarrierError::Short,
         None => !attended.is_cut,

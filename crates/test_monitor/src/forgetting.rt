@@ -96,7 +96,7 @@ fn a_control_station_forgets_many_records_at_once(rt: HostRuntime) -> Result<(),
     for row in ROWS {
         let mut control = control_of(rt.alloc(), TWO_TERMINALS)?;
         assert!(rt; add(&mut control, 0, b"HI", row.arrived).is_some());
-        assert!(rt; forgotten_of(&mut control, row) == Some(row.forgotten));
+        assert!(rt; forgotten_of(&mut *control, row) == Some(row.forgotten));
     }
     Ok(())
 }
@@ -106,7 +106,7 @@ fn a_terminal_forgets_many_records_at_once(rt: HostRuntime) -> Result<(), Fail> 
     for row in ROWS {
         let mut terminal = quiet_terminal(rt.alloc())?;
         assert!(rt; add_to_terminal(&mut terminal, row.arrived).is_some());
-        assert!(rt; forgotten_of(&mut terminal, row) == Some(row.forgotten));
+        assert!(rt; forgotten_of(&mut *terminal, row) == Some(row.forgotten));
     }
     Ok(())
 }

@@ -1,6 +1,6 @@
 //! Stations of a line with a record to send.
 
-ghost use Rattle.std.specs.Prelude.{◌≡◌, IfOk};
+ghost use Rattle.std.specs.Prelude.{◌≡◌};
 
 use bsc_bid::Setup;
 use bsc_block::Record;
@@ -12,6 +12,7 @@ use bsc_monitor::{
 use std::alloc::Global;
 use std::test::Fail;
 use test_fixtures::configurations::TWO_TERMINALS;
+use test_fixtures::on_heap;
 
 /// Offers the record HI at a terminal of a line with these settings.
 fn offer_at(alloc: Global, terminal: &mut LineTerminal<Global>, setup: Setup) -> Result<(), Fail>
@@ -22,39 +23,39 @@ fn offer_at(alloc: Global, terminal: &mut LineTerminal<Global>, setup: Setup) ->
 }
 
 /// Terminal 0 of a line, with nothing to send.
-fn terminal_of(alloc: Global, config: &Config) -> Result<LineTerminal<Global>, Fail>
-    ensures { IfOk result (λ terminal.
-        terminal.tributary.queue.format ≡ config.now.setup.format) }
-{
+fn terminal_of(alloc: Global, config: &Config) -> Result<Box<LineTerminal<Global>>, Fail> {
     if config.terminals() == 0 {
         return Err(Fail::new("no terminal"));
     }
-    Ok(new_terminal(alloc, config, 0))
+    Ok(Box::new(alloc, new_terminal(alloc, config, 0))?)
 }
 
 /// The same with the record HI to send.
-fn sending_of(alloc: Global, config: &Config) -> Result<LineTerminal<Global>, Fail> {
-    let mut terminal = terminal_of(alloc, config)?;
+fn sending_of(alloc: Global, config: &Config) -> Result<Box<LineTerminal<Global>>, Fail> {
+    if config.terminals() == 0 {
+        return Err(Fail::new("no terminal"));
+    }
+    let mut terminal = Box::new(alloc, new_terminal(alloc, config, 0))?;
     offer_at(alloc, &mut terminal, config.setup())?;
     Ok(terminal)
 }
 
 /// Terminal 0 of a line of two, with the record HI to send.
-pub(crate) fn sending_terminal(alloc: Global) -> Result<LineTerminal<Global>, Fail> {
+pub(crate) fn sending_terminal(alloc: Global) -> Result<Box<LineTerminal<Global>>, Fail> {
     let config = read_config(alloc, TWO_TERMINALS.as_bytes())?;
     sending_of(alloc, &config)
 }
 
 /// Terminal 0 of a line of two, with nothing to send.
-pub(crate) fn quiet_terminal(alloc: Global) -> Result<LineTerminal<Global>, Fail> {
+pub(crate) fn quiet_terminal(alloc: Global) -> Result<Box<LineTerminal<Global>>, Fail> {
     let config = read_config(alloc, TWO_TERMINALS.as_bytes())?;
     terminal_of(alloc, &config)
 }
 
 /// The control station of the line that a document describes, with nothing to send.
-pub(crate) fn control_of(alloc: Global, document: &str) -> Result<Control<Global>, Fail> {
+pub(crate) fn control_of(alloc: Global, document: &str) -> Result<Box<Control<Global>>, Fail> {
     let config = read_config(alloc, document.as_bytes())?;
-    Ok(new_control(alloc, &config)?)
+    on_heap(alloc, new_control(alloc, &config))
 }
 
 /// Offers the record HI for this selection address of this terminal.
@@ -81,7 +82,7 @@ pub(crate) fn offer(
 }
 
 /// The control station of a line of two terminals, with the record HI to send to terminal 0.
-pub(crate) fn sending_control(alloc: Global) -> Result<Control<Global>, Fail> {
+pub(crate) fn sending_control(alloc: Global) -> Result<Box<Control<Global>>, Fail> {
     let mut control = control_of(alloc, TWO_TERMINALS)?;
     offer(alloc, &mut control, 0)?;
     Ok(control)

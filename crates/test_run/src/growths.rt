@@ -12,6 +12,7 @@ use std::alloc::Global;
 use std::test::Fail;
 use test_alloc::Refusing;
 use test_fixtures::configurations::TWO_TERMINALS;
+use test_fixtures::on_heap;
 
 /// The output if the control station at first has no room for the text.
 const NO_ROOM_FOR_IT: &str = "control CALL A
@@ -92,7 +93,8 @@ fn run_without(
         return Err(Fail::new("not two terminals"));
     }
     let (terminals, poll_list) = (config.terminal_list(), config.poll_list());
-    let mut line = Line::new(refusing, config.setup(), terminals, poll_list)?;
+    let made = Line::new(refusing, config.setup(), terminals, poll_list);
+    let mut line = on_heap(alloc, made)?;
     refusing.refuse_nth(growth);
     let mut trace = Vec::<u8>::new(alloc);
     let steps = script.steps();

@@ -11,22 +11,23 @@ use bsc_kept::{Change, Channel, Store, StoreFault};
 use bsc_serving::Serving;
 use std::alloc::Global;
 use std::test::Fail;
+use test_fixtures::on_heap;
 use test_memory::Memory;
 
 /// A control station and what keeps its records.
 #[derive(Drop)]
 struct Kept {
-    station: Control<Global>,
+    station: Box<Control<Global>>,
     keeper: Keeper<Memory>,
 }
 
 /// Returns the control station of the line, made again from its store.
-fn begun(alloc: Global, store: Memory) -> Result<Kept, Fail> {
+fn begun(alloc: Global, store: Memory) -> Result<Box<Kept>, Fail> {
     let config = line(alloc)?;
     let mut station = control(alloc)?;
     let own = Own::of(alloc, &config, Owner::Control)?;
     let keeper = begin_control(alloc, &mut station, own, store, false)?;
-    Ok(Kept { station, keeper })
+    Ok(Box::new(alloc, Kept { station, keeper })?)
 }
 
 /// The address of these codes.
@@ -43,7 +44,7 @@ fn second() -> Result<Channel, Fail> {
 /// Serves the programs once.
 fn served(serving: &mut Serving<Scripted<'_>>, kept: &mut Kept) -> Result<bool, LiveError> {
     let watch = Quiet::new();
-    serving.serve_kept(&mut kept.station, &mut kept.keeper, &watch)
+    serving.serve_kept(&mut *kept.station, &mut kept.keeper, &watch)
 }
 
 /// What one program says, and what it has to be told.
@@ -177,14 +178,15 @@ impl Case {
     fn goes(&self, alloc: Global) -> Result<bool, Fail> {
         let world = World::new(alloc, self.talks.len())?;
         let mut kept = begun(alloc, self.store(alloc)?)?;
-        let mut serving = Serving::new(alloc, world.scripted())?;
+        let mut serving = on_heap(alloc, Serving::new(alloc, world.scripted()))?;
         say(&world, self.talks)?;
         if served(&mut serving, &mut kept) != self.given || !are_told(&world, self.talks)? {
             return Ok(false);
         }
         let is_right = offered(&kept.station, 0, 0) == self.first;
         let has_failed = kept.keeper.fault() == self.fault;
-        Ok(is_right && has_failed && self.is_kept(&mut kept.keeper.into_store())?)
+        let mut store = Box::into_inner(kept).keeper.into_store();
+        Ok(is_right && has_failed && self.is_kept(&mut store)?)
     }
 
     /// Whether the store has kept what the case says.

@@ -7,6 +7,7 @@ use bsc_control::Control;
 use bsc_serving::{Feeds, Serving, Unkept};
 use std::alloc::Global;
 use std::test::Fail;
+use test_fixtures::on_heap;
 
 /// One act of a scene: what happens, or what holds then. Programs are named by their numbers.
 #[derive(Clone, Copy)]
@@ -175,7 +176,7 @@ pub(crate) fn play(alloc: Global, scenes: &[Scene]) -> Result<(), Fail> {
 fn all_hold(alloc: Global, scene: &Scene, comments: usize) -> Result<bool, Fail> {
     let world = World::new(alloc, scene.programs)?;
     let mut station = control(alloc)?;
-    let mut serving = Serving::new(alloc, world.scripted())?;
+    let mut serving = on_heap(alloc, Serving::new(alloc, world.scripted()))?;
     for act in scene.acts {
         if !holds(&world, &mut serving, &mut station, *act, comments)? {
             return Ok(false);

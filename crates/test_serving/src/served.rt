@@ -5,6 +5,7 @@ use crate::stations::terminal;
 use crate::world::World;
 use bsc_serving::{MAX_PROGRAMS, Serving};
 use std::test::Fail;
+use test_fixtures::on_heap;
 
 const SERVED: &[Scene] = &[
     Scene {
@@ -305,9 +306,9 @@ to 0.0: spooled 0\nto 0.1: spooled 0\nok\n";
 fn commands_at_a_terminal(rt: HostRuntime) -> Result<(), Fail> {
     let world = World::new(rt.alloc(), 1)?;
     let mut station = terminal(rt.alloc())?;
-    let mut serving = Serving::new(rt.alloc(), world.scripted())?;
+    let mut serving = on_heap(rt.alloc(), Serving::new(rt.alloc(), world.scripted()))?;
     world.connect(1);
     world.at(0)?.say(SAID)?;
-    assert!(rt; !served(&mut serving, &mut station, 20)? && world.at(0)?.was_told(TOLD));
+    assert!(rt; !served(&mut serving, &mut *station, 20)? && world.at(0)?.was_told(TOLD));
     Ok(())
 }

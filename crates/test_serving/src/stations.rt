@@ -10,6 +10,7 @@ use bsc_monitor::{LineTerminal, new_control, new_terminal};
 use std::alloc::Global;
 use std::test::Fail;
 use test_fixtures::configurations::THREE_ADDRESSES;
+use test_fixtures::on_heap;
 
 /// Returns the configuration of the tests: terminal 0 has two selection addresses, terminal 1 one.
 pub(crate) fn line(alloc: Global) -> Result<Config, Fail> {
@@ -17,17 +18,17 @@ pub(crate) fn line(alloc: Global) -> Result<Config, Fail> {
 }
 
 /// Returns the control station of the line.
-pub(crate) fn control(alloc: Global) -> Result<Control<Global>, Fail> {
-    Ok(new_control(alloc, &line(alloc)?)?)
+pub(crate) fn control(alloc: Global) -> Result<Box<Control<Global>>, Fail> {
+    on_heap(alloc, new_control(alloc, &line(alloc)?))
 }
 
 /// Returns terminal 0 of the line.
-pub(crate) fn terminal(alloc: Global) -> Result<LineTerminal<Global>, Fail> {
+pub(crate) fn terminal(alloc: Global) -> Result<Box<LineTerminal<Global>>, Fail> {
     let config = line(alloc)?;
     if config.terminals() == 0 {
         return Err(Fail::new("no terminal"));
     }
-    Ok(new_terminal(alloc, &config, 0))
+    Ok(Box::new(alloc, new_terminal(alloc, &config, 0))?)
 }
 
 /// Returns how many records a control station has to send to this selection address.

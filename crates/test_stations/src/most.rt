@@ -11,6 +11,7 @@ use bsc_tributary::{Tributary, addresses_differ};
 use std::alloc::Allocator;
 use std::test::Fail;
 use test_fixtures::lines::setup;
+use test_fixtures::on_heap;
 
 /// The second code of the addresses of the first terminal.
 const FIRST_CODE: u8 = 0x21;
@@ -71,7 +72,8 @@ fn a_control_station_keeps_thousands_of_records_from_each_of_64_terminals(
     for place in 0..64u8 {
         terminals[usize::from(place)] = coded_terminal(FIRST_CODE + place)?;
     }
-    let mut control = Control::new(rt.alloc(), setup(3)?, &terminals, &[63; 255])?;
+    let made = Control::new(rt.alloc(), setup(3)?, &terminals, &[63; 255]);
+    let mut control = on_heap(rt.alloc(), made)?;
     for terminal in 0..63usize {
         assert!(rt; keeps_from(&mut control, terminal, RECORDS));
     }
@@ -114,7 +116,8 @@ fn a_terminal_keeps_thousands_of_records_at_each_of_4_addresses(
     if !addresses_differ(&terminal) {
         return Err("two addresses are the same".into());
     }
-    let mut tributary = Tributary::new(rt.alloc(), setup(3)?, terminal);
+    let made = Tributary::new(rt.alloc(), setup(3)?, terminal);
+    let mut tributary = Box::new(rt.alloc(), made)?;
     for select in 0..3usize {
         assert!(rt; keeps_at(&mut tributary, select, RECORDS));
     }

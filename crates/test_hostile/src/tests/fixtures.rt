@@ -8,6 +8,7 @@ use std::alloc::Global;
 use std::test::Fail;
 use test_alloc::Refusing;
 use test_fixtures::lines::{setup, two_terminals};
+use test_fixtures::on_heap;
 
 /// The number of channels of the line.
 const CHANNELS: usize = 4;
@@ -16,15 +17,15 @@ const CHANNELS: usize = 4;
 /// No memory is refused to the line, so that no offer may fail with `Memory`.
 #[derive(Drop)]
 pub(crate) struct Watched {
-    pub(crate) line: Line<Global>,
-    watch: LineWatch,
+    pub(crate) line: Box<Line<Global>>,
+    watch: Box<LineWatch>,
     memory: Refusing,
 }
 
 impl Watched {
     /// A new line: terminal 0 is polled by A and selected by a, terminal 1 is polled by B and
     /// selected by b, and they are called in turn.
-    pub(crate) fn new(alloc: Global) -> Result<Watched, Fail> {
+    pub(crate) fn new(alloc: Global) -> Result<Box<Watched>, Fail> {
         Watched::of(alloc, &two_terminals(), &two_terminals())
     }
 
@@ -33,15 +34,16 @@ impl Watched {
         alloc: Global,
         terminals: &[Terminal],
         others: &[Terminal],
-    ) -> Result<Watched, Fail> {
+    ) -> Result<Box<Watched>, Fail> {
         let setup = setup(3)?;
-        let watch = LineWatch::new(alloc, setup, others)?;
-        let line = Line::new(alloc, setup, terminals, &[0, 1])?;
-        Ok(Watched {
+        let watch = on_heap(alloc, LineWatch::new(alloc, setup, others))?;
+        let line = on_heap(alloc, Line::new(alloc, setup, terminals, &[0, 1]))?;
+        let watched = Watched {
             line,
             watch,
             memory: Refusing::new(alloc),
-        })
+        };
+        Ok(Box::new(alloc, watched)?)
     }
 
     /// Plays one event.

@@ -7,6 +7,7 @@ use std::alloc::{Allocator, Global};
 use std::test::Fail;
 use test_alloc::Refusing;
 use test_fixtures::lines::{setup, two_terminals};
+use test_fixtures::on_heap;
 
 /// Offers HI at terminal 0.
 const HI_AT: Event<'static> = Event::OfferAt {
@@ -71,9 +72,9 @@ fn seen(
     played: Played,
 ) -> Result<Seen, Fail> {
     let (setup, terminals) = (setup(3)?, two_terminals());
-    let mut watch = LineWatch::new(alloc, setup, &terminals)?;
+    let mut watch = on_heap(alloc, LineWatch::new(alloc, setup, &terminals))?;
     starved.refuse_none();
-    let mut line = Line::new(starved, setup, &terminals, &[0, 1])?;
+    let mut line = on_heap(alloc, Line::new(starved, setup, &terminals, &[0, 1]))?;
     let before = play_each(&mut watch, memory, &mut line, played.0);
     if before != Ok(Ok(())) {
         return Ok(before);
