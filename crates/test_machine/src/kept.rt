@@ -94,22 +94,43 @@ const COPY: &str = "copy.db";
 /// Makes a store at a path and keeps this in it.
 fn make(machine: &mut Machine<'_, HostRuntime>, path: &str) -> Result<(), StoreFault> {
     machine.make_kept(path, LINE)?;
-    let mut store = machine.open_store(path, LINE)?;
-    keep(machine.runtime.alloc(), &mut store, path)
+    match machine.open_store(path, LINE) {
+        Ok(mut store) => keep(machine.runtime.alloc(), &mut store, path),
+        Err(fault) => Err(fault),
+    }
 }
 
-/// Whether the store at a path has its line and what was kept, and is in use until it is closed. A
-/// copy of its file, made after that, has the same.
+/// The fault with which the store at a path is not opened, if it is not.
+fn refusal(machine: &mut Machine<'_, HostRuntime>, path: &str) -> Option<StoreFault> {
+    match machine.open_kept(path) {
+        Ok(_) => None,
+        Err(fault) => Some(fault),
+    }
+}
+
+/// Whether the store at a path has its line and what was kept with this text, and is in use until it
+/// is closed.
+fn is_whole(
+    machine: &mut Machine<'_, HostRuntime>,
+    path: &str,
+    text: &str,
+) -> Result<bool, StoreFault> {
+    match machine.open_kept(path) {
+        Ok(mut opened) => {
+            let has_all = opened.line.as_str() == LINE && has_kept(&mut opened.store, text)?;
+            let is_used = refusal(machine, path) == Some(StoreFault::InUse);
+            machine.close_kept(opened)?;
+            Ok(has_all && is_used)
+        }
+        Err(fault) => Err(fault),
+    }
+}
+
+/// Whether the store at a path is whole, and a copy of its file, made after it was closed, too.
 fn found(machine: &mut Machine<'_, HostRuntime>, path: &str) -> Result<bool, StoreFault> {
-    let mut opened = machine.open_kept(path)?;
-    let is_whole = opened.line.as_str() == LINE && has_kept(&mut opened.store, path)?;
-    let is_used = machine.open_kept(path).err() == Some(StoreFault::InUse);
-    machine.close_kept(opened)?;
+    let is_found = is_whole(machine, path, path)?;
     let is_copied = fs::copy(machine.runtime, path, COPY).is_ok();
-    let mut copy = machine.open_kept(COPY)?;
-    let is_same = copy.line.as_str() == LINE && has_kept(&mut copy.store, path)?;
-    machine.close_kept(copy)?;
-    Ok(is_whole && is_used && is_copied && is_same)
+    Ok(is_found && is_copied && is_whole(machine, COPY, path)?)
 }
 
 #[test]
@@ -127,7 +148,10 @@ fn each_store_keeps_what_is_kept_in_it(rt: HostRuntime) -> Result<(), Fail> {
 
 /// The fault with which a store is opened by a station with this line.
 fn not_opened(machine: &mut Machine<'_, HostRuntime>, path: &str, own: &str) -> Option<StoreFault> {
-    machine.open_store(path, own).err()
+    match machine.open_store(path, own) {
+        Ok(_) => None,
+        Err(fault) => Some(fault),
+    }
 }
 
 #[test]
@@ -139,6 +163,6 @@ fn it_is_told_why_a_store_is_refused(rt: HostRuntime) -> Result<(), Fail> {
     assert!(rt; not_opened(&mut machine, "deck.db", LINE).is_none());
     assert!(rt; not_opened(&mut machine, "deck.db", "x") == Some(StoreFault::OtherLine));
     assert!(rt; not_opened(&mut machine, "none.db", LINE) == Some(StoreFault::Missing));
-    assert!(rt; machine.open_kept("none.db").err() == Some(StoreFault::Missing));
+    assert!(rt; refusal(&mut machine, "none.db") == Some(StoreFault::Missing));
     Ok(())
 }

@@ -1,4 +1,5 @@
-//! Stores that are opened, used and closed: the only functions that own one.
+//! Stores that are opened, used and closed: the only functions that own one. None takes a store out
+//! of a result by `?`, which takes long to check with a type as large as that of a store.
 
 use crate::cut::{has_step, keep_step};
 use crate::facts::{from_terminal, to_terminal};
@@ -7,7 +8,7 @@ use crate::kept::{fill, is_filled};
 use crate::many::{are_marked, keeps_many};
 use bsc_kept::{Store, StoreFault};
 use bsc_store::TableStore;
-use sqlite::{Connection, params};
+use sqlite::{Connection, MemStore, params};
 use std::alloc::Global;
 use std::rt::HostRuntime;
 use std::{fs, io};
@@ -111,7 +112,10 @@ fn used(
     task: Task,
     to: &str,
 ) -> Result<bool, StoreFault> {
-    let mut store = TableStore::open(rt, path, line)?;
+    let mut store = match TableStore::open(rt, path, line) {
+        Ok(store) => store,
+        Err(fault) => return Err(fault),
+    };
     let done = perform(rt.alloc(), &mut store, task);
     let is_copied = copy(rt, path, to).is_ok();
     store.close()?;
@@ -152,12 +156,35 @@ pub(crate) fn in_memory(alloc: Global, task: Task) -> Result<bool, StoreFault> {
     let Ok(conn) = Connection::open_in_memory(alloc) else {
         return Err(StoreFault::OutOfMemory);
     };
-    let mut store = TableStore::begin(conn, LINE)?;
-    perform(alloc, &mut store, task)
+    match TableStore::begin(conn, LINE) {
+        Ok(mut store) => perform(alloc, &mut store, task),
+        Err(fault) => Err(fault),
+    }
 }
 
 /// Keeps the line of the tests.
 const NAME: &str = "INSERT INTO line (version, line) VALUES (1, ?1)";
+
+/// Goes on with the store of this database, of the line of the tests, and uses it.
+fn resumed_of(alloc: Global, conn: Connection<MemStore>, task: Task) -> Result<bool, StoreFault> {
+    match TableStore::resume(conn, LINE) {
+        Ok(mut store) => perform(alloc, &mut store, task),
+        Err(fault) => Err(fault),
+    }
+}
+
+/// Goes on with the store of this database, of whatever line, reads the text of its line, and uses
+/// it.
+fn resumed_of_any(
+    alloc: Global,
+    conn: Connection<MemStore>,
+    task: Task,
+) -> Result<bool, StoreFault> {
+    match TableStore::resume_any(conn) {
+        Ok((mut store, line)) => Ok(line.as_str() == LINE && perform(alloc, &mut store, task)?),
+        Err(fault) => Err(fault),
+    }
+}
 
 /// Goes on with the store that these statements make in memory, of the line of the tests, and uses
 /// it. If `any` is true it is opened as one of whatever line, and the text of its line is read.
@@ -176,18 +203,19 @@ pub(crate) fn resumed(
         return Err(StoreFault::Refused);
     }
     if any {
-        let (mut store, line) = TableStore::resume_any(conn)?;
-        Ok(line.as_str() == LINE && perform(alloc, &mut store, task)?)
+        resumed_of_any(alloc, conn, task)
     } else {
-        let mut store = TableStore::resume(conn, LINE)?;
-        perform(alloc, &mut store, task)
+        resumed_of(alloc, conn, task)
     }
 }
 
 /// Whether the store at a path is in use while it is open, to one who opens it and to one who makes
 /// a store there.
 pub(crate) fn is_in_use(rt: &HostRuntime, path: &str) -> Result<bool, StoreFault> {
-    let store = TableStore::open(rt, path, LINE)?;
+    let store = match TableStore::open(rt, path, LINE) {
+        Ok(store) => store,
+        Err(fault) => return Err(fault),
+    };
     let opened = within(rt, path, LINE, Task::Nothing);
     let made = create(rt, path);
     store.close()?;

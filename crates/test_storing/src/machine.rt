@@ -21,10 +21,11 @@ pub(crate) enum Fails {
     Closes,
 }
 
-/// A store in memory, of which some calls fail.
+/// A store in memory, of which some calls fail. The table is on the heap: what moves it takes long
+/// to check, what moves a box does not.
 #[derive(Drop)]
 pub(crate) struct Kept {
-    table: TableStore<MemStore>,
+    table: Box<TableStore<MemStore>>,
     fails: Fails,
 }
 
@@ -109,7 +110,13 @@ fn store_of(alloc: Global, text: &str) -> Result<Opened<Kept>, StoreFault> {
     let Ok(conn) = Connection::open_in_memory(alloc) else {
         return Err(StoreFault::OutOfMemory);
     };
-    let table = TableStore::begin(conn, text)?;
+    let begun = match TableStore::begin(conn, text) {
+        Ok(table) => Box::new(alloc, table),
+        Err(fault) => return Err(fault),
+    };
+    let Ok(table) = begun else {
+        return Err(StoreFault::OutOfMemory);
+    };
     let fails = Fails::Nothing;
     let store = Kept { table, fails };
     Ok(Opened { store, line })
