@@ -3,7 +3,7 @@
 use crate::acts::{reads_at, writes_at};
 use crate::meeting::{Told, begin, bound, peers, reach, settings};
 use bsc_connections::{Awaited, Waiter};
-use bsc_sockets::{Begun, ConnectionSettings, Listening, Peers, SocketsError};
+use bsc_sockets::{ConnectionSettings, Listening, Peers, SocketsError};
 use std::alloc::{AllocError, Allocator, Global};
 use std::io::{Read, Write};
 use std::net::SocketAddr;
@@ -123,11 +123,9 @@ fn listens_to<P, Q: Write>(
         keeps_listening: false,
         ..peers(1)
     };
-    let Begun {
-        mut sockets,
-        mut connections,
-    } = begin(rt, alloc, listening, wanted, settings(), &mut Told::new())?;
-    let meets = writes_at(near, 0, &[0x16]) && hears(&mut sockets, &mut connections);
+    let mut begun = begin(rt, alloc, listening, wanted, settings(), &mut Told::new())?;
+    let begun = &mut *begun;
+    let meets = writes_at(near, 0, &[0x16]) && hears(&mut begun.sockets, &mut begun.connections);
     let third = connections_to(rt, alloc, address);
     Ok(meets && third == Err(SocketsError::NobodyThere))
 }
@@ -141,12 +139,9 @@ fn meet(
     address: &str,
 ) -> Result<bool, SocketsError> {
     let there = listening.address()?;
-    let Begun {
-        sockets,
-        mut connections,
-    } = reach(rt, alloc, address, settings())?;
-    let is_named = sockets.peer(0) == Some(there);
-    let meets = listens_to(rt, alloc, listening, &mut connections, address)?;
+    let mut begun = reach(rt, alloc, address, settings())?;
+    let is_named = begun.sockets.peer(0) == Some(there);
+    let meets = listens_to(rt, alloc, listening, &mut begun.connections, address)?;
     Ok(is_named && meets)
 }
 

@@ -4,9 +4,9 @@ use crate::meeting::{SHORT, Times, Told, begin, bound, peer, peers};
 use crate::watching::{Answers, Expects};
 use bsc_connections::{Connection, Framing, Gaps, Note, SocketRecords, attend};
 use bsc_sockets::{Begun, Listening};
-use std::alloc::Global;
+use std::alloc::{AllocError, Global};
 use std::io;
-use std::io::Write;
+use std::io::{Read, Write};
 use std::net::{Shutdown, SocketAddr, TcpStream};
 use std::test::Fail;
 
@@ -83,6 +83,18 @@ fn ended(rt: &HostRuntime, address: SocketAddr, ending: &Ending) -> io::Result<T
     Ok(peer)
 }
 
+/// These connections with this framing.
+fn framed<R: Read + Drop, W: Write + Drop, F: Framing + Drop>(
+    alloc: Global,
+    connections: Vec<(R, W)>,
+) -> Result<Vec<Connection<R, W, F>>, AllocError> {
+    let mut framed = Vec::new(alloc);
+    for (reader, writer) in connections {
+        framed.push(Connection::new(reader, writer))?;
+    }
+    Ok(framed)
+}
+
 /// Attends a station over the connection of one peer of this listener, which has this address.
 /// Returns whether it was told exactly these notes.
 fn is_told<F: Framing + Drop>(
@@ -92,21 +104,13 @@ fn is_told<F: Framing + Drop>(
     peer: SocketAddr,
     notes: &'static [Note<'static>],
 ) -> Result<bool, Fail> {
+    let settings = QUIET.settings();
+    let begun = begin(rt, alloc, listening, peers(1), settings, &mut Told::new())?;
     let Begun {
         mut sockets,
         connections,
-    } = begin(
-        rt,
-        alloc,
-        listening,
-        peers(1),
-        QUIET.settings(),
-        &mut Told::new(),
-    )?;
-    let mut raw = Vec::new(alloc);
-    for (reader, writer) in connections {
-        raw.push(Connection::<_, _, F>::new(reader, writer))?;
-    }
+    } = Box::into_inner(begun);
+    let mut raw = framed::<_, _, F>(alloc, connections)?;
     let mut monitor = Expects::of_peer(notes, true, peer);
     let result = attend(&mut Answers, &mut raw, &mut sockets, &mut monitor);
     Ok(result == Ok(()) && monitor.is_done())

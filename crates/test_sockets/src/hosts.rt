@@ -24,8 +24,12 @@ fn reaches(
     host: &[SocketAddr],
     address: SocketAddr,
 ) -> Result<bool, SocketsError> {
-    let begun = connect_to_any(machine, alloc, host, patience(), settings())?;
-    Ok(begun.sockets.peer(0) == Some(address) && connected(machine, alloc)? == Some(address))
+    match connect_to_any(machine, alloc, host, patience(), settings()) {
+        Ok(begun) => Ok(
+            begun.sockets.peer(0) == Some(address) && connected(machine, alloc)? == Some(address),
+        ),
+        Err(why) => Err(why),
+    }
 }
 
 /// At the addresses before the last one nobody listens.

@@ -99,6 +99,20 @@ pub(crate) fn peer(rt: &HostRuntime, address: SocketAddr) -> io::Result<TcpStrea
 /// The most peers.
 pub(crate) const MOST: usize = 64;
 
+/// Returns what was begun on the heap: what moves it takes long to check, what moves a box does not.
+fn on_heap<T: Drop, A: Allocator>(
+    alloc: A,
+    begun: Result<T, SocketsError>,
+) -> Result<Box<T, A>, SocketsError> {
+    match begun {
+        Ok(begun) => match Box::new(alloc, begun) {
+            Ok(boxed) => Ok(boxed),
+            Err(_) => Err(SocketsError::Memory),
+        },
+        Err(why) => Err(why),
+    }
+}
+
 /// The sockets of a station that waits for at most 64 peers.
 pub(crate) fn begin<'a, N: Net + Clock, A: Allocator + Copy, H: Reception>(
     machine: &'a N,
@@ -107,11 +121,14 @@ pub(crate) fn begin<'a, N: Net + Clock, A: Allocator + Copy, H: Reception>(
     peers: Peers,
     settings: ConnectionSettings,
     reception: &mut H,
-) -> Result<Begun<'a, N, A>, SocketsError> {
+) -> Result<Box<Begun<'a, N, A>, A>, SocketsError> {
     if peers.count > MOST {
         return Err(SocketsError::Memory);
     }
-    listen(machine, alloc, listening, peers, settings, reception)
+    on_heap(
+        alloc,
+        listen(machine, alloc, listening, peers, settings, reception),
+    )
 }
 
 /// The sockets of a station that connects to a peer at this address.
@@ -120,8 +137,11 @@ pub(crate) fn reach<'a, N: Net + Clock, A: Allocator + Copy>(
     alloc: A,
     address: &str,
     settings: ConnectionSettings,
-) -> Result<Begun<'a, N, A>, SocketsError> {
-    connect(machine, alloc, address, patience(), settings)
+) -> Result<Box<Begun<'a, N, A>, A>, SocketsError> {
+    on_heap(
+        alloc,
+        connect(machine, alloc, address, patience(), settings),
+    )
 }
 
 /// This many peers. After they have connected, another one is a newcomer.
@@ -210,7 +230,7 @@ impl Reception for Told<'_> {
 /// A station, and its peers in the order in which they connected.
 #[derive(Drop)]
 pub(crate) struct Meeting<'a> {
-    pub(crate) begun: Begun<'a, HostRuntime, Global>,
+    pub(crate) begun: Box<Begun<'a, HostRuntime, Global>>,
     pub(crate) far: Far<'a>,
 }
 
@@ -308,15 +328,17 @@ impl Encounter {
         if self.stops {
             settings.stops_with = Some(input.as_raw_fd());
         }
-        let Meeting { begun, mut far } = meet(rt, alloc, self.peers, settings)?;
+        let Meeting { mut begun, mut far } = meet(rt, alloc, self.peers, settings)?;
         if self.stops {
             far.peers.insert(0, other)?;
         }
-        let Begun {
-            mut sockets,
-            mut connections,
-        } = begun;
-        Ok(all_go(&mut far, &mut sockets, &mut connections, self.acts))
+        let begun = &mut *begun;
+        Ok(all_go(
+            &mut far,
+            &mut begun.sockets,
+            &mut begun.connections,
+            self.acts,
+        ))
     }
 }
 

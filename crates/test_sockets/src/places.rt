@@ -4,7 +4,6 @@ use crate::acts::{reads, reads_at, writes_at};
 use crate::far::Far;
 use crate::meeting::{MOST, Meeting, SHORT, Times, meet, peer};
 use bsc_connections::{Awaited, Waiter};
-use bsc_sockets::Begun;
 use std::io::{Read, Write};
 use std::net::TcpStream;
 use std::test::Fail;
@@ -77,11 +76,9 @@ fn taken<R: Read + Drop, W: Write + Drop, S: Waiter<R, W>>(
 
 #[test]
 fn newcomers_take_each_of_64_places(rt: HostRuntime) -> Result<(), Fail> {
-    let Meeting { begun, mut far } = meet(&rt, rt.alloc(), MOST, QUIET.settings())?;
-    let Begun {
-        mut sockets,
-        mut connections,
-    } = begun;
-    assert!(rt; taken(&mut far, &mut sockets, &mut connections)? == MOST);
+    let Meeting { mut begun, mut far } = meet(&rt, rt.alloc(), MOST, QUIET.settings())?;
+    let begun = &mut *begun;
+    let taken = taken(&mut far, &mut begun.sockets, &mut begun.connections)?;
+    assert!(rt; taken == MOST);
     Ok(())
 }

@@ -65,7 +65,7 @@ fn without_peer<'a, A: Allocator + Copy>(
     let (listening, address) = bound(rt)?;
     let _first = peer(rt, address)?;
     let begun = begin(rt, alloc, listening, peers(1), settings(), &mut Told::new())?;
-    Ok((begun.sockets, address))
+    Ok((Box::into_inner(begun).sockets, address))
 }
 
 /// Waits for a newcomer and returns whether it joins. Its connection is closed at once in either

@@ -5,7 +5,7 @@ use crate::meeting::{Times, Told, begin, bound, peer, peers};
 use crate::programs::Programs;
 use crate::stopped::input;
 use bsc_connections::{Awaited, Handled, Pace, Waiter};
-use bsc_sockets::{Begun, ConnectionSettings, Listening, SocketsError};
+use bsc_sockets::{ConnectionSettings, Listening, SocketsError};
 use std::alloc::Global;
 use std::io::Read;
 use std::net::{Net, Shutdown, TcpStream};
@@ -333,11 +333,9 @@ fn all_go_at<N: Net + Clock, O: Outside>(
     steps: &[Step],
 ) -> Result<bool, SocketsError> {
     let told = &mut Told::new();
-    let Begun {
-        mut sockets,
-        mut connections,
-    } = begin(machine, alloc, listening, peers(1), settings, told)?;
-    Ok(all_go(around, &mut sockets, &mut connections, steps))
+    let mut begun = begin(machine, alloc, listening, peers(1), settings, told)?;
+    let begun = &mut *begun;
+    Ok(all_go(around, &mut begun.sockets, &mut begun.connections, steps))
 }
 
 /// Plays each of these cases with a new station, whose peer is there.
