@@ -102,8 +102,8 @@ const SELECTED_TWICE_IN_DOUBT: Left<'static> = &[(
     },
 )];
 
-/// The exchanges, by name.
-const EXCHANGES: &[Exchange<'static>] = &[
+/// A block without an answer.
+const UNANSWERED: &[Exchange<'static>] = &[
     Exchange {
         name: "a block without an answer waits for its release",
         on: TWO_WITH_ONE_TRY,
@@ -191,6 +191,10 @@ const EXCHANGES: &[Exchange<'static>] = &[
             },
         ],
     },
+];
+
+/// Counts that do not fit.
+const UNFIT: &[Exchange<'static>] = &[
     Exchange {
         name: "a terminal is not released by a count that does not fit",
         on: TWO,
@@ -256,65 +260,77 @@ const EXCHANGES: &[Exchange<'static>] = &[
             },
         ],
     },
-    Exchange {
-        name: "a released block that never arrived is sent again",
-        on: TWO_WITH_ONE_TRY,
-        starved: None,
-        parts: &[
-            Part {
-                steps: &[
-                    (OFFER_FOR, Done),
-                    (
-                        Silence,
-                        Sent(&[
-                            (Control, CALL_SELECT_A),
-                            (Terminal(0), ACK0),
-                            (Control, TEXT_HI),
-                        ]),
-                    ),
-                    (LOSE, Quiet),
-                    (Silence, Sent(&[(Control, ENQ)])),
-                    (LOSE, Quiet),
-                    (Silence, Sent(&[(Control, CALL_POLL_A)])),
-                ],
-                trusted: true,
-                left: &[(
-                    0,
-                    ToTerminal(0),
-                    InDoubt {
-                        offered: HI,
-                        known: 0,
-                        spooled: NONE,
-                    },
-                )],
-            },
-            Part {
-                steps: &[(RELEASE_TO, Done)],
-                trusted: true,
-                left: &[(0, ToTerminal(0), Waiting(HI))],
-            },
-            Part {
-                steps: &[(
-                    CarrySent,
+];
+
+/// A block that never arrived.
+const LOST: &[Exchange<'static>] = &[Exchange {
+    name: "a released block that never arrived is sent again",
+    on: TWO_WITH_ONE_TRY,
+    starved: None,
+    parts: &[
+        Part {
+            steps: &[
+                (OFFER_FOR, Done),
+                (
+                    Silence,
                     Sent(&[
-                        (Terminal(0), EOT),
-                        (Control, CALL_POLL_B),
-                        (Terminal(1), EOT),
                         (Control, CALL_SELECT_A),
                         (Terminal(0), ACK0),
                         (Control, TEXT_HI),
-                        (Terminal(0), ACK1),
-                        (Control, CALL_POLL_A),
                     ]),
-                )],
-                trusted: true,
-                left: &[(0, ToTerminal(0), Delivered(HI))],
-            },
-        ],
-    },
-];
+                ),
+                (LOSE, Quiet),
+                (Silence, Sent(&[(Control, ENQ)])),
+                (LOSE, Quiet),
+                (Silence, Sent(&[(Control, CALL_POLL_A)])),
+            ],
+            trusted: true,
+            left: &[(
+                0,
+                ToTerminal(0),
+                InDoubt {
+                    offered: HI,
+                    known: 0,
+                    spooled: NONE,
+                },
+            )],
+        },
+        Part {
+            steps: &[(RELEASE_TO, Done)],
+            trusted: true,
+            left: &[(0, ToTerminal(0), Waiting(HI))],
+        },
+        Part {
+            steps: &[(
+                CarrySent,
+                Sent(&[
+                    (Terminal(0), EOT),
+                    (Control, CALL_POLL_B),
+                    (Terminal(1), EOT),
+                    (Control, CALL_SELECT_A),
+                    (Terminal(0), ACK0),
+                    (Control, TEXT_HI),
+                    (Terminal(0), ACK1),
+                    (Control, CALL_POLL_A),
+                ]),
+            )],
+            trusted: true,
+            left: &[(0, ToTerminal(0), Delivered(HI))],
+        },
+    ],
+}];
 
 #[test]
 fn a_block_without_an_answer_is_in_doubt(rt: HostRuntime) -> Result<(), Fail> {
-    passes_each(&rt, EXCHANGES)
+    passes_each(&rt, UNANSWERED)
+}
+
+#[test]
+fn a_count_that_does_not_fit_releases_nothing(rt: HostRuntime) -> Result<(), Fail> {
+    passes_each(&rt, UNFIT)
+}
+
+#[test]
+fn a_released_block_that_never_arrived_is_sent_again(rt: HostRuntime) -> Result<(), Fail> {
+    passes_each(&rt, LOST)
 }

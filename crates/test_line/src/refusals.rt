@@ -292,96 +292,115 @@ fn each_refusal_is_printed(rt: HostRuntime) -> Result<(), Fail> {
     Ok(())
 }
 
-/// The exchanges, by name.
-const EXCHANGES: &[Exchange<'static>] = &[
-    Exchange {
-        name: "what is pending says what may happen",
-        on: TWO,
-        starved: None,
-        parts: &[Part {
-            steps: &[
-                (OFFER_AT, Done),
-                (LOSE, Refused(LineError::NothingSent)),
-                (
-                    Event::Carry { heard: Some(EOT) },
-                    Refused(LineError::NothingSent),
-                ),
-                (CarrySent, Refused(LineError::NothingSent)),
-                (
-                    Event::CarryEach { heard: &[] },
-                    Refused(LineError::NothingSent),
-                ),
-                (NOTHING_HEARD, Refused(LineError::NothingSent)),
-                (Silence, Sent(&[(Control, CALL_POLL_A)])),
-                (Silence, Refused(LineError::Pending)),
-                (ONE_HEARING, Refused(LineError::WrongCount)),
-                (
-                    Event::CarryEach { heard: &[None; 3] },
-                    Refused(LineError::WrongCount),
-                ),
-                (CarrySent, Sent(&[(Terminal(0), TEXT_HI)])),
-                (Silence, Refused(LineError::Pending)),
-                (ONE_HEARING, Refused(LineError::NotControl)),
-                (NOTHING_HEARD, Refused(LineError::NotControl)),
-            ],
+/// What may not happen by what is pending.
+const PENDING: &[Exchange<'static>] = &[Exchange {
+    name: "what is pending says what may happen",
+    on: TWO,
+    starved: None,
+    parts: &[Part {
+        steps: &[
+            (OFFER_AT, Done),
+            (LOSE, Refused(LineError::NothingSent)),
+            (
+                Event::Carry { heard: Some(EOT) },
+                Refused(LineError::NothingSent),
+            ),
+            (CarrySent, Refused(LineError::NothingSent)),
+            (
+                Event::CarryEach { heard: &[] },
+                Refused(LineError::NothingSent),
+            ),
+            (NOTHING_HEARD, Refused(LineError::NothingSent)),
+            (Silence, Sent(&[(Control, CALL_POLL_A)])),
+            (Silence, Refused(LineError::Pending)),
+            (ONE_HEARING, Refused(LineError::WrongCount)),
+            (
+                Event::CarryEach { heard: &[None; 3] },
+                Refused(LineError::WrongCount),
+            ),
+            (CarrySent, Sent(&[(Terminal(0), TEXT_HI)])),
+            (Silence, Refused(LineError::Pending)),
+            (ONE_HEARING, Refused(LineError::NotControl)),
+            (NOTHING_HEARD, Refused(LineError::NotControl)),
+        ],
+        trusted: true,
+        left: &[],
+    }],
+}];
+
+/// Numbers of terminals.
+const OF_TERMINALS: &[Exchange<'static>] = &[Exchange {
+    name: "what names no terminal is refused first",
+    on: MOST,
+    starved: None,
+    parts: &[
+        Part {
+            steps: AT_NO_TERMINAL,
             trusted: true,
             left: &[],
-        }],
-    },
-    Exchange {
-        name: "what names no terminal is refused first",
-        on: MOST,
-        starved: None,
-        parts: &[
-            Part {
-                steps: AT_NO_TERMINAL,
-                trusted: true,
-                left: &[],
-            },
-            Part {
-                steps: AT_LAST_TERMINAL,
-                trusted: true,
-                left: &[],
-            },
-        ],
-    },
-    Exchange {
-        name: "what names no address is refused next",
-        on: TWO_BY_THREE,
-        starved: None,
-        parts: &[
-            Part {
-                steps: AT_NO_ADDRESS,
-                trusted: true,
-                left: &[],
-            },
-            Part {
-                steps: NOT_IN_DOUBT,
-                trusted: true,
-                left: &[
-                    (0, FromTerminal, Delivered(NONE)),
-                    (0, ToTerminal(0), Delivered(NONE)),
-                    (0, ToTerminal(1), Delivered(NONE)),
-                ],
-            },
-        ],
-    },
-    Exchange {
-        name: "what is no record is refused before memory is asked for",
-        on: TWO,
-        starved: Some((0, Refusal::From, 2)),
-        parts: &[Part {
-            steps: NO_RECORDS,
+        },
+        Part {
+            steps: AT_LAST_TERMINAL,
+            trusted: true,
+            left: &[],
+        },
+    ],
+}];
+
+/// Addresses.
+const OF_ADDRESSES: &[Exchange<'static>] = &[Exchange {
+    name: "what names no address is refused next",
+    on: TWO_BY_THREE,
+    starved: None,
+    parts: &[
+        Part {
+            steps: AT_NO_ADDRESS,
+            trusted: true,
+            left: &[],
+        },
+        Part {
+            steps: NOT_IN_DOUBT,
             trusted: true,
             left: &[
                 (0, FromTerminal, Delivered(NONE)),
                 (0, ToTerminal(0), Delivered(NONE)),
+                (0, ToTerminal(1), Delivered(NONE)),
             ],
-        }],
-    },
-];
+        },
+    ],
+}];
+
+/// Records.
+const OF_RECORDS: &[Exchange<'static>] = &[Exchange {
+    name: "what is no record is refused before memory is asked for",
+    on: TWO,
+    starved: Some((0, Refusal::From, 2)),
+    parts: &[Part {
+        steps: NO_RECORDS,
+        trusted: true,
+        left: &[
+            (0, FromTerminal, Delivered(NONE)),
+            (0, ToTerminal(0), Delivered(NONE)),
+        ],
+    }],
+}];
 
 #[test]
-fn what_may_not_happen_is_refused(rt: HostRuntime) -> Result<(), Fail> {
-    passes_each(&rt, EXCHANGES)
+fn what_is_pending_says_what_may_happen(rt: HostRuntime) -> Result<(), Fail> {
+    passes_each(&rt, PENDING)
+}
+
+#[test]
+fn what_names_no_terminal_is_refused(rt: HostRuntime) -> Result<(), Fail> {
+    passes_each(&rt, OF_TERMINALS)
+}
+
+#[test]
+fn what_names_no_address_is_refused(rt: HostRuntime) -> Result<(), Fail> {
+    passes_each(&rt, OF_ADDRESSES)
+}
+
+#[test]
+fn what_is_no_record_is_refused(rt: HostRuntime) -> Result<(), Fail> {
+    passes_each(&rt, OF_RECORDS)
 }

@@ -178,8 +178,8 @@ const GIVEN_UP: Part<'static> = Part {
     left: &[],
 };
 
-/// The exchanges, by name.
-const EXCHANGES: &[Exchange<'static>] = &[
+/// A terminal ends while its block is unanswered.
+const TERMINAL_ENDS: &[Exchange<'static>] = &[
     Exchange {
         name: "a terminal ends after its block arrived",
         on: TWO,
@@ -265,6 +265,10 @@ const EXCHANGES: &[Exchange<'static>] = &[
             RELEASED,
         ],
     },
+];
+
+/// The control station ends while its block is unanswered.
+const CONTROL_ENDS: &[Exchange<'static>] = &[
     Exchange {
         name: "the control station ends after its block arrived",
         on: TWO,
@@ -309,6 +313,10 @@ const EXCHANGES: &[Exchange<'static>] = &[
             },
         ],
     },
+];
+
+/// A bid whose other end began again.
+const BID_GOES_ON: &[Exchange<'static>] = &[
     Exchange {
         name: "a text that reaches a control station at rest is not stored",
         on: TWO_WITH_ONE_TRY,
@@ -373,6 +381,10 @@ const EXCHANGES: &[Exchange<'static>] = &[
             },
         ],
     },
+];
+
+/// Both ends of a bid end, and stations that were urgent or not ready.
+const BOTH_END: &[Exchange<'static>] = &[
     Exchange {
         name: "both ends of a bid end at once",
         on: TWO,
@@ -456,6 +468,21 @@ const EXCHANGES: &[Exchange<'static>] = &[
 ];
 
 #[test]
-fn stations_begin_again_with_their_records_and_doubts(rt: HostRuntime) -> Result<(), Fail> {
-    passes_each(&rt, EXCHANGES)
+fn a_terminal_begins_again_with_its_records_and_doubts(rt: HostRuntime) -> Result<(), Fail> {
+    passes_each(&rt, TERMINAL_ENDS)
+}
+
+#[test]
+fn a_control_station_begins_again_with_its_records_and_doubts(rt: HostRuntime) -> Result<(), Fail> {
+    passes_each(&rt, CONTROL_ENDS)
+}
+
+#[test]
+fn a_bid_goes_on_after_its_other_end_began_again(rt: HostRuntime) -> Result<(), Fail> {
+    passes_each(&rt, BID_GOES_ON)
+}
+
+#[test]
+fn stations_begin_again_ready_and_not_urgent(rt: HostRuntime) -> Result<(), Fail> {
+    passes_each(&rt, BOTH_END)
 }

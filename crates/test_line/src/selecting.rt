@@ -55,8 +55,8 @@ const OFFER_EMPTY_FOR_NEXT: Event<'static> = Event::OfferFor {
     codes: b"",
 };
 
-/// The exchanges, by name.
-const EXCHANGES: &[Exchange<'static>] = &[
+/// Records in blocks.
+const BLOCKS: &[Exchange<'static>] = &[
     Exchange {
         name: "seven records go in one block",
         on: TWO,
@@ -103,6 +103,10 @@ const EXCHANGES: &[Exchange<'static>] = &[
             },
         ],
     },
+];
+
+/// Urgent stations.
+const URGENT: &[Exchange<'static>] = &[
     Exchange {
         name: "an urgent terminal sends between two blocks",
         on: TWO,
@@ -188,6 +192,10 @@ const EXCHANGES: &[Exchange<'static>] = &[
             left: &[(0, FromTerminal, Delivered(HI))],
         }],
     },
+];
+
+/// Terminals that do not answer, or refuse.
+const NOT_ANSWERED: &[Exchange<'static>] = &[
     Exchange {
         name: "a terminal that does not answer is left",
         on: SECOND_FIRST,
@@ -252,46 +260,63 @@ const EXCHANGES: &[Exchange<'static>] = &[
             left: &[(0, ToTerminal(0), Waiting(HI))],
         }],
     },
-    Exchange {
-        name: "each selection address has its own bid and spool",
-        on: TWO_BY_THREE,
-        starved: None,
-        parts: &[Part {
-            steps: &[
-                (OFFER_FOR, Done),
-                (OFFER_EMPTY_FOR_NEXT, Done),
-                (
-                    Silence,
-                    Sent(&[
-                        (Control, CALL_SELECT_A),
-                        (Terminal(0), ACK0),
-                        (Control, TEXT_HI),
-                        (Terminal(0), ACK1),
-                        (Control, CALL_SELECT_C),
-                        (Terminal(0), ACK0),
-                        (Control, TEXT_EMPTY),
-                        (Terminal(0), ACK1),
-                        (Control, CALL_POLL_A),
-                        (Terminal(0), EOT),
-                        (Control, CALL_POLL_B),
-                        (Terminal(1), EOT),
-                        (Control, CALL_POLL_A),
-                    ]),
-                ),
-            ],
-            trusted: true,
-            left: &[
-                (0, ToTerminal(0), Delivered(HI)),
-                (0, ToTerminal(1), Delivered(&[b""])),
-                (0, FromTerminal, Delivered(NONE)),
-                (1, FromTerminal, Delivered(NONE)),
-                (1, ToTerminal(0), Delivered(NONE)),
-            ],
-        }],
-    },
 ];
 
+/// Selection addresses.
+const ADDRESSES: &[Exchange<'static>] = &[Exchange {
+    name: "each selection address has its own bid and spool",
+    on: TWO_BY_THREE,
+    starved: None,
+    parts: &[Part {
+        steps: &[
+            (OFFER_FOR, Done),
+            (OFFER_EMPTY_FOR_NEXT, Done),
+            (
+                Silence,
+                Sent(&[
+                    (Control, CALL_SELECT_A),
+                    (Terminal(0), ACK0),
+                    (Control, TEXT_HI),
+                    (Terminal(0), ACK1),
+                    (Control, CALL_SELECT_C),
+                    (Terminal(0), ACK0),
+                    (Control, TEXT_EMPTY),
+                    (Terminal(0), ACK1),
+                    (Control, CALL_POLL_A),
+                    (Terminal(0), EOT),
+                    (Control, CALL_POLL_B),
+                    (Terminal(1), EOT),
+                    (Control, CALL_POLL_A),
+                ]),
+            ),
+        ],
+        trusted: true,
+        left: &[
+            (0, ToTerminal(0), Delivered(HI)),
+            (0, ToTerminal(1), Delivered(&[b""])),
+            (0, FromTerminal, Delivered(NONE)),
+            (1, FromTerminal, Delivered(NONE)),
+            (1, ToTerminal(0), Delivered(NONE)),
+        ],
+    }],
+}];
+
 #[test]
-fn selected_terminals_get_their_records(rt: HostRuntime) -> Result<(), Fail> {
-    passes_each(&rt, EXCHANGES)
+fn selected_terminals_get_their_records_in_blocks(rt: HostRuntime) -> Result<(), Fail> {
+    passes_each(&rt, BLOCKS)
+}
+
+#[test]
+fn urgent_stations_go_first(rt: HostRuntime) -> Result<(), Fail> {
+    passes_each(&rt, URGENT)
+}
+
+#[test]
+fn a_selection_that_fails_leaves_no_doubt(rt: HostRuntime) -> Result<(), Fail> {
+    passes_each(&rt, NOT_ANSWERED)
+}
+
+#[test]
+fn each_selection_address_has_its_own_spool(rt: HostRuntime) -> Result<(), Fail> {
+    passes_each(&rt, ADDRESSES)
 }

@@ -9,6 +9,7 @@ use crate::control::exchange::Step::{
 use crate::control::exchange::{Exchange, play};
 use crate::control::forgetting::FORGETS;
 use crate::hearing::{QUIET, SILENCE};
+use std::process::Abort;
 use std::test::Fail;
 use test_alloc::{Refusal, Refusing};
 use test_fixtures::octets::{
@@ -330,21 +331,49 @@ const RECALLS: &[Exchange<'static>] = &[
     },
 ];
 
-/// All exchanges without a refused growth.
-const TABLES: &[&[Exchange<'static>]] = &[
-    POLLS, SELECTIONS, FAILURES, KEPT, ACCEPTED, RECALLS, FORGETS,
-];
-
-#[test]
-fn a_control_station_does_what_its_tables_say(rt: HostRuntime) -> Result<(), Fail> {
-    for exchanges in TABLES {
-        for exchange in *exchanges {
-            assert!(rt;
-                play(rt.alloc(), exchange) == Some(true),
-                "{}",
-                exchange.shows
-            );
-        }
+/// Asserts that a control station does what this table says.
+fn does(rt: &(impl Abort + AllocGlobal), table: &[Exchange<'_>]) -> Result<(), Fail> {
+    for exchange in table {
+        assert!(rt;
+            play(rt.alloc(), exchange) == Some(true),
+            "{}",
+            exchange.shows
+        );
     }
     Ok(())
+}
+
+#[test]
+fn a_control_station_polls(rt: HostRuntime) -> Result<(), Fail> {
+    does(&rt, POLLS)
+}
+
+#[test]
+fn a_control_station_selects(rt: HostRuntime) -> Result<(), Fail> {
+    does(&rt, SELECTIONS)
+}
+
+#[test]
+fn a_control_station_meets_terminals_that_fail(rt: HostRuntime) -> Result<(), Fail> {
+    does(&rt, FAILURES)
+}
+
+#[test]
+fn a_control_station_keeps_its_doubt_when_it_begins_again(rt: HostRuntime) -> Result<(), Fail> {
+    does(&rt, KEPT)
+}
+
+#[test]
+fn a_control_station_accepts_records_during_each_task(rt: HostRuntime) -> Result<(), Fail> {
+    does(&rt, ACCEPTED)
+}
+
+#[test]
+fn a_control_station_recalls_what_was_kept(rt: HostRuntime) -> Result<(), Fail> {
+    does(&rt, RECALLS)
+}
+
+#[test]
+fn a_control_station_forgets_what_it_need_not_keep(rt: HostRuntime) -> Result<(), Fail> {
+    does(&rt, FORGETS)
 }

@@ -10,6 +10,7 @@ use crate::tributary::exchange::Step::{
 };
 use crate::tributary::exchange::{Exchange, play};
 use crate::tributary::forgetting::FORGETS;
+use std::process::Abort;
 use std::test::Fail;
 use test_alloc::{Refusal, Refusing};
 use test_fixtures::octets::{
@@ -258,15 +259,40 @@ const RECALLS: &[Exchange<'static>] = &[
     },
 ];
 
-/// All exchanges without a refused growth.
-const TABLES: &[&[Exchange<'static>]] = &[CALLS, DOUBTS, KEPT, ACCEPTED, RECALLS, FORGETS];
-
-#[test]
-fn a_terminal_does_what_its_tables_say(rt: HostRuntime) -> Result<(), Fail> {
-    for exchanges in TABLES {
-        for exchange in *exchanges {
-            assert!(rt; play(rt.alloc(), exchange), "{}", exchange.shows);
-        }
+/// Asserts that a terminal does what this table says.
+fn does(rt: &(impl Abort + AllocGlobal), table: &[Exchange<'_>]) -> Result<(), Fail> {
+    for exchange in table {
+        assert!(rt; play(rt.alloc(), exchange), "{}", exchange.shows);
     }
     Ok(())
+}
+
+#[test]
+fn a_terminal_is_polled_and_selected(rt: HostRuntime) -> Result<(), Fail> {
+    does(&rt, CALLS)
+}
+
+#[test]
+fn a_terminal_keeps_a_doubt_until_its_release(rt: HostRuntime) -> Result<(), Fail> {
+    does(&rt, DOUBTS)
+}
+
+#[test]
+fn a_terminal_keeps_its_doubt_when_it_begins_again(rt: HostRuntime) -> Result<(), Fail> {
+    does(&rt, KEPT)
+}
+
+#[test]
+fn a_terminal_accepts_records_in_each_mode(rt: HostRuntime) -> Result<(), Fail> {
+    does(&rt, ACCEPTED)
+}
+
+#[test]
+fn a_terminal_recalls_what_was_kept(rt: HostRuntime) -> Result<(), Fail> {
+    does(&rt, RECALLS)
+}
+
+#[test]
+fn a_terminal_forgets_what_it_need_not_keep(rt: HostRuntime) -> Result<(), Fail> {
+    does(&rt, FORGETS)
 }
