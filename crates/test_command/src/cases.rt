@@ -7,6 +7,8 @@ use bsc_command::{Fault, command};
 use std::alloc::{AllocError, Global};
 use std::io;
 use std::io::{BufWriter, Read};
+use std::test::Fail;
+use test_fixtures::on_heap;
 
 /// The expected output, standard error and exit status of a command, and what it has to request.
 #[derive(Clone, Copy)]
@@ -68,8 +70,21 @@ pub(crate) struct Watched {
     pub(crate) trace: &'static str,
 }
 
+/// Copies of these words.
+pub(crate) fn owned(alloc: Global, words: &[&str]) -> Result<Vec<String>, AllocError> {
+    let mut owned = Vec::new(alloc);
+    for word in words {
+        owned.push(String::from_str(alloc, word)?)?;
+    }
+    Ok(owned)
+}
+
 /// Copies of these words, after this one.
-fn owned_after(alloc: Global, first: &str, words: &[&str]) -> Result<Vec<String>, AllocError> {
+pub(crate) fn owned_after(
+    alloc: Global,
+    first: &str,
+    words: &[&str],
+) -> Result<Vec<String>, AllocError> {
     let mut owned = Vec::new(alloc);
     owned.push(String::from_str(alloc, first)?)?;
     for word in words {
@@ -134,6 +149,20 @@ pub(crate) fn answer_to<R: Read>(
         errors,
         asking: machine.asking,
     })
+}
+
+/// What a command with these words answers to this standard input, if its output accepts what is
+/// printed.
+pub(crate) fn answer_of(
+    alloc: Global,
+    words: Vec<String>,
+    input: &str,
+    scene: Scene,
+    record: &Record,
+) -> Result<Box<Answer>, Fail> {
+    let mut input = input.as_bytes();
+    let answer = answer_to(alloc, Ok(words), &mut input, (true, scene), record);
+    on_heap(alloc, answer)
 }
 
 /// The first result of the command that differs from what is expected.

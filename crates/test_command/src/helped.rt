@@ -1,21 +1,12 @@
 //! What the command prints and tells for words that ask for help, and for wrong ones.
 
-use crate::cases::answer_to;
+use crate::cases::{answer_to, owned};
 use crate::machine::SILENT;
 use crate::record::Record;
 use crate::words::{HELPED, Row, WRONG};
 use bsc_command::Fault;
-use std::alloc::{AllocError, Global};
+use std::alloc::Global;
 use std::test::Fail;
-
-/// Copies of these words.
-fn owned(alloc: Global, words: &[&str]) -> Result<Vec<String>, AllocError> {
-    let mut owned = Vec::new(alloc);
-    for word in words {
-        owned.push(String::from_str(alloc, word)?)?;
-    }
-    Ok(owned)
-}
 
 /// Whether the command with these words prints this, and tells this with this exit status, before
 /// it reads anything or asks the machine for anything.

@@ -1,18 +1,17 @@
 //! Stations whose stores have many channels or many records, and stores that do not fit their
 //! stations.
 
-use crate::cases::{Case, Due, answer_to};
+use crate::cases::{Case, Due, answer_of, owned};
 use crate::kept_stations::{DONE, ENDED, STATUS, TERMINAL, first_wrong_on};
 use crate::machine::{SILENT, Scene};
 use crate::most_options::config;
 use crate::record::Record;
 use crate::stations::RECORDS;
 use bsc_block::Record as Card;
-use bsc_command::Fault;
 use bsc_frame::Address;
 use bsc_input::MAX_INPUT;
 use bsc_kept::{Change, Channel, Store};
-use std::alloc::{AllocError, Global};
+use std::alloc::Global;
 use std::test::Fail;
 
 /// The channel from the terminal with this address.
@@ -107,15 +106,6 @@ fn printed(alloc: Global) -> Result<String, Fail> {
     Ok(text)
 }
 
-/// The words of a command.
-fn owned(alloc: Global, words: &[&str]) -> Result<Vec<String>, AllocError> {
-    let mut owned = Vec::new(alloc);
-    for word in words {
-        owned.push(String::from_str(alloc, word)?)?;
-    }
-    Ok(owned)
-}
-
 /// Whether a command with these words prints this on a machine, and ends with this status.
 pub(crate) fn is_due(
     alloc: Global,
@@ -124,9 +114,7 @@ pub(crate) fn is_due(
     (scene, record): (Scene, &Record),
     (out, status): (&str, u8),
 ) -> Result<bool, Fail> {
-    let words = Ok::<Vec<String>, Fault>(owned(alloc, words)?);
-    let mut input = input.as_bytes();
-    let answer = answer_to(alloc, words, &mut input, (true, scene), record)?;
+    let answer = answer_of(alloc, owned(alloc, words)?, input, scene, record)?;
     Ok(answer.out.as_slice() == out.as_bytes() && answer.status == status)
 }
 

@@ -1,11 +1,10 @@
 //! A control station with the most terminals, each on a connection of its own.
 
-use crate::cases::answer_to;
+use crate::cases::{answer_of, owned};
 use crate::machine::{SILENT, Scene};
 use crate::record::Record;
-use bsc_command::Fault;
 use bsc_progress::{Counts, Work};
-use std::alloc::{AllocError, Global};
+use std::alloc::Global;
 use std::test::Fail;
 
 /// The number of terminals.
@@ -81,15 +80,6 @@ const WORDS: &[&str] = &[
     "63=10.0.0.63",
 ];
 
-/// The words of the command.
-fn owned(alloc: Global) -> Result<Vec<String>, AllocError> {
-    let mut owned = Vec::new(alloc);
-    for word in WORDS {
-        owned.push(String::from_str(alloc, word)?)?;
-    }
-    Ok(owned)
-}
-
 /// The octets that are sent on one connection. Ten terminals have an address of two characters, and
 /// the others one of three; the first terminal is called twice, and the last one also selected.
 const SENT: usize = 11 * 12 + 55 * 13 + 11 + 7;
@@ -108,9 +98,8 @@ const SHOWN: (Work, Counts) = (
 #[test]
 fn each_of_64_terminals_has_its_connection(rt: HostRuntime) -> Result<(), Fail> {
     let (config, record) = (config(rt.alloc())?, Record::new(rt.alloc()));
-    let words = Ok::<Vec<String>, Fault>(owned(rt.alloc())?);
-    let mut input = config.as_bytes();
-    let answer = answer_to(rt.alloc(), words, &mut input, (true, ALL), &record)?;
+    let words = owned(rt.alloc(), WORDS)?;
+    let answer = answer_of(rt.alloc(), words, &config, ALL, &record)?;
     assert!(rt; answer.status == 0 && answer.errors.is_empty());
     assert!(rt; answer.out.as_slice() == printed(rt.alloc())?.as_bytes());
     assert!(rt; record.sent.get() == SENT * usize::from(COUNT));

@@ -1,10 +1,9 @@
 //! Runs whose configuration or script, on standard input, is as long as an input may be, or longer.
 
-use crate::cases::{Answer, answer_to};
+use crate::cases::{Answer, answer_of, owned};
 use crate::machine::SILENT;
 use crate::record::Record;
 use crate::run_files::POLLED_PRINTED;
-use bsc_command::Fault;
 use bsc_input::MAX_INPUT;
 use std::alloc::{AllocError, Global};
 use std::test::Fail;
@@ -20,15 +19,10 @@ fn padded(alloc: Global, text: &str, octets: usize) -> Result<String, AllocError
 }
 
 /// The answer to a run of these paths with this standard input.
-fn answer(alloc: Global, paths: [&str; 2], input: &str) -> Result<Answer, Fail> {
-    let (mut words, record) = (Vec::new(alloc), Record::new(alloc));
+fn answer(alloc: Global, paths: [&str; 2], input: &str) -> Result<Box<Answer>, Fail> {
     let [config, script] = paths;
-    for word in ["bscline", "run", config, script] {
-        words.push(String::from_str(alloc, word)?)?;
-    }
-    let words = Ok::<Vec<String>, Fault>(words);
-    let mut input = input.as_bytes();
-    Ok(answer_to(alloc, words, &mut input, (true, SILENT), &record)?)
+    let words = owned(alloc, &["bscline", "run", config, script])?;
+    answer_of(alloc, words, input, SILENT, &Record::new(alloc))
 }
 
 /// A script of silences and losses in as many octets as this.

@@ -1,9 +1,8 @@
 //! Words as long as a system passes them, and what the command does with them.
 
-use crate::cases::answer_to;
+use crate::cases::answer_of;
 use crate::machine::SILENT;
 use crate::record::Record;
-use bsc_command::Fault;
 use std::alloc::{AllocError, Global};
 use std::test::Fail;
 
@@ -42,9 +41,8 @@ fn is_answered(
     long: &str,
     (out, errors, status): (&str, &str, u8),
 ) -> Result<bool, Fail> {
-    let words = Ok::<Vec<String>, Fault>(words_of(alloc, row, long)?);
-    let record = Record::new(alloc);
-    let answer = answer_to(alloc, words, &mut b"".as_slice(), (true, SILENT), &record)?;
+    let words = words_of(alloc, row, long)?;
+    let answer = answer_of(alloc, words, "", SILENT, &Record::new(alloc))?;
     Ok(
         answer.out.as_slice() == out.as_bytes()
             && answer.errors.as_slice() == errors.as_bytes()

@@ -1,10 +1,9 @@
 //! Stations of a line with the most terminals, which are given options as often as they may be.
 
-use crate::cases::{Answer, answer_to};
+use crate::cases::{Answer, answer_of};
 use crate::machine::{Asking, SILENT, Scene};
 use crate::record::Record;
 use crate::stations::CONTROLLING;
-use bsc_command::Fault;
 use bsc_input::MAX_INPUT;
 use bsc_sockets::SocketsError;
 use std::alloc::{AllocError, Global};
@@ -75,11 +74,8 @@ fn offered(alloc: Global) -> Result<Vec<String>, Fail> {
 }
 
 /// The answer to these words, with the configuration as standard input.
-fn answer(alloc: Global, words: Vec<String>, scene: Scene) -> Result<Answer, Fail> {
-    let (config, record) = (config(alloc)?, Record::new(alloc));
-    let mut input = config.as_bytes();
-    let words = Ok::<Vec<String>, Fault>(words);
-    Ok(answer_to(alloc, words, &mut input, (true, scene), &record)?)
+fn answer(alloc: Global, words: Vec<String>, scene: Scene) -> Result<Box<Answer>, Fail> {
+    answer_of(alloc, words, &config(alloc)?, scene, &Record::new(alloc))
 }
 
 /// No connections can be made.

@@ -1,11 +1,10 @@
 //! The options of a station, and the reasons for refusing them.
 
-use crate::cases::answer_to;
+use crate::cases::answer_of;
 use crate::faults::has_text;
 use crate::machine::SILENT;
 use crate::record::Record;
 use bsc_asked::{Asked, StationWords};
-use bsc_command::Fault;
 use bsc_options::{OptionError, read_admission, read_settings};
 use bsc_words::read_words;
 use std::alloc::{AllocError, Global};
@@ -93,8 +92,7 @@ fn is_wrong_usage(
     for word in joined(alloc, front, options)?.iter() {
         given.push(String::from_str(alloc, word)?)?;
     }
-    let given = Ok::<Vec<String>, Fault>(given);
-    let answer = answer_to(alloc, given, &mut b"".as_slice(), (true, SILENT), &record)?;
+    let answer = answer_of(alloc, given, "", SILENT, &record)?;
     let told = format!(in alloc;
         "error: {reason}\n\nUsage: bscline station [OPTIONS] <CONFIG>\n\n\
         For more information, try '--help'.\n"

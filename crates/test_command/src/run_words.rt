@@ -1,10 +1,9 @@
 //! Runs of each combination of their words, and with connections that fail.
 
-use crate::cases::{Answer, answer_to};
+use crate::cases::{Answer, answer_of};
 use crate::machine::SILENT;
 use crate::record::Record;
 use crate::run_files::{POLLED, POLLED_PRINTED, POLLED_TRACED};
-use bsc_command::Fault;
 use std::alloc::{AllocError, Global};
 use std::test::Fail;
 use test_fixtures::configurations::TWO_TERMINALS;
@@ -59,13 +58,6 @@ fn words_of(
     Ok(words)
 }
 
-/// The answer to a run with these words and this standard input.
-fn answer(alloc: Global, words: Vec<String>, input: &str, record: &Record) -> Result<Answer, Fail> {
-    let words = Ok::<Vec<String>, Fault>(words);
-    let mut input = input.as_bytes();
-    Ok(answer_to(alloc, words, &mut input, (true, SILENT), record)?)
-}
-
 /// Whether a run of `POLLED` with these words has its output, its trace and its progress.
 fn is_due(
     alloc: Global,
@@ -76,7 +68,7 @@ fn is_due(
     let (check, trace, quiet) = options;
     let record = Record::new(alloc);
     let words = words_of(alloc, (config, script), options)?;
-    let answer = answer(alloc, words, input, &record)?;
+    let answer = answer_of(alloc, words, input, SILENT, &record)?;
     let printed = if check { "" } else { POLLED_PRINTED };
     let traced = if trace && !check { POLLED_TRACED } else { "" };
     Ok(
@@ -125,7 +117,7 @@ fn count_reads(alloc: Global) -> Result<usize, Fail> {
         let record = Record::new(alloc);
         record.wires.reads.set(reads);
         let words = words_of(alloc, ("line.toml", "polled.txt"), (false, false, true))?;
-        let answer = answer(alloc, words, "", &record)?;
+        let answer = answer_of(alloc, words, "", SILENT, &record)?;
         if answer.status == 0 {
             return Ok(reads);
         }

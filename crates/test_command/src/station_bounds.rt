@@ -1,11 +1,10 @@
 //! Stations at the bounds of a line: the last terminal with its last selection address, the longest
 //! records, and the most records of an input. The octets are those of docs/PROTOCOL.md.
 
-use crate::cases::{Answer, answer_to};
+use crate::cases::{Answer, answer_of, owned_after};
 use crate::machine::{SILENT, Scene};
 use crate::most_options::config;
 use crate::record::Record;
-use bsc_command::Fault;
 use bsc_input::MAX_INPUT;
 use std::alloc::Global;
 use std::test::Fail;
@@ -17,15 +16,9 @@ fn answer(
     input: &str,
     scene: Scene,
     record: &Record,
-) -> Result<Answer, Fail> {
-    let mut owned = Vec::new(alloc);
-    owned.push(String::from_str(alloc, "bscline")?)?;
-    for word in words {
-        owned.push(String::from_str(alloc, word)?)?;
-    }
-    let words = Ok::<Vec<String>, Fault>(owned);
-    let mut input = input.as_bytes();
-    Ok(answer_to(alloc, words, &mut input, (true, scene), record)?)
+) -> Result<Box<Answer>, Fail> {
+    let words = owned_after(alloc, "bscline", words)?;
+    answer_of(alloc, words, input, scene, record)
 }
 
 /// Whether the station with these words prints this, ends with this status, and traces this.
