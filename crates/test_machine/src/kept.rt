@@ -108,8 +108,8 @@ fn refusal(machine: &mut Machine<'_, HostRuntime>, path: &str) -> Option<StoreFa
     }
 }
 
-/// Whether the store at a path has its line and what was kept with this text, and is in use until it
-/// is closed.
+/// Whether the store at a path has its line and what was kept with this text, and is in use until
+/// it is closed.
 fn is_whole(
     machine: &mut Machine<'_, HostRuntime>,
     path: &str,

@@ -99,7 +99,8 @@ pub(crate) fn peer(rt: &HostRuntime, address: SocketAddr) -> io::Result<TcpStrea
 /// The most peers.
 pub(crate) const MOST: usize = 64;
 
-/// Returns what was begun on the heap: what moves it takes long to check, what moves a box does not.
+/// Returns what was begun on the heap: what moves it takes long to check, what moves a box does
+/// not.
 fn on_heap<T: Drop, A: Allocator>(
     alloc: A,
     begun: Result<T, SocketsError>,

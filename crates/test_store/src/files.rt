@@ -1,5 +1,5 @@
-//! Stores that are opened, used and closed: the only functions that own one. None takes a store out
-//! of a result by `?`, which takes long to check with a type as large as that of a store.
+//! Stores that are opened, used and closed: the only functions that own one. A store that is used
+//! is taken out of its result by `match`, since `?` takes long to check with so large a type.
 
 use crate::cut::{has_step, keep_step};
 use crate::facts::{from_terminal, to_terminal};
