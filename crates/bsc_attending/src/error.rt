@@ -61,8 +61,8 @@ pub enum AttendingError {
     #[error("output fault")]
     Output,
 
-    /// Standard output did not accept records that arrived. They were not acknowledged, and the
-    /// station has ended.
+    /// Standard output did not accept records that arrived. Without a store they were not
+    /// acknowledged; with one they are kept. The station has ended.
     #[error("records that arrived could not be printed")]
     Unprinted,
 

@@ -76,8 +76,13 @@ pub trait Network {
         wanted: &Wanted<'_>,
     ) -> Result<Opened<Self::Reader, Self::Writer, Self::Waiter>, SocketsError>;
 
-    /// Lets programs that feed a station reach it here.
-    fn serve(&mut self, at: ServedAt<'_>) -> Result<Reachable<Self::Programs>, ClientsError>;
+    /// Lets programs that feed a station reach it here. At an address of the network, it is told
+    /// on standard error which one that is, if `trace` in a line of the trace.
+    fn serve(
+        &mut self,
+        at: ServedAt<'_>,
+        trace: bool,
+    ) -> Result<Reachable<Self::Programs>, ClientsError>;
 
     /// Returns a clock that starts now. Progress is shown of this work, or none; and only if
     /// standard error is a terminal.

@@ -21,8 +21,9 @@ const MAX_LINE: usize = 640;
 /// How often in a row the output is asked, at most, before the station is attended further.
 const TURNS: u32 = 16;
 
-/// What is told on standard error once records cannot be printed.
-const NOTICE: &[u8] = b"records cannot be printed, and are only kept\n";
+/// What is told on standard error once records cannot be printed. It begins as the faults of the
+/// program do, which a reader of a trace skips, since it has no time.
+const NOTICE: &[u8] = b"bscline: records cannot be printed, and are only kept\n";
 
 /// Prints the records of a station whose records are kept.
 #[derive(Drop)]

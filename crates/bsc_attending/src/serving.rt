@@ -42,9 +42,11 @@ pub fn served_at(serves: Serves<'_>) -> ServedAt<'_>
     }
 }
 
-/// Lets programs reach the station, if it is to serve them.
+/// Lets programs reach the station, if it is to serve them. `trace` is whether what happens is
+/// traced.
 pub(crate) fn reachable<H: Network>(
     serves: Option<Serves<'_>>,
+    trace: bool,
     machine: &mut H,
 ) -> Result<Option<Reachable<H::Programs>>, AttendingError>
     ensures served { IfOk result (λ reachable.
@@ -52,7 +54,7 @@ pub(crate) fn reachable<H: Network>(
     ensures cut { IfErr result IsCutShort }
 {
     match serves {
-        Some(serves) => Ok(Some(machine.serve(served_at(serves))?)),
+        Some(serves) => Ok(Some(machine.serve(served_at(serves), trace)?)),
         None => Ok(None),
     }
 }

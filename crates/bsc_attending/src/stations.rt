@@ -23,7 +23,7 @@ use crate::preparing::{Prepared, Ready, prepare};
 use crate::printer::Printer;
 use crate::running::Running;
 use crate::serving::{Fed, called_by, reachable, serving_of};
-use crate::wanted::{listens, wanted_by_control, wanted_by_terminal};
+use crate::wanted::{listens, traces, wanted_by_control, wanted_by_terminal};
 use crate::{AttendingError, Network, Readiness, Stores, Wanted};
 use bsc_asked::StationWords;
 use bsc_input::Files;
@@ -46,13 +46,14 @@ struct Options<'a> {
 }
 
 /// Runs the station that the words ask for. The configuration and all records are read and checked
-/// before a connection is made. Records are printed when they arrive, and the report when the
-/// station ends. `NotTrusted`, `InDoubt` and `Undelivered` are returned after the report is
-/// printed, and so is `Closed`, when a fault closed the connection of a terminal. `Unprinted` is
-/// returned when records that arrived could not be printed; they were not acknowledged, and the
-/// report is tried. A station whose records are to be kept begins with what its store has. What it
-/// changes is kept before it sends what rests on it; the clause `kept` says before its next step,
-/// and that a record that a program offers is kept before the station offers it.
+/// before a connection is made. Records are printed before they are acknowledged, or, if they are
+/// to be kept, after that as standard output takes them, and the report when the station ends.
+/// `NotTrusted`, `InDoubt` and `Undelivered` are returned after the report is printed, and so is
+/// `Closed`, when a fault closed the connection of a terminal. `Unprinted` is returned when records
+/// that arrived could not be printed; the report is tried. A station whose records are to be kept
+/// begins with what its store has. What it changes is kept before it sends what rests on it; the
+/// clause `kept` says before its next step, and that a record that a program offers is kept before
+/// the station offers it.
 pub fn station<R: Read, H: Files + Network + Stores, W: Write>(
     alloc: Global,
     words: &StationWords,
@@ -206,7 +207,8 @@ fn open<H: Network, K: Store + Drop, W: Write>(
         (is_some (settings_value options.now.settings).serves) prepared.old keeper
         (IsErrAnd result IsCutShort) prepared.new) }
 {
-    let reachable = reachable(options.settings.serves, machine)?;
+    let trace = traces(options.settings.printing.trace);
+    let reachable = reachable(options.settings.serves, trace, machine)?;
     let readiness = machine.readiness();
     let wanted = Wanted {
         serves: called_by(&reachable, &keeper, &readiness),

@@ -184,7 +184,7 @@ pub(crate) fn wanted_by_terminal<'a>(
 }
 
 /// Whether there is a trace.
-fn traces(tracing: Tracing) -> bool
+pub(crate) fn traces(tracing: Tracing) -> bool
     ensures { result ≡ is_traced tracing }
 {
     match tracing {

@@ -32,9 +32,13 @@ fn settings_of(wanted: &Wanted<'_>) -> ConnectionSettings
 
 /// Tells at which address programs can reach the station, if it is one of the network. What is not
 /// written is lost.
-fn tell_address<'a, R: Filing + Net, W: Write>(programs: &Clients<'a, R>, out: &mut W) {
+fn tell_address<'a, R: Filing + Net, W: Write>(
+    programs: &Clients<'a, R>,
+    lines: Beginning,
+    out: &mut W,
+) {
     if let Some(address) = programs.address() {
-        let _ = writeln!(out, "serving programs at {address}");
+        let _ = lines.write_serving(address, out);
     }
 }
 
@@ -114,9 +118,13 @@ impl<'a, R: AllocGlobal + Clock + Eprint + Filing + Net> Network for Machine<'a,
         })
     }
 
-    fn serve(&mut self, at: ServedAt<'_>) -> Result<Reachable<Clients<'a, R>>, ClientsError> {
+    fn serve(
+        &mut self,
+        at: ServedAt<'_>,
+        trace: bool,
+    ) -> Result<Reachable<Clients<'a, R>>, ClientsError> {
         let programs = Clients::listen(self.runtime, self.runtime.alloc(), at)?;
-        tell_address(&programs, &mut self.trace());
+        tell_address(&programs, Beginning { trace }, &mut self.trace());
         let descriptor = programs.descriptor();
         Ok(Reachable {
             programs,

@@ -159,13 +159,17 @@ IsTraced (WasRefused peer why) time me old new =
 IsTraced (HasClosed place peer why) time me old new =
     Appends old new (time_shown time ++ closed_line place peer why)
 
--- The start of a line that is printed while a station waits for its peers: a trace has the time 0.
+-- The start of a line that is printed while a station begins: a trace has the time 0.
 abbrev pub start_shown : Bool → List ℕ
 start_shown trace = if trace then time_shown 0 else []
 
 -- Peers can connect at this address.
 abbrev pub listening_line : SocketAddr → List ℕ
 listening_line address = codes "listening at " ++ socket_text address ++ codes "\n"
+
+-- Programs can reach the station at this address.
+abbrev pub serving_line : SocketAddr → List ℕ
+serving_line address = codes "serving programs at " ++ socket_text address ++ codes "\n"
 
 -- A peer was turned away, since its address is not allowed.
 abbrev pub not_allowed_line : SocketAddr → List ℕ

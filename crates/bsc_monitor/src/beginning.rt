@@ -1,9 +1,9 @@
-//! The lines printed while a station waits for its peers.
+//! The lines printed while a station begins: where it can be reached, and for which peers it waits.
 
 ghost use Rattle.std.specs.Prelude.{◌≡◌, ◌++◌, IfErr, OnOk, Some, false};
 ghost use Rattle.std.specs.Io.KnownBytes.{Appends};
 ghost use Rattle.bsc_monitor.specs.Traces.{connected_shown, joined_line, listening_line};
-ghost use Rattle.bsc_monitor.specs.Traces.{not_allowed_line, start_shown};
+ghost use Rattle.bsc_monitor.specs.Traces.{not_allowed_line, serving_line, start_shown};
 ghost use Rattle.bsc_monitor.specs.Traces.{waiting_for_control, waiting_line, wanted_shown};
 
 use crate::trace::{write_joined, write_time};
@@ -11,7 +11,7 @@ use bsc_print::{PrintError, put};
 use std::io::Write;
 use std::net::SocketAddr;
 
-/// The lines printed while a station waits for its peers. In a trace each begins with the time 0.
+/// The lines printed while a station begins. In a trace each begins with the time 0.
 #[derive(Clone, Copy)]
 pub struct Beginning {
     /// Whether they are lines of a trace.
@@ -31,6 +31,17 @@ impl Beginning {
     {
         self.write_start(out)?;
         write_address(address, out)?;
+        Ok(())
+    }
+
+    /// Writes that programs can reach the station at this address.
+    pub fn write_serving<W: Write>(self, address: SocketAddr, out: &mut W) -> Result<(), PrintError>
+        ensures ok { OnOk result (Appends (W.contents out.old) (W.contents out.new)
+            (start_shown self.trace ++ serving_line address)) }
+        ensures err { IfErr result (λ error. error ≡ PrintError.Output) }
+    {
+        self.write_start(out)?;
+        write_served(address, out)?;
         Ok(())
     }
 
@@ -108,6 +119,18 @@ fn write_address<W: Write>(address: SocketAddr, out: &mut W) -> Result<(), Print
     ensures err { IfErr result (λ error. error ≡ PrintError.Output) }
 {
     match write!(out, "listening at {address}\n") {
+        Ok(()) => Ok(()),
+        Err(_) => Err(PrintError::Output),
+    }
+}
+
+/// Writes the address at which programs can reach the station.
+fn write_served<W: Write>(address: SocketAddr, out: &mut W) -> Result<(), PrintError>
+    ensures ok { OnOk result (Appends (W.contents out.old) (W.contents out.new)
+        (serving_line address)) }
+    ensures err { IfErr result (λ error. error ≡ PrintError.Output) }
+{
+    match write!(out, "serving programs at {address}\n") {
         Ok(()) => Ok(()),
         Err(_) => Err(PrintError::Output),
     }

@@ -131,6 +131,7 @@ pub(crate) fn answer_to<R: Read>(
     let mut machine = Machine {
         alloc,
         scene,
+        serves_traced: false,
         asking: None,
         record,
     };

@@ -147,6 +147,36 @@ const FED: &[Fed] = &[
         told: "ok 0\nok 1\n",
         kept: "from 0: offered 2, known 0, in doubt 0\nto 0: arrived 0, printed 0\n",
     },
+    // With a trace it is told in a line of it where programs can reach the station.
+    Fed {
+        case: Case {
+            words: Some(&[
+                "station",
+                "line.toml",
+                "--terminal",
+                "0",
+                "--connect",
+                "h:1",
+                "--serve",
+                "p:1",
+                "--trace",
+            ]),
+            scene: STOPPED,
+            due: Due {
+                asking: Some(Asking {
+                    pause: 100,
+                    trace: true,
+                    serves: true,
+                    serves_traced: true,
+                    ..CONNECTING
+                }),
+                ..IDLE_TERMINAL
+            },
+            ..TERMINAL
+        },
+        told: "ok\n",
+        kept: "",
+    },
     // It goes on when it has nothing to do, until its connection is closed.
     Fed {
         case: Case {

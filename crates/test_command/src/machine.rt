@@ -183,6 +183,9 @@ pub(crate) struct Asking {
 
     /// Whether programs may feed the station.
     pub(crate) serves: bool,
+
+    /// Whether it is told in a line of the trace where programs can reach it.
+    pub(crate) serves_traced: bool,
 }
 
 /// The octets of connections and of that of another peer, at most one piece in each read, and the
@@ -267,6 +270,7 @@ impl Readiness for Rooms<'_> {
 pub(crate) struct Machine<'a> {
     pub(crate) alloc: Global,
     pub(crate) scene: Scene,
+    pub(crate) serves_traced: bool,
     pub(crate) asking: Option<Asking>,
     pub(crate) record: &'a Record,
 }
@@ -402,6 +406,7 @@ impl<'a> Network for Machine<'a> {
             allows_two: allows(wanted, 2),
             stops: wanted.stops,
             serves: wanted.serves.is_some(),
+            serves_traced: self.serves_traced,
         });
         if let Some(refusal) = self.scene.refusal {
             return Err(refusal);
@@ -431,7 +436,12 @@ impl<'a> Network for Machine<'a> {
     }
 
     /// Programs reach a station at `p:1` only.
-    fn serve(&mut self, at: ServedAt<'_>) -> Result<Reachable<Feeders<'a>>, ClientsError> {
+    fn serve(
+        &mut self,
+        at: ServedAt<'_>,
+        trace: bool,
+    ) -> Result<Reachable<Feeders<'a>>, ClientsError> {
+        self.serves_traced = trace;
         match at {
             ServedAt::Address {
                 address: "p:1",

@@ -70,6 +70,7 @@ pub(crate) const CONNECTING: Asking = Asking {
     allows_two: true,
     stops: false,
     serves: false,
+    serves_traced: false,
 };
 
 /// What a control station that listens requests, without further options.
@@ -91,6 +92,7 @@ pub(crate) const CONTROLLING: Asking = Asking {
     allows_two: true,
     stops: false,
     serves: false,
+    serves_traced: false,
 };
 
 /// The connections of a control station that reaches all terminals by one connection.

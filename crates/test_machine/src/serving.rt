@@ -73,7 +73,8 @@ fn addresses() -> [SocketAddr; 3] {
 
 /// Returns whether programs reach a station of this machine by a host, of whose addresses the
 /// station can listen at the second one only, and at the first one of which nobody listens later.
-fn are_served(fake: &Fake<'_>) -> io::Result<bool> {
+/// It is told where they do after this start of a line, which is one of the trace if `trace`.
+fn are_served(fake: &Fake<'_>, trace: bool, start: &str) -> io::Result<bool> {
     let streams = Streams::new(false);
     let mut machine = streams.machine(fake);
     let [elsewhere, here, closed] = addresses();
@@ -82,11 +83,11 @@ fn are_served(fake: &Fake<'_>) -> io::Result<bool> {
         address: "host:0",
         anyone: true,
     };
-    let Ok(mut reachable) = machine.serve(at) else {
+    let Ok(mut reachable) = machine.serve(at, trace) else {
         return Ok(false);
     };
     let told = fake.told()?;
-    let Some(address) = told.strip_prefix("serving programs at ") else {
+    let Some(address) = told.strip_prefix(start) else {
         return Ok(false);
     };
     let Ok(served) = address.trim_end().parse() else {
@@ -102,8 +103,10 @@ fn are_served(fake: &Fake<'_>) -> io::Result<bool> {
 #[test]
 fn programs_reach_a_station(rt: HostRuntime) -> Result<(), Fail> {
     let fake = Fake::new(&rt, NO_FILE);
-    assert!(rt; are_served(&fake)?);
+    assert!(rt; are_served(&fake, false, "serving programs at ")?);
     assert!(rt; fake.patience.get() == Some(Duration::from_secs(3)));
+    let fake = Fake::new(&rt, NO_FILE);
+    assert!(rt; are_served(&fake, true, "+0 serving programs at ")?);
     Ok(())
 }
 
@@ -113,7 +116,7 @@ fn unserved<R: AllocGlobal + Clock + Eprint + Files + Net>(
     at: ServedAt<'_>,
 ) -> Option<ClientsError> {
     let streams = Streams::new(false);
-    streams.machine(runtime).serve(at).err()
+    streams.machine(runtime).serve(at, false).err()
 }
 
 /// Why a machine does not reach a station there.

@@ -1,4 +1,4 @@
-//! The lines printed while a station waits for its peers.
+//! The lines printed while a station begins.
 
 use bsc_monitor::Beginning;
 use bsc_print::PrintError;
@@ -12,6 +12,7 @@ pub(crate) fn address() -> SocketAddr {
 }
 
 const LINES: &[u8] = b"listening at 127.0.0.1:2780
+serving programs at 127.0.0.1:2780
 waiting for terminals: 1 of 12 connected
 waiting for the control station
 connection 3 from 127.0.0.1:2780 joined
@@ -19,6 +20,7 @@ refused 127.0.0.1:2780: its address is not allowed
 ";
 
 const TRACED: &[u8] = b"+0 listening at 127.0.0.1:2780
++0 serving programs at 127.0.0.1:2780
 +0 waiting for terminals: 1 of 12 connected
 +0 waiting for the control station
 +0 connection 3 from 127.0.0.1:2780 joined
@@ -28,6 +30,7 @@ const TRACED: &[u8] = b"+0 listening at 127.0.0.1:2780
 /// Writes each of the lines.
 fn tell<W: Write>(lines: Beginning, out: &mut W) -> Result<(), PrintError> {
     lines.write_listening(address(), out)?;
+    lines.write_serving(address(), out)?;
     lines.write_waiting(1, 12, out)?;
     lines.write_waiting_for_control(out)?;
     lines.write_joined(3, address(), out)?;
@@ -36,7 +39,7 @@ fn tell<W: Write>(lines: Beginning, out: &mut W) -> Result<(), PrintError> {
 
 /// In a trace the lines have a time.
 #[test]
-fn a_station_says_for_what_it_waits(rt: HostRuntime) -> Result<(), Fail> {
+fn a_station_says_where_it_is_and_for_what_it_waits(rt: HostRuntime) -> Result<(), Fail> {
     let (mut out, mut traced) = (Vec::new(rt.alloc()), Vec::new(rt.alloc()));
     tell(Beginning { trace: false }, &mut out)?;
     tell(Beginning { trace: true }, &mut traced)?;
