@@ -20,8 +20,8 @@ use std::alloc::Allocator;
 use std::net::Net;
 use std::time::{Clock, Duration};
 
-/// The most places served in turn before the system is asked what else has arrived, so that a peer
-/// that never stops sending does not hide another one.
+/// The most places served in turn before the system is asked what else has arrived, so that neither
+/// a peer that never stops sending nor peers that never stop connecting hide another one.
 const MAX_ANSWERS_UNASKED: usize = 16;
 
 /// The most events that are served for each place after a time has passed and before its end is
@@ -65,7 +65,8 @@ impl<'a, N: Net + Clock, A: Allocator + Copy> Sockets<'a, N, A> {
         ensures sought { IfOk result (λ awaited.
             is_call awaited ≡ true → sought ≡ Sought.Anything) }
     {
-        if self.unasked >= MAX_ANSWERS_UNASKED {
+        // When a time has passed, what arrived in time is found before its end is told.
+        if self.unasked >= MAX_ANSWERS_UNASKED || time.is_zero() {
             self.ask(Duration::ZERO)?;
         }
         match self.found(sought) {
@@ -305,8 +306,8 @@ impl<'a, N: Net + Clock, A: Allocator + Copy> Sockets<'a, N, A> {
     {
         'turns: for _ in 0..=self.places {
             let place = self.ready.next_place()?;
+            self.unasked = self.unasked.saturating_add(1);
             if place < self.places {
-                self.unasked = self.unasked.saturating_add(1);
                 return Some(Awaited::Octets { connection: place });
             }
             if let Some(awaited) = self.listener_event() {

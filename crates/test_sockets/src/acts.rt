@@ -80,6 +80,10 @@ pub(crate) enum Act {
     /// Another peer connects.
     Comes,
 
+    /// One peer after the other connects and is turned away; of fewer than this many waits one
+    /// reports the first connection.
+    ComesAndGoes(usize),
+
     /// The peer that connected takes this place; false if there is no peer.
     Joins(usize, bool),
 

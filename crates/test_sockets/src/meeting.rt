@@ -358,6 +358,22 @@ fn all_go<R: Read + Drop, W: Write + Drop, S: Waiter<R, W>>(
     true
 }
 
+/// Whether of fewer than this many waits, before each of which a peer connects, one reports the first
+/// connection; the peers are turned away.
+fn comes_and_goes<R, W, S: Waiter<R, W>>(far: &mut Far<'_>, sockets: &mut S, most: usize) -> bool {
+    for _ in 0..most {
+        if !far.comes() {
+            return false;
+        }
+        match sockets.wait() {
+            Ok(Awaited::Newcomer) => sockets.turn_away(),
+            Ok(Awaited::Octets { connection: 0 }) => return true,
+            _ => return false,
+        }
+    }
+    false
+}
+
 /// Whether this act has the expected result.
 fn goes<R: Read + Drop, W: Write + Drop, S: Waiter<R, W>>(
     far: &mut Far<'_>,
@@ -367,6 +383,7 @@ fn goes<R: Read + Drop, W: Write + Drop, S: Waiter<R, W>>(
 ) -> bool {
     match *act {
         Act::Comes => far.comes(),
+        Act::ComesAndGoes(most) => comes_and_goes(far, sockets, most),
         Act::PassesThough(busy, awaited, least, most) => {
             is_between(
                 passed(far, sockets, connections, busy, awaited),

@@ -1,7 +1,7 @@
 //! The octets that a station receives and sends.
 
 use crate::acts::Act::{
-    Answers, Comes, Empties, Ends, Fills, Hears, Joins, LetsGo, NothingLeft, Passes,
+    Answers, Comes, ComesAndGoes, Empties, Ends, Fills, Hears, Joins, LetsGo, NothingLeft, Passes,
     PassesAfterPause, PassesThough, Reads, Replaceable, Sends, Shares, TurnsAway, Waits, Writes,
 };
 use crate::acts::{Act, Busy};
@@ -129,18 +129,31 @@ fn a_connection_without_answers_is_replaced(rt: HostRuntime) -> Result<(), Fail>
     play(&rt, rt.alloc(), REPLACED)
 }
 
-const BUSY: &[Encounter] = &[Encounter {
-    shows: "one peer has octets at all times, a second one has some, and a third one comes",
-    peers: 2,
-    acts: &[
-        Sends(0, b"without end"),
-        Waits(FIRST),
-        Sends(1, b"once"),
-        Comes,
-        Shares(20),
-    ],
-    ..ONE
-}];
+const BUSY: &[Encounter] = &[
+    Encounter {
+        shows: "one peer has octets at all times, a second one has some, and a third one comes",
+        peers: 2,
+        acts: &[
+            Sends(0, b"without end"),
+            Waits(FIRST),
+            Sends(1, b"once"),
+            Comes,
+            Shares(20),
+        ],
+        ..ONE
+    },
+    Encounter {
+        shows: "peers come at all times, and do not hide what the first one sends",
+        acts: &[
+            Comes,
+            Waits(Awaited::Newcomer),
+            TurnsAway,
+            Sends(0, b"once"),
+            ComesAndGoes(40),
+        ],
+        ..ONE
+    },
+];
 
 #[test]
 fn no_peer_hides_another(rt: HostRuntime) -> Result<(), Fail> {
