@@ -140,7 +140,18 @@ fn connect_to<N: Net + Clock, A: Allocator>(
     writable.wait(runtime, &mut stream, patience)?;
     match stream.take_error()? {
         Some(error) => Err(error),
+        None if is_own(&stream) => Err(io::Error::from(ErrorKind::ConnectionRefused)),
         None => Ok(stream),
+    }
+}
+
+/// Whether both ends of this stream are the same. If nobody listens at a port of this machine, the
+/// system may choose that port for a socket that connects to it, and then connects it to itself;
+/// whoever wants to listen there finds the address in use.
+fn is_own(stream: &TcpStream) -> bool {
+    match (stream.local_addr(), stream.peer_addr()) {
+        (Ok(here), Ok(there)) => here == there,
+        _ => false,
     }
 }
 
