@@ -19,7 +19,7 @@ use Rattle.bsc_attending.specs.declared.preparing.Prepared.TheVariants as prepar
 use Rattle.bsc_attending.specs.declared.attending.Left.{Left}
 use Rattle.bsc_attending.specs.declared.attending.Left.TheVariants.{Control, Terminal}
 use Rattle.bsc_attending.specs.Errors.{IsCutShort, IsPrintFault, IsStoreError}
-use Rattle.bsc_attending.specs.Errors.{control_outcome_of, outcome_of}
+use Rattle.bsc_attending.specs.Errors.{control_outcome_of, terminal_outcome_of}
 
 -- The connections at the first places, this many, were told in their order, each with the address
 -- by which its peer is named, if that is known.
@@ -77,12 +77,10 @@ standing_in (prepared.Terminal l) =
     station_standing (λ _. length l.tributary.terminal.selects)
     (λ _ way. terminal_end l.tributary way) 1
 
--- The result of a station that left this, in this state of the channels on which it sends. The
--- fault that closed the connection of a terminal comes first.
+-- The result of a station that left this, in this state of the channels on which it sends.
 abbrev pub result_of : Left → Standing → Result (Unit {0}) AttendingError
 result_of (Control trust) standing = control_outcome_of trust standing
-result_of (Terminal (Some error)) standing = Err (attending.Closed error)
-result_of (Terminal None) standing = outcome_of standing
+result_of (Terminal closed) standing = terminal_outcome_of closed standing
 
 -- The report of a station was appended, and this is the state of the channels on which it sends.
 abbrev pub ReportsIn : Option Form → Prepared → Option (List ℕ) → Option (List ℕ)

@@ -1,5 +1,6 @@
 -- The errors of a station for those of its parts, and the errors of each part of its work.
 use Rattle.std.specs.Prelude.{Result, Ok, Err, Option, Some, is_some, if◌then◌else◌}
+use Rattle.bsc_carrier.specs.declared.error.CarrierError.{CarrierError}
 use Rattle.bsc_clients.specs.declared.error.ClientsError.{ClientsError}
 use Rattle.bsc_clients.specs.declared.error.ClientsError.TheVariants as clients
 use Rattle.bsc_config.specs.declared.error.ConfigError.{ConfigError}
@@ -161,3 +162,16 @@ outcome_of standing =
 abbrev pub control_outcome_of : Trust → Standing → Result (Unit {0}) AttendingError
 control_outcome_of trust standing =
     if is_some trust.distrust then Err attending.NotTrusted else outcome_of standing
+
+-- The result of a terminal with nothing in doubt or undelivered: the fault that closed its
+-- connection, if one did.
+abbrev pub closed_outcome : Option CarrierError → Result (Unit {0}) AttendingError
+closed_outcome (Some error) = Err (attending.Closed error)
+closed_outcome None = Ok tt
+
+-- The result of a terminal that ended in this state, and of the fault that closed its connection, if
+-- one did. Doubt and undelivered records come before it.
+abbrev pub terminal_outcome_of : Option CarrierError → Standing → Result (Unit {0}) AttendingError
+terminal_outcome_of closed standing =
+    if standing.doubt then Err attending.InDoubt
+    else (if standing.waiting then Err attending.Undelivered else closed_outcome closed)

@@ -3,18 +3,21 @@
 ghost use Rattle.std.specs.Prelude.{◌≡◌, IfErr, IfOk};
 ghost use Rattle.bsc_attending.specs.Ending.{IsConcluded, ReportsIn};
 ghost use Rattle.bsc_attending.specs.Errors.{IsLate, IsPrintFault, control_outcome_of, outcome_of};
+ghost use Rattle.bsc_attending.specs.Errors.{terminal_outcome_of};
 
 use crate::AttendingError;
 use crate::attending::Left;
 use crate::preparing::Prepared;
+use bsc_carrier::CarrierError;
 use bsc_monitor::{Standing, station_standing, write_report, write_trust};
 use bsc_print::Form;
 use bsc_trust::Trust;
 use std::alloc::Global;
 use std::io::Write;
 
-/// Prints the report of a station that has ended, and returns its result: a fault that closed its
-/// connection comes first, or that its line is not trusted.
+/// Prints the report of a station that has ended, and returns its result. That its line is not
+/// trusted comes first, then what is in doubt or not delivered, and then a fault that closed its
+/// connection.
 pub(crate) fn conclude<W: Write>(
     alloc: Global,
     reported: Option<Form>,
@@ -32,10 +35,7 @@ pub(crate) fn conclude<W: Write>(
             write_trust(&trust, out)?;
             control_outcome(&trust, standing)
         }
-        Left::Terminal {
-            closed: Some(error),
-        } => Err(AttendingError::Closed { error }),
-        Left::Terminal { closed: None } => outcome(standing),
+        Left::Terminal { closed } => terminal_outcome(closed, standing),
     }
 }
 
@@ -70,6 +70,18 @@ fn control_outcome(trust: &Trust, standing: Standing) -> Result<(), AttendingErr
     match trust.distrust() {
         Some(_) => Err(AttendingError::NotTrusted),
         None => outcome(standing),
+    }
+}
+
+/// Returns the result of a terminal that ended in this state, and of the fault that closed its
+/// connection, if one did.
+fn terminal_outcome(closed: Option<CarrierError>, standing: Standing) -> Result<(), AttendingError>
+    ensures { result ≡ terminal_outcome_of closed standing }
+{
+    outcome(standing)?;
+    match closed {
+        Some(error) => Err(AttendingError::Closed { error }),
+        None => Ok(()),
     }
 }
 

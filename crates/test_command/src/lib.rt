@@ -10,6 +10,8 @@ mod backlogs;
 #[cfg(test)]
 mod cases;
 #[cfg(test)]
+mod closings;
+#[cfg(test)]
 mod command_runs;
 #[cfg(test)]
 mod commands;
