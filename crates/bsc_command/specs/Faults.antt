@@ -75,17 +75,19 @@ IsPrintFault Output = Unit {0}
 IsPrintFault OutOfMemory = Unit {0}
 IsPrintFault _ = ⊥
 
--- Whether a station could not print the records that arrived.
-abbrev pub is_unprinted : Fault → Bool
-is_unprinted (Attending attending.Unprinted) = true
-is_unprinted _ = false
+-- Whether a station could not print the records that arrived, or could not keep what happened.
+abbrev pub is_about_records : Fault → Bool
+is_about_records (Attending attending.Unprinted) = true
+is_about_records (Attending (attending.Unkept _)) = true
+is_about_records _ = false
 
--- The faults that are told only if the output was flushed: all but those of printing, and that of a
--- station that could not print its records, of which the output fault is known already.
+-- The faults that are told only if the output was flushed: all but those of printing, and those of a
+-- station about its records, which are told whether the output was flushed or not.
 abbrev pub IsToldFlushed : Fault → Type 0
 IsToldFlushed Output = ⊥
 IsToldFlushed OutOfMemory = ⊥
 IsToldFlushed (Attending attending.Unprinted) = ⊥
+IsToldFlushed (Attending (attending.Unkept _)) = ⊥
 IsToldFlushed _ = Unit {0}
 
 -- The fault for arguments that `clap` refuses. Out of memory and wrong usage are separate faults.

@@ -5,7 +5,7 @@ ghost use Rattle.std.specs.Prelude.{Err, IfErr, IfOk, IsOkAnd, Ok, OnOk, true};
 ghost use Rattle.std.specs.Io.Buffered.{writer_buffer, writer_contents};
 ghost use Rattle.std.specs.Io.KnownBytes.{Keeps};
 ghost use Rattle.bsc_command.specs.declared.fault.Fault.{Fault as FaultValue};
-ghost use Rattle.bsc_command.specs.Faults.{IsPrintFault, IsToldFlushed, is_unprinted, status_of};
+ghost use Rattle.bsc_command.specs.Faults.{IsPrintFault, IsToldFlushed, is_about_records, status_of};
 ghost use Rattle.bsc_command.specs.Program.{IsFaultAt, IsObeyed};
 
 use crate::help::help_or_fault;
@@ -81,21 +81,22 @@ fn obey_given<
     }
 }
 
-/// Returns whether a station could not print the records that arrived.
-fn is_unprinted(fault: &Fault) -> bool
-    ensures { result ≡ is_unprinted fault.now }
+/// Returns whether a station could not print the records that arrived, or could not keep what
+/// happened.
+fn is_about_records(fault: &Fault) -> bool
+    ensures { result ≡ is_about_records fault.now }
 {
     match fault {
         Fault::Attending { error } => match error {
-            AttendingError::Unprinted => true,
+            AttendingError::Unprinted | AttendingError::Unkept { .. } => true,
             _ => false,
         },
         _ => false,
     }
 }
 
-/// Flushes the buffer, and returns the outcome of the work, or `Output` if the flush fails. Of a
-/// station that could not print its records the fault says that already, and stays.
+/// Flushes the buffer, and returns the outcome of the work, or `Output` if the flush fails. The
+/// fault of a station that could not print its records, or not keep what happened, stays.
 fn flush_after<W: Write + Drop>(
     outcome: Result<(), Fault>,
     out: &mut BufWriter<W>,
@@ -104,12 +105,13 @@ fn flush_after<W: Write + Drop>(
     ensures ok { OnOk result (outcome ≡ Ok tt) }
     ensures flushed { OnOk result (writer_buffer out.new ≡ []) }
     ensures fault { IfErr result (λ fault. IsPrintFault fault ⊎ (outcome ≡ Err fault)) }
-    ensures unprinted { IfErr outcome (λ fault. is_unprinted fault ≡ true → result ≡ outcome) }
+    ensures stays { IfErr outcome (λ fault. is_about_records fault ≡ true
+        → result ≡ outcome) }
     ensures told { IfErr result (λ fault. IsToldFlushed fault → writer_buffer out.new ≡ []) }
 {
     match (out.flush(), outcome) {
         (Ok(()), outcome) => outcome,
-        (Err(_), Err(fault)) if is_unprinted(&fault) => Err(fault),
+        (Err(_), Err(fault)) if is_about_records(&fault) => Err(fault),
         (Err(_), _) => Err(Fault::Output),
     }
 }

@@ -20,6 +20,26 @@ struct Failing {
     sent: usize,
 }
 
+/// A terminal whose output is synced, on a disk that fails.
+const SYNCED: Case = Case {
+    words: Some(&[
+        "station",
+        "line.toml",
+        "--terminal",
+        "0",
+        "--connect",
+        "h:1",
+        "--store",
+        "kept",
+        "--sync",
+    ]),
+    scene: Scene {
+        disk_fails: true,
+        ..SILENT
+    },
+    ..TERMINAL
+};
+
 /// A terminal that a program may feed.
 const SERVING: Case = Case {
     scene: SILENT,
@@ -61,6 +81,14 @@ const FAILING: &[Failing] = &[
         pieces: SELECTED,
         out: "to 0: 4849\n",
         sent: 14,
+    },
+    // That the last flush of standard output fails too is not told in its place.
+    Failing {
+        station: SYNCED,
+        left: 0,
+        pieces: SELECTED,
+        out: "",
+        sent: 7,
     },
     Failing {
         station: SERVING,
