@@ -88,8 +88,9 @@ pub trait Network {
     /// standard error is a terminal.
     fn timer(&mut self, progress: Option<Work>) -> Self::Timer;
 
-    /// Returns the writer for the trace, which is standard error.
-    fn trace(&mut self) -> Self::Trace;
+    /// Returns the writer for the trace, which is standard error. If what happens is not traced,
+    /// what it does not take is lost, and is no fault.
+    fn trace(&mut self, is_traced: bool) -> Self::Trace;
 
     /// Returns what tells whether standard output takes more.
     fn readiness(&mut self) -> Self::Readiness;

@@ -228,7 +228,7 @@ fn open<H: Network, K: Store + Drop, W: Write>(
         Some(keeper) => {
             let counts = printed_before(alloc, &keeper, channels_of(prepared))?;
             let lines = options.settings.printing.records;
-            let notices = machine.trace();
+            let notices = machine.trace(false);
             let kept = Kept {
                 connections,
                 keeper,
@@ -266,7 +266,7 @@ fn attend_with<C: Attend, H: Network, O: Write>(
         (IsErr result) prepared.new }
 {
     let timer = machine.timer(progress_of(&options.settings));
-    let mut trace = machine.trace();
+    let mut trace = machine.trace(traces(options.settings.printing.trace));
     let watching = Watching {
         printing: options.settings.printing,
         timer,

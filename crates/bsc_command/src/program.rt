@@ -136,7 +136,7 @@ fn run_traced<R: Read, H: Files + Cables + Network, W: Write>(
         (paths_of words.entry (R.remaining input.old)) (W.contents out.old)
         (W.contents out.new)) }
 {
-    let mut trace = machine.trace();
+    let mut trace = machine.trace(true);
     run(alloc, words, input, machine, out, &mut trace)
 }
 

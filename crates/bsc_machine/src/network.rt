@@ -68,7 +68,11 @@ fn begin<'a, R: AllocGlobal + Clock + Eprint + Net>(
         Place::Listen { address } => {
             let listening = Listening::bind(runtime, address)?;
             let mut reception = Receiving {
-                errors: Errors { runtime, screen },
+                errors: Errors {
+                    runtime,
+                    screen,
+                    may_fail: false,
+                },
                 lines: Beginning {
                     trace: wanted.trace,
                 },
@@ -124,7 +128,7 @@ impl<'a, R: AllocGlobal + Clock + Eprint + Filing + Net> Network for Machine<'a,
         trace: bool,
     ) -> Result<Reachable<Clients<'a, R>>, ClientsError> {
         let programs = Clients::listen(self.runtime, self.runtime.alloc(), at)?;
-        tell_address(&programs, Beginning { trace }, &mut self.trace());
+        tell_address(&programs, Beginning { trace }, &mut self.trace(trace));
         let descriptor = programs.descriptor();
         Ok(Reachable {
             programs,
@@ -138,10 +142,13 @@ impl<'a, R: AllocGlobal + Clock + Eprint + Filing + Net> Network for Machine<'a,
         progress(self.runtime, self.screen, work)
     }
 
-    fn trace(&mut self) -> Errors<'a, R> {
+    fn trace(&mut self, is_traced: bool) -> Errors<'a, R>
+        ensures { result.may_fail ≡ is_traced }
+    {
         Errors {
             runtime: self.runtime,
             screen: self.screen,
+            may_fail: is_traced,
         }
     }
 

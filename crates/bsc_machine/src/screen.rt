@@ -54,15 +54,22 @@ impl<R: Clock> Timer for Since<'_, R> {
 pub struct Errors<'a, R> {
     pub runtime: &'a R,
     pub screen: &'a Screen,
+
+    /// Whether a write fails that standard error does not take. If not, what it does not take is
+    /// lost.
+    pub may_fail: bool,
 }
 
 impl<R: Eprint> Write for Errors<'_, R> {
     fn write(&mut self, octets: &[u8]) -> io::Result<usize> {
         self.screen.clear(self.runtime);
-        Raw {
+        let mut raw = Raw {
             runtime: self.runtime,
+        };
+        match raw.write(octets) {
+            Err(_) if !self.may_fail => Ok(octets.len()),
+            written => written,
         }
-        .write(octets)
     }
 
     fn flush(&mut self) -> io::Result<()> {

@@ -64,10 +64,12 @@ impl Streams {
     pub fn errors<'a, R>(&'a self, runtime: &'a R) -> Errors<'a, R>
         ensures runtime { result.runtime ≡ runtime.entry }
         ensures screen { result.screen.now ≡ self.now.screen }
+        ensures fails { result.may_fail ≡ true }
     {
         Errors {
             runtime,
             screen: &self.screen,
+            may_fail: true,
         }
     }
 

@@ -459,9 +459,9 @@ impl<'a> Network for Machine<'a> {
         Metered { work, record }
     }
 
-    fn trace(&mut self) -> Tracer<'a> {
+    fn trace(&mut self, is_traced: bool) -> Tracer<'a> {
         Tracer {
-            fails: self.scene.trace_fails,
+            fails: self.scene.trace_fails && is_traced,
             record: self.record,
         }
     }

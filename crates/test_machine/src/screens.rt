@@ -87,7 +87,7 @@ fn progress_is_cleared_before_a_line(rt: HostRuntime) -> Result<(), Fail> {
     let (fake, streams) = (Fake::new(&rt, NO_FILE), Streams::new(true));
     show_station(&fake, &streams, Some(Work::Events));
     assert!(rt; fake.has_told(EVENTS));
-    let mut trace = streams.machine(&fake).trace();
+    let mut trace = streams.machine(&fake).trace(true);
     trace.write_all(b"+0 silence\n")?;
     assert!(rt; fake.has_told("\r\x1b[K+0 silence\n"));
     trace.write_all(b"+1 silence\n")?;
@@ -123,8 +123,8 @@ fn is_due_again(fake: &Fake<'_>, streams: &Streams) -> bool {
     !is_early && meter.is_due()
 }
 
-/// What standard error does not take is told, and what is not UTF-8 is not written. Progress that
-/// it does not take is not shown again.
+/// What standard error does not take is told, but for lines of a station that are not traced, and
+/// what is not UTF-8 is not written. Progress that it does not take is not shown again.
 #[test]
 fn standard_error_may_refuse(rt: HostRuntime) -> Result<(), Fail> {
     let (fake, streams) = (Fake::new(&rt, NO_FILE), Streams::new(true));
@@ -132,6 +132,9 @@ fn standard_error_may_refuse(rt: HostRuntime) -> Result<(), Fail> {
     assert!(rt; is_due_again(&fake, &streams) && fake.has_told(EVENTS));
     fake.takes.set(false);
     assert!(rt; refused(&fake, &streams, b"x") == Some(ErrorKind::StorageFull));
+    let mut machine = streams.machine(&fake);
+    assert!(rt; machine.trace(true).write(b"x").is_err());
+    assert!(rt; machine.trace(false).write_all(b"x").is_ok());
     assert!(rt; !is_due_again(&fake, &streams));
     assert!(rt; fake.has_told(""));
     Ok(())
