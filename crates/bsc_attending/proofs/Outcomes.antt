@@ -3,6 +3,7 @@ use Rattle.std.proofs.Common.{◌≡◌, ℕ, Bool, true, false, List, Option, S
 use Rattle.std.proofs.Common.{if◌then◌else◌, Result, Ok, Err, inl, inr, subst, sym}
 use Rattle.std.proofs.Common.{IfSome, IsSome, IsSomeAnd, IsErrAnd}
 use Rattle.bsc_asked.specs.StationWords.{AskedWords}
+use Rattle.bsc_carrier.specs.declared.error.CarrierError.{CarrierError}
 use Rattle.bsc_config.specs.Settings.{ConfigValue}
 use Rattle.bsc_kept.specs.declared.store.Store as store_of
 use Rattle.bsc_keeping.specs.Own.{receiving_of}
@@ -16,7 +17,7 @@ use Rattle.bsc_print.specs.declared.form.Form.{Form}
 use Rattle.bsc_trust.specs.declared.distrust.Distrust.{Distrust}
 use Rattle.bsc_attending.specs.Ending.{HasBegunAndRun, HasRun, IsLeftBy, IsSameKind, result_of}
 use Rattle.bsc_attending.specs.Errors.{IsCutShort, IsPreparingError, IsStoreError, IsUnbegun}
-use Rattle.bsc_attending.specs.Errors.{IsUnended}
+use Rattle.bsc_attending.specs.Errors.{IsUnended, closed_outcome}
 use Rattle.bsc_attending.specs.Outcomes.{IsAnswerFor, IsReported, IsReportedFor, IsResultOf}
 use Rattle.bsc_attending.specs.Preparing.{IsPrepared, IsReady, IsStationOf, owner_of}
 use Rattle.bsc_attending.specs.Runs.{BeginsAndRuns, BeginsFrom, HasRunKept, RunsAsked}
@@ -81,6 +82,15 @@ control_fits : (why : Option Distrust) (doubt waiting : Bool)
 control_fits (Some why) doubt waiting = tt
 control_fits None doubt waiting = outcome_fits role.Control doubt waiting
 
+-- a terminal may also have lost its connection by a fault
+terminal_fits : (n : ℕ) (closed : Option CarrierError) (doubt waiting : Bool)
+    → IsResultOf (role.Terminal n) (if doubt then Err attending.InDoubt
+    else (if waiting then Err attending.Undelivered else closed_outcome closed))
+terminal_fits n closed true waiting = tt
+terminal_fits n closed false true = tt
+terminal_fits n (Some error) false false = tt
+terminal_fits n None false false = tt
+
 -- the result of what a station left is one of its role
 left_fits : (config : ConfigValue) (offers : List (List ℕ)) (input after : Option (List ℕ))
     (r : Role) (begun : Prepared) (left : Left) (standing : Standing)
@@ -94,10 +104,8 @@ left_fits config offers input after role.Control (prepared.Terminal l) left s p 
 left_fits config offers input after (role.Terminal n) (prepared.Control c) left s p q = absurd p
 left_fits config offers input after (role.Terminal n) (prepared.Terminal l) (Control trust) s p q =
     absurd q
-left_fits config offers input after (role.Terminal n) (prepared.Terminal l) (Terminal None) s p q =
-    outcome_fits (role.Terminal n) s.doubt s.waiting
-left_fits config offers input after (role.Terminal n) (prepared.Terminal l) (Terminal (Some e)) s p q =
-    tt
+left_fits config offers input after (role.Terminal n) (prepared.Terminal l) (Terminal closed) s p q =
+    terminal_fits n closed s.doubt s.waiting
 
 module _ (w : AskedWords) (r : Role) (input after : Option (List ℕ)) (begun : Prepared)
     (prepared : IsPrepared w r input after begun)

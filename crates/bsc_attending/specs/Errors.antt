@@ -1,5 +1,5 @@
 -- The errors of a station for those of its parts, and the errors of each part of its work.
-use Rattle.std.specs.Prelude.{Result, Ok, Err, Option, Some, is_some, if◌then◌else◌}
+use Rattle.std.specs.Prelude.{Result, Ok, Err, Option, Some, None, is_some, if◌then◌else◌}
 use Rattle.bsc_carrier.specs.declared.error.CarrierError.{CarrierError}
 use Rattle.bsc_clients.specs.declared.error.ClientsError.{ClientsError}
 use Rattle.bsc_clients.specs.declared.error.ClientsError.TheVariants as clients

@@ -28,7 +28,7 @@ pub trait Station {
         ensures { hears self.old heard.now self.new sent.new };
 
     /// Reports that nothing was heard for the time of a time-out, and replaces `sent` by the
-    /// message to send, or by `None`.
+    /// message to send, or by none.
     fn act(&mut self, sent: &mut MessageBuffer)
         ensures { acts self.old self.new sent.new };
 

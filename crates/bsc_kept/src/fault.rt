@@ -2,9 +2,9 @@
 
 use thiserror::Error;
 
-/// Why a store was refused, or a step was not kept. What is kept is as it was, also where a step
-/// was refused. After `Unreachable`, `Full` and `OutOfMemory` the store is to be opened again: the
-/// step was kept or not, and never in part.
+/// Why a store was refused, or a step was not kept. What was kept before remains. After `Refused`
+/// the step was not kept; after `Unreachable`, `Full` and `OutOfMemory` it was kept whole or not at
+/// all, and the store is to be opened again.
 #[derive(Clone, Copy, Debug, PartialEq, Eq, Error)]
 pub enum StoreFault {
     /// The store keeps the records of another line, or of another station of this line.
