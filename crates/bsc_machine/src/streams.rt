@@ -1,6 +1,6 @@
 //! The standard streams of the program, and what its machine has to know of them.
 
-ghost use Rattle.std.specs.Prelude.{◌≡◌};
+ghost use Rattle.std.specs.Prelude.{◌≡◌, true};
 
 use crate::machine::Machine;
 use crate::output::Output;
