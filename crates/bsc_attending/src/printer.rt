@@ -22,7 +22,7 @@ const MAX_LINE: usize = 640;
 const TURNS: u32 = 16;
 
 /// What is told on standard error once records cannot be printed. It begins as the faults of the
-/// program do, which a reader of a trace skips, since it has no time.
+/// program do, which `chart` skips in a trace, since it has no time.
 const NOTICE: &[u8] = b"bscline: records cannot be printed, and are only kept\n";
 
 /// Prints the records of a station whose records are kept.

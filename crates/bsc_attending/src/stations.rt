@@ -47,7 +47,7 @@ struct Options<'a> {
 
 /// Runs the station that the words ask for. The configuration and all records are read and checked
 /// before a connection is made. Records are printed before they are acknowledged, or, if they are
-/// to be kept, after that as standard output takes them, and the report when the station ends.
+/// to be kept, once they are kept and standard output takes them; the report is printed at the end.
 /// `NotTrusted`, `InDoubt` and `Undelivered` are returned after the report is printed, and so is
 /// `Closed`, when a fault closed the connection of a terminal. `Unprinted` is returned when records
 /// that arrived could not be printed; the report is tried. A station whose records are to be kept

@@ -80,7 +80,7 @@ pub(crate) enum Act {
     /// Another peer connects.
     Comes,
 
-    /// One peer after the other connects and is turned away; of fewer than this many waits one
+    /// One peer after the other connects and is turned away; of at most this many waits one
     /// reports the first connection.
     ComesAndGoes(usize),
 

@@ -358,7 +358,7 @@ fn all_go<R: Read + Drop, W: Write + Drop, S: Waiter<R, W>>(
     true
 }
 
-/// Whether of fewer than this many waits, before each of which a peer connects, one reports the first
+/// Whether of at most this many waits, before each of which a peer connects, one reports the first
 /// connection; the peers are turned away.
 fn comes_and_goes<R, W, S: Waiter<R, W>>(far: &mut Far<'_>, sockets: &mut S, most: usize) -> bool {
     for _ in 0..most {
