@@ -169,8 +169,8 @@ abbrev pub closed_outcome : Option CarrierError → Result (Unit {0}) AttendingE
 closed_outcome (Some error) = Err (attending.Closed error)
 closed_outcome None = Ok tt
 
--- The result of a terminal that ended in this state, and of the fault that closed its connection, if
--- one did. Doubt and undelivered records come before it.
+-- The result of a terminal that ended in this state, and of the fault that closed its connection,
+-- if one did. Doubt and undelivered records come before it.
 abbrev pub terminal_outcome_of : Option CarrierError → Standing → Result (Unit {0}) AttendingError
 terminal_outcome_of closed standing =
     if standing.doubt then Err attending.InDoubt

@@ -81,8 +81,8 @@ is_about_records (Attending attending.Unprinted) = true
 is_about_records (Attending (attending.Unkept _)) = true
 is_about_records _ = false
 
--- The faults that are told only if the output was flushed: all but those of printing, and those of a
--- station about its records, which are told whether the output was flushed or not.
+-- The faults that are told only if the output was flushed: all but those of printing, and those of
+-- a station about its records, which are told whether the output was flushed or not.
 abbrev pub IsToldFlushed : Fault → Type 0
 IsToldFlushed Output = ⊥
 IsToldFlushed OutOfMemory = ⊥

@@ -163,8 +163,8 @@ const CLOSED: &str = "connection 0 closed\n";
 const CLOSED_TWICE: &str = "connection 0 closed\nconnection 0 closed\n";
 
 /// What the terminal tells whose output takes nothing.
-const NOTICE: &str =
-    "bscline: records cannot be printed, and are only kept\nconnection 0 closed\nconnection 0 closed\n";
+const NOTICE: &str = "bscline: records cannot be printed, and are only kept\n\
+connection 0 closed\nconnection 0 closed\n";
 
 /// Runs these commands in turn on one machine, where each must have its results. The value is the
 /// record of the machine.
