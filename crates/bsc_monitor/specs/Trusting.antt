@@ -1,5 +1,5 @@
 -- What a control station can tell of the premises of its line, by what happens to it.
-use Rattle.std.specs.Prelude.{ℕ, Bool, List, Option, None, Some}
+use Rattle.std.specs.Prelude.{ℕ, Bool, List, Option, None, Some, if◌then◌else◌}
 use Rattle.std.specs.Net.Socket.{socket_ip}
 use Rattle.std.specs.declared.net.ip_addr.IpAddr.{IpAddr}
 use Rattle.std.specs.declared.net.socket_addr.SocketAddr.{SocketAddr}
@@ -11,7 +11,7 @@ use Rattle.bsc_control.specs.declared.task.Task.TheVariants.{AtRest}
 use Rattle.bsc_frame.specs.Reading.{heard}
 use Rattle.bsc_trust.specs.Trust.{admits, after_closed, after_heard, after_ignored, after_joined}
 use Rattle.bsc_trust.specs.Trust.{after_sent, after_withheld, reason_told, told_of}
-use Rattle.bsc_trust.specs.Trust.{told_of_sending}
+use Rattle.bsc_trust.specs.Trust.{told_of_sending, was_told}
 use Rattle.bsc_trust.specs.declared.distrust.Distrust.{Distrust}
 use Rattle.bsc_trust.specs.declared.trust.Trust.{Trust}
 use Rattle.bsc_monitor.specs.declared.trusting.Trusting.{Trusting}
@@ -48,10 +48,16 @@ trust_after t called (HasJoined place peer replaces) now =
 trust_after t called (HasClosed place peer why) now = after_closed t place
 trust_after t called _ now = t
 
--- What is told of this: why it was ignored, or that it was the first late answer or late reply, and
--- nothing spoke against trust before.
+-- What is told of something on the connection at this place that was ignored: why, unless that was
+-- told of another on it.
+abbrev pub ignoring_told : Trust → Option ℕ → ℕ → Option Distrust
+ignoring_told t called place =
+    if was_told t place then None else Some (reason_told t called place)
+
+-- What is told of this: why it was ignored, if it is the first on its connection, or that it was the
+-- first late answer or late reply, and nothing spoke against trust before.
 abbrev pub distrust_told : Trust → Option ℕ → Happening → ℕ → Option Distrust
 distrust_told t called (WasHeard place octets) now = told_of t (heard octets) now
-distrust_told t called (WasIgnored place octets) now = Some (reason_told t called place)
+distrust_told t called (WasIgnored place octets) now = ignoring_told t called place
 distrust_told t called (WasSent octets) now = told_of_sending t now
 distrust_told t called _ now = None

@@ -3,9 +3,9 @@
 ghost use Rattle.std.specs.Prelude.{◌≡◌};
 ghost use Rattle.bsc_connections.specs.Notes.{told_by};
 ghost use Rattle.bsc_frame.specs.Reading.{heard};
-ghost use Rattle.bsc_trust.specs.Trust.{after_heard, told_of};
+ghost use Rattle.bsc_trust.specs.Trust.{after_heard, after_ignored, told_of};
 ghost use Rattle.bsc_monitor.specs.Trusting.{called_by, distrust_told, is_admitted};
-ghost use Rattle.bsc_monitor.specs.Trusting.{address_of, trust_after};
+ghost use Rattle.bsc_monitor.specs.Trusting.{address_of, ignoring_told, trust_after};
 ghost use Rattle.bsc_monitor.specs.Trusting.{trusting_of};
 
 use bsc_connections::Note;
@@ -71,7 +71,7 @@ impl Trusting {
     {
         match note {
             Note::Heard { connection, octets } => self.hear(*connection, octets, now),
-            Note::Ignored { connection, .. } => Some(self.trust.ignored(self.called, *connection)),
+            Note::Ignored { connection, .. } => self.ignore(*connection),
             Note::Sent { .. } => self.trust.sent(now),
             Note::Withheld { .. } => {
                 self.trust.withheld(now);
@@ -103,6 +103,18 @@ impl Trusting {
         let mut buffer = TextBuffer::new();
         let heard = decode(octets, &mut buffer);
         self.trust.heard(self.called, place, &heard, now)
+    }
+
+    /// Takes note of a transmission that was not heard. Returns why, unless that was told of another
+    /// one on the same connection: a peer that goes on would fill a log.
+    fn ignore(&mut self, place: usize) -> Option<Distrust>
+        ensures kept { self.new ≡ trusting_of
+            (after_ignored self.old.trust self.old.called place) self.old.called }
+        ensures told { result ≡ ignoring_told self.old.trust self.old.called place }
+    {
+        let was_told = self.trust.was_told(place);
+        let reason = self.trust.ignored(self.called, place);
+        if was_told { None } else { Some(reason) }
     }
 
     /// Takes note of the terminal that the control station calls now.

@@ -9,7 +9,7 @@ use Rattle.bsc_trust.specs.declared.connected.Connected.{Connected}
 use Rattle.bsc_trust.specs.declared.terminal_peers.TerminalPeers.{TerminalPeers}
 use Rattle.bsc_trust.specs.declared.trust.Trust.{Trust}
 use Rattle.bsc_trust.specs.Answers.{is_noise, is_timed}
-use Rattle.bsc_trust.specs.Connections.{nobody, newcomer, connected_at, barred_if_nobodys}
+use Rattle.bsc_trust.specs.Connections.{nobody, newcomer, connected_at, ignored_on}
 use Rattle.bsc_trust.specs.Trust.{new_trust, admits, given_to, with_connected, after_heard}
 use Rattle.bsc_trust.specs.Trust.{after_ignored, after_answer, after_time, time_taken}
 use Rattle.bsc_trust.specs.Histories.{Event, Sends, Withholds, Arrives, Joins, Closes}
@@ -77,7 +77,7 @@ barred_stays t (Arrives called place heard now) p stays h =
     (after_answer t called place now)
     true given given))
     (barred_stays_set t.connections place p
-    (barred_if_nobodys t.shared (connected_at t.connections place))
+    (ignored_on t.shared (connected_at t.connections place))
     (λ e. or_first (barred_at t.connections place) _ (ap (barred_at t.connections) (sym e) ∙ h)) h)
 barred_stays t (Joins place peer) p stays h =
     barred_beside_set t.connections place p
@@ -99,7 +99,7 @@ barred_after : (t : Trust) (event : Event) (p : ℕ) → IsSound t → p < MAX_C
 barred_after t (Sends now) p sound within h = absurd h
 barred_after t (Withholds now) p sound within h = absurd h
 barred_after t (Arrives called place heard now) p sound within h =
-    let c : Connected = barred_if_nobodys t.shared (connected_at t.connections place) in
+    let c : Connected = ignored_on t.shared (connected_at t.connections place) in
     let here : place < length t.connections = omega (arith, within, sound.count, h.0) in
     ap (λ (v : Trust). barred_at v.connections p) (after_refused t called place heard now h.1)
     ∙ ap (barred_at (slice_set t.connections place c)) (sym h.0)

@@ -10,7 +10,7 @@ use Rattle.std.specs.Prelude.{nat_lt, slice_set}
 use Rattle.std.specs.List.{position_or_len}
 use Rattle.bsc_trust.specs.declared.connected.Connected.{Connected}
 use Rattle.bsc_trust.specs.Connections.{nobody, connected_at, is_this, owned_by}
-use Rattle.bsc_trust.specs.Connections.{barred_if_nobodys}
+use Rattle.bsc_trust.specs.Connections.{ignored_on}
 
 -- The owner of the connection at a place.
 abbrev pub owner_at : List Connected → ℕ → Option ℕ
@@ -48,7 +48,7 @@ owner_beside_set cs place p c other =
 
 -- Barring a connection changes no owner.
 pub owners_after_barring : (cs : List Connected) (place p : ℕ) (shared : Bool)
-    → owner_at (slice_set cs place (barred_if_nobodys shared (connected_at cs place))) p
+    → owner_at (slice_set cs place (ignored_on shared (connected_at cs place))) p
     ≡ owner_at cs p
 owners_after_barring [] place p shared = refl
 owners_after_barring (x ∷ xs) zero zero shared = refl

@@ -16,7 +16,7 @@ use Rattle.bsc_trust.specs.declared.terminal_peers.TerminalPeers.{TerminalPeers}
 use Rattle.bsc_trust.specs.declared.trust.Trust.{Trust}
 use Rattle.bsc_trust.specs.Answers.{is_noise}
 use Rattle.bsc_trust.specs.Connections.{nobody, newcomer, connected_at, owned_by}
-use Rattle.bsc_trust.specs.Connections.{barred_if_nobodys}
+use Rattle.bsc_trust.specs.Connections.{ignored_on}
 use Rattle.bsc_trust.specs.Trust.{new_trust, admits, reason, reason_for, reason_by_owner}
 use Rattle.bsc_trust.specs.Trust.{reason_beside, reason_where_called, given_to, with_connected}
 use Rattle.bsc_trust.specs.Histories.{Event, Sends, Withholds, Arrives, Joins, Closes}
@@ -112,7 +112,7 @@ connections_after_noise t called place heard now noise admitted =
 connections_after_ignored : (t : Trust) (called : Option ℕ) (place : ℕ) (heard : Heard) (now : ℕ)
     → admits t called place heard ≡ false
     → (after t (Arrives called place heard now)).connections ≡ slice_set t.connections place
-    (barred_if_nobodys t.shared (connected_at t.connections place))
+    (ignored_on t.shared (connected_at t.connections place))
 connections_after_ignored t called place heard now refused =
     ap (λ (v : Trust). v.connections) (after_refused t called place heard now refused)
 
@@ -281,7 +281,7 @@ count_stays t (Arrives called place heard now) =
     (λ c. length-set t.connections place c) in
     part_after_arrival (λ (v : Trust). length v.connections) t called place heard now
     (length-set t.connections place
-    (barred_if_nobodys t.shared (connected_at t.connections place))) given given
+    (ignored_on t.shared (connected_at t.connections place))) given given
 count_stays t (Joins place peer) =
     length-set t.connections place (newcomer peer)
 count_stays t (Closes place) = length-set t.connections place nobody

@@ -15,7 +15,7 @@ use Rattle.bsc_trust.specs.declared.terminal_peers.TerminalPeers.{TerminalPeers}
 use Rattle.bsc_trust.specs.declared.trust.Trust.{Trust}
 use Rattle.bsc_trust.specs.Answers.{is_noise, is_timed}
 use Rattle.bsc_trust.specs.Connections.{nobody, newcomer, connected_at, owned_by}
-use Rattle.bsc_trust.specs.Connections.{barred_if_nobodys}
+use Rattle.bsc_trust.specs.Connections.{ignored_on}
 use Rattle.bsc_trust.specs.Peers.{forbids}
 
 -- What is known at the beginning.
@@ -130,11 +130,15 @@ told_of_sending t now = told_of_time t (time_since t.heard_at now) LateReply
 abbrev pub reason_told : Trust → Option ℕ → ℕ → Distrust
 reason_told t called place = unwrap_or (reason t called place) (NothingSent place)
 
+-- Whether something that was not heard on the connection at this place was told before.
+abbrev pub was_told : Trust → ℕ → Bool
+was_told t place = (connected_at t.connections place).told
+
 -- After a transmission was not heard.
 abbrev pub after_ignored : Trust → Option ℕ → ℕ → Trust
 after_ignored t called place = record t {
   connections = slice_set t.connections place
-      (barred_if_nobodys t.shared (connected_at t.connections place));
+      (ignored_on t.shared (connected_at t.connections place));
   distrust = first_reason t.distrust (reason_told t called place);
 }
 

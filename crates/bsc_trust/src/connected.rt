@@ -1,7 +1,7 @@
 //! What is known of the connection at a place.
 
 ghost use Rattle.std.specs.Prelude.{◌≡◌};
-ghost use Rattle.bsc_trust.specs.Connections.{nobody, is_this, barred_if_nobodys};
+ghost use Rattle.bsc_trust.specs.Connections.{nobody, is_this, ignored_on};
 
 use std::net::IpAddr;
 
@@ -17,6 +17,9 @@ pub(crate) struct Connected {
     /// Whether nothing more is heard on it: something arrived on it out of turn while no terminal
     /// owned it.
     pub barred: bool,
+
+    /// Whether something arrived on it that was not heard, so that the reason was told.
+    pub told: bool,
 }
 
 impl Connected {
@@ -28,6 +31,7 @@ impl Connected {
             peer: None,
             owner: None,
             barred: false,
+            told: false,
         }
     }
 
@@ -41,16 +45,17 @@ impl Connected {
         }
     }
 
-    /// Returns what is known of it after something on it was not heard: it is barred if no terminal
-    /// owns it, unless all terminals share one connection.
+    /// Returns what is known of it after something on it was not heard: that this was told, and it
+    /// is barred if no terminal owns it, unless all terminals share one connection.
     pub(crate) fn after_ignored(self, shared: bool) -> Connected
-        ensures { result ≡ barred_if_nobodys shared self }
+        ensures { result ≡ ignored_on shared self }
     {
         let bars = !shared && self.owner.is_none();
         Connected {
             peer: self.peer,
             owner: self.owner,
             barred: self.barred || bars,
+            told: true,
         }
     }
 }

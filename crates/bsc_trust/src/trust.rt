@@ -7,7 +7,7 @@ ghost use Rattle.bsc_trust.specs.Trust.{after_sent, after_heard, told_of, after_
 ghost use Rattle.bsc_trust.specs.Trust.{reason_told, slowest_share, with_connected, given_to};
 ghost use Rattle.bsc_trust.specs.Trust.{first_reason, reason_for, reason_of_nobody, after_time};
 ghost use Rattle.bsc_trust.specs.Trust.{told_of_time, told_of_sending, reason_after_time};
-ghost use Rattle.bsc_trust.specs.Trust.{after_withheld};
+ghost use Rattle.bsc_trust.specs.Trust.{after_withheld, was_told};
 
 use crate::answers::{is_noise, is_timed};
 use crate::connected::Connected;
@@ -75,6 +75,7 @@ impl Trust {
             peer,
             owner: None,
             barred: false,
+            told: false,
         };
         self.put(place, connected);
     }
@@ -166,6 +167,15 @@ impl Trust {
         let connected = self.connected_at(place);
         self.put(place, connected.after_ignored(self.shared));
         reason
+    }
+
+    /// Returns whether something that arrived on the connection at this place was not heard before,
+    /// so that [`Trust::ignored`] has returned a reason for it. Of a station that goes on answering
+    /// out of turn it is enough to tell that once.
+    pub fn was_told(&self, place: usize) -> bool
+        ensures { result ≡ was_told self.now place }
+    {
+        self.connected_at(place).told
     }
 
     /// Returns the first reason for which the line is not trusted, or `None` if it is trusted.

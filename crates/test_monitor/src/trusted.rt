@@ -43,12 +43,11 @@ const EVENTS: &[Event] = &[
     Arrives(2, EOT),
 ];
 
-/// What is said of them.
+/// What is said of them: of each connection why something on it was not heard first.
 const TOLD: &[u8] =
     b"not trusted: connection 3 was heard though nothing had been sent since the last answer
 not trusted: connections 0 and 2 answered when terminal 0 was called
 not trusted: connection 1 of terminal 1 answered when terminal 0 was called
-not trusted: connection 2 had answered out of turn before
 ";
 
 /// The end of a trace of them.
@@ -60,7 +59,6 @@ const TRACE_END: &[u8] = b"+9 connection 2 heard NOISE 161610
 +14 connection 0 heard EOT 161604ff
 +15 control sent CALL B 161604ff1616c285ff
 +16 connection 2 ignored EOT 161604ff
-+17 not trusted: connection 2 had answered out of turn before
 ";
 
 /// Lets an event happen to a control station, and tells a watch of it and of what the station sent.
