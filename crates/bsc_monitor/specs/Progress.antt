@@ -4,8 +4,9 @@ use Rattle.bsc_connections.specs.Histories.{Happening, WasSent, WasSilent, WasSt
 use Rattle.bsc_connections.specs.declared.awaited.Pace.{Pace}
 use Rattle.bsc_connections.specs.declared.awaited.Pace.TheVariants.{AfterPause, AtOnce}
 use Rattle.bsc_control.specs.Control.{ControlValue, peer_at}
+use Rattle.bsc_monitor.specs.Counting.{station_counts}
 use Rattle.bsc_monitor.specs.Ends.{control_end, station_standing}
-use Rattle.bsc_monitor.specs.Rounds.{rounds_of, after_visit, are_enough, ends_idle}
+use Rattle.bsc_monitor.specs.Rounds.{rounds_of, after_visit, are_enough, pauses_after}
 use Rattle.bsc_monitor.specs.Visits.{visits_of, polled_by, visit_ended}
 use Rattle.bsc_monitor.specs.declared.progress.Progress.{Progress}
 use Rattle.bsc_monitor.specs.declared.rounds.Limits.{Limits}
@@ -17,7 +18,7 @@ progress_of limits last listens =
     record {
       limits = limits;
       visits = visits_of None;
-      rounds = rounds_of last false 0 0;
+      rounds = rounds_of last false 0 0 0;
       listens = listens;
       closed = false;
       stopped = false;
@@ -30,10 +31,16 @@ has_more c =
     (station_standing (λ t. length (peer_at c t).outbounds) (control_end c)
     (length c.peers)).waiting
 
+-- How many records are known to have arrived at the terminals.
+abbrev pub known_in : ControlValue → ℕ
+known_in c =
+    (station_counts 0 (λ t. length (peer_at c t).outbounds) (control_end c)
+    (length c.peers)).known
+
 -- The rounds, if the visit to this entry has ended, or none.
 abbrev pub rounds_after : Rounds → Option ℕ → ControlValue → Rounds
 rounds_after r None c = r
-rounds_after r (Some entry) c = after_visit r entry c.place (has_more c)
+rounds_after r (Some entry) c = after_visit r entry c.place (has_more c) (known_in c)
 
 -- The progress after the control station has sent something.
 abbrev pub after_sent : Progress → ControlValue → Progress
@@ -43,21 +50,21 @@ after_sent p c =
       rounds = rounds_after p.rounds (visit_ended p.visits.polled c) c;
     }
 
--- Whether an idle round ends with the visit to this entry, if one ends.
-abbrev pub idle_with : Rounds → Option ℕ → ControlValue → Bool
-idle_with r None c = false
-idle_with r (Some entry) c = ends_idle r entry c.place (has_more c)
+-- Whether a round in which nothing got through ends with the visit to this entry, if one ends.
+abbrev pub pauses_with : Rounds → Option ℕ → ControlValue → Bool
+pauses_with r None c = false
+pauses_with r (Some entry) c = pauses_after r entry c.place (has_more c) (known_in c)
 
--- Whether what the control station has sent begins a round after an idle one.
-abbrev pub begins_after_idle : Progress → ControlValue → Bool
-begins_after_idle p c = idle_with p.rounds (visit_ended p.visits.polled c) c
+-- Whether what the control station has sent begins a round after one in which nothing got through.
+abbrev pub begins_after_pause : Progress → ControlValue → Bool
+begins_after_pause p c = pauses_with p.rounds (visit_ended p.visits.polled c) c
 
 -- Whether the control station ends with the visit to this entry, or with none: it was asked to end,
 -- as the flag says, or there are enough rounds after the visit.
 abbrev pub enough_after : Bool → Rounds → Limits → Option ℕ → ControlValue → Bool
 enough_after stopped r limits None c = false
 enough_after stopped r limits (Some entry) c =
-    stopped || are_enough (after_visit r entry c.place (has_more c)) limits
+    stopped || are_enough (after_visit r entry c.place (has_more c) (known_in c)) limits
 
 -- Whether the control station ends after it has sent something: the visit to an entry has ended,
 -- and there are enough rounds, or it was asked to end.
@@ -92,11 +99,11 @@ progress_after p found c happening =
     let q = with_found p found in
     record (after_event q c happening) { ended = p.ended || ends_with q c happening }
 
--- The pace after an event: a pause after what begins a round after an idle one.
+-- The pace after an event: a pause after what begins a round after one in which nothing got through.
 abbrev pub pace_of : Bool → Pace
 pace_of true = AfterPause
 pace_of false = AtOnce
 
 abbrev pub pace_after : Progress → ControlValue → Happening → Pace
-pace_after p c (WasSent octets) = pace_of (begins_after_idle p c)
+pace_after p c (WasSent octets) = pace_of (begins_after_pause p c)
 pace_after p c _ = AtOnce

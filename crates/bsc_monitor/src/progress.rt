@@ -3,12 +3,12 @@
 ghost use Rattle.std.specs.Prelude.{◌≡◌, ◌-◌, length, not, true};
 ghost use Rattle.bsc_connections.specs.Notes.{told_by};
 ghost use Rattle.bsc_monitor.specs.Progress.{after_event, after_sent, ends_when_sent, ends_with};
-ghost use Rattle.bsc_monitor.specs.Progress.{begins_after_idle, pace_after, progress_after};
-ghost use Rattle.bsc_monitor.specs.Progress.{progress_of};
+ghost use Rattle.bsc_monitor.specs.Progress.{begins_after_pause, known_in, pace_after};
+ghost use Rattle.bsc_monitor.specs.Progress.{progress_after, progress_of};
 
 use crate::rounds::{Limits, Rounds};
-use crate::station_standing;
 use crate::visits::Visits;
+use crate::{station_counts, station_standing};
 use bsc_connections::{Note, Pace};
 use bsc_control::Control;
 use std::alloc::Allocator;
@@ -79,27 +79,29 @@ impl Progress {
     }
 
     /// Whether what the control station has just sent, and what is not counted yet, begins a round
-    /// after an idle one.
-    pub fn begins_after_idle<B: Allocator>(&self, control: &Control<B>) -> bool
-        ensures { result ≡ begins_after_idle self.now control.now }
+    /// after one in which nothing got through.
+    pub fn begins_after_pause<B: Allocator>(&self, control: &Control<B>) -> bool
+        ensures { result ≡ begins_after_pause self.now control.now }
     {
         let mut visits = self.visits;
         match visits.sent(control) {
             Some(entry) => {
                 let more = station_standing(control).waiting;
-                self.rounds.ends_idle(entry, control.place(), more)
+                let known = known_in(control);
+                self.rounds
+                    .pauses_after(entry, control.place(), more, known)
             }
             None => false,
         }
     }
 
     /// Returns how the wait after an event begins that is not counted yet: with a pause after what
-    /// begins a round after an idle one.
+    /// begins a round after one in which nothing got through.
     pub fn pace_after<B: Allocator>(&self, control: &Control<B>, note: &Note<'_>) -> Pace
         ensures { result ≡ pace_after self.now control.now (told_by note.now) }
     {
         match note {
-            Note::Sent { .. } if self.begins_after_idle(control) => Pace::AfterPause,
+            Note::Sent { .. } if self.begins_after_pause(control) => Pace::AfterPause,
             _ => Pace::AtOnce,
         }
     }
@@ -152,7 +154,15 @@ impl Progress {
             return false;
         };
         let more = station_standing(control).waiting;
-        self.rounds.visited(entry, control.place(), more);
+        let known = known_in(control);
+        self.rounds.visited(entry, control.place(), more, known);
         self.stopped || self.rounds.are_enough(self.limits)
     }
+}
+
+/// Returns how many records are known to have arrived at the terminals.
+fn known_in<B: Allocator>(control: &Control<B>) -> u64
+    ensures { result ≡ known_in control.now }
+{
+    station_counts(control, 0).known
 }

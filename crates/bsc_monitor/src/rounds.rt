@@ -1,7 +1,7 @@
-//! The rounds of a poll list, and the limits at which a control station ends.
+//! The rounds of a poll list, after which of them a control station pauses, and when it ends.
 
 ghost use Rattle.std.specs.Prelude.{◌≡◌, true, false};
-ghost use Rattle.bsc_monitor.specs.Rounds.{rounds_of, after_visit, are_enough, ends_idle};
+ghost use Rattle.bsc_monitor.specs.Rounds.{rounds_of, after_visit, are_enough, pauses_after};
 
 /// The limits at which a control station ends.
 #[derive(Clone, Copy)]
@@ -15,7 +15,9 @@ pub struct Limits {
 
 /// The rounds of a poll list. A round is one visit to each entry: it is complete when the control
 /// station goes from the last entry to the first. A round is idle if no record arrived in it and
-/// nothing waits to be sent at its end.
+/// nothing waits to be sent at its end. Nothing gets through in a round that is idle, or in which no
+/// record arrived and none became known, for example since each terminal for which records wait
+/// refuses them.
 #[derive(Clone, Copy)]
 pub(crate) struct Rounds {
     /// The last entry of the poll list.
@@ -26,18 +28,21 @@ pub(crate) struct Rounds {
     rounds: u64,
     /// The number of idle rounds in a row up to the last completed one.
     idle: u64,
+    /// The number of records that were known to have arrived at the end of the last completed one.
+    known: u64,
 }
 
 impl Rounds {
     /// Returns the rounds of a poll list with this last entry, no entry of which has been visited.
     pub fn new(last: usize) -> Rounds
-        ensures { result ≡ rounds_of last false 0 0 }
+        ensures { result ≡ rounds_of last false 0 0 0 }
     {
         Rounds {
             last,
             found: false,
             rounds: 0,
             idle: 0,
+            known: 0,
         }
     }
 
@@ -51,15 +56,16 @@ impl Rounds {
     /// Records that a record arrived in this round.
     pub fn found(&mut self)
         ensures { let r = self.old in
-            self.new ≡ rounds_of r.last true r.rounds r.idle }
+            self.new ≡ rounds_of r.last true r.rounds r.idle r.known }
     {
         self.found = true;
     }
 
-    /// Counts the end of the visit to an entry; `next` is the entry of the next visit, and `more`
-    /// tells whether something waits to be sent. The counts saturate at 2^64 - 1.
-    pub fn visited(&mut self, entry: usize, next: usize, more: bool)
-        ensures { self.new ≡ after_visit self.old entry next more }
+    /// Counts the end of the visit to an entry; `next` is the entry of the next visit, `more` tells
+    /// whether something waits to be sent, and `known` how many records are known to have arrived.
+    /// The counts saturate at 2^64 - 1.
+    pub fn visited(&mut self, entry: usize, next: usize, more: bool, known: u64)
+        ensures { self.new ≡ after_visit self.old entry next more known }
     {
         if entry != self.last || next != 0 {
             return;
@@ -68,14 +74,16 @@ impl Rounds {
         self.found = false;
         self.rounds = self.rounds.saturating_add(1);
         self.idle = if idle { self.idle.saturating_add(1) } else { 0 };
+        self.known = known;
     }
 
-    /// Whether the end of the visit to an entry ends an idle round; the parameters are those of
-    /// `visited`.
-    pub fn ends_idle(&self, entry: usize, next: usize, more: bool) -> bool
-        ensures { result ≡ ends_idle self.now entry next more }
+    /// Whether the end of the visit to an entry ends a round in which nothing got through; the
+    /// parameters are those of `visited`.
+    pub fn pauses_after(&self, entry: usize, next: usize, more: bool, known: u64) -> bool
+        ensures { result ≡ pauses_after self.now entry next more known }
     {
-        entry == self.last && next == 0 && !self.found && !more
+        let goes_on = more && known != self.known;
+        entry == self.last && next == 0 && !self.found && !goes_on
     }
 
     /// Whether a control station with these limits ends.

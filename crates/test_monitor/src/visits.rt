@@ -4,7 +4,7 @@ use crate::fakes::{HEXADECIMAL, NO_LIMITS, control_watch, trust_of};
 use crate::happenings::{falls_silent, hears};
 use crate::stations::{control_of, offer};
 use crate::visits::Event::{Asks, Heard, Offered, Silence, Stopped};
-use bsc_connections::{Monitor, Note};
+use bsc_connections::{Monitor, Note, Pace};
 use bsc_control::Control;
 use bsc_monitor::{Limits, Printing, Tracing};
 use std::alloc::Global;
@@ -172,6 +172,60 @@ const STOPS: &[(&[Event], bool)] = &[
     (&[Offered(0), Silence, Stopped, Heard(ACK0), Stopped], true),
 ];
 
+/// Events at a control station of one terminal, and whether it pauses after them.
+const PAUSES: &[(&[Event], bool)] = &[
+    // A round in which nothing is to be sent and nothing arrives.
+    (&[Silence], false),
+    (&[Silence, Heard(EOT)], true),
+    (&[Silence, Heard(TEXT_HI), Heard(EOT)], false),
+    (&[Silence, Heard(TEXT_HI), Heard(EOT), Heard(EOT)], true),
+    // A terminal that is not ready refuses the record in each round.
+    (&[Offered(0), Silence, Heard(NAK)], false),
+    (&[Offered(0), Silence, Heard(NAK), Heard(EOT)], true),
+    (
+        &[Offered(0), Silence, Heard(NAK), Heard(EOT), Heard(NAK)],
+        false,
+    ),
+    (
+        &[
+            Offered(0),
+            Silence,
+            Heard(NAK),
+            Heard(EOT),
+            Heard(NAK),
+            Heard(EOT),
+        ],
+        true,
+    ),
+    // One address takes its record, which becomes known, and the other one refuses it.
+    (
+        &[
+            Offered(0),
+            Offered(1),
+            Silence,
+            Heard(ACK0),
+            Heard(ACK1),
+            Heard(NAK),
+            Heard(EOT),
+        ],
+        false,
+    ),
+    (
+        &[
+            Offered(0),
+            Offered(1),
+            Silence,
+            Heard(ACK0),
+            Heard(ACK1),
+            Heard(NAK),
+            Heard(EOT),
+            Heard(NAK),
+            Heard(EOT),
+        ],
+        true,
+    ),
+];
+
 /// Asks a terminal for the line.
 fn asks(control: &mut Control<Global>, terminal: usize) -> Result<(), Fail> {
     if terminal >= control.terminals() {
@@ -282,5 +336,38 @@ fn first_stopped_wrong(alloc: Global) -> Result<Option<usize>, Fail> {
 #[test]
 fn a_control_station_that_is_asked_to_end_ends_with_its_visit(rt: HostRuntime) -> Result<(), Fail> {
     assert_eq!(rt; first_stopped_wrong(rt.alloc())?, None);
+    Ok(())
+}
+
+/// Whether a control station pauses after these events.
+fn pauses(alloc: Global, events: &[Event]) -> Result<bool, Fail> {
+    let settings = (PRINTING, NO_LIMITS, true, trust_of(1_000));
+    let mut control = control_of(alloc, ONE_TERMINAL)?;
+    let (mut out, mut errors) = (Vec::new(alloc), Vec::new(alloc));
+    let mut watch = control_watch(alloc, &control, settings, &mut out, &mut errors)?;
+    goes_on_after(alloc, &mut control, &mut watch, events)?;
+    Ok(matches!(pace_of(&watch), Pace::AfterPause))
+}
+
+/// How the next wait of the control station with this watch begins.
+fn pace_of<M: Monitor<Control<Global>>>(watch: &M) -> Pace {
+    watch.pace()
+}
+
+/// The place of the first row whose control station pauses, or does not pause, otherwise.
+fn first_paused_wrong(alloc: Global) -> Result<Option<usize>, Fail> {
+    for (place, (events, is_paused)) in PAUSES.iter().enumerate() {
+        if pauses(alloc, events)? != *is_paused {
+            return Ok(Some(place));
+        }
+    }
+    Ok(None)
+}
+
+#[test]
+fn a_control_station_pauses_after_a_round_in_which_nothing_got_through(
+    rt: HostRuntime,
+) -> Result<(), Fail> {
+    assert_eq!(rt; first_paused_wrong(rt.alloc())?, None);
     Ok(())
 }
