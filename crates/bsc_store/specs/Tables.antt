@@ -1,5 +1,5 @@
 -- What the tables have of a channel and of a change.
-use Rattle.std.specs.Prelude.{◌≡◌, ℕ, pos, true, List, [], ◌∷◌, codes, Ok, IsTrue}
+use Rattle.std.specs.Prelude.{◌≡◌, ℕ, pos, true, List, [], ◌∷◌, ◌++◌, codes, Ok, IsTrue}
 use Rattle.sqlite.specs.Store.{Ghosts}
 use Rattle.sqlite.specs.Order.{Row}
 use Rattle.sqlite.specs.declared.types.Value.TheVariants.{Int, Text, Blob}
@@ -27,11 +27,13 @@ abbrev pub text_of : Change → List ℕ
 text_of (Offered channel taken) =
     codes "INSERT INTO offered (way, address, record) VALUES (?1, ?2, ?3)"
 text_of (Known channel known in_doubt) =
-    codes "INSERT OR REPLACE INTO known (way, address, known, in_doubt) VALUES (?1, ?2, ?3, ?4)"
+    codes "INSERT INTO known (way, address, known, in_doubt) VALUES (?1, ?2, ?3, ?4) "
+    ++ codes "ON CONFLICT (way, address) DO UPDATE SET known = ?3, in_doubt = ?4"
 text_of (Arrived channel taken) =
     codes "INSERT INTO arrived (way, address, record) VALUES (?1, ?2, ?3)"
 text_of (Printed channel count) =
-    codes "INSERT OR REPLACE INTO printed (way, address, printed) VALUES (?1, ?2, ?3)"
+    codes "INSERT INTO printed (way, address, printed) VALUES (?1, ?2, ?3) "
+    ++ codes "ON CONFLICT (way, address) DO UPDATE SET printed = ?3"
 
 -- The values of its parameters.
 abbrev pub values_of : Change → Row

@@ -1,6 +1,7 @@
 //! Stores in files.
 
 use crate::fault::fault_of;
+use crate::making::make_empty;
 use crate::store::TableStore;
 use bsc_kept::StoreFault;
 use sqlite::{Connection, File, FileStore};
@@ -15,6 +16,7 @@ impl TableStore<FileStore<File>> {
         path: &str,
         line: &str,
     ) -> Result<TableStore<FileStore<File>>, StoreFault> {
+        drop(make_empty(rt, path));
         match Connection::open(rt, path) {
             Ok(conn) => TableStore::begin(conn, line),
             Err(error) => Err(fault_of(error)),

@@ -8,6 +8,7 @@
 mod channels;
 mod fault;
 mod files;
+mod making;
 mod queries;
 mod reading;
 mod store;

@@ -10,12 +10,15 @@ use sqlite::{Alter, Connection, Error, ErrorCode, Transaction, params};
 
 const OFFER: &str = "INSERT INTO offered (way, address, record) VALUES (?1, ?2, ?3)";
 
-const KNOW: &str =
-    "INSERT OR REPLACE INTO known (way, address, known, in_doubt) VALUES (?1, ?2, ?3, ?4)";
+// A row is changed in its place: one that is deleted and inserted again has its page of the index
+// written too.
+const KNOW: &str = "INSERT INTO known (way, address, known, in_doubt) VALUES (?1, ?2, ?3, ?4) \
+    ON CONFLICT (way, address) DO UPDATE SET known = ?3, in_doubt = ?4";
 
 const ARRIVE: &str = "INSERT INTO arrived (way, address, record) VALUES (?1, ?2, ?3)";
 
-const PRINT: &str = "INSERT OR REPLACE INTO printed (way, address, printed) VALUES (?1, ?2, ?3)";
+const PRINT: &str = "INSERT INTO printed (way, address, printed) VALUES (?1, ?2, ?3) \
+    ON CONFLICT (way, address) DO UPDATE SET printed = ?3";
 
 /// Runs the statement of a change.
 fn write<S: Alter>(tx: &mut Transaction<'_, S>, change: &Change) -> Result<usize, Error>

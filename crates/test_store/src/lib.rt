@@ -13,4 +13,6 @@ mod files;
 #[cfg(test)]
 mod kept;
 #[cfg(test)]
+mod made;
+#[cfg(test)]
 mod many;
