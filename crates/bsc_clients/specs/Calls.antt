@@ -1,6 +1,7 @@
 -- What the system has reported of the sockets of programs, and what is told of it.
 use Rattle.std.specs.Prelude.{◌≡◌, ℕ, ◌==◌, nat_lt, Bool, true, false, if◌then◌else◌}
-use Rattle.std.specs.Prelude.{List, [], ◌∷◌, Option, Some, None, option_map, position, replicate, slice_set}
+use Rattle.std.specs.Prelude.{List, [], ◌∷◌, Option, Some, None, option_map, position}
+use Rattle.std.specs.Prelude.{replicate, slice_set}
 use Rattle.mio.specs.Event.{event_token}
 use Rattle.mio.specs.declared.event.event.Event.{Event}
 use Rattle.bsc_serving.specs.declared.programs.TheConstants.{MAX_PROGRAMS}

@@ -31,7 +31,8 @@ use Rattle.bsc_running.specs.declared.error.RunningError.TheVariants.{BothStanda
 use Rattle.bsc_words.specs.CommandLine.{IsHelp, asked_of, faults_at}
 use Rattle.bsc_command.specs.declared.fault.Fault.{Fault}
 use Rattle.bsc_command.specs.declared.fault.Fault.TheVariants.{Naming, Charting, Running}
-use Rattle.bsc_command.specs.declared.fault.Fault.TheVariants.{Attending, Feeding, OutOfMemory, Storing}
+use Rattle.bsc_command.specs.declared.fault.Fault.TheVariants.{Attending, Feeding, OutOfMemory}
+use Rattle.bsc_command.specs.declared.fault.Fault.TheVariants.{Storing}
 use Rattle.bsc_command.specs.declared.fault.Fault.TheVariants.{Usage}
 use Rattle.bsc_command.specs.Faults.{IsChartingFault, IsNameFault, IsNamesFault}
 use Rattle.bsc_command.specs.Faults.{IsPrintFault, IsRunFault, IsStationFault, IsStoreFault}

@@ -5,7 +5,8 @@ ghost use Rattle.std.specs.Prelude.{Err, IfErr, IfOk, IsOkAnd, Ok, OnOk, true};
 ghost use Rattle.std.specs.Io.Buffered.{writer_buffer, writer_contents};
 ghost use Rattle.std.specs.Io.KnownBytes.{Keeps};
 ghost use Rattle.bsc_command.specs.declared.fault.Fault.{Fault as FaultValue};
-ghost use Rattle.bsc_command.specs.Faults.{IsPrintFault, IsToldFlushed, is_about_records, status_of};
+ghost use Rattle.bsc_command.specs.Faults.{IsPrintFault, IsToldFlushed, is_about_records};
+ghost use Rattle.bsc_command.specs.Faults.{status_of};
 ghost use Rattle.bsc_command.specs.Program.{IsFaultAt, IsObeyed};
 
 use crate::help::help_or_fault;

@@ -99,7 +99,8 @@ progress_after p found c happening =
     let q = with_found p found in
     record (after_event q c happening) { ended = p.ended || ends_with q c happening }
 
--- The pace after an event: a pause after what begins a round after one in which nothing got through.
+-- The pace after an event: a pause after what begins a round after one in which nothing got
+-- through.
 abbrev pub pace_of : Bool → Pace
 pace_of true = AfterPause
 pace_of false = AtOnce

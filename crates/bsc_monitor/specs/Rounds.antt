@@ -22,8 +22,9 @@ idle_after idle found more = if not found && not more then one_more idle else 0
 abbrev pub is_complete : Rounds → ℕ → ℕ → Bool
 is_complete r entry next = nat_eq entry r.last && nat_eq next 0
 
--- Whether a visit ends a round in which nothing got through: no record arrived in it, and at its end
--- nothing waits to be sent or no more records are known to have arrived than after the round before.
+-- Whether a visit ends a round in which nothing got through: no record arrived in it, and at its
+-- end nothing waits to be sent, or no more records are known to have arrived than after the round
+-- before.
 abbrev pub pauses_after : Rounds → ℕ → ℕ → Bool → ℕ → Bool
 pauses_after r entry next more known =
     nat_eq entry r.last && (nat_eq next 0

@@ -54,8 +54,8 @@ abbrev pub ignoring_told : Trust → Option ℕ → ℕ → Option Distrust
 ignoring_told t called place =
     if was_told t place then None else Some (reason_told t called place)
 
--- What is told of this: why it was ignored, if it is the first on its connection, or that it was the
--- first late answer or late reply, and nothing spoke against trust before.
+-- What is told of this: why it was ignored, if it is the first on its connection, or that it was
+-- the first late answer or late reply, and nothing spoke against trust before.
 abbrev pub distrust_told : Trust → Option ℕ → Happening → ℕ → Option Distrust
 distrust_told t called (WasHeard place octets) now = told_of t (heard octets) now
 distrust_told t called (WasIgnored place octets) now = ignoring_told t called place

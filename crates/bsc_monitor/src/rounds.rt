@@ -15,8 +15,8 @@ pub struct Limits {
 
 /// The rounds of a poll list. A round is one visit to each entry: it is complete when the control
 /// station goes from the last entry to the first. A round is idle if no record arrived in it and
-/// nothing waits to be sent at its end. Nothing gets through in a round that is idle, or in which no
-/// record arrived and none became known, for example since each terminal for which records wait
+/// nothing waits to be sent at its end. Nothing gets through in a round that is idle, or in which
+/// no record arrived and none became known, for example since each terminal for which records wait
 /// refuses them.
 #[derive(Clone, Copy)]
 pub(crate) struct Rounds {

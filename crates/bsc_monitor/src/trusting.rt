@@ -105,8 +105,8 @@ impl Trusting {
         self.trust.heard(self.called, place, &heard, now)
     }
 
-    /// Takes note of a transmission that was not heard. Returns why, unless that was told of another
-    /// one on the same connection: a peer that goes on would fill a log.
+    /// Takes note of a transmission that was not heard. Returns why, unless that was told of
+    /// another one on the same connection: a peer that goes on would fill a log.
     fn ignore(&mut self, place: usize) -> Option<Distrust>
         ensures kept { self.new ≡ trusting_of
             (after_ignored self.old.trust self.old.called place) self.old.called }

@@ -22,10 +22,10 @@ abbrev pub is_this : ℕ → Option ℕ → Bool
 is_this terminal None = false
 is_this terminal (Some owner) = owner == terminal
 
--- What is known of a connection after something on it was not heard, and the reason was told. If it
--- is nobody's, and not all share one connection, it is barred: its peer has transmitted out of turn,
--- and may do so again when it would be taken for the answer of another terminal. A connection that a
--- terminal owns needs no bar, since on it no other terminal is heard.
+-- What is known of a connection after something on it was not heard, and the reason was told. If
+-- it is nobody's, and not all share one connection, it is barred: its peer has transmitted out of
+-- turn, and may do so again when it would be taken for the answer of another terminal. A connection
+-- that a terminal owns needs no bar, since on it no other terminal is heard.
 abbrev pub ignored_on : Bool → Connected → Connected
 ignored_on shared c =
     record c { barred = c.barred || (not shared && is_none c.owner); told = true }

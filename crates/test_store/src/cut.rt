@@ -50,9 +50,9 @@ fn has(rt: &HostRuntime, whole: bool) -> Result<bool, StoreFault> {
     within(rt, "store_cut", LINE, Task::HasStep { whole })
 }
 
-/// Cuts the log at several places, in each frame of the step and after it. Tells whether the step is
-/// absent after the first cuts, more than one of them, and whole after all others: the log may have
-/// octets of older commits at its end.
+/// Cuts the log at several places, in each frame of the step and after it. Tells whether the step
+/// is absent after the first cuts, more than one of them, and whole after all others: the log may
+/// have octets of older commits at its end.
 fn is_absent_then_whole(rt: &HostRuntime, log: &[u8]) -> Result<bool, Fail> {
     let (mut absent, mut whole) = (0usize, false);
     for octets in (0..log.len().min(8192)).step_by(251) {
