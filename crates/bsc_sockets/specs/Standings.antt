@@ -1,7 +1,7 @@
 -- Which peers are stations of the line, and for how long nobody has answered at each place.
 use Rattle.std.specs.Prelude.{◌≡◌, ◌<◌, ◌≤◌, ◌-◌, ◌+◌, ◌^◌, min, ℕ, Bool, true, false, List}
 use Rattle.std.specs.Prelude.{Option, None, Some, slice_get, slice_set, replicate}
-use Rattle.std.specs.Prelude.{if◌then◌else◌}
+use Rattle.std.specs.Prelude.{if◌then◌else◌, nat_eq, not}
 use Rattle.bsc_connections.specs.declared.awaited.Awaited.{Awaited}
 use Rattle.bsc_connections.specs.declared.awaited.Awaited.TheVariants.{TimeOut}
 use Rattle.bsc_connections.specs.declared.awaited.Handled.{Handled}
@@ -13,21 +13,23 @@ use Rattle.bsc_sockets.specs.declared.standings.Standings.{Standings}
 use Rattle.bsc_sockets.specs.declared.times.Time.{Time}
 use Rattle.bsc_sockets.specs.declared.times.Time.TheVariants.{Anew}
 
--- What is known of the peer at each place, and the time of all silences.
+-- What is known of the peer at each place, the time of all silences, and how many answers the
+-- station has given.
 pub record StandingsValue : Type 0 where
   pub places : List Standing
   pub silence : ℕ
+  pub turns : ℕ
 
 abbrev pub standings_value : {A : Type 0} → Standings A → StandingsValue
-standings_value s = record { places = s.places.items; silence = s.silence }
+standings_value s = record { places = s.places.items; silence = s.silence; turns = s.turns }
 
 -- Nothing is known of the peer of a place.
 abbrev pub unknown : Standing
-unknown = record { peer = None; since = 0; answered = false }
+unknown = record { peer = None; since = 0; turn = 0 }
 
 -- What is known of this many places before a peer has connected.
 abbrev pub new_standings : ℕ → StandingsValue
-new_standings places = record { places = replicate places unknown; silence = 0 }
+new_standings places = record { places = replicate places unknown; silence = 0; turns = 0 }
 
 -- The address of the peer of a place, if it is known.
 abbrev pub peer_of : Option Standing → Option SocketAddr
@@ -43,12 +45,16 @@ changed_at standings place (Some new) =
 -- The peer of a place connects: nobody has answered it yet.
 abbrev pub newly : Option SocketAddr → ℕ → Option Standing → Option Standing
 newly peer silence None = None
-newly peer silence (Some old) = Some (record { peer = peer; since = silence; answered = false })
+newly peer silence (Some old) = Some (record { peer = peer; since = silence; turn = 0 })
 
--- The station has answered the peer of a place.
-abbrev pub now_answered : ℕ → Option Standing → Option Standing
-now_answered silence None = None
-now_answered silence (Some old) = Some (record old { since = silence; answered = true })
+-- The station has answered the peer of a place, by the answer with this number.
+abbrev pub now_answered : ℕ → ℕ → Option Standing → Option Standing
+now_answered silence turn None = None
+now_answered silence turn (Some old) = Some (record old { since = silence; turn = turn })
+
+-- The number of the next answer, up to 2^64 - 1.
+abbrev pub next_turn : StandingsValue → ℕ
+next_turn standings = min (standings.turns + 1) (2 ^ 64 - 1)
 
 -- The standings after this peer has connected at this place.
 abbrev pub after_joining : Option SocketAddr → StandingsValue → ℕ → Option Standing → StandingsValue
@@ -58,12 +64,13 @@ after_joining peer standings place old =
 -- The standings after the station has answered a transmission from this place.
 abbrev pub after_answer : StandingsValue → ℕ → Option Standing → StandingsValue
 after_answer standings place old =
-    changed_at standings place (now_answered standings.silence old)
+    changed_at (record standings { turns = next_turn standings }) place
+    (now_answered standings.silence (next_turn standings) old)
 
 -- Whether the station has answered the peer of this place.
 abbrev pub was_answered : Option Standing → Bool
 was_answered None = false
-was_answered (Some standing) = standing.answered
+was_answered (Some standing) = not (nat_eq standing.turn 0)
 
 -- Whether the station has answered the peer at this place.
 abbrev pub is_known : StandingsValue → ℕ → Bool
@@ -77,17 +84,25 @@ quiet_of silence (Some standing) = silence - standing.since
 abbrev pub quiet_at : StandingsValue → ℕ → ℕ
 quiet_at standings place = quiet_of standings.silence (slice_get standings.places place)
 
+-- The number of the last answer to the peer of a place; 0 if there was none.
+abbrev pub turn_of : Option Standing → ℕ
+turn_of None = 0
+turn_of (Some standing) = standing.turn
+
+abbrev pub turn_at : StandingsValue → ℕ → ℕ
+turn_at standings place = turn_of (slice_get standings.places place)
+
 -- At the first place nobody has answered for no more silence than at the second; and if it is as
--- much, and the peer of the second is a station of the line, that of the first is one too.
+-- much, the peer of the first was not answered before that of the second.
 abbrev pub IsNoQuieter : StandingsValue → ℕ → ℕ → Type 0
 IsNoQuieter standings first second =
     (quiet_at standings first ≤ quiet_at standings second)
     × (quiet_at standings first ≡ quiet_at standings second
-    → is_known standings second ≡ true → is_known standings first ≡ true)
+    → turn_at standings second ≤ turn_at standings first)
 
 -- Of this many places the one where nobody has answered for the most silence, if that is at least
--- this much; none if it is less at each of them. It is one whose peer is no station of the line if
--- there is such a one among those of the most silence.
+-- this much; none if it is less at each of them. Among those of the most silence it is one whose
+-- peer was never answered, or, if there is no such one, the one whose peer was answered first.
 abbrev pub IsQuietest : StandingsValue → ℕ → ℕ → Option ℕ → Type 0
 IsQuietest standings places least None =
     (place : ℕ) → place < places → quiet_at standings place < least

@@ -294,7 +294,8 @@ impl<'a, N: Net + Clock, A: Allocator + Copy> Waiter<Reading, Writing<'a, N, A>>
         → after.times.time_out ≡ before.times.time_out))
         × (IfOk result (λ awaited. Rests before.settings.pause before.times.pause awaited
         after.times.pause))
-        × (after.standings.places ≡ before.standings.places)
+        × ((after.standings.places ≡ before.standings.places)
+        × (after.standings.turns ≡ before.standings.turns))
         × (IfOk result (λ awaited. IsNone after.times.pause
         → RunGaps before.settings.gap awaited before.times.gaps.items after.times.gaps.items))
         × (OnOk result (IsSome after.times.pause → after.times.gaps ≡ before.times.gaps))

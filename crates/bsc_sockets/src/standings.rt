@@ -5,7 +5,7 @@ ghost use Rattle.std.specs.Prelude.{IfOk, option_map};
 ghost use Rattle.std.specs.Duration.{as_nanos};
 ghost use Rattle.bsc_sockets.specs.Standings.{IsNoQuieter, IsQuietest, after_answer, after_joining};
 ghost use Rattle.bsc_sockets.specs.Standings.{is_known, new_standings, peer_of, quiet_at};
-ghost use Rattle.bsc_sockets.specs.Standings.{standings_value};
+ghost use Rattle.bsc_sockets.specs.Standings.{standings_value, turn_at};
 
 use std::alloc::{AllocError, Allocator};
 use std::net::SocketAddr;
@@ -21,9 +21,10 @@ pub(crate) struct Standing {
     /// there, or when the peer connected.
     since: u128,
 
-    /// Whether the station has answered a transmission of the peer. Then the peer counts as a
+    /// The number of the last answer to a transmission of the peer among all answers of the
+    /// station, counted from 1; 0 if there was none. Once there was one the peer counts as a
     /// station of the line.
-    answered: bool,
+    turn: u64,
 }
 
 /// The peer at each place, and for how much silence the station has answered nothing from there.
@@ -33,6 +34,9 @@ pub(crate) struct Standings<A: Allocator> {
 
     /// The time of all silences that were told, in nanoseconds, up to 2^128 - 1.
     silence: u128,
+
+    /// How many answers the station has given, up to 2^64 - 1.
+    turns: u64,
 }
 
 impl<A: Allocator> Standings<A> {
@@ -45,12 +49,13 @@ impl<A: Allocator> Standings<A> {
             standings.push(Standing {
                 peer: None,
                 since: 0,
-                answered: false,
+                turn: 0,
             })?;
         }
         Ok(Standings {
             places: standings,
             silence: 0,
+            turns: 0,
         })
     }
 
@@ -64,7 +69,7 @@ impl<A: Allocator> Standings<A> {
             self.places[place] = Standing {
                 peer,
                 since: self.silence,
-                answered: false,
+                turn: 0,
             };
         }
     }
@@ -74,12 +79,13 @@ impl<A: Allocator> Standings<A> {
         ensures { standings_value self.new ≡ after_answer
             (standings_value self.old) place (slice_get self.old.places.items place) }
     {
+        self.turns = self.turns.saturating_add(1);
         if place < self.places.len() {
             let Standing { peer, .. } = self.places[place];
             self.places[place] = Standing {
                 peer,
                 since: self.silence,
-                answered: true,
+                turn: self.turns,
             };
         }
     }
@@ -87,6 +93,7 @@ impl<A: Allocator> Standings<A> {
     /// Records a silence of this time.
     pub(crate) fn silence(&mut self, time: Duration)
         ensures places { self.new.places ≡ self.old.places }
+        ensures turns { self.new.turns ≡ self.old.turns }
         ensures silence { self.new.silence
             ≡ min (self.old.silence + as_nanos time) (2 ^ 128 - 1) }
     {
@@ -108,8 +115,18 @@ impl<A: Allocator> Standings<A> {
         ensures { result ≡ is_known (standings_value self.now) place }
     {
         match self.places.get(place) {
-            Some(standing) => standing.answered,
+            Some(standing) => standing.turn != 0,
             None => false,
+        }
+    }
+
+    /// Returns the number of the last answer to the peer at this place; 0 if there was none.
+    fn turn(&self, place: usize) -> u64
+        ensures { result ≡ turn_at (standings_value self.now) place }
+    {
+        match self.places.get(place) {
+            Some(standing) => standing.turn,
+            None => 0,
         }
     }
 
@@ -125,7 +142,9 @@ impl<A: Allocator> Standings<A> {
     }
 
     /// Whether the station has answered nothing for more silence from the first place than from the
-    /// second; if for the same, whether only the peer at the second is a station of the line.
+    /// second; if for the same, whether it answered the peer at the second later, or only that one.
+    /// A silence counts for all places, also for those of terminals that were not called meanwhile:
+    /// those answered later than the one that was called.
     fn is_quieter(&self, first: usize, second: usize) -> bool
         ensures quieter { result ≡ true → IsNoQuieter (standings_value self.now) second first }
         ensures no_quieter { result ≡ false → IsNoQuieter (standings_value self.now) first second }
@@ -134,12 +153,12 @@ impl<A: Allocator> Standings<A> {
         if quiet != other {
             return other < quiet;
         }
-        !self.is_known(first) && self.is_known(second)
+        self.turn(first) < self.turn(second)
     }
 
     /// Returns the place from which the station has answered nothing for the most silence, if that
     /// is at least this time. Of several it is the first whose peer is no station of the line, or
-    /// the first if there is no such one.
+    /// if there is no such one, the one whose peer was answered the longest ago.
     pub(crate) fn quietest(&self, least: Duration) -> Option<usize>
         ensures { IsQuietest (standings_value self.now) (length self.now.places.items)
             (as_nanos least) result }

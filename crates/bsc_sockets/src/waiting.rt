@@ -330,6 +330,7 @@ impl<'a, N: Net + Clock, A: Allocator + Copy> Sockets<'a, N, A> {
         ensures gaps { self.new.times.gaps.items
             ≡ without_ended end.gap self.old.times.gaps.items }
         ensures places { self.new.standings.places ≡ self.old.standings.places }
+        ensures turns { self.new.standings.turns ≡ self.old.standings.turns }
         ensures number { self.new.places ≡ self.old.places }
         ensures listener { self.new.listener ≡ self.old.listener }
         ensures newcomer { IsSome self.old.newcomer → self.new.newcomer ≡ self.old.newcomer }

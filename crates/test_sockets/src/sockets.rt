@@ -122,6 +122,24 @@ const REPLACED: &[Encounter] = &[
         ],
         ..ONE
     },
+    Encounter {
+        shows: "of two that were answered before the same silence, the one that was answered first \
+            may be replaced: it is the one that has left",
+        peers: 2,
+        acts: &[
+            Answers(0),
+            Answers(1),
+            Answers(0),
+            Waits(Awaited::TimeOut),
+            Waits(Awaited::TimeOut),
+            Replaceable(Some(1)),
+            Answers(1),
+            Waits(Awaited::TimeOut),
+            Waits(Awaited::TimeOut),
+            Replaceable(Some(0)),
+        ],
+        ..ONE
+    },
 ];
 
 #[test]
