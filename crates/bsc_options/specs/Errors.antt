@@ -7,7 +7,7 @@ use Rattle.bsc_options.specs.declared.error.OptionError.TheVariants.{NeedsContro
 use Rattle.bsc_options.specs.declared.error.OptionError.TheVariants.{PatienceNeedsConnect}
 use Rattle.bsc_options.specs.declared.error.OptionError.TheVariants.{ReplaceAfterNeedsListen}
 use Rattle.bsc_options.specs.declared.error.OptionError.TheVariants.{ReplaceAfter, Pause}
-use Rattle.bsc_options.specs.declared.error.OptionError.TheVariants.{PauseNotBelowTimeOut}
+use Rattle.bsc_options.specs.declared.error.OptionError.TheVariants.{PauseNotBelowHalf}
 use Rattle.bsc_options.specs.declared.error.OptionError.TheVariants.{AllowNeedsListen}
 use Rattle.bsc_options.specs.declared.error.OptionError.TheVariants.{PeerNeedsListen}
 use Rattle.bsc_options.specs.declared.error.OptionError.TheVariants.{GapNeedsRaw, TextAndBytes}
@@ -46,7 +46,7 @@ reason GapNotBelowTimeOut = codes "with --raw the gap must be less than the time
 reason Patience = codes "--patience takes milliseconds, 1 to 3600000"
 reason ReplaceAfter = codes "--replace-after takes milliseconds, 1 to 3600000"
 reason Pause = codes "--pause takes milliseconds, 0 to 3600000"
-reason PauseNotBelowTimeOut = codes "--pause must be less than the time-out"
+reason PauseNotBelowHalf = codes "--pause must be less than half of the time-out"
 reason Rounds = codes "--rounds takes a number from 1 up"
 reason IdleRounds = codes "--idle-rounds takes a number from 1 up"
 reason AllowForm = codes "--allow takes ADDRESS/BITS"
@@ -88,7 +88,7 @@ is_conflict GapNotBelowTimeOut = true
 is_conflict Patience = false
 is_conflict ReplaceAfter = false
 is_conflict Pause = false
-is_conflict PauseNotBelowTimeOut = true
+is_conflict PauseNotBelowHalf = true
 is_conflict Rounds = false
 is_conflict IdleRounds = false
 is_conflict AllowForm = false

@@ -102,16 +102,20 @@ hour = 3600000
 abbrev pub three_times : ℕ → ℕ
 three_times time = min (time * 3) (2 ^ 64 - 1)
 
+-- Twice a time, up to the largest value of 64 bits.
+abbrev pub twice : ℕ → ℕ
+twice time = min (time * 2) (2 ^ 64 - 1)
+
 -- The pause unless it is given: 20, and for a station that programs feed 100, but no more than a
 -- quarter of the time-out.
 abbrev pub absent_pause : Bool → ℕ → ℕ
-absent_pause serves time_out = if serves then min (time_out / 4) 100 else 20
+absent_pause serves time_out = min (time_out / 4) (if serves then 100 else 20)
 
 -- The times of a station in milliseconds. The gap is 50 and the time-out 3000 unless given, and the
 -- patience is the time-out, and a connection is replaced after three time-outs.
 -- With raw octets the gap is less than the time-out: otherwise no transmission would end before a
--- silence. A pause that is given is less than it too: otherwise a terminal that answers during the
--- pause would act on its time-out before it is heard.
+-- silence. A pause that is given is less than half of it: otherwise what is sent after the pause to
+-- a terminal that answers during it would be withheld as late.
 abbrev pub times_in : AskedWords → Result Times OptionError
 times_in w = do
   gap ← number_in error.Gap 1 hour 50 w.gap
@@ -120,7 +124,7 @@ times_in w = do
   patience ← number_in error.Patience 1 hour time_out w.patience
   replace_after ← number_in error.ReplaceAfter 1 hour (three_times time_out) w.replace_after
   pause ← number_in error.Pause 0 hour (absent_pause (is_some w.serve) time_out) w.pause
-  short ← unless (is_some w.pause && nat_le time_out pause) error.PauseNotBelowTimeOut
+  short ← unless (is_some w.pause && nat_le time_out (twice pause)) error.PauseNotBelowHalf
   Ok (record {
     gap = gap;
     time_out = time_out;

@@ -70,8 +70,8 @@ pub enum OptionError {
     /// The value of `--pause` is not a number of milliseconds from 0 up to an hour.
     Pause,
 
-    /// The pause that `--pause` gives is not less than the time-out.
-    PauseNotBelowTimeOut,
+    /// The pause that `--pause` gives is not less than half of the time-out.
+    PauseNotBelowHalf,
 
     /// The value of `--rounds` is not a number from 1 up.
     Rounds,
@@ -158,7 +158,7 @@ impl OptionError {
             OptionError::Patience => "--patience takes milliseconds, 1 to 3600000",
             OptionError::ReplaceAfter => "--replace-after takes milliseconds, 1 to 3600000",
             OptionError::Pause => "--pause takes milliseconds, 0 to 3600000",
-            OptionError::PauseNotBelowTimeOut => "--pause must be less than the time-out",
+            OptionError::PauseNotBelowHalf => "--pause must be less than half of the time-out",
             OptionError::Rounds => "--rounds takes a number from 1 up",
             OptionError::IdleRounds => "--idle-rounds takes a number from 1 up",
             OptionError::AllowForm => "--allow takes ADDRESS/BITS",
@@ -201,7 +201,7 @@ impl OptionError {
             | OptionError::ServeAnyoneNeedsServe
             | OptionError::RepeatedInput
             | OptionError::GapNotBelowTimeOut
-            | OptionError::PauseNotBelowTimeOut
+            | OptionError::PauseNotBelowHalf
             | OptionError::RepeatedPeer
             | OptionError::NeedsInit
             | OptionError::NeedsArrived => true,

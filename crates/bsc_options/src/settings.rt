@@ -174,17 +174,14 @@ fn number(
     }
 }
 
-/// Returns the pause after an idle round unless it is given, for a station that programs feed or
-/// not. A pause counts as time for which an answer may have lain unread, so it is well below half
-/// of the time-out, after which what is called next would be withheld.
+/// Returns the pause after a round in which nothing got through unless it is given, for a station
+/// that programs feed or not. A pause counts as time for which an answer may have lain unread, so
+/// it is well below half of the time-out, after which what is called next would be withheld.
 fn absent_pause(serves: bool, time_out: u64) -> u64
     ensures { result ≡ absent_pause serves time_out }
 {
-    if serves {
-        (time_out / 4).min(SERVING_PAUSE)
-    } else {
-        PAUSE
-    }
+    let most = if serves { SERVING_PAUSE } else { PAUSE };
+    (time_out / 4).min(most)
 }
 
 /// Returns the number of idle rounds in a row after which a control station ends, unless it is
@@ -199,8 +196,8 @@ fn absent_idle_rounds(serves: bool) -> u64
     }
 }
 
-/// Returns the times. With raw octets the gap has to be less than the time-out, and so has a pause
-/// that is given.
+/// Returns the times. With raw octets the gap has to be less than the time-out, and a pause that is
+/// given less than half of it.
 fn read_times(words: &StationWords) -> Result<Times, OptionError>
     ensures { result ≡ times_in (asked_words words.now) }
 {
@@ -222,8 +219,8 @@ fn read_times(words: &StationWords) -> Result<Times, OptionError>
     let absent = absent_pause(is_given(&words.serve), time_out);
     let pause = number(&words.pause, 0, HOUR, absent, OptionError::Pause)?;
     unless(
-        words.pause.is_some() && time_out <= pause,
-        OptionError::PauseNotBelowTimeOut,
+        words.pause.is_some() && time_out <= pause.saturating_mul(2),
+        OptionError::PauseNotBelowHalf,
     )?;
     Ok(Times {
         gap,

@@ -189,8 +189,8 @@ const CONTROLS: &[Row] = &[
     (&["--replace-after", "0"], OptionError::ReplaceAfter),
     (&["--pause", "3600001"], OptionError::Pause),
     (
-        &["--pause", "100", "--time-out", "100"],
-        OptionError::PauseNotBelowTimeOut,
+        &["--pause", "50", "--time-out", "100"],
+        OptionError::PauseNotBelowHalf,
     ),
     (&["--replace-after", "3600001"], OptionError::ReplaceAfter),
     (&["--rounds", "0"], OptionError::Rounds),
@@ -304,8 +304,8 @@ const REASONS: &[(OptionError, &str)] = &[
         "with --raw the gap must be less than the time-out",
     ),
     (
-        OptionError::PauseNotBelowTimeOut,
-        "--pause must be less than the time-out",
+        OptionError::PauseNotBelowHalf,
+        "--pause must be less than half of the time-out",
     ),
     (
         OptionError::Patience,

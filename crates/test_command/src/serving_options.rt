@@ -55,6 +55,10 @@ fn waits(alloc: Global, options: &[&'static str]) -> Result<Option<Waits>, Fail>
 /// Options, and what is read of them.
 const WAITS: &[(&[&str], Waits)] = &[
     (&[], (20, 2, false)),
+    (&["--time-out", "80"], (20, 2, false)),
+    (&["--time-out", "79"], (19, 2, false)),
+    (&["--pause", "49", "--time-out", "100"], (49, 2, false)),
+    (&["--pause", "50", "--time-out", "101"], (50, 2, false)),
     (&["--serve", "h:2"], (100, u64::MAX, true)),
     (&["--serve", "unix:s"], (100, u64::MAX, true)),
     (

@@ -157,6 +157,7 @@ const CASES: &[Case] = &[
                 listens: true,
                 raw: true,
                 time_out: 9,
+                pause: 2,
                 gap: 7,
                 patience: 9,
                 replace_after: 27,
@@ -280,6 +281,7 @@ const CASES: &[Case] = &[
                 gap: 9,
                 patience: 40,
                 replace_after: 120,
+                pause: 10,
                 line_time_out: 40,
                 ..CONNECTING
             }),
