@@ -49,7 +49,7 @@ pub struct StationWords {
     /// After how much silence a newcomer replaces a connection, in milliseconds.
     pub replace_after: Option<String>,
 
-    /// The pause after an idle round, in milliseconds.
+    /// The pause after a round in which nothing got through, in milliseconds.
     pub pause: Option<String>,
 
     /// The number of rounds after which the control station ends.

@@ -22,7 +22,7 @@ const GAP: u64 = 50;
 /// The time-out in milliseconds, unless given.
 const TIME_OUT: u64 = 3_000;
 
-/// The pause after an idle round in milliseconds, unless given.
+/// The most milliseconds of the pause after a round in which nothing got through, unless given.
 const PAUSE: u64 = 20;
 
 /// The same for a station that programs feed, where it is at most a quarter of the time-out.
@@ -72,7 +72,7 @@ pub struct Times {
     /// After how much silence a newcomer replaces a connection that has not answered.
     pub replace_after: u64,
 
-    /// The pause after an idle round.
+    /// The pause after a round in which nothing got through.
     pub pause: u64,
 }
 

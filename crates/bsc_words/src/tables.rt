@@ -221,8 +221,8 @@ pub(crate) const STATION: Subcommand = Subcommand {
             id: "pause",
             given: Value,
             value: "MS",
-            help: "Pause after an idle round, in milliseconds, 0 to 3600000, 20 unless given, \
-                with --serve 100",
+            help: "Pause after a round in which nothing got through, in milliseconds, up to 20 \
+                unless given, with --serve 100",
         },
         Entry {
             id: "rounds",

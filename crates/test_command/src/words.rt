@@ -251,8 +251,8 @@ needs --raw
       --patience <MS>       How long to try to connect, in milliseconds; the time-out unless given
       --replace-after <MS>  Let a newcomer replace what has not answered for MS, 3 time-outs \
 unless given
-      --pause <MS>          Pause after an idle round, in milliseconds, 0 to 3600000, 20 unless \
-given, with --serve 100
+      --pause <MS>          Pause after a round in which nothing got through, in milliseconds, \
+up to 20 unless given, with --serve 100
       --rounds <N>          End after N rounds of the poll list
       --idle-rounds <N>     End after N idle rounds in a row, 2 unless given, with --serve no limit
       --until-input-ends    End when standard input ends
