@@ -2,7 +2,7 @@
 //!
 //! A commit writes whole pages, and a step changes a few short records. So the pages of a store are
 //! as small as they may be: with those of 4,096 octets, which the database takes unasked, a commit
-//! takes more than twice as long.
+//! takes longer.
 ghost use Rattle.std.specs.Prelude.{IsTrue};
 
 use sqlite::{File, FileStore, Files, Options, Unknown};
