@@ -9,6 +9,13 @@ use Rattle.sqlite.specs.Steps.{FailsToCommit}
 use Rattle.bsc_kept.specs.declared.change.Change.{Change}
 use Rattle.bsc_store.specs.Tables.{text_of, values_of, Ran}
 
+-- What ran inside a transaction ran, under equal text and values.
+pub executed : (text text' : List ℕ) (values values' : Row) (old new : State) (count : ℕ)
+    → text ≡ text' → values ≡ values' → ExecutesInside 0 text values old new (Ok count)
+    → Executes text' values' old new (Ok count)
+executed text text' values values' old new count is given h =
+    subst₂ (λ t v. Executes t v old new (Ok count)) is given h.0
+
 -- What ran inside a transaction is what the change asks for.
 pub ran_inside : {S : Type 0} (g : Ghosts S) (change : Change) (text : List ℕ) (values : Row)
     (old new : Held S) (result : Result ℕ Error) → text ≡ text_of change → values ≡ values_of change
@@ -17,7 +24,7 @@ pub ran_inside : {S : Type 0} (g : Ghosts S) (change : Change) (text : List ℕ)
 ran_inside g change text values old new (Err fault) is given h = tt
 ran_inside g change text values old new (Ok count) is given h = record {
   count = count;
-  runs = subst₂ (λ t v. Executes t v (state g old) (state g new) (Ok count)) is given h.0;
+  runs = executed text _ values _ _ _ count is given h;
   goes_on = h.1.mode;
 }
 

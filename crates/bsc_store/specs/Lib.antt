@@ -1,3 +1,4 @@
 pub mod Faults
 pub mod Tables
 pub mod Reading
+pub mod Making

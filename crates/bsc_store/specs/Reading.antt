@@ -1,10 +1,11 @@
 -- What is read of the tables.
-use Rattle.std.specs.Prelude.{◌≡◌, ℕ, ℤ, pos, List, [], ◌∷◌, ◌++◌, codes}
+use Rattle.std.specs.Prelude.{◌≡◌, ◌⊎◌, ℕ, ℤ, pos, List, [], ◌∷◌, ◌++◌, codes}
 use Rattle.std.specs.Prelude.{Option, Some, None, Ok, Err}
 use Rattle.sqlite.specs.Store.{Ghosts}
 use Rattle.sqlite.specs.Order.{Row, column}
 use Rattle.sqlite.specs.declared.types.Value.{Value}
 use Rattle.sqlite.specs.declared.types.Value.TheVariants.{Int, Text, Blob}
+use Rattle.sqlite.specs.declared.error.Error.{Error}
 use Rattle.sqlite.specs.declared.error.Error.TheVariants.{QueryReturnedNoRows}
 use Rattle.sqlite.specs.State.{QueriesRow, HasCleanDisk, KeepsCommit, Survives}
 use Rattle.sqlite.specs.Held.{Held, state}
@@ -14,6 +15,9 @@ use Rattle.sqlite.specs.Listing.{understood}
 use Rattle.bsc_kept.specs.declared.channel.Channel.{Channel}
 use Rattle.bsc_kept.specs.declared.store.Progress.{Progress}
 use Rattle.bsc_kept.specs.declared.store.Found.{Found}
+use Rattle.bsc_kept.specs.declared.fault.StoreFault.{StoreFault}
+use Rattle.bsc_kept.specs.declared.fault.StoreFault.TheVariants as fault
+use Rattle.bsc_store.specs.Faults.{fault_for, unread}
 use Rattle.bsc_store.specs.declared.queries.Query.{Query}
 use Rattle.bsc_store.specs.declared.queries.Query.TheVariants as query
 use Rattle.bsc_store.specs.Tables.{way_of, address_of}
@@ -29,6 +33,23 @@ abbrev pub Gives : {S : Type 0} → Ghosts S → List ℕ → Row → Held S →
 Gives g text values old new (Some row) = QueriesRow text values (state g old) (state g new) (Ok row)
 Gives g text values old new None =
     QueriesRow text values (state g old) (state g new) (Err QueryReturnedNoRows)
+
+-- The database refuses a query, and this is the fault for its error.
+abbrev pub IsRefused : {S : Type 0} → Ghosts S → List ℕ → Row → Held S → Held S → StoreFault
+    → Type 0
+IsRefused g text values old new it = (error : Error) × (it ≡ unread (fault_for error))
+    × (HasCleanDisk (state g new) → QueriesRow text values (state g old) (state g new) (Err error))
+
+-- The fault for a row that is not one of a store, or that memory has no room for.
+abbrev pub IsUnreadable : StoreFault → Type 0
+IsUnreadable it = (it ≡ fault.Damaged) ⊎ (it ≡ fault.OutOfMemory)
+
+-- Nothing is read: the database refuses the query, or what it gives is not what a store has.
+abbrev pub IsUnread : {S : Type 0} → Ghosts S → List ℕ → Row → Held S → Held S → StoreFault
+    → Type 0
+IsUnread g text values old new it = IsRefused g text values old new it
+    ⊎ ((found : Option Row) × (HasCleanDisk (state g new) → Gives g text values old new found)
+    × IsUnreadable it)
 
 -- The text of a query.
 abbrev pub query_text : Query → List ℕ
@@ -101,3 +122,13 @@ pub record IsStoreOf {S : Type 0} (g : Ghosts S) (text : List ℕ) (old new : He
   pub line : GivesValue g (query_text query.Line) (Text text) second third
   pub known : GivesValue g (query_text query.WrongKnown) (Int (pos 0)) third fourth
   pub printed : GivesValue g (query_text query.WrongPrinted) (Int (pos 0)) fourth new
+
+-- The database is a store of the line with this text.
+abbrev pub IsStoreOfItself : {S : Type 0} → Ghosts S → List ℕ → Held S → Type 0
+IsStoreOfItself {S} g text db = (before : Held S) × IsStoreOf g text before db
+
+-- Some database that was opened is a store of the line with this text, and was only read since.
+pub record IsOpenedStore {S : Type 0} (g : Ghosts S) (text : List ℕ) (new : Held S) : Type 0 where
+  pub old : Held S
+  pub read : OnlyRead g old new
+  pub is : HasCleanDisk (state g new) → IsStoreOfItself g text new

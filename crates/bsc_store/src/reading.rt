@@ -3,13 +3,12 @@ ghost use Rattle.std.specs.Prelude.{◌≡◌, pos, [], Err, IfOk, IfErr, IsTrue
 ghost use Rattle.sqlite.specs.Order.{column};
 ghost use Rattle.sqlite.specs.declared.types.Value.TheVariants.{Int, Text, Blob};
 ghost use Rattle.sqlite.specs.State.{HasCleanDisk};
-ghost use Rattle.sqlite.specs.declared.error.Error.{Error as SqlErrorValue};
 ghost use Rattle.sqlite.specs.Held.{state};
 ghost use Rattle.sqlite.specs.Values.{bound};
-ghost use Rattle.bsc_store.specs.Faults.{fault_for, unread as unread_as};
 ghost use Rattle.bsc_store.specs.declared.queries.Query.TheVariants as query;
 ghost use Rattle.bsc_store.specs.Reading.{AreNumbers, Gives, GivesValue, IsFound, IsProgress};
-ghost use Rattle.bsc_store.specs.Reading.{OnlyRead, place_values, query_text};
+ghost use Rattle.bsc_store.specs.Reading.{IsRefused, IsUnread, IsUnreadable, OnlyRead};
+ghost use Rattle.bsc_store.specs.Reading.{channel_values, place_values, query_text};
 
 use crate::channels::{address, way};
 use crate::fault::{fault_of, unread};
@@ -29,8 +28,8 @@ fn first_row<S: Alter>(
     ensures row { HasCleanDisk (state S.Store conn.new)
         → IfOk result (Gives S.Store (query_text query) (bound values.now) conn.old conn.new) }
     ensures read { OnlyRead S.Store conn.old conn.new }
-    ensures fault { IfErr result (λ fault.
-        (error : SqlErrorValue) × (fault ≡ unread_as (fault_for error))) }
+    ensures fault { IfErr result
+        (IsRefused S.Store (query_text query) (bound values.now) conn.old conn.new) }
 {
     match conn.query_row(query.text(), values) {
         Ok(row) => Ok(Some(row)),
@@ -41,7 +40,8 @@ fn first_row<S: Alter>(
 
 /// Returns the number at a place of a row.
 fn number_at(row: &Row, at: usize) -> Result<u32, StoreFault>
-    ensures { IfOk result (λ n. column row.now at ≡ Int (pos n)) }
+    ensures number { IfOk result (λ n. column row.now at ≡ Int (pos n)) }
+    ensures fault { IfErr result IsUnreadable }
 {
     row.get(at).map_err(fault_of)
 }
@@ -51,6 +51,7 @@ pub(crate) fn number<S: Alter>(conn: &mut Connection<S>, query: Query) -> Result
     ensures number { HasCleanDisk (state S.Store conn.new) → IfOk result (λ n.
         GivesValue S.Store (query_text query) (Int (pos n)) conn.old conn.new) }
     ensures read { OnlyRead S.Store conn.old conn.new }
+    ensures fault { IfErr result (IsUnread S.Store (query_text query) [] conn.old conn.new) }
 {
     match first_row(conn, query, &[])? {
         Some(row) => number_at(&row, 0),
@@ -60,7 +61,8 @@ pub(crate) fn number<S: Alter>(conn: &mut Connection<S>, query: Query) -> Result
 
 /// Returns the text at the first place of a row.
 fn text_at(row: &Row) -> Result<String, StoreFault>
-    ensures { IfOk result (λ text. column row.now 0 ≡ Text (string_bytes text)) }
+    ensures text { IfOk result (λ text. column row.now 0 ≡ Text (string_bytes text)) }
+    ensures fault { IfErr result IsUnreadable }
 {
     row.get(0).map_err(fault_of)
 }
@@ -74,6 +76,7 @@ pub(crate) fn is_text<S: Alter>(
     ensures text { HasCleanDisk (state S.Store conn.new) → IfOk result (λ is. IsTrue is →
         GivesValue S.Store (query_text query) (Text text.now) conn.old conn.new) }
     ensures read { OnlyRead S.Store conn.old conn.new }
+    ensures fault { IfErr result (IsUnread S.Store (query_text query) [] conn.old conn.new) }
 {
     match first_row(conn, query, &[])? {
         Some(row) => Ok(text_at(&row)?.as_str() == text),
@@ -86,6 +89,8 @@ pub(crate) fn line_text<S: Alter>(conn: &mut Connection<S>) -> Result<String, St
     ensures text { HasCleanDisk (state S.Store conn.new) → IfOk result (λ text.
         GivesValue S.Store (query_text query.Line) (Text (string_bytes text)) conn.old conn.new) }
     ensures read { OnlyRead S.Store conn.old conn.new }
+    ensures fault { IfErr result
+        (IsUnread S.Store (query_text query.Line) [] conn.old conn.new) }
 {
     match first_row(conn, Query::Line, &[])? {
         Some(row) => text_at(&row),
@@ -95,7 +100,8 @@ pub(crate) fn line_text<S: Alter>(conn: &mut Connection<S>) -> Result<String, St
 
 /// Returns the numbers in a row.
 fn numbers(row: &Row) -> Result<Progress, StoreFault>
-    ensures { IfOk result (AreNumbers row.now) }
+    ensures numbers { IfOk result (AreNumbers row.now) }
+    ensures fault { IfErr result IsUnreadable }
 {
     Ok(Progress {
         offered: number_at(row, 0)?,
@@ -114,6 +120,8 @@ pub(crate) fn progress<S: Alter>(
     ensures is { HasCleanDisk (state S.Store conn.new) → IfOk result
         (IsProgress S.Store channel.now conn.old conn.new) }
     ensures read { OnlyRead S.Store conn.old conn.new }
+    ensures fault { IfErr result (IsUnread S.Store (query_text query.Progress)
+        (channel_values channel.now) conn.old conn.new) }
 {
     let values = params![way(channel), address(channel)];
     match first_row(conn, Query::Progress, values)? {
@@ -126,6 +134,7 @@ pub(crate) fn progress<S: Alter>(
 fn found(row: &Row) -> Result<Found, StoreFault>
     ensures mark { IfOk result (λ found. column row.now 0 ≡ Int found.mark) }
     ensures is { IfOk result (λ found. column row.now 1 ≡ Blob found.«record») }
+    ensures fault { IfErr result IsUnreadable }
 {
     let mark: i64 = row.get(0).map_err(fault_of)?;
     let codes: Vec<u8> = row.get(1).map_err(fault_of)?;
@@ -147,6 +156,8 @@ pub(crate) fn next<S: Alter>(
         (IsFound S.Store (query_text query) (place_values channel.now mark more)
         conn.old conn.new) }
     ensures read { OnlyRead S.Store conn.old conn.new }
+    ensures fault { IfErr result (IsUnread S.Store (query_text query)
+        (place_values channel.now mark more) conn.old conn.new) }
 {
     let values = params![way(channel), address(channel), mark, more];
     match first_row(conn, query, values)? {

@@ -1,8 +1,12 @@
 //! The store.
-ghost use Rattle.std.specs.Prelude.{IfOk, IsTrue, List, OnOk, OnErr};
+ghost use Rattle.std.specs.Prelude.{◌≡◌, IfErr, IfOk, IsTrue, List, OnOk, OnErr, string_bytes};
 ghost use Rattle.sqlite.specs.Held.{state};
 ghost use Rattle.sqlite.specs.State.{HasCleanDisk};
-ghost use Rattle.bsc_store.specs.Reading.{IsFound, IsProgress, IsStoreOf, OnlyRead};
+ghost use Rattle.sqlite.specs.declared.error.Error.{Error};
+ghost use Rattle.bsc_store.specs.Faults.{fault_for};
+ghost use Rattle.bsc_store.specs.Making.{IsBegun, IsMade, SurvivesMaking};
+ghost use Rattle.bsc_store.specs.Reading.{IsFound, IsProgress, IsStoreOf, IsStoreOfItself};
+ghost use Rattle.bsc_store.specs.Reading.{IsUnread, OnlyRead, channel_values};
 ghost use Rattle.bsc_store.specs.Reading.{place_values, query_text};
 ghost use Rattle.bsc_store.specs.declared.queries.Query.TheVariants as query;
 ghost use Rattle.bsc_store.specs.Tables.{IsAsBefore, Keeps, Stays, SurvivesStep};
@@ -24,7 +28,10 @@ impl<S: Alter + Drop> TableStore<S> {
     /// Makes a store of an empty database. `line` is the text of the line's configuration and of
     /// which station this is. Fails with `Taken` if the database has a table. It is made at once or
     /// not at all.
-    pub fn begin(mut conn: Connection<S>, line: &str) -> Result<TableStore<S>, StoreFault> {
+    pub fn begin(mut conn: Connection<S>, line: &str) -> Result<TableStore<S>, StoreFault>
+        ensures made { IfOk result (λ store. HasCleanDisk (state S.Store store.conn)
+            → IsBegun S.Store line.now conn store.conn) }
+    {
         if reading::number(&mut conn, Query::Tables)? != 0 {
             return Err(StoreFault::Taken);
         }
@@ -49,6 +56,8 @@ impl<S: Alter + Drop> TableStore<S> {
     /// Goes on with a store of whatever line, and returns the text of its line too. The faults are
     /// those of `resume` but for `OtherLine`, in the same order.
     pub fn resume_any(mut conn: Connection<S>) -> Result<(TableStore<S>, String), StoreFault>
+        ensures is { IfOk result (λ found. HasCleanDisk (state S.Store found.0.conn)
+            → IsStoreOfItself S.Store (string_bytes found.1) found.0.conn) }
         ensures read { IfOk result (λ found. OnlyRead S.Store conn found.0.conn) }
     {
         let line = line_in(&mut conn)?;
@@ -94,6 +103,8 @@ fn check<S: Alter>(conn: &mut Connection<S>, line: &str) -> Result<(), StoreFaul
 
 /// Checks that the database is a store, and returns the text of its line.
 fn line_in<S: Alter>(conn: &mut Connection<S>) -> Result<String, StoreFault>
+    ensures is { HasCleanDisk (state S.Store conn.new)
+        → IfOk result (λ line. IsStoreOfItself S.Store (string_bytes line) conn.new) }
     ensures read { OnlyRead S.Store conn.old conn.new }
 {
     check_version(conn)?;
@@ -103,14 +114,22 @@ fn line_in<S: Alter>(conn: &mut Connection<S>) -> Result<String, StoreFault>
 }
 
 /// Makes the tables and keeps the line, in one commit.
-fn make<S: Alter>(conn: &mut Connection<S>, line: &str) -> Result<(), SqlError> {
+fn make<S: Alter>(conn: &mut Connection<S>, line: &str) -> Result<(), SqlError>
+    ensures made { HasCleanDisk (state S.Store conn.new)
+        → OnOk result (IsMade S.Store line.now conn.old (state S.Store conn.new).committed) }
+    ensures unchanged { HasCleanDisk (state S.Store conn.new)
+        → IsTrue (state S.Store conn.new).is_open
+        → OnErr result (IsAsBefore S.Store conn.old conn.new) }
+    ensures crash { SurvivesMaking S.Store line.now conn.old conn.new }
+{
     if !conn.is_autocommit() {
         return Err(SqlError::SqliteFailure(sqlite::ErrorCode::TransactionState));
     }
     let mut tx = conn.transaction();
     tx.execute_batch(tables::MAKE)?;
     tx.execute(tables::NAME, params![tables::VERSION, line])?;
-    tx.commit()
+    tx.commit()?;
+    Ok(())
 }
 
 impl<S: Alter> TableStore<S> {
@@ -122,6 +141,7 @@ impl<S: Alter> TableStore<S> {
             → IsTrue (state S.Store self.new.conn).is_open
             → OnErr result (IsAsBefore S.Store self.old.conn self.new.conn) }
         ensures crash { SurvivesStep S.Store step.now self.old.conn self.new.conn }
+        ensures fault { IfErr result (λ fault. (error : Error) × (fault ≡ fault_for error)) }
     {
         match commit(&mut self.conn, step) {
             Ok(()) => Ok(()),
@@ -134,6 +154,8 @@ impl<S: Alter> TableStore<S> {
         ensures is { HasCleanDisk (state S.Store self.new.conn) → IfOk result
             (IsProgress S.Store channel.now self.old.conn self.new.conn) }
         ensures read { OnlyRead S.Store self.old.conn self.new.conn }
+        ensures fault { IfErr result (IsUnread S.Store (query_text query.Progress)
+            (channel_values channel.now) self.old.conn self.new.conn) }
     {
         reading::progress(&mut self.conn, channel)
     }
@@ -150,6 +172,8 @@ impl<S: Alter> TableStore<S> {
             (IsFound S.Store (query_text query.NextOffered) (place_values channel.now mark more)
             self.old.conn self.new.conn) }
         ensures read { OnlyRead S.Store self.old.conn self.new.conn }
+        ensures fault { IfErr result (IsUnread S.Store (query_text query.NextOffered)
+            (place_values channel.now mark more) self.old.conn self.new.conn) }
     {
         reading::next(&mut self.conn, Query::NextOffered, channel, mark, more)
     }
@@ -165,6 +189,8 @@ impl<S: Alter> TableStore<S> {
             (IsFound S.Store (query_text query.NextArrived) (place_values channel.now mark more)
             self.old.conn self.new.conn) }
         ensures read { OnlyRead S.Store self.old.conn self.new.conn }
+        ensures fault { IfErr result (IsUnread S.Store (query_text query.NextArrived)
+            (place_values channel.now mark more) self.old.conn self.new.conn) }
     {
         reading::next(&mut self.conn, Query::NextArrived, channel, mark, more)
     }

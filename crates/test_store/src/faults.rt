@@ -13,6 +13,7 @@ const OPENED: &[(&str, &str, StoreFault)] = &[
     ("store_none", LINE, StoreFault::Missing),
     ("store_made", "another", StoreFault::OtherLine),
     ("store_text", LINE, StoreFault::Damaged),
+    ("store_nothing", LINE, StoreFault::Damaged),
     (".", LINE, StoreFault::Unreachable),
 ];
 
@@ -20,14 +21,21 @@ const OPENED: &[(&str, &str, StoreFault)] = &[
 const MADE: &[(&str, StoreFault)] = &[
     ("store_made", StoreFault::Taken),
     ("store_text", StoreFault::Damaged),
+    ("store_log", StoreFault::Taken),
     ("store_none/below", StoreFault::Unreachable),
 ];
+
+/// What may be the log of a store whose file was moved away: it is longer than one that holds
+/// nothing.
+const LOG: &str = "a log of 42 octets, which may hold records";
 
 #[test]
 fn files_are_refused_by_name(rt: HostRuntime) -> Result<(), Fail> {
     delete(&rt, "store_made");
     create(&rt, "store_made")?;
     fs::write(&rt, "store_text", "no database, but a text")?;
+    fs::write(&rt, "store_nothing", "")?;
+    fs::write(&rt, "store_log-wal", LOG)?;
     for (path, line, fault) in OPENED {
         assert!(rt;
             within(&rt, path, line, Task::Nothing) == Err(*fault),
@@ -38,10 +46,15 @@ fn files_are_refused_by_name(rt: HostRuntime) -> Result<(), Fail> {
     for (path, fault) in MADE {
         assert!(rt; create(&rt, path) == Err(*fault), "{path}");
     }
+    assert_eq!(rt; fs::read(&rt, "store_nothing")?.len(), 0);
+    assert!(rt; !fs::exists(&rt, "store_log")?);
+    assert!(rt; fs::read(&rt, "store_log-wal")?.as_slice() == LOG.as_bytes());
     assert!(rt; is_in_use(&rt, "store_made")?);
     assert!(rt; within(&rt, "store_made", LINE, Task::Nothing)?);
     delete(&rt, "store_made");
     delete(&rt, "store_text");
+    delete(&rt, "store_nothing");
+    delete(&rt, "store_log");
     Ok(())
 }
 
@@ -58,6 +71,10 @@ INSERT INTO known VALUES ('from', x'41', 0, 1);";
 const CHANGES: &[(&str, StoreFault)] = &[
     (
         "UPDATE line SET version = 2",
+        StoreFault::Newer { version: 2 },
+    ),
+    (
+        "DROP TABLE line; CREATE TABLE line (version INTEGER); INSERT INTO line VALUES (2)",
         StoreFault::Newer { version: 2 },
     ),
     ("UPDATE line SET version = 0", StoreFault::Damaged),
