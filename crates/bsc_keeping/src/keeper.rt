@@ -44,6 +44,7 @@ impl<K: Store + Drop> Keeper<K> {
         ensures store { result.store ≡ store }
         ensures sending { result.sending ≡ sending }
         ensures receiving { result.receiving ≡ receiving }
+        ensures fault { result.fault ≡ None }
     {
         Keeper {
             alloc,
