@@ -1,6 +1,7 @@
 pub mod Answers
 pub mod Beginning
 pub mod Calls
+pub mod Errors
 pub mod Listening
 pub mod Ready
 pub mod Serving

@@ -1,5 +1,8 @@
 //! Why connections could not be made.
 
+ghost use Rattle.std.specs.Prelude.{◌≡◌};
+ghost use Rattle.bsc_sockets.specs.Errors.{reason};
+
 use std::alloc::{AllocError, AllocFailed};
 use std::error::Error;
 use std::fmt::{Display, Formatter, Write};
@@ -36,9 +39,12 @@ pub enum SocketsError {
     Memory,
 }
 
-impl Display for SocketsError {
-    fn fmt<W: Write>(&self, f: &mut Formatter<W>) -> fmt::Result {
-        f.write_str(match self {
+impl SocketsError {
+    /// Returns the reason in words.
+    fn reason(self) -> &'static str
+        ensures { result.now ≡ reason self }
+    {
+        match self {
             SocketsError::Address => "cannot read the address",
             SocketsError::AddressInUse => "address in use",
             SocketsError::CannotListen => "cannot listen at this address",
@@ -48,7 +54,19 @@ impl Display for SocketsError {
             SocketsError::CannotWatchInput => "cannot wait for the end of standard input",
             SocketsError::Sockets => "cannot make the sockets",
             SocketsError::Memory => "out of memory",
-        })
+        }
+    }
+}
+
+impl Display for SocketsError {
+    ghost use Rattle.std.specs.Prelude.{Some};
+    ghost use Rattle.bsc_sockets.specs.Errors.{reason};
+
+    ghost output = { λ error. Some (reason error) };
+
+    /// Writes the reason in words.
+    fn fmt<W: Write>(&self, f: &mut Formatter<W>) -> fmt::Result {
+        f.write_str(self.reason())
     }
 }
 
