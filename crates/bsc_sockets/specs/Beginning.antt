@@ -1,6 +1,12 @@
 -- How sockets begin.
-use Rattle.std.specs.Prelude.{◌≡◌, ℕ, List, [], None, replicate}
-use Rattle.bsc_sockets.specs.Standings.{new_standings, standings_value}
+use Rattle.std.specs.Prelude.{◌≡◌, ◌<◌, ℕ, Bool, true, List, [], Option, None, Some, replicate}
+use Rattle.std.specs.Prelude.{option_map, slice_get}
+use Rattle.std.specs.Net.Socket.{socket_ip}
+use Rattle.bsc_peers.specs.Lists.{listed}
+use Rattle.bsc_peers.specs.Networks.{allows}
+use Rattle.bsc_peers.specs.declared.networks.Networks.{Networks}
+use Rattle.bsc_sockets.specs.Standings.{StandingsValue, new_standings, peer_of, standings_value}
+use Rattle.bsc_sockets.specs.declared.standings.Standing.{Standing}
 use Rattle.bsc_sockets.specs.declared.standings.Standings.{Standings}
 use Rattle.bsc_sockets.specs.declared.times.Time.TheVariants.{Anew}
 use Rattle.bsc_sockets.specs.declared.times.Times.{Times}
@@ -14,3 +20,15 @@ pub record HasBegunSockets {A : Type 0} (places : ℕ) (ready : List ℕ) (stand
   pub time_out : times.time_out ≡ Anew
   pub pause : times.pause ≡ None
   pub no_gap : times.gaps.items ≡ replicate places None
+
+-- Whether these networks allow the address of the peer of a place, if that is known.
+abbrev pub peer_may : Networks → Option Standing → Option Bool
+peer_may allowed standing =
+    option_map (λ address. allows (listed allowed) (socket_ip address)) (peer_of standing)
+
+-- At each of the first places, this many, is a peer whose address is known, and these networks
+-- allow it.
+abbrev pub HasAdmitted : Networks → ℕ → StandingsValue → Type 0
+HasAdmitted allowed count standings =
+    (place : ℕ) → place < count
+    → peer_may allowed (slice_get standings.places place) ≡ Some true

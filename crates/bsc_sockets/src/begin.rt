@@ -1,10 +1,12 @@
 //! Makes the first connections of a station.
 
-ghost use Rattle.std.specs.Prelude.{◌≡◌, ◌<◌, ◌^◌, ◌+◌, [], false, is_some, length, IfErr, IfOk};
-ghost use Rattle.std.specs.Prelude.{IsNone, IsSome, OnOk, true};
+ghost use Rattle.std.specs.Prelude.{◌≡◌, ◌<◌, ◌≤◌, ◌^◌, ◌+◌, [], false, true, is_some, length};
+ghost use Rattle.std.specs.Prelude.{IfErr, IfOk, IsNone, IsSome, OnOk, slice_get};
 ghost use Rattle.std.specs.Net.ToAddrs.{host_addrs};
+ghost use Rattle.bsc_sockets.specs.Beginning.{HasAdmitted};
 ghost use Rattle.bsc_sockets.specs.Listening.{IsAddressError, IsConnectError, IsDenied};
 ghost use Rattle.bsc_sockets.specs.Listening.{IsListenError, IsPeerError, IsUnwatched};
+ghost use Rattle.bsc_sockets.specs.Standings.{after_joining, new_standings, standings_value};
 
 use crate::directions::{Reading, Writing};
 use crate::listening::addresses;
@@ -179,6 +181,8 @@ pub fn listen<'a, N: Net + Clock, A: Allocator + Copy, H: Reception>(
     ensures listens { peers.keeps_listening ≡ true
         → IfOk result (λ begun. IsSome begun.sockets.listener) }
     ensures places { IfOk result (λ begun. begun.sockets.places ≡ peers.count) }
+    ensures admitted { IfOk result (λ begun. HasAdmitted settings.allowed peers.count
+        (standings_value begun.sockets.standings)) }
     ensures failed { IfErr result (IsListenError (is_some settings.stops_with)) }
 {
     let mut begun = Begun::new(runtime, alloc, peers.count, settings)?;
@@ -198,6 +202,8 @@ impl<'a, N: Net + Clock, A: Allocator + Copy> Begun<'a, N, A> {
         ensures none { IfOk result (λ begun. begun.connections.items ≡ []) }
         ensures settings { IfOk result (λ begun. begun.sockets.settings ≡ settings) }
         ensures places { IfOk result (λ begun. begun.sockets.places ≡ places) }
+        ensures strangers { IfOk result
+            (λ begun. standings_value begun.sockets.standings ≡ new_standings places) }
         ensures failed { IfErr result (IsUnwatched (is_some settings.stops_with)) }
     {
         let sockets = Sockets::new(runtime, alloc, places, settings)?;
@@ -220,6 +226,9 @@ impl<'a, N: Net + Clock, A: Allocator + Copy> Begun<'a, N, A> {
         ensures settings { self.new.sockets.settings ≡ self.old.sockets.settings }
         ensures places { self.new.sockets.places ≡ self.old.sockets.places }
         ensures listener { self.new.sockets.listener ≡ self.old.sockets.listener }
+        ensures peer { OnOk result (standings_value self.new.sockets.standings
+            ≡ after_joining peer (standings_value self.old.sockets.standings) place
+            (slice_get self.old.sockets.standings.places.items place)) }
         ensures failed { IfErr result IsDenied }
     {
         let directions = self.sockets.open(place, stream, peer)?;
@@ -242,6 +251,9 @@ impl<'a, N: Net + Clock, A: Allocator + Copy> Begun<'a, N, A> {
         ensures listens { peers.keeps_listening ≡ true
             → OnOk result (IsSome self.new.sockets.listener) }
         ensures places { self.new.sockets.places ≡ self.old.sockets.places }
+        ensures admitted { peers.count ≤ length self.old.sockets.standings.places.items
+            → OnOk result (HasAdmitted self.old.sockets.settings.allowed peers.count
+            (standings_value self.new.sockets.standings)) }
         ensures failed { IfErr result IsPeerError }
     {
         if let Ok(address) = listening.address() {
@@ -267,6 +279,9 @@ impl<'a, N: Net + Clock, A: Allocator + Copy> Begun<'a, N, A> {
         ensures settings { self.new.sockets.settings ≡ self.old.sockets.settings }
         ensures places { self.new.sockets.places ≡ self.old.sockets.places }
         ensures listener { self.new.sockets.listener ≡ self.old.sockets.listener }
+        ensures admitted { peers ≤ length self.old.sockets.standings.places.items
+            → OnOk result (HasAdmitted self.old.sockets.settings.allowed peers
+            (standings_value self.new.sockets.standings)) }
         ensures failed { IfErr result IsPeerError }
     {
         'peers: for place in 0..peers {

@@ -25,6 +25,7 @@ impl<'a, N: Net + Clock, A: Allocator + Copy> Sockets<'a, N, A> {
         ensures settings { self.new.settings ≡ self.old.settings }
         ensures places { self.new.places ≡ self.old.places }
         ensures listener { self.new.listener ≡ self.old.listener }
+        ensures standings { self.new.standings ≡ self.old.standings }
         ensures admitted { IfOk result
             (λ peer. may_connect self.old.settings.allowed peer ≡ true) }
         ensures failed { IfErr result IsPeerError }
@@ -52,6 +53,7 @@ impl<'a, N: Net + Clock, A: Allocator + Copy> Sockets<'a, N, A> {
         ensures settings { self.new.settings ≡ self.old.settings }
         ensures places { self.new.places ≡ self.old.places }
         ensures listener { self.new.listener ≡ self.old.listener }
+        ensures standings { self.new.standings ≡ self.old.standings }
         ensures admitted { IfOk result (λ found.
             IfSome found (λ peer. may_connect self.old.settings.allowed peer ≡ true)) }
         ensures failed { IfErr result IsPeerError }

@@ -122,6 +122,7 @@ impl<'a, N: Net + Clock, A: Allocator + Copy> Sockets<'a, N, A> {
     pub(crate) fn take_peers_of(&mut self, listening: Listening) -> Result<(), SocketsError>
         ensures settings { self.new.settings ≡ self.old.settings }
         ensures places { self.new.places ≡ self.old.places }
+        ensures standings { self.new.standings ≡ self.old.standings }
         ensures listens { OnOk result (IsSome self.new.listener) }
         ensures failed { IfErr result IsDenied }
     {
@@ -139,6 +140,7 @@ impl<'a, N: Net + Clock, A: Allocator + Copy> Sockets<'a, N, A> {
         ensures newcomer { IsNone self.new.newcomer }
         ensures settings { self.new.settings ≡ self.old.settings }
         ensures places { self.new.places ≡ self.old.places }
+        ensures standings { self.new.standings ≡ self.old.standings }
         ensures ready { self.new.ready ≡ without_place self.old.ready self.old.places }
     {
         self.listener = None;
