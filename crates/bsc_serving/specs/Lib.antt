@@ -5,4 +5,5 @@ pub mod Feds
 pub mod Sessions
 pub mod Serves
 pub mod Pauses
+pub mod Places
 pub mod Turns

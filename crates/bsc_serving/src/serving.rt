@@ -4,6 +4,7 @@ ghost use Rattle.std.specs.Prelude.{◌≡◌, IfOk, None, is_ok, replicate};
 ghost use Rattle.bsc_feed.specs.Answering.{serving};
 ghost use Rattle.bsc_feed.specs.Offering.{OffersBy};
 ghost use Rattle.bsc_keeping.specs.Runs.{KeptRun};
+ghost use Rattle.bsc_serving.specs.Places.{place_after};
 ghost use Rattle.bsc_serving.specs.Serves.{IsAsked, IsServed, ServesPrograms, failure_of};
 ghost use Rattle.bsc_serving.specs.Turns.{for_programs};
 ghost use Rattle.bsc_serving.specs.declared.programs.TheConstants.{MAX_PROGRAMS};
@@ -196,6 +197,7 @@ impl<P: Programs + Drop> Serving<P> {
     /// Returns the place that is served next, in turn.
     fn next_place(&mut self) -> usize
         ensures place { result ≡ self.old.first }
+        ensures next { self.new.first ≡ place_after self.old.first }
         ensures others { self.new ≡ record self.old { first = self.new.first } }
     {
         let place = self.first;
