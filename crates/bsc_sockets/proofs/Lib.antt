@@ -1,3 +1,4 @@
+mod Admitted
 mod Faults
 mod Hosts
 mod Served

@@ -1,7 +1,7 @@
 //! Makes the first connections of a station.
 
 ghost use Rattle.std.specs.Prelude.{◌≡◌, ◌<◌, ◌≤◌, ◌^◌, ◌+◌, [], false, true, is_some, length};
-ghost use Rattle.std.specs.Prelude.{IfErr, IfOk, IsNone, IsSome, OnOk, slice_get};
+ghost use Rattle.std.specs.Prelude.{IfErr, IfOk, IfSome, IsNone, IsSome, OnOk, slice_get, ℕ};
 ghost use Rattle.std.specs.Net.ToAddrs.{host_addrs};
 ghost use Rattle.bsc_sockets.specs.Beginning.{HasAdmitted};
 ghost use Rattle.bsc_sockets.specs.Listening.{IsAddressError, IsConnectError, IsDenied};
@@ -43,6 +43,9 @@ pub trait Reception {
 
     /// This peer has the connection at this place.
     fn joined(&mut self, place: usize, peer: SocketAddr);
+
+    /// The peer at this place has gone before the station began.
+    fn left(&mut self, place: usize, peer: Option<SocketAddr>);
 
     /// The address of this peer may not connect, and it was turned away.
     fn refused(&mut self, peer: SocketAddr);
@@ -164,7 +167,8 @@ fn is_own(stream: &TcpStream) -> bool {
 /// the system does not report the descriptor that asks it to, with `Sockets` if it refuses what a
 /// connection needs, and with `Memory` if memory cannot be allocated. If it keeps listening, a
 /// further peer is a newcomer; else the system refuses that peer. The reception is told of the
-/// address and of each peer.
+/// address and of each peer. A peer that has gone before the last one connected is told too, and
+/// waited for anew.
 pub fn listen<'a, N: Net + Clock, A: Allocator + Copy, H: Reception>(
     runtime: &'a N,
     alloc: A,
@@ -261,6 +265,7 @@ impl<'a, N: Net + Clock, A: Allocator + Copy> Begun<'a, N, A> {
         }
         self.sockets.take_peers_of(listening)?;
         self.add_peers(peers.count, peers.patience, reception)?;
+        self.replace_gone(peers.patience, reception)?;
         if !peers.keeps_listening {
             self.sockets.stop_listening();
         }
@@ -291,5 +296,85 @@ impl<'a, N: Net + Clock, A: Allocator + Copy> Begun<'a, N, A> {
             reception.joined(place, address);
         }
         Ok(())
+    }
+
+    /// Takes another peer for each that has gone, until all are there.
+    fn replace_gone<H: Reception>(
+        &mut self,
+        patience: Duration,
+        reception: &mut H,
+    ) -> Result<(), SocketsError>
+        ensures count { OnOk result (length self.new.connections.items
+            ≡ length self.old.connections.items) }
+        ensures settings { self.new.sockets.settings ≡ self.old.sockets.settings }
+        ensures places { self.new.sockets.places ≡ self.old.sockets.places }
+        ensures listener { self.new.sockets.listener ≡ self.old.sockets.listener }
+        ensures admitted { (count : ℕ)
+            → HasAdmitted self.old.sockets.settings.allowed count
+            (standings_value self.old.sockets.standings)
+            → OnOk result (HasAdmitted self.old.sockets.settings.allowed count
+            (standings_value self.new.sockets.standings)) }
+        ensures failed { IfErr result IsPeerError }
+    {
+        'gone: for _ in 0..u64::MAX {
+            let Some(place) = self.first_gone() else {
+                return Ok(());
+            };
+            self.replace(place, patience, reception)?;
+        }
+        Err(SocketsError::NobodyConnected)
+    }
+
+    /// Takes another peer for the one at this place.
+    fn replace<H: Reception>(
+        &mut self,
+        place: usize,
+        patience: Duration,
+        reception: &mut H,
+    ) -> Result<(), SocketsError>
+        requires { place < length self.old.connections.items }
+        ensures count { length self.new.connections.items
+            ≡ length self.old.connections.items }
+        ensures settings { self.new.sockets.settings ≡ self.old.sockets.settings }
+        ensures places { self.new.sockets.places ≡ self.old.sockets.places }
+        ensures listener { self.new.sockets.listener ≡ self.old.sockets.listener }
+        ensures admitted { (count : ℕ)
+            → HasAdmitted self.old.sockets.settings.allowed count
+            (standings_value self.old.sockets.standings)
+            → OnOk result (HasAdmitted self.old.sockets.settings.allowed count
+            (standings_value self.new.sockets.standings)) }
+        ensures failed { IfErr result IsPeerError }
+    {
+        let wanted = self.connections.len();
+        reception.left(place, self.sockets.standings.peer(place));
+        reception.waits(wanted.saturating_sub(self.count_gone()), wanted);
+        let Peer { stream, address } = self.sockets.next_peer(patience, reception)?;
+        let directions = self.sockets.open(place, stream, Some(address))?;
+        self.connections[place] = directions;
+        reception.joined(place, address);
+        Ok(())
+    }
+
+    /// Returns the first place whose peer has gone.
+    fn first_gone(&self) -> Option<usize>
+        ensures { IfSome result (λ place. place < length self.now.connections.items) }
+    {
+        'places: for place in 0..self.connections.len() {
+            if self.connections[place].0.is_gone() {
+                return Some(place);
+            }
+        }
+        None
+    }
+
+    /// Returns how many peers have gone.
+    fn count_gone(&self) -> usize {
+        let mut count = 0usize;
+        'places: for connection in self.connections.iter() {
+            if connection.0.is_gone() {
+                count = count.saturating_add(1);
+            }
+        }
+        count
     }
 }

@@ -21,6 +21,16 @@ pub struct Reading {
     pub(crate) stream: TcpStream,
 }
 
+impl Reading {
+    /// Whether the peer has ended the connection, or it was lost, and nothing is left to read.
+    pub(crate) fn is_gone(&self) -> bool {
+        match self.stream.peek(&mut [0]) {
+            Ok(count) => count == 0,
+            Err(error) => !matches!(error.kind(), ErrorKind::WouldBlock | ErrorKind::Interrupted),
+        }
+    }
+}
+
 impl Read for Reading {
     fn read(&mut self, buffer: &mut [u8]) -> io::Result<usize> {
         self.stream.read(buffer)

@@ -21,6 +21,8 @@ mod far;
 #[cfg(test)]
 mod framings;
 #[cfg(test)]
+mod gone;
+#[cfg(test)]
 mod hosts;
 #[cfg(test)]
 mod hours;

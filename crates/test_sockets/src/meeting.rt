@@ -223,6 +223,10 @@ impl Reception for Told<'_> {
         self.joined = self.joined.saturating_add(1);
     }
 
+    fn left(&mut self, _place: usize, _peer: Option<SocketAddr>) {
+        self.is_wrong = true;
+    }
+
     fn refused(&mut self, _peer: SocketAddr) {
         self.is_wrong = true;
     }

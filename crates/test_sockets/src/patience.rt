@@ -159,6 +159,8 @@ impl Reception for Waits<'_> {
         self.joined = place.saturating_add(1);
     }
 
+    fn left(&mut self, _place: usize, _peer: Option<SocketAddr>) {}
+
     fn refused(&mut self, peer: SocketAddr) {
         if self.is_next(peer) {
             self.named = self.named.saturating_add(1);
