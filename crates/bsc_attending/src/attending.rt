@@ -157,7 +157,7 @@ fn attend_until_answered<C: Attend, T: Timer + Meter + Drop, O: Write, D: Write>
         return Ok(watch.trust());
     }
     let mut last = watch.into_last();
-    connections.attend(&mut Ended, &mut last)?;
+    connections.attend(&mut Ended::new(), &mut last)?;
     Ok(last.trust())
 }
 

@@ -6,6 +6,7 @@ pub mod Ends
 pub mod Following
 pub mod Forgetting
 pub mod Holding
+pub mod LastCall
 pub mod LineTerminal
 pub mod Offers
 pub mod Printed

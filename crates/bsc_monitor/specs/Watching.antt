@@ -1,6 +1,6 @@
 -- What a watch prints when it is told what happened.
-use Rattle.std.specs.Prelude.{◌≡◌, ◌≢◌, ℕ, ◌<◌, ◌≤◌, Bool, true, false, ◌||◌, ◌&&◌, List, []}
-use Rattle.std.specs.Prelude.{length}
+use Rattle.std.specs.Prelude.{◌≡◌, ◌≢◌, ℕ, ◌<◌, ◌≤◌, Bool, true, false, not, ◌||◌, ◌&&◌, List}
+use Rattle.std.specs.Prelude.{[], length}
 use Rattle.std.specs.Prelude.{Option, Result, Ok, Err, OnOk, slice_index}
 use Rattle.std.specs.Io.KnownBytes.{Appends, Keeps}
 use Rattle.bsc_connections.specs.declared.awaited.LiveError.{LiveError}
@@ -133,19 +133,19 @@ pub record Last : Type 0 where
 abbrev pub last_of : Bool → Bool → Last
 last_of ended stopped = record { ended = ended; stopped = stopped }
 
--- The same after this: its last call is answered, or nobody answers, or a connection is closed, or
--- it is asked to end and was asked before.
-abbrev pub last_after : Last → Happening → Last
-last_after old (WasHeard place octets) = last_of true old.stopped
-last_after old WasSilent = last_of true old.stopped
-last_after old (HasClosed place peer why) = last_of true old.stopped
-last_after old WasStopped = last_of (old.ended || old.stopped) true
-last_after old _ = old
+-- The same after this: its last call is answered, unless the station refuses the answer, as the flag
+-- says, or nobody answers, or a connection is closed, or it is asked to end and was asked before.
+abbrev pub last_after : Last → Bool → Happening → Last
+last_after old refuses (WasHeard place octets) = last_of (old.ended || not refuses) old.stopped
+last_after old refuses WasSilent = last_of true old.stopped
+last_after old refuses (HasClosed place peer why) = last_of true old.stopped
+last_after old refuses WasStopped = last_of (old.ended || old.stopped) true
+last_after old refuses _ = old
 
 -- The same after the watch was told this. If it refuses, nothing changes.
-abbrev pub last_told : Result Bool LiveError → Last → Happening → Last
-last_told (Ok goes_on) old happening = last_after old happening
-last_told (Err error) old happening = old
+abbrev pub last_told : Result Bool LiveError → Last → Bool → Happening → Last
+last_told (Ok goes_on) old refuses happening = last_after old refuses happening
+last_told (Err error) old refuses happening = old
 
 -- In every step of a session in which the station sends something, the records that have arrived at
 -- it are printed: the lines of those that had not been printed before, and of no others.

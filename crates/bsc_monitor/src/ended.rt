@@ -1,6 +1,8 @@
 //! A control station that has ended, until its last call is answered.
 
-ghost use Rattle.std.specs.Prelude.{◌≡◌, false};
+ghost use Rattle.std.specs.Prelude.{◌≡◌, ◌+◌, false};
+ghost use Rattle.bsc_bid.specs.declared.limits.TheConstants.{MAX_TRIES};
+ghost use Rattle.bsc_monitor.specs.LastCall.{ended_of, refuses};
 
 use crate::held::{Calls, Seen};
 use crate::trace::Who;
@@ -8,29 +10,76 @@ use crate::trusting::Trusting;
 use crate::watch::{Watch, live};
 use crate::{Meter, Timer};
 use bsc_bid::Station;
+use bsc_bid::limits::MAX_TRIES;
 use bsc_connections::{LiveError, Monitor, Note, Pace};
-use bsc_frame::{Heard, MessageBuffer};
+use bsc_frame::{Heard, Message, MessageBuffer, Reply};
 use bsc_trust::Trust;
 use std::alloc::Allocator;
 use std::io::Write;
 
-/// A station that ignores what it hears and sends nothing. It takes the place of a control station
-/// that has ended, so that the answer to its last call is read before its connections are closed.
-/// Otherwise a terminal would be told of a failed connection.
+/// How often a station that has ended refuses what it hears, at most: as often as a terminal takes
+/// before it gives up.
+const REFUSALS: u8 = MAX_TRIES + 1;
+
+/// A station that stores nothing and calls nobody. It takes the place of a control station that has
+/// ended, so that the answer to its last call is heard before its connections are closed.
+/// Otherwise a terminal would be told of a failed connection. A text it refuses by NAK until the
+/// terminal gives up, which then knows that its block was not stored; without an answer that block
+/// would be in doubt.
 #[derive(Clone, Copy)]
-pub struct Ended;
+pub struct Ended {
+    /// How often it can refuse something from now on.
+    left: u8,
+
+    /// Whether it has refused what it heard last.
+    refuses: bool,
+}
+
+impl Ended {
+    /// Returns a station that has refused nothing.
+    pub fn new() -> Ended
+        ensures { result ≡ ended_of (MAX_TRIES + 1) false }
+    {
+        Ended {
+            left: REFUSALS,
+            refuses: false,
+        }
+    }
+
+    /// Whether this is refused: a text, one that failed, or ENQ after what was refused.
+    fn is_refused(&self, heard: &Heard<'_>) -> bool
+        ensures { result ≡ refuses self.now heard.now }
+    {
+        let is_text = match heard {
+            Heard::Whole(Message::Text(_)) | Heard::Failed => true,
+            Heard::Whole(Message::Enq) => self.refuses,
+            _ => false,
+        };
+        is_text && self.left > 0
+    }
+}
 
 impl Station for Ended {
     ghost use Rattle.std.specs.Prelude.{◌≡◌, false, None};
+    ghost use Rattle.bsc_monitor.specs.LastCall.{after_hearing, refusal_of};
 
-    ghost hears = { λ old _ new sent. (new ≡ old) × (sent ≡ None) };
+    ghost hears = { λ old heard new sent.
+        (new ≡ after_hearing old heard) × (sent ≡ refusal_of old heard) };
 
     ghost acts = { λ old new sent. (new ≡ old) × (sent ≡ None) };
 
     ghost holds = { λ _. false };
 
-    fn answer(&mut self, _heard: &Heard<'_>, sent: &mut MessageBuffer) {
+    fn answer(&mut self, heard: &Heard<'_>, sent: &mut MessageBuffer) {
         sent.clear();
+        if matches!(heard, Heard::Noise) {
+            return;
+        }
+        self.refuses = self.is_refused(heard);
+        if self.refuses {
+            self.left -= 1;
+            sent.set_reply(Reply::Nak);
+        }
     }
 
     fn act(&mut self, sent: &mut MessageBuffer) {
@@ -44,8 +93,8 @@ impl Station for Ended {
     ghost ignores_noise = { λ old new sent hearing. hearing };
 }
 
-/// Prints the last transmission that is heard, and ends with it, with a time-out, with the close of
-/// a connection, or if it is asked to end a second time.
+/// Prints what is heard, and ends with what the station does not refuse, with a time-out, with the
+/// close of a connection, or if it is asked to end a second time.
 #[derive(Drop)]
 pub struct LastWatch<'a, A: Allocator, T: Drop, W, D> {
     /// Prints the records and the trace.
@@ -92,10 +141,10 @@ impl<'a, A: Allocator + Copy, T: Timer + Meter + Drop, W: Write, D: Write> Monit
 
     ghost paces = { λ _. AtOnce };
 
-    ghost is_told = { λ old _ happening result new.
+    ghost is_told = { λ old station happening result new.
         (output_of W.contents new.watch ≡ output_of W.contents old.watch)
         × (last_of new.ended new.stopped
-        ≡ last_told result (last_of old.ended old.stopped) happening)
+        ≡ last_told result (last_of old.ended old.stopped) station.refuses happening)
         × (OnOk result (LastShows happening old.trusting new.trusting
         (trace_of D.contents old.watch) (trace_of D.contents new.watch)))
         × (IfErr result IsTraceFault) };
@@ -104,7 +153,7 @@ impl<'a, A: Allocator + Copy, T: Timer + Meter + Drop, W: Write, D: Write> Monit
         self.trusting.admits_last(connection, octets)
     }
 
-    fn note(&mut self, _station: &Ended, note: Note<'_>) -> Result<bool, LiveError> {
+    fn note(&mut self, station: &Ended, note: Note<'_>) -> Result<bool, LiveError> {
         let seen = Seen {
             time: self.watch.milliseconds(),
             me: Who::Control,
@@ -114,7 +163,8 @@ impl<'a, A: Allocator + Copy, T: Timer + Meter + Drop, W: Write, D: Write> Monit
         let distrust = self.trusting.note(&note, seen.time);
         self.watch.tell_distrust(distrust)?;
         match note {
-            Note::Heard { .. } | Note::Silence | Note::Closed { .. } => self.ended = true,
+            Note::Heard { .. } => self.ended = self.ended || !station.refuses,
+            Note::Silence | Note::Closed { .. } => self.ended = true,
             Note::Stopped => {
                 self.ended = self.ended || self.stopped;
                 self.stopped = true;

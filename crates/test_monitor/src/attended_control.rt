@@ -58,6 +58,26 @@ const STOPPED_TRACE: &[u8] = b"+1 silence
 +6 asked to end
 ";
 
+/// What a terminal sends that answers the last call with a text, until it has given up: after EOT a
+/// text, ENQ, since it has not heard the answer, the text again, and EOT.
+const TO_LAST_CALL: &[u8] = b"\x00\x04\x16\x16\x04\xFF\
+\x00\x04\x16\x16\x04\xFF\
+\x00\x09\x16\x16\x02\xC8\x49\x19\x83\x9B\xFF\
+\x00\x04\x16\x16\x85\xFF\
+\x00\x09\x16\x16\x02\xC8\x49\x19\x83\x9B\xFF\
+\x00\x04\x16\x16\x04\xFF";
+
+/// The end of the trace of a control station that hears this: it refuses each text, and ENQ.
+const REFUSED_TRACE: &[u8] = b"+6 control sent CALL A 161604ff1616c185ff
++7 connection 0 heard TEXT ETX 1 161602c84919839bff
++8 control sent NAK 161615ff
++9 connection 0 heard ENQ 161685ff
++10 control sent NAK 161615ff
++11 connection 0 heard TEXT ETX 1 161602c84919839bff
++12 control sent NAK 161615ff
++13 connection 0 heard EOT 161604ff
+";
+
 /// What terminals send of which one answers the third of its polls with a text: EOT to each other.
 const TO_POLLS: &[u8] = b"\x00\x04\x16\x16\x04\xFF\
 \x00\x04\x16\x16\x04\xFF\
@@ -127,6 +147,17 @@ const ATTENDED: &[Attended] = &[
         steps: b"trrrrrrrrrrrrrr",
         printed: HEARD_ONLY,
         traced: EXCHANGES_TRACE,
+    },
+    // The last call is answered with a text, which is refused until the terminal gives up. It is
+    // not printed.
+    Attended {
+        sends: false,
+        trace: Tracing::All,
+        limits: ONE_ROUND,
+        octets: TO_LAST_CALL,
+        steps: b"trrrrrrrrrrrr",
+        printed: NOTHING,
+        traced: REFUSED_TRACE,
     },
     // No terminal answers: the record waits, and no round is idle. The connection ends.
     Attended {
@@ -225,7 +256,7 @@ fn attend_last(
     waiter: &mut Scripted,
     mut last: LastWatch<'_, Global, Counting, Vec<u8>, Vec<u8>>,
 ) -> Result<(), LiveError> {
-    attend_station(&mut Ended, connections, waiter, &mut last)
+    attend_station(&mut Ended::new(), connections, waiter, &mut last)
 }
 
 /// Attends a control station until it ends, and then its connection until the last call is
