@@ -9,6 +9,7 @@
 #![tactic(auto)]
 
 mod connecting;
+mod errors;
 mod feeding;
 mod machine;
 mod network;
@@ -20,9 +21,10 @@ mod stores;
 mod streams;
 
 pub use connecting::{Peer, connect_within};
+pub use errors::Errors;
 pub use machine::Machine;
 pub use output::Output;
 pub use readiness::OutputReadiness;
-pub use screen::{Errors, Progress, Screen, Showing, Since};
+pub use screen::{Progress, Screen, Showing, Since};
 pub use stores::KeptFile;
 pub use streams::Streams;

@@ -5,10 +5,11 @@ ghost use Rattle.bsc_machine.specs.Connections.{AreSettings, ListensOn, count_at
 ghost use Rattle.bsc_machine.specs.Showing.{is_shown, shows};
 
 use crate::connecting::{PeerAt, connect_within};
+use crate::errors::Errors;
 use crate::machine::Machine;
 use crate::readiness::OutputReadiness;
 use crate::receiving::Receiving;
-use crate::screen::{Errors, Progress, Screen, progress};
+use crate::screen::{Progress, Screen, progress};
 use bsc_attending::{Network, Opened, Reachable, Wanted};
 use bsc_clients::{Clients, ClientsError, ServedAt};
 use bsc_monitor::Beginning;
@@ -68,11 +69,7 @@ fn begin<'a, R: AllocGlobal + Clock + Eprint + Net>(
         Place::Listen { address } => {
             let listening = Listening::bind(runtime, address)?;
             let mut reception = Receiving {
-                errors: Errors {
-                    runtime,
-                    screen,
-                    may_fail: false,
-                },
+                errors: Errors::new(runtime, screen, false),
                 lines: Beginning {
                     trace: wanted.trace,
                 },
@@ -145,11 +142,7 @@ impl<'a, R: AllocGlobal + Clock + Eprint + Filing + Net> Network for Machine<'a,
     fn trace(&mut self, is_traced: bool) -> Errors<'a, R>
         ensures { result.may_fail ≡ is_traced }
     {
-        Errors {
-            runtime: self.runtime,
-            screen: self.screen,
-            may_fail: is_traced,
-        }
+        Errors::new(self.runtime, self.screen, is_traced)
     }
 
     fn readiness(&mut self) -> OutputReadiness {

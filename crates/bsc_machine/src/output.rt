@@ -1,10 +1,12 @@
 //! Standard output, and the file that it may be.
 
+use crate::readiness::wait_for_output;
 use crate::screen::Screen;
 use std::cell::Cell;
 use std::fs::{File, OpenFile, metadata};
 use std::io;
-use std::io::{Printer, Write};
+use std::io::{Error, ErrorKind, Printer, Write};
+use std::net::Net;
 use std::rt::Files as Filing;
 
 /// The path of standard output.
@@ -23,10 +25,20 @@ pub struct Output<'a, R> {
     pub screen: &'a Screen,
 }
 
-impl<R: Eprint + Filing + Print> Write for Output<'_, R> {
+impl<R: AllocGlobal + Eprint + Filing + Net + Print> Write for Output<'_, R> {
+    /// If standard output does not wait by itself, since another program has made it so, it is
+    /// waited for.
     fn write(&mut self, octets: &[u8]) -> io::Result<usize> {
         self.screen.clear(self.runtime);
-        self.writer.write(octets)
+        for _ in 0..u64::MAX {
+            match self.writer.write(octets) {
+                Err(error) if error.kind() == ErrorKind::WouldBlock => {
+                    wait_for_output(self.runtime)?;
+                }
+                written => return written,
+            }
+        }
+        Err(Error::from(ErrorKind::WouldBlock))
     }
 
     fn flush(&mut self) -> io::Result<()> {

@@ -1,4 +1,4 @@
-//! Whether standard output takes more without waiting.
+//! Whether standard output, or standard error, takes more without waiting.
 
 ghost use Rattle.std.specs.Prelude.{◌≡◌, is_some};
 
@@ -6,6 +6,7 @@ use bsc_attending::Readiness;
 use mio::unix::SourceFd;
 use mio::{Events, Interest, Poll, Token};
 use std::io;
+use std::io::{Error, ErrorKind};
 use std::net::Net;
 use std::os::fd::{AsRawFd, RawFd};
 use std::time::Duration;
@@ -31,24 +32,32 @@ struct Reports {
     events: Events,
 }
 
+impl Reports {
+    /// Returns whether there is a report within this time, if it is limited.
+    fn has_any(&mut self, time: Option<Duration>) -> io::Result<bool> {
+        self.poll.poll(&mut self.events, time)?;
+        Ok(!self.events.is_empty())
+    }
+}
+
 impl OutputReadiness {
     /// Has the system report of standard output from now on.
     pub(crate) fn new<R: AllocGlobal + Net>(runtime: &R) -> OutputReadiness {
         OutputReadiness {
-            reports: reports_of(runtime),
+            reports: reports_of(runtime, STANDARD_OUTPUT),
         }
     }
 }
 
-/// Has the system report of standard output; `None` if it cannot.
-fn reports_of<R: AllocGlobal + Net>(runtime: &R) -> Option<Reports> {
+/// Has the system report of this descriptor; `None` if it cannot.
+fn reports_of<R: AllocGlobal + Net>(runtime: &R, descriptor: RawFd) -> Option<Reports> {
     let Ok(events) = Events::with_capacity(runtime.alloc(), 1) else {
         return None;
     };
     let Ok(poll) = Poll::new(runtime) else {
         return None;
     };
-    let mut source = SourceFd(&STANDARD_OUTPUT);
+    let mut source = SourceFd(&descriptor);
     match poll
         .registry()
         .register(&mut source, Token(0), Interest::WRITABLE)
@@ -71,10 +80,26 @@ fn ask(reports: &Reports) -> io::Result<()> {
 /// so it is asked anew each time.
 fn is_ready(reports: &mut Reports) -> io::Result<bool> {
     ask(reports)?;
-    reports
-        .poll
-        .poll(&mut reports.events, Some(Duration::ZERO))?;
-    Ok(!reports.events.is_empty())
+    reports.has_any(Some(Duration::ZERO))
+}
+
+/// Whether this descriptor takes more without waiting; true if the system cannot tell.
+pub(crate) fn is_ready_now<R: AllocGlobal + Net>(runtime: &R, descriptor: RawFd) -> bool {
+    match reports_of(runtime, descriptor) {
+        Some(mut reports) => reports.has_any(Some(Duration::ZERO)).unwrap_or(true),
+        None => true,
+    }
+}
+
+/// Waits until standard output takes more. Fails if the system cannot report it.
+pub(crate) fn wait_for_output<R: AllocGlobal + Net>(runtime: &R) -> io::Result<()> {
+    match reports_of(runtime, STANDARD_OUTPUT) {
+        Some(mut reports) => {
+            reports.has_any(None)?;
+            Ok(())
+        }
+        None => Err(Error::from(ErrorKind::WouldBlock)),
+    }
 }
 
 impl Readiness for OutputReadiness {

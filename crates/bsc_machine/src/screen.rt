@@ -1,4 +1,4 @@
-//! Standard error: what is told there, and the line that shows progress on a terminal.
+//! The line that shows progress on a terminal, which is standard error, and the clock of it.
 
 ghost use Rattle.std.specs.Prelude.{◌≡◌};
 ghost use Rattle.bsc_machine.specs.Showing.{is_shown, shows};
@@ -49,34 +49,6 @@ impl<R: Clock> Timer for Since<'_, R> {
     }
 }
 
-/// Standard error, from which the line that shows progress is cleared first.
-#[derive(Drop)]
-pub struct Errors<'a, R> {
-    pub runtime: &'a R,
-    pub screen: &'a Screen,
-
-    /// Whether a write fails that standard error does not take. If not, what it does not take is
-    /// lost.
-    pub may_fail: bool,
-}
-
-impl<R: Eprint> Write for Errors<'_, R> {
-    fn write(&mut self, octets: &[u8]) -> io::Result<usize> {
-        self.screen.clear(self.runtime);
-        let mut raw = Raw {
-            runtime: self.runtime,
-        };
-        match raw.write(octets) {
-            Err(_) if !self.may_fail => Ok(octets.len()),
-            written => written,
-        }
-    }
-
-    fn flush(&mut self) -> io::Result<()> {
-        Ok(())
-    }
-}
-
 /// Standard error, on which progress is shown.
 #[derive(Drop)]
 pub struct Showing<'a, R> {
@@ -100,8 +72,8 @@ impl<R: Eprint> Write for Showing<'_, R> {
 
 /// Standard error as it is.
 #[derive(Drop)]
-struct Raw<'a, R> {
-    runtime: &'a R,
+pub(crate) struct Raw<'a, R> {
+    pub(crate) runtime: &'a R,
 }
 
 impl<R: Eprint> Write for Raw<'_, R> {

@@ -2,9 +2,10 @@
 
 ghost use Rattle.std.specs.Prelude.{◌≡◌, true};
 
+use crate::errors::Errors;
 use crate::machine::Machine;
 use crate::output::Output;
-use crate::screen::{Errors, Screen};
+use crate::screen::Screen;
 use std::cell::Cell;
 use std::io::writer;
 
@@ -66,11 +67,7 @@ impl Streams {
         ensures screen { result.screen.now ≡ self.now.screen }
         ensures fails { result.may_fail ≡ true }
     {
-        Errors {
-            runtime,
-            screen: &self.screen,
-            may_fail: true,
-        }
+        Errors::new(runtime, &self.screen, true)
     }
 
     /// Clears the line that shows progress, if it is there. What standard error does not take is

@@ -8,7 +8,7 @@ use bsc_command::{Fault, command, fail, given_words};
 use bsc_machine::Streams;
 use std::fs::File;
 use std::io;
-use std::io::{BufWriter, IsTerminal};
+use std::io::{BufWriter, IsTerminal, Write};
 use std::os::fd::{AsRawFd, RawFd};
 use std::process::ExitCode;
 
@@ -51,6 +51,8 @@ fn main(rt: HostRuntime) -> ExitCode {
         }
         Err(_) => fail(&Fault::OutOfMemory, &mut errors),
     };
+    // If standard error does not take the rest, only the status tells of the fault.
+    let _ = errors.flush();
     streams.clear(&rt);
     ExitCode::from(status)
 }

@@ -103,11 +103,27 @@ fn progress_is_cleared_before_a_line(rt: HostRuntime) -> Result<(), Fail> {
     Ok(())
 }
 
+/// A line is written when it ends, or when it is flushed.
+#[test]
+fn a_line_is_written_at_once(rt: HostRuntime) -> Result<(), Fail> {
+    let (fake, streams) = (Fake::new(&rt, NO_FILE), Streams::new(false));
+    let mut errors = streams.errors(&fake);
+    errors.write_all(b"+0 ")?;
+    errors.write_all(b"silence")?;
+    assert!(rt; fake.has_told(""));
+    errors.write_all(b"\n+1 ")?;
+    assert!(rt; fake.has_told("+0 silence\n"));
+    errors.flush()?;
+    errors.flush()?;
+    assert!(rt; fake.has_told("+1 "));
+    Ok(())
+}
+
 /// The kind of the error with which these octets are not written on standard error.
 fn refused(fake: &Fake<'_>, streams: &Streams, octets: &[u8]) -> Option<ErrorKind> {
     let mut errors = streams.errors(fake);
-    match errors.write(octets) {
-        Ok(_) => None,
+    match errors.write_all(octets) {
+        Ok(()) => None,
         Err(error) => Some(error.kind()),
     }
 }
@@ -128,13 +144,13 @@ fn is_due_again(fake: &Fake<'_>, streams: &Streams) -> bool {
 #[test]
 fn standard_error_may_refuse(rt: HostRuntime) -> Result<(), Fail> {
     let (fake, streams) = (Fake::new(&rt, NO_FILE), Streams::new(true));
-    assert!(rt; refused(&fake, &streams, &[0xff]) == Some(ErrorKind::InvalidData));
+    assert!(rt; refused(&fake, &streams, b"\xff\n") == Some(ErrorKind::InvalidData));
     assert!(rt; is_due_again(&fake, &streams) && fake.has_told(EVENTS));
     fake.takes.set(false);
-    assert!(rt; refused(&fake, &streams, b"x") == Some(ErrorKind::StorageFull));
+    assert!(rt; refused(&fake, &streams, b"x\n") == Some(ErrorKind::StorageFull));
     let mut machine = streams.machine(&fake);
-    assert!(rt; machine.trace(true).write(b"x").is_err());
-    assert!(rt; machine.trace(false).write_all(b"x").is_ok());
+    assert!(rt; machine.trace(true).write_all(b"x\n").is_err());
+    assert!(rt; machine.trace(false).write_all(b"x\n").is_ok());
     assert!(rt; !is_due_again(&fake, &streams));
     assert!(rt; fake.has_told(""));
     Ok(())
