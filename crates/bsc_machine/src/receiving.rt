@@ -34,6 +34,10 @@ impl<R: AllocGlobal + Eprint + Net> Reception for Receiving<'_, R> {
         let _ = self.lines.write_joined(place, peer, &mut self.errors);
     }
 
+    fn left(&mut self, place: usize, peer: Option<SocketAddr>) {
+        let _ = self.lines.write_left(place, peer, &mut self.errors);
+    }
+
     fn refused(&mut self, peer: SocketAddr) {
         let _ = self.lines.write_refused(peer, &mut self.errors);
     }

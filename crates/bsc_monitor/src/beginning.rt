@@ -1,12 +1,13 @@
 //! The lines printed while a station begins: where it can be reached, and for which peers it waits.
 
-ghost use Rattle.std.specs.Prelude.{◌≡◌, ◌++◌, IfErr, OnOk, Some, false};
+ghost use Rattle.std.specs.Prelude.{◌≡◌, ◌++◌, IfErr, None, OnOk, Some, false};
 ghost use Rattle.std.specs.Io.KnownBytes.{Appends};
-ghost use Rattle.bsc_monitor.specs.Traces.{connected_shown, joined_line, listening_line};
+ghost use Rattle.bsc_monitor.specs.Traces.{closed_line, connected_shown, joined_line};
+ghost use Rattle.bsc_monitor.specs.Traces.{listening_line};
 ghost use Rattle.bsc_monitor.specs.Traces.{not_allowed_line, serving_line, start_shown};
 ghost use Rattle.bsc_monitor.specs.Traces.{waiting_for_control, waiting_line, wanted_shown};
 
-use crate::trace::{write_joined, write_time};
+use crate::trace::{write_closed, write_joined, write_time};
 use bsc_print::{PrintError, put};
 use std::io::Write;
 use std::net::SocketAddr;
@@ -85,6 +86,22 @@ impl Beginning {
     {
         self.write_start(out)?;
         write_joined(place, Some(peer), false, out)?;
+        Ok(())
+    }
+
+    /// Writes that the peer at this place has closed its connection.
+    pub fn write_left<W: Write>(
+        self,
+        place: usize,
+        peer: Option<SocketAddr>,
+        out: &mut W,
+    ) -> Result<(), PrintError>
+        ensures ok { OnOk result (Appends (W.contents out.old) (W.contents out.new)
+            (start_shown self.trace ++ closed_line place peer None)) }
+        ensures err { IfErr result (λ error. error ≡ PrintError.Output) }
+    {
+        self.write_start(out)?;
+        write_closed(place, peer, None, out)?;
         Ok(())
     }
 

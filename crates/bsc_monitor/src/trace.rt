@@ -282,7 +282,7 @@ pub(crate) fn write_joined<W: Write>(
 }
 
 /// Writes the line for a connection that is closed, without a time.
-fn write_closed<W: Write>(
+pub(crate) fn write_closed<W: Write>(
     connection: usize,
     peer: Option<SocketAddr>,
     why: Option<CarrierError>,

@@ -16,6 +16,7 @@ serving programs at 127.0.0.1:2780
 waiting for terminals: 1 of 12 connected
 waiting for the control station
 connection 3 from 127.0.0.1:2780 joined
+connection 3 from 127.0.0.1:2780 closed
 refused 127.0.0.1:2780: its address is not allowed
 ";
 
@@ -24,6 +25,7 @@ const TRACED: &[u8] = b"+0 listening at 127.0.0.1:2780
 +0 waiting for terminals: 1 of 12 connected
 +0 waiting for the control station
 +0 connection 3 from 127.0.0.1:2780 joined
++0 connection 3 from 127.0.0.1:2780 closed
 +0 refused 127.0.0.1:2780: its address is not allowed
 ";
 
@@ -34,6 +36,7 @@ fn tell<W: Write>(lines: Beginning, out: &mut W) -> Result<(), PrintError> {
     lines.write_waiting(1, 12, out)?;
     lines.write_waiting_for_control(out)?;
     lines.write_joined(3, address(), out)?;
+    lines.write_left(3, Some(address()), out)?;
     lines.write_refused(address(), out)
 }
 
