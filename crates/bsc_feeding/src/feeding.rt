@@ -18,10 +18,10 @@ use std::io::{BufRead, BufReader, Read, Write};
 /// closes the connection. The input is read no further than to the line that is sent next, but for
 /// what its reader holds.
 ///
-/// Fails with `NotOneLine` if a word has a line feed, with `Refused` at the first answer that is a
-/// fault, with `Closed` if the station closes the connection before it answers, with `TooLong` and
-/// `Input` if the input cannot be read, with `Output` if the output is not accepted, and with
-/// `Memory` if memory cannot be allocated.
+/// Fails with `NotOneLine` if a word has a line feed, before anything is read or sent, with
+/// `Refused` at the first answer that is a fault, with `Closed` if the station closes the
+/// connection before it answers, with `TooLong` and `Input` if the input cannot be read, with
+/// `Output` if the output is not accepted, and with `Memory` if memory cannot be allocated.
 pub fn feed<A: Allocator + Copy, R: Read, I: Read, O: Write, W: Write>(
     alloc: A,
     words: &[String<A>],
@@ -37,7 +37,8 @@ pub fn feed<A: Allocator + Copy, R: Read, I: Read, O: Write, W: Write>(
     ensures refused { IsErrOf result FeedError.Refused →
         EndsInFault (W.contents out.old) (W.contents out.new) }
     ensures failed { IfErr result (IsFeedError (map string_bytes words.now)) }
-    ensures early { IsErrOf result FeedError.NotOneLine → out.new ≡ out.old }
+    ensures early { IsErrOf result FeedError.NotOneLine → (input.new ≡ input.old)
+        × (heard.new ≡ heard.old) × (said.new ≡ said.old) × (out.new ≡ out.old) }
 {
     let given = read_given(alloc, words)?;
     let Ok(mut heard) = BufReader::new(alloc, heard) else {
