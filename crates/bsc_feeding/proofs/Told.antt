@@ -1,12 +1,14 @@
 -- The lines of a station that were printed so far.
 use Rattle.std.proofs.Common.{◌≡◌, ℕ, List, [], ◌∷◌, ◌++◌, true, false, Option, Some, None, sym, ap, subst}
-use Rattle.std.proofs.Common.{◌∙◌, append-nil}
+use Rattle.std.proofs.Common.{◌∙◌, append-nil, append_assoc, refl}
 use Rattle.std.proofs.KnownBytes.{Appends-nil, Appends-trans}
 use Rattle.std.proofs.lemmas.Grind.{flat_map-append}
 use Rattle.std.specs.Io.KnownBytes.{Appends}
 use Rattle.std.specs.List.{AllByRecursion, flat_map}
-use Rattle.bsc_feeding.specs.Answers.{EndsInFault, IsAnswer, Prints, PrintsOne}
-use Rattle.bsc_feeding.specs.Answers.{TellsNoFault, is_fault, kind_of, with_feed}
+use Rattle.bsc_input.specs.Lines.{parts_of}
+use Rattle.bsc_feeding.specs.Answers.{EndsInFault, HasNoFault, HearsAll, HearsOne, IsAnswer, Prints}
+use Rattle.bsc_feeding.specs.Answers.{PrintsOne, TellsNoFault, is_fault, kind_of, whole_lines}
+use Rattle.bsc_feeding.specs.Answers.{with_feed, without_last}
 use Rattle.bsc_feeding.specs.declared.answers.Kind.{Kind}
 use Rattle.bsc_feeding.specs.declared.answers.Kind.TheVariants.{News}
 
@@ -80,3 +82,63 @@ told_end a b c told printed = record {
       subst (Prints a c) (append-nil told.told)
       (prints_append a b c told.told [] told.printed printed);
 }
+
+-- The first lines of what was left to hear were heard and printed, and none of them is a fault.
+pub record HasHeard (all left : List ℕ) (old new : Option (List ℕ)) : Type 0 where
+  pub done : List (List ℕ)
+  pub whole : parts_of all ≡ done ++ parts_of left
+  pub faultless : HasNoFault done
+  pub printed : Prints old new done
+
+-- The same where it is known what was left and what is left.
+abbrev pub HasHeardOf : Option (List ℕ) → Option (List ℕ) → Option (List ℕ) → Option (List ℕ)
+    → Type 0
+HasHeardOf None left old new = Unit {0}
+HasHeardOf (Some all) None old new = ⊥
+HasHeardOf (Some all) (Some left) old new = HasHeard all left old new
+
+pub heard_first : (all a : Option (List ℕ)) → HasHeardOf all all a a
+heard_first None a = tt
+heard_first (Some all) a =
+    record { done = []; whole = refl; faultless = tt; printed = Appends-nil a }
+
+pub heard_more : (kind : Kind) (all heard left a b c : Option (List ℕ))
+    → HasHeardOf all heard a b → HearsOne (Some kind) heard left b c → is_fault kind ≡ false
+    → HasHeardOf all left a c
+heard_more kind None heard left a b c has (line, is, reads, printed) other = tt
+heard_more kind (Some all) None left a b c has (line, is, reads, printed) other = absurd has
+heard_more kind (Some all) (Some heard) None a b c has (line, is, reads, printed) other =
+    absurd reads
+heard_more kind (Some all) (Some heard) (Some left) a b c has (line, is, reads, printed) other =
+    record {
+      done = has.done ++ line ∷ [];
+      whole =
+          has.whole ∙ ap (λ l. has.done ++ l) reads
+          ∙ sym (append_assoc has.done (line ∷ []) (parts_of left));
+      faultless =
+          all_append (λ l. is_fault (kind_of l) ≡ false) has.done (line ∷ []) has.faultless
+          (ap is_fault is ∙ other, tt);
+      printed = prints_append a b c has.done (line ∷ []) has.printed printed;
+    }
+
+without_last_append : (done : List (List ℕ)) (part : List ℕ)
+    → without_last (done ++ part ∷ []) ≡ done
+without_last_append [] part = refl
+without_last_append (line ∷ []) part = refl
+without_last_append (line ∷ next ∷ lines) part =
+    ap (λ l. line ∷ l) (without_last_append (next ∷ lines) part)
+
+pub heard_end : (all heard left a b c : Option (List ℕ)) → HasHeardOf all heard a b
+    → HearsOne None heard left b c → HearsAll all left a c
+heard_end None heard left a b c has ((part, reads), printed) = tt
+heard_end (Some all) None left a b c has ((part, reads), printed) = absurd has
+heard_end (Some all) (Some heard) None a b c has ((part, reads), printed) = absurd reads
+heard_end (Some all) (Some heard) (Some left) a b c has ((part, reads), printed) =
+    let lines : whole_lines all ≡ has.done =
+    ap without_last (has.whole ∙ ap (λ l. has.done ++ l) reads.0)
+    ∙ without_last_append has.done part in (
+      ap Some reads.1,
+      subst HasNoFault (sym lines) has.faultless,
+      subst (Prints a c) (append-nil has.done ∙ sym lines)
+          (prints_append a b c has.done [] has.printed printed),
+    )

@@ -4,6 +4,9 @@ use Rattle.std.specs.Prelude.{codes, filter, length, Option, None, Some}
 use Rattle.std.specs.List.{AllByRecursion, flat_map}
 use Rattle.std.specs.Str.{bytes_eq}
 use Rattle.std.specs.Io.KnownBytes.{Appends}
+use Rattle.bsc_input.specs.Lines.{parts_of}
+use Rattle.bsc_input.specs.Reading.{ReadsLine}
+use Rattle.bsc_input.specs.declared.reading.LineEnd.TheVariants.{LineFeed, InputEnd}
 use Rattle.bsc_feeding.specs.Commands.{first_word}
 use Rattle.bsc_feeding.specs.declared.answers.Kind.{Kind}
 use Rattle.bsc_feeding.specs.declared.answers.Kind.TheVariants.{Done, Refused, News}
@@ -40,6 +43,26 @@ PrintsOne None old new = Prints old new []
 PrintsOne (Some kind) old new =
     (line : List ℕ) × (kind_of line ≡ kind) × Prints old new (line ∷ [])
 
+-- The next line of what was left to hear was heard, it is of this kind, and it was printed. Or none
+-- was left, but for a line that has no line feed, and nothing was printed.
+abbrev pub HearsOne : Option Kind → Option (List ℕ) → Option (List ℕ) → Option (List ℕ)
+    → Option (List ℕ) → Type 0
+HearsOne None heard left old new =
+    ((part : List ℕ) × ReadsLine heard left InputEnd part) × Prints old new []
+HearsOne (Some kind) heard left old new =
+    (line : List ℕ) × (kind_of line ≡ kind) × ReadsLine heard left LineFeed line
+    × Prints old new (line ∷ [])
+
+-- These parts without the last one.
+abbrev pub without_last : List (List ℕ) → List (List ℕ)
+without_last [] = []
+without_last (part ∷ []) = []
+without_last (part ∷ next ∷ parts) = part ∷ without_last (next ∷ parts)
+
+-- The lines of these octets that have a line feed.
+abbrev pub whole_lines : List ℕ → List (List ℕ)
+whole_lines octets = without_last (parts_of octets)
+
 -- None of these lines is a fault.
 abbrev pub HasNoFault : List (List ℕ) → Type 0
 HasNoFault lines = AllByRecursion (λ line. is_fault (kind_of line) ≡ false) lines
@@ -69,3 +92,11 @@ pub record EndsInFault (old new : Option (List ℕ)) : Type 0 where
   pub faultless : HasNoFault told
   pub fault : is_fault (kind_of last) ≡ true
   pub printed : Prints old new (told ++ last ∷ [])
+
+-- All that was left to hear was heard to its end, and each line of it was printed, in order; none is
+-- a fault. Nothing is said where it is not known what was left.
+abbrev pub HearsAll : Option (List ℕ) → Option (List ℕ) → Option (List ℕ) → Option (List ℕ)
+    → Type 0
+HearsAll None left old new = Unit {0}
+HearsAll (Some octets) left old new =
+    (left ≡ Some []) × HasNoFault (whole_lines octets) × Prints old new (whole_lines octets)

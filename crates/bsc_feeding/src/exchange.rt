@@ -2,8 +2,8 @@
 
 ghost use Rattle.std.specs.Prelude.{◌≡◌, IfErr, IfOk, IsErrOf, OnOk, true};
 ghost use Rattle.std.specs.Io.KnownBytes.{Appends};
-ghost use Rattle.bsc_feeding.specs.Answers.{EndsInFault, IsAnswer, PrintsOne, TellsNoFault};
-ghost use Rattle.bsc_feeding.specs.Answers.{with_feed};
+ghost use Rattle.bsc_feeding.specs.Answers.{EndsInFault, HearsAll, HearsOne, IsAnswer, PrintsOne};
+ghost use Rattle.bsc_feeding.specs.Answers.{TellsNoFault, with_feed};
 ghost use Rattle.bsc_feeding.specs.Errors.{IsAnswerError, IsHeardError};
 ghost use Rattle.bsc_feeding.specs.Errors.{heard_error as heard_fault};
 
@@ -81,6 +81,8 @@ pub(crate) fn follow<A: Allocator, B: BufRead, W: Write>(
     out: &mut W,
 ) -> Result<(), FeedError>
     ensures told { OnOk result (TellsNoFault (W.contents out.old) (W.contents out.new)) }
+    ensures heard { OnOk result (HearsAll (B.remaining heard.old) (B.remaining heard.new)
+        (W.contents out.old) (W.contents out.new)) }
     ensures refused { IsErrOf result FeedError.Refused →
         EndsInFault (W.contents out.old) (W.contents out.new) }
     ensures failed { IfErr result IsAnswerError }
@@ -107,6 +109,9 @@ fn next_line<A: Allocator, B: BufRead, W: Write>(
     out: &mut W,
 ) -> Result<Option<Kind>, FeedError>
     ensures line { IfOk result (λ kind. PrintsOne kind (W.contents out.old) (W.contents out.new)) }
+    ensures heard { IfOk result (λ kind.
+        HearsOne kind (B.remaining heard.old) (B.remaining heard.new)
+        (W.contents out.old) (W.contents out.new)) }
     ensures failed { IfErr result IsHeardError }
 {
     match read_line(heard, line) {
