@@ -1,13 +1,15 @@
 -- The lines of a station that were printed so far.
 use Rattle.std.proofs.Common.{◌≡◌, ℕ, List, [], ◌∷◌, ◌++◌, true, false, Option, Some, None, sym, ap, subst}
-use Rattle.std.proofs.Common.{◌∙◌, append-nil, append_assoc, refl}
+use Rattle.std.proofs.Common.{◌∙◌, ◌<◌, ◌==◌, append-nil, append_assoc, arith, length, refl}
 use Rattle.std.proofs.KnownBytes.{Appends-nil, Appends-trans}
 use Rattle.std.proofs.lemmas.Grind.{flat_map-append}
+use Rattle.std.proofs.lemmas.List.Splits.{length-slice_split}
 use Rattle.std.specs.Io.KnownBytes.{Appends}
 use Rattle.std.specs.List.{AllByRecursion, flat_map}
 use Rattle.bsc_input.specs.Lines.{parts_of}
-use Rattle.bsc_feeding.specs.Answers.{EndsInFault, HasNoFault, HearsAll, HearsOne, IsAnswer, Prints}
-use Rattle.bsc_feeding.specs.Answers.{PrintsOne, TellsNoFault, is_fault, kind_of, whole_lines}
+use Rattle.bsc_feeding.specs.Answers.{EndsInFault, HasNoFault, Hears, HearsAll, HearsOne, HearsTo}
+use Rattle.bsc_feeding.specs.Answers.{IsAnswer}
+use Rattle.bsc_feeding.specs.Answers.{Prints, PrintsOne, TellsNoFault, is_fault, kind_of, whole_lines}
 use Rattle.bsc_feeding.specs.Answers.{with_feed, without_last}
 use Rattle.bsc_feeding.specs.declared.answers.Kind.{Kind}
 use Rattle.bsc_feeding.specs.declared.answers.Kind.TheVariants.{News}
@@ -142,3 +144,62 @@ heard_end (Some all) (Some heard) (Some left) a b c has ((part, reads), printed)
       subst (Prints a c) (append-nil has.done ∙ sym lines)
           (prints_append a b c has.done [] has.printed printed),
     )
+
+pub hears_nil : (all a : Option (List ℕ)) → Hears all all a a
+hears_nil None a = tt
+hears_nil (Some all) a = record { told = []; whole = refl; printed = Appends-nil a }
+
+pub hears_one : (kind : Kind) (heard left a b : Option (List ℕ))
+    → HearsOne (Some kind) heard left a b → Hears heard left a b
+hears_one kind None left a b hears = tt
+hears_one kind (Some heard) None a b (line, is, reads, printed) = reads
+hears_one kind (Some heard) (Some left) a b (line, is, reads, printed) =
+    record { told = line ∷ []; whole = reads; printed = printed }
+
+pub hears_trans : (all heard left a b c : Option (List ℕ)) → Hears all heard a b
+    → Hears heard left b c → Hears all left a c
+hears_trans None heard left a b c p q = tt
+hears_trans (Some all) None left a b c p q = absurd p
+hears_trans (Some all) (Some heard) None a b c p q = absurd q
+hears_trans (Some all) (Some heard) (Some left) a b c p q = record {
+  told = p.told ++ q.told;
+  whole =
+      p.whole ∙ ap (λ l. p.told ++ l) q.whole ∙ sym (append_assoc p.told q.told (parts_of left));
+  printed = prints_append a b c p.told q.told p.printed q.printed;
+}
+
+pub hears_more : (kind : Kind) (all heard left a b c : Option (List ℕ)) → Hears all heard a b
+    → HearsOne (Some kind) heard left b c → Hears all left a c
+hears_more kind all heard left a b c p q =
+    hears_trans all heard left a b c p (hears_one kind heard left b c q)
+
+without_last_parts : (done parts : List (List ℕ)) → 0 < length parts
+    → without_last (done ++ parts) ≡ done ++ without_last parts
+without_last_parts [] parts h = refl
+without_last_parts (line ∷ []) [] h = absurd (omega (arith, h))
+without_last_parts (line ∷ []) (part ∷ parts) h = refl
+without_last_parts (line ∷ next ∷ lines) parts h =
+    ap (λ l. line ∷ l) (without_last_parts (next ∷ lines) parts h)
+
+-- What is printed to the end after some lines.
+pub hears_all : (all heard left a b c : Option (List ℕ)) → Hears all heard a b
+    → HearsAll heard left b c → HearsTo true all a c
+hears_all None heard left a b c p q = tt
+hears_all (Some all) None left a b c p q = absurd p
+hears_all (Some all) (Some heard) left a b c p q =
+    let lines : whole_lines all ≡ p.told ++ whole_lines heard =
+    ap without_last p.whole
+    ∙ without_last_parts p.told (parts_of heard)
+    (omega (arith, length-slice_split (λ octet. octet == 10) heard)) in
+    subst (Prints a c) (sym lines)
+    (prints_append a b c p.told (whole_lines heard) p.printed q.2)
+
+-- The same of a reader that has all that was left to hear.
+pub hears_left : (of left all a b : Option (List ℕ)) → of ≡ all
+    → Hears of left a b → HearsTo false all a b
+hears_left of left all a b same h = (left, subst (λ o. Hears o left a b) same h)
+
+pub hears_ended : (of heard left all a b c : Option (List ℕ)) → of ≡ all
+    → Hears of heard a b → HearsAll heard left b c → HearsTo true all a c
+hears_ended of heard left all a b c same h ended =
+    hears_all all heard left a b c (subst (λ o. Hears o heard a b) same h) ended

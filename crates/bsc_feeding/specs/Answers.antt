@@ -1,6 +1,6 @@
 -- The lines of a station that are printed.
 use Rattle.std.specs.Prelude.{◌≡◌, ℕ, Bool, true, false, if◌then◌else◌, List, [], ◌∷◌, ◌++◌}
-use Rattle.std.specs.Prelude.{codes, filter, length, Option, None, Some}
+use Rattle.std.specs.Prelude.{codes, filter, length, Option, None, Some, IfSome}
 use Rattle.std.specs.List.{AllByRecursion, flat_map}
 use Rattle.std.specs.Str.{bytes_eq}
 use Rattle.std.specs.Io.KnownBytes.{Appends}
@@ -63,6 +63,19 @@ without_last (part ∷ next ∷ parts) = part ∷ without_last (next ∷ parts)
 abbrev pub whole_lines : List ℕ → List (List ℕ)
 whole_lines octets = without_last (parts_of octets)
 
+-- What was printed is what was heard: the first lines of what was left to hear, in order. The others
+-- are left.
+pub record HearsLines (heard left : List ℕ) (old new : Option (List ℕ)) : Type 0 where
+  pub told : List (List ℕ)
+  pub whole : parts_of heard ≡ told ++ parts_of left
+  pub printed : Prints old new told
+
+-- The same where it is known what was left and what is left.
+abbrev pub Hears : Option (List ℕ) → Option (List ℕ) → Option (List ℕ) → Option (List ℕ) → Type 0
+Hears None left old new = Unit {0}
+Hears (Some heard) None old new = ⊥
+Hears (Some heard) (Some left) old new = HearsLines heard left old new
+
 -- None of these lines is a fault.
 abbrev pub HasNoFault : List (List ℕ) → Type 0
 HasNoFault lines = AllByRecursion (λ line. is_fault (kind_of line) ≡ false) lines
@@ -100,3 +113,9 @@ abbrev pub HearsAll : Option (List ℕ) → Option (List ℕ) → Option (List �
 HearsAll None left old new = Unit {0}
 HearsAll (Some octets) left old new =
     (left ≡ Some []) × HasNoFault (whole_lines octets) × Prints old new (whole_lines octets)
+
+-- What was printed is what was heard: all lines of what was left to hear, if a channel is followed,
+-- and otherwise the first of them.
+abbrev pub HearsTo : Bool → Option (List ℕ) → Option (List ℕ) → Option (List ℕ) → Type 0
+HearsTo true heard old new = IfSome heard (λ octets. Prints old new (whole_lines octets))
+HearsTo false heard old new = (left : Option (List ℕ)) × Hears heard left old new

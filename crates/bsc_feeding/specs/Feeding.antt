@@ -3,7 +3,7 @@ use Rattle.std.specs.Prelude.{◌≡◌, ℕ, Bool, true, false, List, [], ◌++
 use Rattle.std.specs.Prelude.{IfSome, option_map}
 use Rattle.std.specs.List.{flat_map, list_any}
 use Rattle.std.specs.Io.KnownBytes.{Appends}
-use Rattle.bsc_feeding.specs.Answers.{HasNoFault, Prints, count_done, with_feed}
+use Rattle.bsc_feeding.specs.Answers.{HasNoFault, HearsTo, Prints, count_done, with_feed}
 use Rattle.bsc_feeding.specs.Commands.{IsGiven, commands_of, is_follow}
 
 -- The contents of what is said to the station and of the output, before and after.
@@ -63,6 +63,17 @@ pub record FeedsWords (words : List (List ℕ)) (input : Option (List ℕ)) (tur
   pub takes_lines : Bool
   pub given : IsGiven words text takes_lines
   pub feeds : Feeds (commands_known takes_lines text input) turned
+
+-- What was printed of a station that was fed with what these words ask for is what was heard of it:
+-- if one of the commands follows a channel, all its lines up to the end; else the first of them.
+pub record HearsWords (words : List (List ℕ)) (input heard old new : Option (List ℕ))
+    : Type 0 where
+  pub text : List ℕ
+  pub takes_lines : Bool
+  pub given : IsGiven words text takes_lines
+  pub sent : List (List ℕ)
+  pub asked : IfSome (commands_known takes_lines text input) (λ all. sent ≡ all)
+  pub hears : HearsTo (list_any is_follow sent) heard old new
 
 -- A station was reached and fed with what these words ask for; what was said to it is known to it
 -- only.

@@ -2,8 +2,8 @@
 
 ghost use Rattle.std.specs.Prelude.{◌≡◌, IfErr, IfOk, IsErrOf, OnOk, true};
 ghost use Rattle.std.specs.Io.KnownBytes.{Appends};
-ghost use Rattle.bsc_feeding.specs.Answers.{EndsInFault, HearsAll, HearsOne, IsAnswer, PrintsOne};
-ghost use Rattle.bsc_feeding.specs.Answers.{TellsNoFault, with_feed};
+ghost use Rattle.bsc_feeding.specs.Answers.{EndsInFault, Hears, HearsAll, HearsOne, IsAnswer};
+ghost use Rattle.bsc_feeding.specs.Answers.{PrintsOne, TellsNoFault, with_feed};
 ghost use Rattle.bsc_feeding.specs.Errors.{IsAnswerError, IsHeardError};
 ghost use Rattle.bsc_feeding.specs.Errors.{heard_error as heard_fault};
 
@@ -28,6 +28,8 @@ pub(crate) fn exchange<A: Allocator, B: BufRead, O: Write, W: Write>(
         (Appends (O.contents said.old) (O.contents said.new) (with_feed command.now)) }
     ensures done { OnOk result
         (IsAnswer Kind.Done (W.contents out.old) (W.contents out.new)) }
+    ensures heard { OnOk result (Hears (B.remaining heard.old) (B.remaining heard.new)
+        (W.contents out.old) (W.contents out.new)) }
     ensures refused { IsErrOf result FeedError.Refused →
         IsAnswer Kind.Refused (W.contents out.old) (W.contents out.new) }
     ensures failed { IfErr result IsAnswerError }
@@ -58,6 +60,8 @@ fn answer<A: Allocator, B: BufRead, W: Write>(
 ) -> Result<(), FeedError>
     ensures done { OnOk result
         (IsAnswer Kind.Done (W.contents out.old) (W.contents out.new)) }
+    ensures heard { OnOk result (Hears (B.remaining heard.old) (B.remaining heard.new)
+        (W.contents out.old) (W.contents out.new)) }
     ensures refused { IsErrOf result FeedError.Refused →
         IsAnswer Kind.Refused (W.contents out.old) (W.contents out.new) }
     ensures failed { IfErr result IsAnswerError }

@@ -1,9 +1,10 @@
 //! The work of `bscline feed`.
 
 ghost use Rattle.std.specs.Prelude.{◌≡◌, IfErr, IfOk, IsErrOf, OnOk, map, string_bytes};
-ghost use Rattle.bsc_feeding.specs.Answers.{EndsInFault};
+ghost use Rattle.bsc_feeding.specs.Answers.{EndsInFault, Hears};
 ghost use Rattle.bsc_feeding.specs.Errors.{IsFeedError, IsLineError};
-ghost use Rattle.bsc_feeding.specs.Feeding.{FeedsWords, SendsSome, commands_known, turned};
+ghost use Rattle.bsc_feeding.specs.Feeding.{FeedsWords, HearsWords, SendsSome, commands_known};
+ghost use Rattle.bsc_feeding.specs.Feeding.{turned};
 
 use crate::FeedError;
 use crate::exchange::follow;
@@ -34,6 +35,9 @@ pub fn feed<A: Allocator + Copy, R: Read, I: Read, O: Write, W: Write>(
         (FeedsWords (map string_bytes words.now) (R.remaining input.old)
         (turned (O.contents said.old) (O.contents said.new)
         (W.contents out.old) (W.contents out.new))) }
+    ensures heard { OnOk result
+        (HearsWords (map string_bytes words.now) (R.remaining input.old)
+        (I.remaining heard.old) (W.contents out.old) (W.contents out.new)) }
     ensures refused { IsErrOf result FeedError.Refused →
         EndsInFault (W.contents out.old) (W.contents out.new) }
     ensures failed { IfErr result (IsFeedError (map string_bytes words.now)) }
@@ -65,6 +69,8 @@ fn send_given<A: Allocator + Copy, R: Read, B: BufRead, O: Write, W: Write>(
         (commands_known given.now.takes_lines given.now.text.items (R.remaining input.old)) follows
         (turned (O.contents said.old) (O.contents said.new)
         (W.contents out.old) (W.contents out.new))) }
+    ensures heard { OnOk result (Hears (B.remaining heard.old) (B.remaining heard.new)
+        (W.contents out.old) (W.contents out.new)) }
     ensures refused { IsErrOf result FeedError.Refused →
         EndsInFault (W.contents out.old) (W.contents out.new) }
     ensures failed { IfErr result IsLineError }

@@ -1,9 +1,9 @@
 //! The commands that are sent.
 
-ghost use Rattle.std.specs.Prelude.{◌≡◌, [], ◌∷◌, false, true, IfErr, IfOk, IsErrOf, Some, map};
-ghost use Rattle.std.specs.Prelude.{option_map};
+ghost use Rattle.std.specs.Prelude.{◌≡◌, [], ◌∷◌, false, true, IfErr, IfOk, IsErrOf, OnOk, Some};
+ghost use Rattle.std.specs.Prelude.{map, option_map};
 ghost use Rattle.std.specs.Str.Lines.{strip_carriage_return};
-ghost use Rattle.bsc_feeding.specs.Answers.{EndsInFault};
+ghost use Rattle.bsc_feeding.specs.Answers.{EndsInFault, Hears};
 ghost use Rattle.bsc_feeding.specs.Commands.{commands_after, commands_of, unless_empty};
 ghost use Rattle.bsc_feeding.specs.Errors.{IsAnswerError, IsInputError, IsLineError};
 ghost use Rattle.bsc_feeding.specs.Errors.{input_error as input_fault};
@@ -29,6 +29,8 @@ pub(crate) fn send_command<A: Allocator, B: BufRead, O: Write, W: Write>(
         SendsSome (Some (commands_of false command.now [])) follows
         (turned (O.contents said.old) (O.contents said.new)
         (W.contents out.old) (W.contents out.new))) }
+    ensures heard { OnOk result (Hears (B.remaining heard.old) (B.remaining heard.new)
+        (W.contents out.old) (W.contents out.new)) }
     ensures refused { IsErrOf result FeedError.Refused →
         EndsInFault (W.contents out.old) (W.contents out.new) }
     ensures failed { IfErr result IsAnswerError }
@@ -56,6 +58,8 @@ pub(crate) fn send_lines<A: Allocator + Copy, L: BufRead, B: BufRead, O: Write, 
         SendsSome (option_map (commands_of true text.now) (L.remaining input.old)) follows
         (turned (O.contents said.old) (O.contents said.new)
         (W.contents out.old) (W.contents out.new))) }
+    ensures heard { OnOk result (Hears (B.remaining heard.old) (B.remaining heard.new)
+        (W.contents out.old) (W.contents out.new)) }
     ensures refused { IsErrOf result FeedError.Refused →
         EndsInFault (W.contents out.old) (W.contents out.new) }
     ensures failed { IfErr result IsLineError }
@@ -99,6 +103,8 @@ fn send_last<A: Allocator + Copy, B: BufRead, O: Write, W: Write>(
         (map strip_carriage_return (unless_empty line.now))))
         follows (turned (O.contents said.old) (O.contents said.new)
         (W.contents out.old) (W.contents out.new))) }
+    ensures heard { OnOk result (Hears (B.remaining heard.old) (B.remaining heard.new)
+        (W.contents out.old) (W.contents out.new)) }
     ensures refused { IsErrOf result FeedError.Refused →
         EndsInFault (W.contents out.old) (W.contents out.new) }
     ensures failed { IfErr result IsAnswerError }
@@ -122,6 +128,8 @@ fn send_line<A: Allocator + Copy, B: BufRead, O: Write, W: Write>(
         SendsSome (Some (commands_after text.now (strip_carriage_return line.now ∷ [])))
         follows (turned (O.contents said.old) (O.contents said.new)
         (W.contents out.old) (W.contents out.new))) }
+    ensures heard { OnOk result (Hears (B.remaining heard.old) (B.remaining heard.new)
+        (W.contents out.old) (W.contents out.new)) }
     ensures refused { IsErrOf result FeedError.Refused →
         EndsInFault (W.contents out.old) (W.contents out.new) }
     ensures failed { IfErr result IsAnswerError }

@@ -1,7 +1,11 @@
 -- Shows that what is told after the last command is printed after its answer.
+use Rattle.std.proofs.Common.{arith, subst, sym, ◌∙◌}
+use Rattle.std.proofs.lemmas.Grind.{common_steps}
+use Rattle.bsc_feeding.specs.Answers.{HearsTo}
 use Rattle.bsc_feeding.specs.Feeding.{commands_known}
 use Rattle.bsc_feeding.proofs.Errors.{ok_moved}
 use Rattle.bsc_feeding.proofs.Sent.{feeds_followed, feeds_plain, some_fault}
+use Rattle.bsc_feeding.proofs.Told.{hears_ended, hears_left}
 use Rattle.bsc_feeding.proofs.feeding.feed.Goals as goal
 
 pub returns-then-follows-clause-fed : goal.returns-then-follows-clause-fed
@@ -43,4 +47,49 @@ returns-clause-fed g c = record {
       (g.O.Write.contents c.args.said.now) (g.O.Write.contents c.send_given.new.said)
       (g.W.Write.contents c.args.out.now) (g.W.Write.contents c.send_given.new.out)
       (rw c.if-follows.false at c.in_ok-follows.ensures.sent);
+}
+
+pub returns-then-follows-clause-heard : goal.returns-then-follows-clause-heard
+returns-then-follows-clause-heard g c =
+    ok_moved c.follow.result
+    (λ hears. record {
+      text = c.in_ok-given.given.text.items;
+      takes_lines = c.in_ok-given.given.takes_lines;
+      given = c.in_ok-given.ensures.given;
+      sent = c.in_ok-follows.ensures.sent.sent;
+      asked = c.in_ok-follows.ensures.sent.asked;
+      hears =
+          subst (λ b. HearsTo b (g.I.Read.remaining c.args.heard.now)
+          (g.W.Write.contents c.args.out.now) (g.W.Write.contents c.follow.new.out))
+          (sym c.if-follows.true ∙ c.in_ok-follows.ensures.sent.follow)
+          (hears_ended _ _ _ (g.I.Read.remaining c.args.heard.now) (g.W.Write.contents c.args.out.now)
+          (g.W.Write.contents c.send_given.new.out) (g.W.Write.contents c.follow.new.out)
+          (grind (
+            arith,
+            common_steps,
+            c.in-Ok.ensures.inner,
+            c.in-Ok.ensures.empty,
+            c.in-Ok.ensures.capacity,
+          )) c.in_ok-follows.ensures.heard hears);
+    }) c.follow.ensures.heard
+
+pub returns-clause-heard : goal.returns-clause-heard
+returns-clause-heard g c = record {
+  text = c.in_ok-given.given.text.items;
+  takes_lines = c.in_ok-given.given.takes_lines;
+  given = c.in_ok-given.ensures.given;
+  sent = c.in_ok-follows.ensures.sent.sent;
+  asked = c.in_ok-follows.ensures.sent.asked;
+  hears =
+      subst (λ b. HearsTo b (g.I.Read.remaining c.args.heard.now)
+      (g.W.Write.contents c.args.out.now) (g.W.Write.contents c.send_given.new.out))
+      (sym c.if-follows.false ∙ c.in_ok-follows.ensures.sent.follow)
+      (hears_left _ _ (g.I.Read.remaining c.args.heard.now) (g.W.Write.contents c.args.out.now)
+      (g.W.Write.contents c.send_given.new.out) (grind (
+        arith,
+        common_steps,
+        c.in-Ok.ensures.inner,
+        c.in-Ok.ensures.empty,
+        c.in-Ok.ensures.capacity,
+      )) c.in_ok-follows.ensures.heard);
 }

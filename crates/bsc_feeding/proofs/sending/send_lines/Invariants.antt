@@ -1,4 +1,5 @@
--- The commands of the lines so far were sent.
+-- The commands of the lines so far were sent, and what was printed is what was heard.
+use Rattle.bsc_feeding.specs.Answers.{Hears}
 use Rattle.bsc_feeding.proofs.Sent.{HasSentOf}
 use Rattle.bsc_feeding.proofs.sending.send_lines.Given as goal
 
@@ -6,4 +7,6 @@ abbrev pub invariant-lines : goal.invariant-lines
 invariant-lines g l =
     HasSentOf (g.L.Read.remaining l.fn.input) (g.L.Read.remaining l.input) l.text l.follows
     (g.O.Write.contents l.fn.said) (g.O.Write.contents l.said)
+    (g.W.Write.contents l.fn.out) (g.W.Write.contents l.out)
+    × Hears (g.B.Read.remaining l.fn.heard) (g.B.Read.remaining l.heard)
     (g.W.Write.contents l.fn.out) (g.W.Write.contents l.out)
