@@ -15,8 +15,10 @@ use Rattle.bsc_script.specs.Actions.{NumberedEvent}
 use Rattle.bsc_script.specs.Script.{events_of}
 use Rattle.bsc_script.specs.declared.script.ScriptError.{ScriptError}
 use Rattle.bsc_script.specs.declared.script.ScriptError.TheVariants.{NotAnEvent}
+use Rattle.bsc_run.specs.Causes.{IsScriptEnded}
 use Rattle.bsc_run.specs.Crossing.{Streams, connection_count}
-use Rattle.bsc_run.specs.Plays.{Held}
+use Rattle.bsc_run.specs.Faults.{TellsLine}
+use Rattle.bsc_run.specs.Plays.{Held, holding}
 use Rattle.bsc_run.specs.Runs.{RunsScript}
 use Rattle.bsc_run.specs.declared.error.RunError.{RunError}
 use Rattle.bsc_run.specs.declared.error.RunError.TheVariants.{Refused}
@@ -118,16 +120,40 @@ module _ {S : Type 0} (streams : Streams S) (tracing : Bool) where
   IsRunDone true paths held holds = IsChecked paths held holds
   IsRunDone false paths held holds = HasRun paths (Ok tt) held holds
 
+  -- The events were run on a new line with the configuration, over a cable with a connection for
+  -- each terminal, and this error ended the run, for its cause. A socket fault tells the line of an
+  -- event for which octets cross the cable, which is faulty now. What the writers hold went from
+  -- `held` to `holds`.
+  pub record IsBrokenOff (config : ConfigValue) (steps : List NumberedEvent) (error : RunError)
+      (held holds : Held) : Type 0 where
+    pub before : CableValue S
+    pub after : CableValue S
+    pub connections : connection_count before ≡ length config.terminals
+    pub socket : TellsLine steps after.fault (Err error)
+    pub cause : IsScriptEnded streams tracing config steps
+        (record { cable = before; held = held }) error (record { cable = after; held = holds })
+
   -- What an error says that ended the run of a script. If an event was refused, the events before
-  -- it were run and the report was printed.
+  -- it were run and the report was printed. After any other error there is no report, and the error
+  -- has a cause.
   abbrev pub HasStopped : RunningError → ConfigValue → List NumberedEvent → Held → Held
       → Type 0
   HasStopped (Run (Refused line why)) config steps held holds =
       RunsOnCable config steps (Err (Refused line why)) held holds
-  HasStopped (Run error) config steps held holds = Unit {0}
+  HasStopped (Run error) config steps held holds = IsBrokenOff config steps error held holds
   HasStopped Sockets config steps held holds = Unit {0}
   HasStopped Memory config steps held holds = Unit {0}
   HasStopped error config steps held holds = ⊥
+
+  -- Both texts were read, and this error ended the run of the events, for its cause. The trace went
+  -- from that of `held` to `traced`.
+  pub record HasBrokenOff (paths : TextPaths) (error : RunError) (held : Held)
+      (traced : Option (List ℕ)) : Type 0 where
+    pub config : ConfigValue
+    pub steps : List NumberedEvent
+    pub read : AreRead paths config steps
+    pub printed : Option (List ℕ)
+    pub broke : IsBrokenOff config steps error held (holding printed traced)
 
   -- What an error of a run says. The texts are read in order, then the configuration is checked,
   -- and then the script; only then, and only if more is wanted than a check, events are run.
@@ -139,7 +165,8 @@ module _ {S : Type 0} (streams : Streams S) (tracing : Bool) where
   HasFailed Sockets check paths held holds = check ≡ false
   HasFailed (Run (Refused line why)) check paths held holds =
       (check ≡ false) × HasRun paths (Err (Refused line why)) held holds
-  HasFailed (Run error) check paths held holds = check ≡ false
+  HasFailed (Run error) check paths held holds =
+      (check ≡ false) × HasBrokenOff paths error held holds.trace
   HasFailed Memory check paths held holds = Unit {0}
 
 -- Of what work a run shows the progress: of its events, or of none.
