@@ -63,8 +63,8 @@ without_last (part ∷ next ∷ parts) = part ∷ without_last (next ∷ parts)
 abbrev pub whole_lines : List ℕ → List (List ℕ)
 whole_lines octets = without_last (parts_of octets)
 
--- What was printed is what was heard: the first lines of what was left to hear, in order. The others
--- are left.
+-- What was printed is what was heard: the first lines of what was left to hear, in order. The
+-- others are left.
 pub record HearsLines (heard left : List ℕ) (old new : Option (List ℕ)) : Type 0 where
   pub told : List (List ℕ)
   pub whole : parts_of heard ≡ told ++ parts_of left
@@ -106,8 +106,8 @@ pub record EndsInFault (old new : Option (List ℕ)) : Type 0 where
   pub fault : is_fault (kind_of last) ≡ true
   pub printed : Prints old new (told ++ last ∷ [])
 
--- All that was left to hear was heard to its end, and each line of it was printed, in order; none is
--- a fault. Nothing is said where it is not known what was left.
+-- All that was left to hear was heard to its end, and each line of it was printed, in order; none
+-- is a fault. Nothing is said where it is not known what was left.
 abbrev pub HearsAll : Option (List ℕ) → Option (List ℕ) → Option (List ℕ) → Option (List ℕ)
     → Type 0
 HearsAll None left old new = Unit {0}
