@@ -1,5 +1,5 @@
--- When progress is shown.
-use Rattle.std.specs.Prelude.{Bool, false, Option, None, Some}
+-- When progress is shown, and of what work.
+use Rattle.std.specs.Prelude.{◌≡◌, Bool, false, IfSome, Option, None, Some}
 use Rattle.bsc_progress.specs.declared.counts.Work.{Work}
 use Rattle.bsc_progress.specs.declared.progress_line.ProgressLine.{ProgressLine}
 
@@ -11,3 +11,7 @@ is_shown is_terminal (Some work) = is_terminal
 -- Whether the line of the progress is shown.
 abbrev pub shows : {T D : Type 0} → ProgressLine T D → Bool
 shows line = line.on
+
+-- What the line of the progress counts as done is this work, if there is one.
+abbrev pub IsOf : {T D : Type 0} → Option Work → ProgressLine T D → Type 0
+IsOf work line = IfSome work (λ is. line.work ≡ is)

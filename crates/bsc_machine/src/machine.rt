@@ -1,7 +1,7 @@
 //! The machine of a runtime: its files and its loopback address.
 
 ghost use Rattle.std.specs.Prelude.{◌≡◌};
-ghost use Rattle.bsc_machine.specs.Showing.{is_shown, shows};
+ghost use Rattle.bsc_machine.specs.Showing.{IsOf, is_shown, shows};
 
 use crate::screen::{Progress, Screen, progress};
 use bsc_carrier::Cable;
@@ -74,7 +74,8 @@ impl<'a, R: AllocGlobal + Clock + Eprint + Net> Cables for Machine<'a, R> {
     type Meter = Progress<'a, R>;
 
     fn meter(&mut self, work: Option<Work>) -> Progress<'a, R>
-        ensures { shows result ≡ is_shown self.old.screen.now.is_terminal work }
+        ensures shown { shows result ≡ is_shown self.old.screen.now.is_terminal work }
+        ensures counted { IsOf work result }
     {
         progress(self.runtime, self.screen, work)
     }

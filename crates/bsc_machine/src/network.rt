@@ -2,7 +2,7 @@
 
 ghost use Rattle.std.specs.Prelude.{◌≡◌, length, IfOk};
 ghost use Rattle.bsc_machine.specs.Connections.{AreSettings, ListensOn, count_at};
-ghost use Rattle.bsc_machine.specs.Showing.{is_shown, shows};
+ghost use Rattle.bsc_machine.specs.Showing.{IsOf, is_shown, shows};
 
 use crate::connecting::{PeerAt, connect_within};
 use crate::errors::Errors;
@@ -134,7 +134,8 @@ impl<'a, R: AllocGlobal + Clock + Eprint + Filing + Net> Network for Machine<'a,
     }
 
     fn timer(&mut self, work: Option<Work>) -> Progress<'a, R>
-        ensures { shows result ≡ is_shown self.old.screen.now.is_terminal work }
+        ensures shown { shows result ≡ is_shown self.old.screen.now.is_terminal work }
+        ensures counted { IsOf work result }
     {
         progress(self.runtime, self.screen, work)
     }

@@ -1,7 +1,7 @@
 //! The line that shows progress on a terminal, which is standard error, and the clock of it.
 
 ghost use Rattle.std.specs.Prelude.{◌≡◌};
-ghost use Rattle.bsc_machine.specs.Showing.{is_shown, shows};
+ghost use Rattle.bsc_machine.specs.Showing.{IsOf, is_shown, shows};
 
 use bsc_progress::{ProgressLine, Timer, Work, write_cleared};
 use std::cell::Cell;
@@ -102,7 +102,8 @@ pub(crate) fn progress<'a, R: Clock + Eprint>(
     screen: &'a Screen,
     work: Option<Work>,
 ) -> Progress<'a, R>
-    ensures { shows result ≡ is_shown screen.now.is_terminal work }
+    ensures shown { shows result ≡ is_shown screen.now.is_terminal work }
+    ensures counted { IsOf work result }
 {
     let start = match Instant::now(runtime) {
         Ok(start) => Some(start),
