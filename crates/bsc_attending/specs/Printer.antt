@@ -5,8 +5,10 @@ use Rattle.std.specs.Prelude.{Option, Some, None, is_some, Result, Ok, Err}
 use Rattle.std.specs.Io.KnownBytes.{Appends}
 use Rattle.bsc_connections.specs.declared.awaited.LiveError.{LiveError}
 use Rattle.bsc_connections.specs.Histories.{Happening}
+use Rattle.bsc_control.specs.Control.{ControlValue}
 use Rattle.bsc_monitor.specs.Arrivals.{arrived_on}
 use Rattle.bsc_monitor.specs.Following.{AreSomeCounted, left_after, some_lines}
+use Rattle.bsc_monitor.specs.LineTerminal.{LineTerminalValue}
 use Rattle.bsc_monitor.specs.declared.party.Party as party_of
 use Rattle.bsc_monitor.specs.declared.record_lines.RecordLines.{RecordLines}
 use Rattle.bsc_print.specs.declared.error.PrintError.{PrintError}
@@ -15,6 +17,8 @@ use Rattle.bsc_report.specs.Channels.{each_below}
 use Rattle.bsc_attending.specs.declared.error.AttendingError.{AttendingError}
 use Rattle.bsc_attending.specs.declared.error.AttendingError.TheVariants as attending
 use Rattle.bsc_attending.specs.declared.following.Following.{Following}
+use Rattle.bsc_attending.specs.declared.preparing.Prepared.{Prepared}
+use Rattle.bsc_attending.specs.declared.preparing.Prepared.TheVariants as prepared
 use Rattle.bsc_attending.specs.declared.printer.Printer.{Printer}
 
 -- How records are printed, how many are of each channel, what the output holds, as far as that is
@@ -115,6 +119,12 @@ module _ {P M : Type 0} (party : party_of.Ghosts P M) (station : P) where
     still : {old new : Followed} → new ≡ old → Follows old new
     on : {old mid new : Followed} {most : ℕ} {more : Bool} → Follows old mid
         → Turn most more mid new → Follows old new
+
+-- So it is of a prepared station.
+abbrev pub PreparedAllPrinted : {Y Z : Type 0} → party_of.Ghosts ControlValue Y
+    → party_of.Ghosts LineTerminalValue Z → Prepared → Followed → Type 0
+PreparedAllPrinted control terminal (prepared.Control c) f = AreAllPrinted control c f
+PreparedAllPrinted control terminal (prepared.Terminal l) f = AreAllPrinted terminal l f
 
 -- What is known of a station with memory of type Z, what an inner monitor does when it is told of
 -- something, and what an output holds.

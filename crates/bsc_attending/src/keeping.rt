@@ -12,6 +12,7 @@ use crate::connections::Attend;
 use crate::following::Following;
 use crate::preparing::Prepared;
 use crate::printer::Printer;
+use crate::running::Running;
 use crate::{AttendingError, Readiness, Stores};
 use bsc_bid::Station;
 use bsc_connections::{LiveError, Monitor};
@@ -193,7 +194,9 @@ pub(crate) fn print_rest<K: Store + Drop, W: Write, D: Write + Drop, R: Readines
     printer: &mut Printer<'_, W, D, R>,
     keeper: &mut Keeper<K>,
 ) -> Result<(), AttendingError>
-    ensures { IfErr result IsCutShort }
+    ensures printed { IfOk result (λ _. ⟦<Prepared as Running>⟧.are_all_printed prepared.now
+        (followed_of W.contents printer.new)) }
+    ensures cut { IfErr result IsCutShort }
 {
     match prepared {
         Prepared::Control { control } => print_all(control, printer, keeper),

@@ -1,6 +1,7 @@
 //! What it means that a prepared station runs.
 
 ghost use Rattle.std.specs.Prelude.{Bool};
+ghost use Rattle.bsc_attending.specs.Printer.{Followed};
 ghost use Rattle.bsc_attending.specs.Runs.{StationParts};
 ghost use Rattle.bsc_keeping.specs.declared.keeper.Keeper.{Keeper as KeeperValue};
 ghost use Rattle.bsc_kept.specs.declared.store.Store as store_of;
@@ -26,9 +27,13 @@ pub(crate) trait Running {
     /// after.
     ghost runs_kept: { (K : Type 0) → store_of.Ghosts K → Bool → Self → KeeperValue K → Type 0
         → Self → Type 0 };
+
+    /// Every record that arrived at it is printed, if this much is.
+    ghost are_all_printed: { Self → Followed → Type 0 };
 }
 
 impl Running for Prepared {
+    ghost use Rattle.bsc_attending.specs.Printer.{PreparedAllPrinted};
     ghost use Rattle.bsc_attending.specs.Runs.{PreparedRunsKept, PreparedRunsOver, Runs};
     ghost use Rattle.bsc_attending.specs.Runs.{station_parts};
 
@@ -58,4 +63,7 @@ impl Running for Prepared {
         ⟦<LineTerminal<Global> as Feeds>⟧.offers ⟦<LineTerminal<Global> as Feeds>⟧.releases
         ⟦<LineTerminal<Global> as Feeds>⟧.readies ⟦<LineTerminal<Global> as Feeds>⟧.urges)
         is_fed store) };
+
+    ghost are_all_printed = { PreparedAllPrinted ⟦<Control<Global> as Party>⟧
+        ⟦<LineTerminal<Global> as Party>⟧ };
 }
