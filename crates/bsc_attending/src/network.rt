@@ -1,6 +1,6 @@
 //! The connections, the clock, the trace and the store that a station needs from the machine.
 
-ghost use Rattle.std.specs.Prelude.{◌≡◌, ◌≤◌, ◌⊎◌, ℤ, Option};
+ghost use Rattle.std.specs.Prelude.{◌≡◌, ◌≤◌, ◌⊎◌, ℤ, Bool, Option};
 
 use crate::Wanted;
 use bsc_clients::{ClientsError, ServedAt};
@@ -70,6 +70,10 @@ pub trait Network {
     /// What tells whether standard output takes more.
     type Readiness: Readiness + Drop;
 
+    /// Whether this may be the writer for the trace of what happens, if that is traced, or if it is
+    /// not.
+    ghost traces: { Bool → Self.Trace → Type 0 };
+
     /// Makes the connections that a station asks for.
     fn open(
         &mut self,
@@ -90,7 +94,8 @@ pub trait Network {
 
     /// Returns the writer for the trace, which is standard error. If what happens is not traced,
     /// what it does not take is lost, and is no fault.
-    fn trace(&mut self, is_traced: bool) -> Self::Trace;
+    fn trace(&mut self, is_traced: bool) -> Self::Trace
+        ensures { traces is_traced result };
 
     /// Returns what tells whether standard output takes more.
     fn readiness(&mut self) -> Self::Readiness;

@@ -88,6 +88,8 @@ fn begin<'a, R: AllocGlobal + Clock + Eprint + Net>(
 }
 
 impl<'a, R: AllocGlobal + Clock + Eprint + Filing + Net> Network for Machine<'a, R> {
+    ghost use Rattle.std.specs.Prelude.{◌≡◌};
+
     type Reader = Reading;
 
     type Writer = Writing<'a, R, Global>;
@@ -101,6 +103,8 @@ impl<'a, R: AllocGlobal + Clock + Eprint + Filing + Net> Network for Machine<'a,
     type Trace = Errors<'a, R>;
 
     type Readiness = OutputReadiness;
+
+    ghost traces = { λ is_traced errors. errors.may_fail ≡ is_traced };
 
     fn open(
         &mut self,

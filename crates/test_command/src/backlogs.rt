@@ -1,8 +1,8 @@
 //! Stations that begin with many records that are kept and not printed.
 
 use crate::cases::{Case, Due, difference};
-use crate::kept_sizes::{arrived, is_due, keep, to};
-use crate::kept_stations::{DONE, ENDED, STATUS, first_wrong_on};
+use crate::kept_sizes::{arrived, from, is_due, keep, to};
+use crate::kept_stations::{DONE, ENDED, SENT, STATUS, first_wrong_on};
 use crate::machine::{SILENT, Scene};
 use crate::record::Record;
 use std::test::Fail;
@@ -102,5 +102,56 @@ fn a_backlog_that_is_not_flushed_is_not_printed(rt: HostRuntime) -> Result<(), F
     let record = Record::new(rt.alloc());
     keep(&record, 100, &[arrived(to(b"a")?, b"HI")?])?;
     assert_eq!(rt; first_wrong_on(rt.alloc(), UNSYNCED, &record), None);
+    Ok(())
+}
+
+/// The words of the control station with its store, which ends after an idle round.
+const CONTROL: &[&str] = &[
+    "bscline",
+    "station",
+    "line.toml",
+    "--control",
+    "--listen",
+    "h:1",
+    "--shared",
+    "--idle-rounds",
+    "1",
+    "--store",
+    "control",
+];
+
+/// A record arrives, and the output is never ready when it is asked.
+const NEVER_READY: Scene = Scene {
+    pieces: SENT,
+    steps: b"trrrrrrrr",
+    unready: u32::MAX,
+    ..SILENT
+};
+
+/// The report of the control station after that.
+const REPORT: &str = "from 0: spooled 101\nto 0: offered 0, known 0\n\
+from 1: spooled 0\nto 1: offered 0, known 0\nslowest answer: 0% of the time-out\ntrusted\n";
+
+/// What its store says then.
+const ALL: Case = Case {
+    words: Some(&["store", "control", "status"]),
+    due: Due {
+        out: "from 0: arrived 101, printed 101\nto 0: offered 0, known 0, in doubt 0\n\
+            from 1: arrived 0, printed 0\nto 1: offered 0, known 0, in doubt 0\n",
+        ..DONE
+    },
+    ..STATUS
+};
+
+/// A control station begins with a hundred records that are not printed, and one more arrives. Its
+/// output is not ready as long as it runs: it prints all of them once it has ended.
+#[test]
+fn a_control_station_prints_its_backlog_at_its_end(rt: HostRuntime) -> Result<(), Fail> {
+    let record = Record::new(rt.alloc());
+    keep(&record, 100, &[arrived(from(b"A")?, b"HI")?])?;
+    let mut out = "from 0: 4849\n".repeat(rt.alloc(), 101)?;
+    out.push_str(REPORT)?;
+    assert!(rt; is_due(rt.alloc(), CONTROL, "", (NEVER_READY, &record), (&out, 0))?);
+    assert_eq!(rt; difference(rt.alloc(), &ALL, &record), None);
     Ok(())
 }

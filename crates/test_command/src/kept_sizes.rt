@@ -15,7 +15,7 @@ use std::alloc::Global;
 use std::test::Fail;
 
 /// The channel from the terminal with this address.
-fn from(address: &[u8]) -> Result<Channel, Fail> {
+pub(crate) fn from(address: &[u8]) -> Result<Channel, Fail> {
     let terminal = Address::read(address)?;
     Ok(Channel::From { terminal })
 }

@@ -292,7 +292,7 @@ const DOUBTED: &[Case] = &[
 
 /// What a control station hears that polls terminal 0 once, which has a record to send, and then
 /// both terminals.
-const SENT: &[&[u8]] = &[
+pub(crate) const SENT: &[&[u8]] = &[
     b"\x00\x09\x16\x16\x02\xC8\x49\x19\x83\x9B\xFF",
     b"\x00\x04\x16\x16\x04\xFF",
     b"\x00\x04\x16\x16\x04\xFF",

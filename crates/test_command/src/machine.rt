@@ -380,6 +380,8 @@ impl<'a> Network for Machine<'a> {
 
     type Readiness = Rooms<'a>;
 
+    ghost traces = { λ _ _. Unit {0} };
+
     fn open(
         &mut self,
         wanted: &Wanted<'_>,
