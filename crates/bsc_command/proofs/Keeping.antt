@@ -266,33 +266,6 @@ module _ {S : Type 0} (contents remaining : S → Option (List ℕ)) where
   }
   run_kept false tracing paths a b c d e p k = has_run_kept tracing paths (Ok tt) a b c d e p k
 
-  done_kept : (asked : AskedValue) (input a b c : Option (List ℕ))
-      → IsDone contents remaining asked input a b → Keeps b c
-      → IsDone contents remaining asked input a c
-  done_kept names None a b c p k = p
-  done_kept names (Some octets) a b c p k = input_kept Name octets a b c p k
-  done_kept (name text) input a b c p k = name_kept (octets_of text) a b c p k
-  done_kept show None a b c p k = p
-  done_kept show (Some octets) a b c p k = input_kept Units octets a b c p k
-  done_kept (chart words) input a b c p k = charted_kept words input a b c p k
-  done_kept (run config script check trace quiet) input a b c p k = record {
-    told = p.told;
-    tells = p.tells;
-    done =
-        run_kept check trace (record { config = config; script = script; input = input }) a b c
-        p.told p.tells p.done k;
-  }
-  done_kept (station words) input a b c p k = p
-  done_kept (feed address command) input a b c p k = fed_kept command input a b c p k
-  done_kept (store words) input a b c p k = p
-
-  pub obeyed_kept : (words : List Text) (input a b c : Option (List ℕ))
-      → IsObeyed contents remaining words input a b → Keeps b c
-      → IsObeyed contents remaining words input a c
-  obeyed_kept words input a b c (inl help) k = inl help
-  obeyed_kept words input a b c (inr p) k =
-      inr (p.0, done_kept (asked_of words) input a b c p.1 k)
-
   failed_kept : (f : RunningError) (check tracing : Bool) (paths : TextPaths)
       (a b c d e : Option (List ℕ))
       → HasFailed (streams_of contents remaining) tracing f check paths (holding a d) (holding b e)
@@ -310,18 +283,52 @@ module _ {S : Type 0} (contents remaining : S → Option (List ℕ)) where
       (p.0, has_run_kept tracing paths (Err (run_error.Refused line why)) a b c d e p.1 k)
   failed_kept running.Memory check tracing paths a b c d e p k = p
 
+module _ {S D : Type 0} (contents remaining : S → Option (List ℕ)) (held : D → Option (List ℕ))
+    (traces : Bool → D → Type 0) where
+  done_kept : (asked : AskedValue) (input a b c : Option (List ℕ))
+      → IsDone contents remaining held traces asked input a b → Keeps b c
+      → IsDone contents remaining held traces asked input a c
+  done_kept names None a b c p k = p
+  done_kept names (Some octets) a b c p k = input_kept Name octets a b c p k
+  done_kept (name text) input a b c p k = name_kept (octets_of text) a b c p k
+  done_kept show None a b c p k = p
+  done_kept show (Some octets) a b c p k = input_kept Units octets a b c p k
+  done_kept (chart words) input a b c p k = charted_kept words input a b c p k
+  done_kept (run config script check trace quiet) input a b c p k = record {
+    told = p.told;
+    is_traced = p.is_traced;
+    tells = p.tells;
+    done =
+        run_kept contents remaining check trace
+        (record { config = config; script = script; input = input }) a b c
+        (held p.told) (held p.tells) p.done k;
+  }
+  done_kept (station words) input a b c p k = p
+  done_kept (feed address command) input a b c p k = fed_kept command input a b c p k
+  done_kept (store words) input a b c p k = p
+
+  pub obeyed_kept : (words : List Text) (input a b c : Option (List ℕ))
+      → IsObeyed contents remaining held traces words input a b → Keeps b c
+      → IsObeyed contents remaining held traces words input a c
+  obeyed_kept words input a b c (inl help) k = inl help
+  obeyed_kept words input a b c (inr p) k =
+      inr (p.0, done_kept (asked_of words) input a b c p.1 k)
+
   failed_with_kept : (f : RunningError) (check trace : Bool) (paths : TextPaths)
-      (a b c : Option (List ℕ)) → HasFailedWith contents remaining f check trace paths a b
-      → Keeps b c → HasFailedWith contents remaining f check trace paths a c
+      (a b c : Option (List ℕ)) → HasFailedWith contents remaining held traces f check trace paths a b
+      → Keeps b c → HasFailedWith contents remaining held traces f check trace paths a c
   failed_with_kept f check trace paths a b c p k = record {
     told = p.told;
+    is_traced = p.is_traced;
     tells = p.tells;
-    says = failed_kept f check trace paths a b c p.told p.tells p.says k;
+    says =
+        failed_kept contents remaining f check trace paths a b c (held p.told) (held p.tells) p.says
+        k;
   }
 
   failed_run_kept : (f : Fault) (check trace : Bool) (paths : TextPaths)
-      (a b c : Option (List ℕ)) → HasFailedRun contents remaining f check trace paths a b
-      → Keeps b c → HasFailedRun contents remaining f check trace paths a c
+      (a b c : Option (List ℕ)) → HasFailedRun contents remaining held traces f check trace paths a b
+      → Keeps b c → HasFailedRun contents remaining held traces f check trace paths a c
   failed_run_kept (fault.Naming error) check trace paths a b c p k = tt
   failed_run_kept (fault.Charting error) check trace paths a b c p k = tt
   failed_run_kept (fault.Running error) check trace paths a b c p k =
@@ -335,8 +342,8 @@ module _ {S : Type 0} (contents remaining : S → Option (List ℕ)) where
       failed_with_kept running.BothStandardInput check trace paths a b c p k
 
   work_failed_kept : (asked : AskedValue) (f : Fault) (given a b c : Option (List ℕ))
-      → HasFailedAs contents remaining asked f given a b → Keeps b c
-      → HasFailedAs contents remaining asked f given a c
+      → HasFailedAs contents remaining held traces asked f given a b → Keeps b c
+      → HasFailedAs contents remaining held traces asked f given a c
   work_failed_kept names f given a b c p k = lines_kept f Name given a b c p k
   work_failed_kept (name text) f given a b c p k = p
   work_failed_kept show f given a b c p k = lines_kept f Units given a b c p k
@@ -349,8 +356,8 @@ module _ {S : Type 0} (contents remaining : S → Option (List ℕ)) where
   work_failed_kept (store words) f given a b c p k = p
 
   pub fault_kept : (words : List Text) (f : Fault) (given a b c : Option (List ℕ))
-      → IsFaultAt contents remaining words f given a b → Keeps b c
-      → IsFaultAt contents remaining words f given a c
+      → IsFaultAt contents remaining held traces words f given a b → Keeps b c
+      → IsFaultAt contents remaining held traces words f given a c
   fault_kept words f given a b c (inl usage) k = inl usage
   fault_kept words f given a b c (inr (inl printing)) k = inr (inl printing)
   fault_kept words f given a b c (inr (inr p)) k =

@@ -2,7 +2,9 @@ pub mod Charts
 pub mod Feeding
 pub mod Keeping
 pub mod Outcomes
+pub mod Reports
 pub mod Stations
 pub mod Stores
 pub mod Traced
 pub mod Words
+pub mod Statuses

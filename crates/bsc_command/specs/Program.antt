@@ -1,13 +1,14 @@
 -- The output of the program for its work.
-use Rattle.std.specs.Prelude.{◌≡◌, ◌⊎◌, ℕ, Bool, List, [], Option, None, IfSome, IsOkAnd, IsSomeAnd}
-use Rattle.std.specs.Prelude.{Ok, Err, Some}
+use Rattle.std.specs.Prelude.{◌≡◌, ◌⊎◌, ℕ, Bool, List, [], Option, None, IfSome, IsSomeAnd}
+use Rattle.std.specs.Prelude.{Ok, Err, Some, true}
 use Rattle.clap.specs.Words.{HasKind, Text as WordText, kind_of}
 use Rattle.clap.specs.declared.error.Error.{Error}
 use Rattle.bsc_asked.specs.ChartWords.{AskedChart}
 use Rattle.bsc_asked.specs.StationWords.{AskedWords}
 use Rattle.bsc_asked.specs.StoreWords.{AskedStore}
 use Rattle.bsc_asked.specs.Asked.{AskedValue, names, name, show, chart, run, station, feed, store}
-use Rattle.bsc_attending.specs.Outcomes.{IsAnswer}
+use Rattle.bsc_attending.specs.Outcomes.{IsAnswer, IsReported}
+use Rattle.bsc_attending.specs.declared.error.AttendingError.{AttendingError}
 use Rattle.bsc_attending.specs.declared.error.AttendingError.TheVariants as attending
 use Rattle.bsc_chart.specs.Named.{ChartsNamed, FailsChart, HasFailedTrace, IsCharted, file_of}
 use Rattle.bsc_chart.specs.declared.named.TraceError.{TraceError}
@@ -36,7 +37,7 @@ use Rattle.bsc_command.specs.declared.fault.Fault.TheVariants.{Storing}
 use Rattle.bsc_command.specs.declared.fault.Fault.TheVariants.{Usage}
 use Rattle.bsc_command.specs.Faults.{IsChartingFault, IsNameFault, IsNamesFault}
 use Rattle.bsc_command.specs.Faults.{IsPrintFault, IsRunFault, IsStationFault, IsStoreFault}
-use Rattle.bsc_command.specs.Faults.{IsFeedFault, IsTraceFault}
+use Rattle.bsc_command.specs.Faults.{IsAttendingFault, IsFeedFault, IsTraceFault}
 use Rattle.bsc_command.specs.Faults.{options_kind}
 
 -- What a fault of naming one transmission says: its text is not hexadecimal.
@@ -115,16 +116,35 @@ abbrev pub IfNamed : AskedValue → Type 0 → Type 0
 IfNamed (chart words) Holds = (path : List ℕ) → file_of words.file ≡ Some path → Holds
 IfNamed asked Holds = Unit {0}
 
+-- For the writer of the output, `held` is what was written to it.
+module _ {W : Type 0} (held : W → Option (List ℕ)) where
+  -- If this work attends a station, the station ended, and what it prints at its end was the last
+  -- that was written.
+  abbrev pub IsReportedOn : AskedValue → Option (List ℕ) → W → Type 0
+  IsReportedOn (station words) input new = IsReported held words input (Ok tt) new
+  IsReportedOn asked input new = Unit {0}
+
+  -- If this work attends a station, the fault is that of an error with which the station did not
+  -- end, or that is the result of one whose report was the last that was written.
+  abbrev pub HasFailedReport : AskedValue → Fault → Option (List ℕ) → W → Type 0
+  HasFailedReport (station words) fault input new =
+      (error : AttendingError) × IsAttendingFault error fault
+      × IsReported held words input (Err error) new
+  HasFailedReport asked fault input new = Unit {0}
+
 -- For the streams of a run's cable, `contents` is what was written to a stream, and `remaining` is
--- what is left to read from it.
-module _ {S : Type 0} (contents remaining : S → Option (List ℕ)) where
-  -- The run was done. `told` and `tells` are what the writer of its trace held before and after it.
+-- what is left to read from it. For the writer of its trace, `held` is what was written to it, and
+-- `traces` which writer may be that of what is traced, or of what is not.
+module _ {S D : Type 0} (contents remaining : S → Option (List ℕ)) (held : D → Option (List ℕ))
+    (traces : Bool → D → Type 0) where
+  -- The run was done. `told` and `tells` are the writer of its trace before and after it.
   pub record HasDoneRun (check trace : Bool) (paths : TextPaths) (old new : Option (List ℕ))
       : Type 0 where
-    pub told : Option (List ℕ)
-    pub tells : Option (List ℕ)
-    pub done : IsRunDone (streams_of contents remaining) trace check paths (holding old told)
-        (holding new tells)
+    pub told : D
+    pub is_traced : traces true told
+    pub tells : D
+    pub done : IsRunDone (streams_of contents remaining) trace check paths
+        (holding old (held told)) (holding new (held tells))
 
   -- The work succeeded with this input, and the contents of the writer went from `old` to `new`.
   abbrev pub IsDone : AskedValue → Option (List ℕ) → Option (List ℕ) → Option (List ℕ) → Type 0
@@ -142,10 +162,11 @@ module _ {S : Type 0} (contents remaining : S → Option (List ℕ)) where
   -- The run failed with this error. `told` and `tells` are as above.
   pub record HasFailedWith (error : RunningError) (check trace : Bool) (paths : TextPaths)
       (old new : Option (List ℕ)) : Type 0 where
-    pub told : Option (List ℕ)
-    pub tells : Option (List ℕ)
+    pub told : D
+    pub is_traced : traces true told
+    pub tells : D
     pub says : HasFailed (streams_of contents remaining) trace error check paths
-        (holding old told) (holding new tells)
+        (holding old (held told)) (holding new (held tells))
 
   -- What a fault of a run says of its texts, of the output and of the trace. Wrong usage is that
   -- both texts are to be standard input.
@@ -188,17 +209,26 @@ AskForHelp words = (error : Error) × HasKind (faults_at words) error × IsHelp 
 
 -- The arguments were obeyed with this input: the help or the version was printed, or they are a
 -- command and its work succeeded.
-abbrev pub IsObeyed : {S : Type 0} (contents remaining : S → Option (List ℕ)) → List WordText
+abbrev pub IsObeyed : {S D : Type 0} (contents remaining : S → Option (List ℕ))
+    (held : D → Option (List ℕ)) (traces : Bool → D → Type 0) → List WordText
     → Option (List ℕ) → Option (List ℕ) → Option (List ℕ) → Type 0
-IsObeyed contents remaining words input old new =
+IsObeyed contents remaining held traces words input old new =
     AskForHelp words
-    ⊎ ((faults_at words ≡ []) × IsDone contents remaining (asked_of words) input old new)
+    ⊎ ((faults_at words ≡ [])
+    × IsDone contents remaining held traces (asked_of words) input old new)
+
+-- The same of the report of a station that they ask for.
+abbrev pub IsReportedAt : {W : Type 0} (held : W → Option (List ℕ)) → List WordText
+    → Option (List ℕ) → W → Type 0
+IsReportedAt held words input new =
+    AskForHelp words ⊎ ((faults_at words ≡ []) × IsReportedOn held (asked_of words) input new)
 
 -- The work failed with this fault, which is one of it, and what it says is true.
-pub record IsFailure {S : Type 0} (contents remaining : S → Option (List ℕ)) (asked : AskedValue)
+pub record IsFailure {S D : Type 0} (contents remaining : S → Option (List ℕ))
+    (held : D → Option (List ℕ)) (traces : Bool → D → Type 0) (asked : AskedValue)
     (fault : Fault) (input old new : Option (List ℕ)) : Type 0 where
   pub kind : IsFaultOf asked fault
-  pub says : HasFailedAs contents remaining asked fault input old new
+  pub says : HasFailedAs contents remaining held traces asked fault input old new
 
 -- A fault of the arguments: wrong usage of a kind that `clap` reports for them, and not that the
 -- help or the version was asked for; unless memory ran out.
@@ -209,9 +239,17 @@ IsWordsUsage words OutOfMemory = Unit {0}
 IsWordsUsage words _ = ⊥
 
 -- A fault of the arguments, of printing, or of the work that the arguments ask for.
-abbrev pub IsFaultAt : {S : Type 0} (contents remaining : S → Option (List ℕ)) → List WordText
+abbrev pub IsFaultAt : {S D : Type 0} (contents remaining : S → Option (List ℕ))
+    (held : D → Option (List ℕ)) (traces : Bool → D → Type 0) → List WordText
     → Fault → Option (List ℕ) → Option (List ℕ) → Option (List ℕ) → Type 0
-IsFaultAt contents remaining words fault input old new =
+IsFaultAt contents remaining held traces words fault input old new =
     IsWordsUsage words fault
     ⊎ (IsPrintFault fault
-    ⊎ IsFailure contents remaining (asked_of words) fault input old new)
+    ⊎ IsFailure contents remaining held traces (asked_of words) fault input old new)
+
+-- The same of the report of a station that they ask for.
+abbrev pub HasFailedReportAt : {W : Type 0} (held : W → Option (List ℕ)) → List WordText → Fault
+    → Option (List ℕ) → W → Type 0
+HasFailedReportAt held words fault input new =
+    IsWordsUsage words fault
+    ⊎ (IsPrintFault fault ⊎ HasFailedReport held (asked_of words) fault input new)

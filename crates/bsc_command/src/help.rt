@@ -16,6 +16,7 @@ pub(crate) fn help_or_fault<W: Write>(error: Error, out: &mut W) -> Result<(), F
     ensures memory { kind_of error ≡ ErrorKind.OutOfMemory → result ≡ Err Fault.OutOfMemory }
     ensures usage { (IsHelp (kind_of error) → ⊥) → kind_of error ≢ ErrorKind.OutOfMemory
         → result ≡ Err (Fault.Usage error) }
+    ensures quiet { (IsHelp (kind_of error) → ⊥) → out.new ≡ out.old }
 {
     match error.kind() {
         ErrorKind::DisplayHelp | ErrorKind::DisplayVersion => match write!(out, "{error}") {

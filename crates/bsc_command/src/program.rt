@@ -10,8 +10,8 @@ ghost use Rattle.bsc_command.specs.Program.{HasDoneRun, HasFailedAs, HasFailedOn
 ghost use Rattle.bsc_command.specs.Program.{IfNamed, IsChartedOn, IsDone};
 ghost use Rattle.bsc_chart.specs.Named.{ChartsNamed, FailsChart, IsCharted, file_of};
 ghost use Rattle.bsc_chart.specs.declared.named.TraceError.{TraceError};
-ghost use Rattle.bsc_command.specs.Program.{HasFailedChart, HasFailedFeed, HasFailedStore, HasWork};
-ghost use Rattle.bsc_command.specs.Program.{IsFaultOf};
+ghost use Rattle.bsc_command.specs.Program.{HasFailedChart, HasFailedFeed, HasFailedReport};
+ghost use Rattle.bsc_command.specs.Program.{HasFailedStore, HasWork, IsFaultOf, IsReportedOn};
 ghost use Rattle.bsc_feeding.specs.Feeding.{HasFed};
 ghost use Rattle.bsc_running.specs.Errors.{IsEarly as IsEarlyRunning};
 ghost use Rattle.bsc_running.specs.Running.{paths_of};
@@ -42,12 +42,17 @@ pub fn perform<
     W: Write,
 >(alloc: Global, asked: &Asked, input: &mut R, machine: &mut H, out: &mut W) -> Result<(), Fault>
     ensures ok { OnOk result
-        (IsDone H.Stream.contents H.Stream.remaining (asked_now asked.now) (R.remaining input.old)
-        (W.contents out.old) (W.contents out.new)) }
+        (IsDone H.Stream.contents H.Stream.remaining H.Trace.contents H.traces
+        (asked_now asked.now) (R.remaining input.old) (W.contents out.old) (W.contents out.new)) }
     ensures fault { IfErr result (IsFaultOf (asked_now asked.now)) }
     ensures failed { IfErr result (λ fault.
-        HasFailedAs H.Stream.contents H.Stream.remaining (asked_now asked.now) fault
-        (R.remaining input.old) (W.contents out.old) (W.contents out.new)) }
+        HasFailedAs H.Stream.contents H.Stream.remaining H.Trace.contents H.traces
+        (asked_now asked.now) fault (R.remaining input.old) (W.contents out.old)
+        (W.contents out.new)) }
+    ensures reported { OnOk result (IsReportedOn W.contents (asked_now asked.now)
+        (R.remaining input.old) out.new) }
+    ensures unreported { IfErr result (λ fault. HasFailedReport W.contents (asked_now asked.now)
+        fault (R.remaining input.old) out.new) }
     ensures charted { OnOk result (IsChartedOn H.tells H.opens H.File.remaining
         (asked_now asked.now) (R.remaining input.old) (W.contents out.old)
         (W.contents out.new)) }
@@ -129,9 +134,11 @@ fn run_traced<R: Read, H: Files + Cables + Network, W: Write>(
     ensures early { IfErr result (λ error. IsEarlyRunning error → out.new ≡ out.old) }
     ensures checked { IsTrue words.entry.check → out.new ≡ out.old }
     ensures done { OnOk result (HasDoneRun H.Stream.contents H.Stream.remaining
+        H.Trace.contents H.traces
         words.entry.check words.entry.trace (paths_of words.entry (R.remaining input.old))
         (W.contents out.old) (W.contents out.new)) }
     ensures failed { IfErr result (λ error. HasFailedWith H.Stream.contents H.Stream.remaining
+        H.Trace.contents H.traces
         error words.entry.check words.entry.trace
         (paths_of words.entry (R.remaining input.old)) (W.contents out.old)
         (W.contents out.new)) }

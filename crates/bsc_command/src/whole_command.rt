@@ -5,9 +5,9 @@ ghost use Rattle.std.specs.Prelude.{Err, IfErr, IfOk, IsOkAnd, Ok, OnOk, true};
 ghost use Rattle.std.specs.Io.Buffered.{writer_buffer, writer_contents};
 ghost use Rattle.std.specs.Io.KnownBytes.{Keeps};
 ghost use Rattle.bsc_command.specs.declared.fault.Fault.{Fault as FaultValue};
-ghost use Rattle.bsc_command.specs.Faults.{IsPrintFault, IsToldFlushed, is_about_records};
-ghost use Rattle.bsc_command.specs.Faults.{status_of};
-ghost use Rattle.bsc_command.specs.Program.{IsFaultAt, IsObeyed};
+ghost use Rattle.bsc_command.specs.Faults.{IsEarly, IsPrintFault, IsToldFlushed};
+ghost use Rattle.bsc_command.specs.Faults.{is_about_records, status_of};
+ghost use Rattle.bsc_command.specs.Program.{HasFailedReportAt, IsFaultAt, IsObeyed, IsReportedAt};
 
 use crate::help::help_or_fault;
 use crate::{Fault, perform, status};
@@ -41,11 +41,18 @@ fn obey<R: Read, H: Files + Traces + Cables + Network + Stations + Stores + Stor
     out: &mut W,
 ) -> Result<(), Fault>
     ensures ok { OnOk result
-        (IsObeyed H.Stream.contents H.Stream.remaining (map string_bytes words.now)
-        (R.remaining input.old) (W.contents out.old) (W.contents out.new)) }
+        (IsObeyed H.Stream.contents H.Stream.remaining H.Trace.contents H.traces
+        (map string_bytes words.now) (R.remaining input.old) (W.contents out.old)
+        (W.contents out.new)) }
     ensures fault { IfErr result (λ fault.
-        IsFaultAt H.Stream.contents H.Stream.remaining (map string_bytes words.now) fault
-        (R.remaining input.old) (W.contents out.old) (W.contents out.new)) }
+        IsFaultAt H.Stream.contents H.Stream.remaining H.Trace.contents H.traces
+        (map string_bytes words.now) fault (R.remaining input.old) (W.contents out.old)
+        (W.contents out.new)) }
+    ensures reported { OnOk result (IsReportedAt W.contents (map string_bytes words.now)
+        (R.remaining input.old) out.new) }
+    ensures unreported { IfErr result (λ fault. HasFailedReportAt W.contents
+        (map string_bytes words.now) fault (R.remaining input.old) out.new) }
+    ensures early { IfErr result (λ fault. IsEarly fault → out.new ≡ out.old) }
 {
     let words = lent(alloc, words)?;
     match read_words(alloc, &words) {
@@ -68,13 +75,20 @@ fn obey_given<
 ) -> Result<(), Fault>
     ensures ok { OnOk result
         (IsOkAnd words (λ given.
-        IsObeyed H.Stream.contents H.Stream.remaining (map string_bytes given.items)
-        (R.remaining input.old) (W.contents out.old) (W.contents out.new))) }
+        IsObeyed H.Stream.contents H.Stream.remaining H.Trace.contents H.traces
+        (map string_bytes given.items) (R.remaining input.old) (W.contents out.old)
+        (W.contents out.new))) }
     ensures fault { IfErr result (λ fault.
         IfOk words (λ given.
-        IsFaultAt H.Stream.contents H.Stream.remaining (map string_bytes given.items) fault
-        (R.remaining input.old) (W.contents out.old) (W.contents out.new))
+        IsFaultAt H.Stream.contents H.Stream.remaining H.Trace.contents H.traces
+        (map string_bytes given.items) fault (R.remaining input.old) (W.contents out.old)
+        (W.contents out.new))
         × IfErr words (λ given. fault ≡ given)) }
+    ensures reported { OnOk result (IsOkAnd words (λ given. IsReportedAt W.contents
+        (map string_bytes given.items) (R.remaining input.old) out.new)) }
+    ensures unreported { IfErr result (λ fault. IfOk words (λ given. HasFailedReportAt W.contents
+        (map string_bytes given.items) fault (R.remaining input.old) out.new)) }
+    ensures early { IfErr result (λ fault. IsEarly fault → out.new ≡ out.old) }
 {
     match words {
         Ok(words) => obey(alloc, &words, input, machine, out),
@@ -150,18 +164,26 @@ pub fn command<
 ) -> u8
     ensures done { result ≡ 0 →
         IsOkAnd words (λ given.
-        IsObeyed H.Stream.contents H.Stream.remaining (map string_bytes given.items)
-        (R.remaining input.old)
+        IsObeyed H.Stream.contents H.Stream.remaining H.Trace.contents H.traces
+        (map string_bytes given.items) (R.remaining input.old)
         (writer_contents W.contents out.old) (writer_contents W.contents out.new)) }
     ensures flushed { result ≡ 0 → writer_buffer out.new ≡ [] }
+    ensures reported { result ≡ 0 → IsOkAnd words (λ given.
+        IsReportedAt (writer_contents W.contents) (map string_bytes given.items)
+        (R.remaining input.old) out.new) }
     ensures untold { result ≡ 0 → errors.new ≡ errors.old }
     ensures fault { result ≢ 0 → (fault : FaultValue)
         × IfOk words (λ given.
-        IsFaultAt H.Stream.contents H.Stream.remaining (map string_bytes given.items) fault
-        (R.remaining input.old)
+        IsFaultAt H.Stream.contents H.Stream.remaining H.Trace.contents H.traces
+        (map string_bytes given.items) fault (R.remaining input.old)
         (writer_contents W.contents out.old) (writer_contents W.contents out.new))
         × IfErr words (λ given. (fault ≡ given) ⊎ IsPrintFault fault)
-        × (result ≡ status_of fault) }
+        × (result ≡ status_of fault)
+        × IfOk words (λ given.
+        HasFailedReportAt (writer_contents W.contents) (map string_bytes given.items) fault
+        (R.remaining input.old) out.new)
+        × (IsEarly fault
+        → Keeps (writer_contents W.contents out.old) (writer_contents W.contents out.new)) }
 {
     let outcome = obey_given(alloc, words, input, machine, out);
     match flush_after(outcome, out) {

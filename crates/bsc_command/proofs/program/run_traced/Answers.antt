@@ -1,4 +1,4 @@
--- Shows that the run says the same without what the writer of its trace held.
+-- Shows that the run says the same of some writer of its trace.
 use Rattle.bsc_running.specs.Errors.{IsEarly}
 use Rattle.bsc_running.specs.Running.{paths_of}
 use Rattle.bsc_command.proofs.Traced.{done_traced, failed_traced, first_early}
@@ -12,16 +12,16 @@ returns-clause-checked g c = λ h. (c.run.ensures.checked h).0
 
 pub returns-clause-done : goal.returns-clause-done
 returns-clause-done g c =
-    done_traced g.H.Stream.Write.contents g.H.Stream.Read.remaining c.args.words.check
-    c.args.words.trace (paths_of c.args.words (g.R.Read.remaining c.args.input.now))
+    done_traced g.H.Stream.Write.contents g.H.Stream.Read.remaining
+    g.H.Trace.Write.contents g.H.Network.traces c.args.words.check c.args.words.trace (paths_of c.args.words (g.R.Read.remaining c.args.input.now))
     (g.W.Write.contents c.args.out.now) (g.W.Write.contents c.run.new.out)
-    (g.H.Trace.Write.contents c.trace-trace.result) (g.H.Trace.Write.contents c.run.new.trace)
+    c.trace-trace.result c.run.new.trace c.trace-trace.ensures
     c.run.result c.run.ensures.done
 
 pub returns-clause-failed : goal.returns-clause-failed
 returns-clause-failed g c =
-    failed_traced g.H.Stream.Write.contents g.H.Stream.Read.remaining c.args.words.check
-    c.args.words.trace (paths_of c.args.words (g.R.Read.remaining c.args.input.now))
+    failed_traced g.H.Stream.Write.contents g.H.Stream.Read.remaining
+    g.H.Trace.Write.contents g.H.Network.traces c.args.words.check c.args.words.trace (paths_of c.args.words (g.R.Read.remaining c.args.input.now))
     (g.W.Write.contents c.args.out.now) (g.W.Write.contents c.run.new.out)
-    (g.H.Trace.Write.contents c.trace-trace.result) (g.H.Trace.Write.contents c.run.new.trace)
+    c.trace-trace.result c.run.new.trace c.trace-trace.ensures
     c.run.result c.run.ensures.failed
