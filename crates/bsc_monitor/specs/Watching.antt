@@ -133,8 +133,9 @@ pub record Last : Type 0 where
 abbrev pub last_of : Bool → Bool → Last
 last_of ended stopped = record { ended = ended; stopped = stopped }
 
--- The same after this: its last call is answered, unless the station refuses the answer, as the flag
--- says, or nobody answers, or a connection is closed, or it is asked to end and was asked before.
+-- The same after this: its last call is answered, unless the station refuses the answer, as the
+-- flag says, or nobody answers, or a connection is closed, or it is asked to end and was asked
+-- before.
 abbrev pub last_after : Last → Bool → Happening → Last
 last_after old refuses (WasHeard place octets) = last_of (old.ended || not refuses) old.stopped
 last_after old refuses WasSilent = last_of true old.stopped
