@@ -15,7 +15,10 @@ struct Leaves<'a> {
     /// The peers that are connected.
     far: Vec<TcpStream>,
 
-    /// What was told, a letter for each call, and the places and the numbers.
+    /// How many peers have joined.
+    joined: usize,
+
+    /// What was told, a line for each call, and its places and numbers.
     told: String,
 }
 
@@ -43,10 +46,11 @@ impl Reception for Leaves<'_> {
     }
 
     fn joined(&mut self, place: usize, _peer: SocketAddr) {
-        if self.told.as_str() == "waits 0 2\n" {
+        if self.joined == 0 {
             self.far.clear();
             self.connects();
         }
+        self.joined = self.joined.saturating_add(1);
         self.tells("joined", place, self.far.len());
     }
 
@@ -68,6 +72,7 @@ fn a_peer_that_has_gone_is_waited_for_anew(rt: HostRuntime) -> Result<(), Fail> 
         rt: &rt,
         address,
         far: Vec::new(rt.alloc()),
+        joined: 0,
         told: String::new(rt.alloc()),
     };
     let mut settings = settings();
