@@ -76,16 +76,18 @@ impl<R: AllocGlobal + Eprint + Net> Errors<'_, R> {
 
 impl<R: AllocGlobal + Eprint + Net> Write for Errors<'_, R> {
     fn write(&mut self, octets: &[u8]) -> io::Result<usize> {
-        let mut taken = 0;
-        for octet in octets {
-            self.line.push(*octet);
-            taken += 1;
-            if *octet == b'\n' || self.line.is_full() {
+        for (place, octet) in octets.iter().enumerate() {
+            if self.line.is_full() {
                 self.end_line()?;
-                break;
+            }
+            // There is room for it.
+            let _ = self.line.try_push(*octet);
+            if *octet == b'\n' {
+                self.end_line()?;
+                return Ok(place + 1);
             }
         }
-        Ok(taken)
+        Ok(octets.len())
     }
 
     fn flush(&mut self) -> io::Result<()> {
