@@ -51,7 +51,8 @@ impl Reception for Leaves<'_> {
             self.connects();
         }
         self.joined = self.joined.saturating_add(1);
-        self.tells("joined", place, self.far.len());
+        let here = self.far.len();
+        self.tells("joined", place, here);
     }
 
     fn left(&mut self, place: usize, peer: Option<SocketAddr>) {
