@@ -56,7 +56,7 @@ fn length_at_front(begun: &[u8]) -> usize
 
 /// Returns the number of octets missing to the end of the length, or once that is there to the end
 /// of the record; 0 after a wrong length.
-pub(crate) fn missing(begun: &[u8]) -> usize
+fn missing(begun: &[u8]) -> usize
     ensures { result ≡ wanted_after begun.now }
 {
     if begun.len() < 2 {
@@ -72,7 +72,7 @@ pub(crate) fn missing(begun: &[u8]) -> usize
 
 /// Returns whether these octets from the beginning of a record reach its end. Fails with `Length`
 /// if they state a wrong length.
-pub(crate) fn is_whole(begun: &[u8]) -> Result<bool, CarrierError>
+fn is_whole(begun: &[u8]) -> Result<bool, CarrierError>
     ensures { IsWhole begun.now result }
 {
     if begun.len() < 2 {

@@ -7,10 +7,10 @@ ghost use Rattle.bsc_carrier.specs.Faults.{IsDevice, fault_of};
 ghost use Rattle.bsc_carrier.specs.Front.{BeginsRecord, EndsWithin, HasWrongLength};
 ghost use Rattle.bsc_carrier.specs.KnownOctets.{AppendsPart, ReadsRecord, IsExactly};
 
-use crate::assembler::{is_whole, missing};
+use crate::assembler::Assembler;
 use crate::error::{CarrierError, Octets};
 use crate::fault::DeviceFault;
-use crate::limits::MAX_RECORD_OCTETS;
+use crate::limits::{MAX_RECORD, MAX_RECORD_OCTETS};
 use arrayvec::ArrayVec;
 use std::io::{ErrorKind, Read, Write};
 
@@ -60,31 +60,30 @@ pub fn write_record<W: Write>(writer: &mut W, octets: &[u8]) -> Result<(), Carri
     write_whole(writer, &record)
 }
 
-/// Reads until a record is complete, and then puts its octets in `octets`.
+/// Reads until the assembler has completed a record, and then puts its octets in `octets`.
 fn assemble<R: Read>(reader: &mut R, octets: &mut Octets) -> Result<bool, CarrierError>
     ensures read { ReadsRecord (R.remaining reader.old) result octets.new.items
         (R.remaining reader.new) }
     ensures kept { result ≢ Ok true → octets.new.items ≡ octets.old.items }
 {
-    let mut record = [0u8; MAX_RECORD_OCTETS];
-    let mut arrived = 0;
+    let mut assembler = Assembler::new();
+    let mut piece = [0; MAX_RECORD];
     'reads: loop {
-        let end = arrived + missing(&record[..arrived]);
-        let count = match reader.read(&mut record[arrived..end]) {
+        let wanted = assembler.wanted();
+        let count = match reader.read(&mut piece[..wanted]) {
             Ok(count) => count,
             Err(error) => return Err(device(error.kind())),
         };
         if count == 0 {
-            if arrived == 0 {
+            if assembler.between() {
                 return Ok(false);
             }
             return Err(CarrierError::Short);
         }
-        arrived += count;
-        let begun = &record[..arrived];
-        if is_whole(begun)? {
+        let (_, is_complete) = assembler.feed(&piece[..count])?;
+        if is_complete {
             octets.clear();
-            octets.try_extend_from_slice(&begun[2..]).unwrap();
+            octets.try_extend_from_slice(assembler.octets()).unwrap();
             return Ok(true);
         }
     }
