@@ -49,7 +49,8 @@ pub enum LineError {
 }
 
 /// The first event that was refused. Those before it were accepted.
-#[derive(Clone, Copy, Debug, PartialEq, Eq)]
+#[derive(Clone, Copy, Debug, PartialEq, Eq, Error)]
+#[error("event {at} is refused: {why}")]
 pub struct Stopped {
     /// The index of the event in the list, counted from 0.
     pub at: usize,
