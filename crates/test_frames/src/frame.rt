@@ -1,5 +1,7 @@
 //! Examples of transmissions.
 
+ghost use Rattle.std.specs.Prelude.{◌<◌};
+
 use bsc_frame::{
     Address, End, Heard, Message, Text, TextBuffer, Unit, Wire, decode, decode_short, encode,
 };
@@ -318,4 +320,69 @@ fn are_same(a: &[u8], b: &[u8]) -> bool {
 fn messages_compare_by_what_they_carry(rt: HostRuntime) {
     assert!(rt; are_same(HI, HI) && are_same(SHORTEST_CALL, SHORTEST_CALL));
     assert!(rt; !are_same(HI, TWO_UNITS));
+}
+
+// What the octets are heard as in place of what was sent: `WHOLE` if as that message.
+fn kind_for(octets: &[u8], sent: &[u8]) -> &'static str {
+    match &decode(octets, &mut TextBuffer::new()) {
+        Heard::Whole(message) if sends(message, sent) => "WHOLE",
+        heard => kind(heard),
+    }
+}
+
+/// Transmissions, and what each of their fronts is heard as, from the empty one to the whole.
+const FRONTS: &[(&[u8], [&str; 10])] = &[
+    (
+        SHORTEST_CALL,
+        [
+            "NOISE", "NOISE", "NOISE", "EOT", "EOT", "NOISE", "NOISE", "NOISE", "WHOLE", "WHOLE",
+        ],
+    ),
+    (
+        HI,
+        [
+            "NOISE", "NOISE", "NOISE", "FAILED", "FAILED", "FAILED", "FAILED", "FAILED", "WHOLE",
+            "WHOLE",
+        ],
+    ),
+];
+
+#[test]
+fn each_front_of_a_call_and_of_a_text(rt: HostRuntime) {
+    for (sent, names) in FRONTS {
+        for (count, name) in names.iter().enumerate() {
+            let front = sent.get(..count);
+            assert!(rt;
+                front.is_some_and(|octets| kind_for(octets, sent) == *name),
+                "{count}"
+            );
+        }
+    }
+}
+
+/// Transmissions of nine octets, and how many of their 72 bits, the first ones, make noise of them
+/// when one is inverted. With one of the others inverted they are a text that fails its check.
+const NOISY: &[(&[u8], usize)] = &[(SHORTEST_CALL, 72), (HI, 24)];
+
+// What a transmission of nine octets is heard as with the bit of this number inverted.
+fn kind_without(sent: &[u8], bit: usize) -> &'static str
+    requires { bit < 72 }
+{
+    let mut octets = [0; 9];
+    if sent.len() != 9 {
+        return "";
+    }
+    octets.copy_from_slice(sent);
+    octets[bit / 8] ^= 1u8 << (bit % 8);
+    kind_for(&octets, sent)
+}
+
+#[test]
+fn each_bit_of_a_call_and_of_a_text_is_inverted(rt: HostRuntime) {
+    for (sent, noisy) in NOISY {
+        for bit in 0..72usize {
+            let name = if bit < *noisy { "NOISE" } else { "FAILED" };
+            assert!(rt; kind_without(sent, bit) == name, "{bit}");
+        }
+    }
 }

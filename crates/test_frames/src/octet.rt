@@ -70,3 +70,30 @@ fn lanes_give_what_plain_loops_give(rt: HostRuntime) {
         assert!(rt; lanes_agree(&[0x16; 200][..len]), "{len}");
     }
 }
+
+/// Numbers of octets 0xc1, which is the code 0x41, and the sum of their codes.
+const SUMS: &[(usize, u8)] = &[(0, 0x00), (130, 0x00), (131, 0x41)];
+
+// The sum of this many octets, at most 131, that are the code 0x41 each.
+fn sum_of(count: usize) -> Option<u8> {
+    let octets = [0xc1; 131].as_slice().get(..count)?;
+    Some(sum(octets))
+}
+
+#[test]
+fn codes_of_an_even_count_cancel_out(rt: HostRuntime) {
+    for (count, total) in SUMS {
+        assert!(rt; sum_of(*count) == Some(*total), "{count}");
+    }
+}
+
+#[test]
+fn one_octet_of_even_parity_is_found_at_each_place(rt: HostRuntime) {
+    let mut octets = [0x16; 130];
+    assert!(rt; all_odd(&[]) && all_odd(&octets));
+    for place in 0..130usize {
+        octets[place] = 0x17;
+        assert!(rt; !all_odd(&octets), "{place}");
+        octets[place] = 0x16;
+    }
+}
