@@ -13,11 +13,30 @@ const ACK0: &[u8] = &[0x16, 0x16, 0x10, 0xb0, 0xff];
 /// The record of ACK0.
 const RECORD: &[u8] = &[0x00, 0x05, 0x16, 0x16, 0x10, 0xb0, 0xff];
 
-/// The beginning of this record.
-const BEGINNING: &[u8] = &[0x00, 0x05, 0x16, 0x16];
+/// Octets of a stream that then ends, and the result of a read from it; true means that ACK0 was
+/// read.
+const READ: &[(&[u8], Result<bool, CarrierError>)] = &[
+    (RECORD, Ok(true)),
+    (&[], Ok(false)),
+    (&[0x00, 0x00], Err(CarrierError::Length)),
+    (&[0x08, 0x01], Err(CarrierError::Length)),
+    (&[0x00, 0x05, 0x16, 0x16], Err(CarrierError::Short)),
+];
 
-/// The rest of this record, and one octet of the next.
-const REST: &[u8] = &[0x10, 0xb0, 0xff, 0x00];
+/// Whether a read of these octets has this result, and ACK0 is heard if it is true, else nothing.
+fn is_read(octets: &[u8], answer: Result<bool, CarrierError>) -> bool {
+    let mut heard = Octets::new();
+    let told = read_record(&mut MemoryStream::new(octets, 4096, 0), &mut heard);
+    let expected: &[u8] = if answer == Ok(true) { ACK0 } else { &[] };
+    told == answer && heard.as_slice() == expected
+}
+
+#[test]
+fn a_record_is_read_whole_or_not_at_all(rt: HostRuntime) {
+    for (octets, answer) in READ {
+        assert!(rt; is_read(octets, *answer), "{octets:?}");
+    }
+}
 
 #[test]
 fn ack0_crosses_a_stream_as_a_record(rt: HostRuntime) -> Result<(), Fail> {
@@ -28,19 +47,101 @@ fn ack0_crosses_a_stream_as_a_record(rt: HostRuntime) -> Result<(), Fail> {
     Ok(())
 }
 
-/// Whether ACK0 is assembled of two pieces, of which the second ends in the next record.
-fn is_assembled(assembler: &mut Assembler) -> bool {
-    matches!(assembler.feed(BEGINNING), Ok((4, false)))
-        && !assembler.between()
-        && assembler.wanted() == 3
-        && matches!(assembler.feed(REST), Ok((3, true)))
-        && assembler.between()
-        && assembler.octets() == ACK0
+/// A piece of a stream; the answer to it: how many octets are taken, and whether the last of them
+/// completes a record; how many are wanted then; and what the last complete record carries.
+type Piece = (
+    &'static [u8],
+    Result<(usize, bool), CarrierError>,
+    usize,
+    &'static [u8],
+);
+
+/// Streams in pieces. What is not taken of a piece is dropped.
+const STREAMS: &[&[Piece]] = &[
+    &[
+        (&[0x00], Ok((1, false)), 1, &[]),
+        (&[0x02, 0x16, 0x04, 0x00], Ok((3, true)), 2, &[0x16, 0x04]),
+        (&[0x00], Ok((1, false)), 1, &[0x16, 0x04]),
+    ],
+    &[
+        (&[], Ok((0, false)), 2, &[]),
+        (&[0x00], Ok((1, false)), 1, &[]),
+        (&[0x05], Ok((1, false)), 5, &[]),
+        (&[0x16, 0x16], Ok((2, false)), 3, &[]),
+        (&[0x10, 0xb0, 0xff, 0x00], Ok((3, true)), 2, ACK0),
+        (&[0x08, 0x01], Err(CarrierError::Length), 0, ACK0),
+        (&[0x00], Err(CarrierError::Length), 0, ACK0),
+    ],
+];
+
+/// Whether the assembler takes the piece so.
+fn takes(assembler: &mut Assembler, piece: &Piece) -> bool {
+    let (octets, answer, wanted, carried) = *piece;
+    assembler.feed(octets) == answer
+        && assembler.wanted() == wanted
+        && assembler.between() == (wanted == 2)
+        && assembler.octets() == carried
+}
+
+/// The place of the first piece of a stream that is taken in another way.
+fn first_wrong(pieces: &[Piece]) -> Option<usize> {
+    let mut assembler = Assembler::new();
+    for (place, piece) in pieces.iter().enumerate() {
+        if !takes(&mut assembler, piece) {
+            return Some(place);
+        }
+    }
+    None
 }
 
 #[test]
-fn ack0_is_assembled_of_pieces(rt: HostRuntime) {
-    assert!(rt; is_assembled(&mut Assembler::new()));
+fn pieces_are_taken_up_to_the_end_of_a_record(rt: HostRuntime) {
+    for pieces in STREAMS {
+        assert_eq!(rt; first_wrong(pieces), None);
+    }
+}
+
+/// The record of ACK0 three times.
+const THREE_RECORDS: &[u8] = &[
+    0x00, 0x05, 0x16, 0x16, 0x10, 0xb0, 0xff, 0x00, 0x05, 0x16, 0x16, 0x10, 0xb0, 0xff, 0x00, 0x05,
+    0x16, 0x16, 0x10, 0xb0, 0xff,
+];
+
+/// Feeds all of a piece that ends at most three records. Returns how many records of ACK0 it
+/// completes.
+fn completed(assembler: &mut Assembler, piece: &[u8]) -> u32 {
+    let mut rest = piece;
+    let mut count = 0u32;
+    for _ in 0..4u8 {
+        let Ok((taken, is_complete)) = assembler.feed(rest) else {
+            return 0;
+        };
+        if is_complete && assembler.octets() == ACK0 {
+            count = count.saturating_add(1);
+        }
+        rest = rest.get(taken..).unwrap_or(&[]);
+    }
+    count
+}
+
+/// How many records of ACK0 the three pieces make into which a stream is cut at these places.
+fn completed_of(stream: &[u8], first: usize, second: usize) -> Option<u32> {
+    let mut assembler = Assembler::new();
+    let mut count = completed(&mut assembler, stream.get(..first)?);
+    for piece in [stream.get(first..second)?, stream.get(second..)?] {
+        count = count.saturating_add(completed(&mut assembler, piece));
+    }
+    assembler.between().then_some(count)
+}
+
+#[test]
+fn three_records_are_the_same_wherever_the_stream_is_cut(rt: HostRuntime) {
+    for second in 0..=THREE_RECORDS.len() {
+        for first in 0..=second {
+            let count = completed_of(THREE_RECORDS, first, second);
+            assert!(rt; count == Some(3), "{first}, {second}");
+        }
+    }
 }
 
 /// Whether a record of this many SYN is written and read by these numbers of writes and reads, if
