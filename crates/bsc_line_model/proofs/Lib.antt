@@ -34,6 +34,8 @@ pub mod QueueSteps
 pub mod Reaching
 pub mod Refusals
 pub mod RunsKeep
+pub mod NeverAtRest
+pub mod HoldingRuns
 pub mod UpMoves
 pub mod NewChannels
 pub mod OctetsHeard

@@ -13,6 +13,7 @@ pub mod Kept
 pub mod Together
 pub mod ChannelSteps
 pub mod StepLaws
+pub mod Holding
 pub mod Headline
 pub mod EveryRun
 pub mod Octets

@@ -1,6 +1,7 @@
 -- What a station must not do as it begins again, on one line: forget its doubt, keep its block
--- unanswered and send it again, or leave its own text pending.
-use Rattle.std.specs.Prelude.{◌≡◌, ℕ, true, false, List, [], Option, None, Some, Ok}
+-- unanswered and send it again, or leave its own text pending. And that a terminal still holds the
+-- line once the control station that polled it restarted.
+use Rattle.std.specs.Prelude.{◌≡◌, ℕ, true, false, IsTrue, List, [], Option, None, Some, Ok}
 use Rattle.bsc_frame.specs.declared.text.End.TheVariants.{Etx}
 use Rattle.bsc_frame.specs.declared.message.Message.TheVariants as m
 use Rattle.bsc_frame.specs.declared.message.Heard.TheVariants.{Whole}
@@ -18,12 +19,13 @@ use Rattle.bsc_tributary.specs.declared.mode.Mode.{Mode}
 use Rattle.bsc_tributary.specs.declared.mode.Mode.TheVariants as mode
 use Rattle.bsc_directory.specs.declared.way.Way.TheVariants.{FromTerminal}
 use Rattle.bsc_control.specs.declared.task.Replied.TheVariants.{Nothing}
-use Rattle.bsc_control.specs.declared.task.Task.TheVariants.{Polling}
+use Rattle.bsc_control.specs.declared.task.Task.TheVariants.{AtRest, Polling}
 use Rattle.bsc_control.specs.Peer.{no_outbound}
-use Rattle.bsc_line_model.specs.declared.transmission.Speaker.TheVariants.{Terminal}
+use Rattle.bsc_line_model.specs.declared.transmission.Speaker.TheVariants.{Control, Terminal}
 use Rattle.bsc_line_model.specs.declared.transmission.Transmission.{Transmission}
-use Rattle.bsc_line_model.specs.Line.{LineValue, terminal_at, with_terminal}
+use Rattle.bsc_line_model.specs.Line.{LineValue, terminal_at, with_terminal, with_control}
 use Rattle.bsc_line_model.specs.Restarts.{Restarts}
+use Rattle.bsc_line_model.specs.Holding.{HoldsOnlyIfPolled}
 use Rattle.bsc_line_model.specs.Headline.{ArrivesInOrder}
 use Rattle.bsc_line_model.specs.Examples.{both_records, spool_with, example, before_arrivals}
 
@@ -97,3 +99,19 @@ pub record NoTextIsHeardLate : Type 0 where
   pub next_text : (begin_step (sender_in Idle) both_waiting).act ≡ a.Send both_text
   pub doubled : ¬ IsInOrder
       (polled_line None (with_text_heard (with_text_heard [])) mode.Sending (Unanswered both_block))
+
+-- the line while the text of the polled terminal is pending, and the same line with the control
+-- station at rest
+abbrev pub sending_line : LineValue
+sending_line = polled_line (Some its_text) [] mode.Sending (Unanswered both_block)
+
+abbrev pub resting_line : LineValue
+resting_line = with_control sending_line (record sending_line.control { task = AtRest })
+
+-- The terminal holds the line and is polled. The control station restarts: the line is still
+-- trusted, and the terminal holds it and is not polled.
+pub record NeedsNoRestart : Type 0 where
+  pub before : HoldsOnlyIfPolled sending_line
+  pub restarts : Restarts sending_line Control (Ok tt) resting_line
+  pub trusted : IsTrue resting_line.trusted
+  pub after : ¬ HoldsOnlyIfPolled resting_line

@@ -13,13 +13,14 @@ ghost use Rattle.bsc_line_model.specs.StepLaws.{RefusedChangesNothing, TrustOnly
 ghost use Rattle.bsc_line_model.specs.StepLaws.{HoldsWhilePolled, NeverMismatches};
 ghost use Rattle.bsc_line_model.specs.StepLaws.{NewChannelsAreEmpty, OneAnswers, AlikeIsFair};
 ghost use Rattle.bsc_line_model.specs.StepLaws.{FairIsAlike};
+ghost use Rattle.bsc_line_model.specs.Holding.{RunsHoldOnlyWhilePolled};
 ghost use Rattle.bsc_line_model.specs.Examples.{FirstLands, NoDoubleLands, NoGapLands};
 ghost use Rattle.bsc_line_model.specs.Examples.{NoOtherLands, NoTwoMove, NoDoubleArrives};
 ghost use Rattle.bsc_line_model.specs.Examples.{NoGapArrives, NoOtherArrives, NoneIsKnownEarly};
 ghost use Rattle.bsc_line_model.specs.Examples.{NoneReachesOther, VisitBegins};
 ghost use Rattle.bsc_line_model.specs.RestartExamples.{RestartDoubts, DoubtIsRight};
 ghost use Rattle.bsc_line_model.specs.RestartExamples.{NoDoubtIsForgotten, NoBlockIsSentAgain};
-ghost use Rattle.bsc_line_model.specs.RestartExamples.{NoTextIsHeardLate};
+ghost use Rattle.bsc_line_model.specs.RestartExamples.{NoTextIsHeardLate, NeedsNoRestart};
 ghost use Rattle.bsc_line_model.specs.Headline.{RunsKeepRecords};
 ghost use Rattle.bsc_line_model.specs.Octets.{AllFairInOctets, FairInOctets};
 ghost use Rattle.bsc_line_model.specs.Rounds.{RunsDeliverVisit, RunsDeliverRound, SeesLast};
@@ -91,10 +92,14 @@ pub fn every_run()
 {}
 
 /// On a trusted line, a terminal holds the line only while the control station polls it, or while
-/// the control station has made no call since it began again; and no release is refused with
-/// `CountMismatch`.
+/// the control station has made no call since it restarted. If it has not restarted since the line
+/// was new, a terminal holds the line only while it is polled, also if terminals restarted; after a
+/// restart of the control station a terminal may hold it without being polled, as an example shows.
+/// No release is refused with `CountMismatch`.
 pub fn line_holder()
     ensures holder { HoldsWhilePolled }
+    ensures since_new { RunsHoldOnlyWhilePolled }
+    ensures needs_no_restart { NeedsNoRestart }
     ensures count { NeverMismatches }
 {
     bid_laws();
