@@ -1,4 +1,4 @@
--- One turned bit is heard fairly.
+-- One turned bit is heard fairly, unless it is in a call that another terminal hears whole.
 use Rattle.std.proofs.Common.{◌≡◌, ◌⊎◌, ◌↔◌, inl, inr, ℕ, ◌<◌, List, length, Option, None, Some}
 use Rattle.std.proofs.Common.{refl, sym, ap, subst, ◌∙◌, arith}
 use Rattle.std.proofs.lemmas.Bool.{cases_lt}
@@ -16,6 +16,7 @@ use Rattle.bsc_line_model.specs.Hearing.{heard_in}
 use Rattle.bsc_line_model.specs.Trust.{IsMissed}
 use Rattle.bsc_line_model.specs.TurnedBits.{IsTurned, IsSpoiled, TurnedIsFair, TurnedAlikeIsFair}
 use Rattle.bsc_line_model.specs.TurnedBits.{TurnedEachIsFair, TurnedForSomeIsFair}
+use Rattle.bsc_line_model.specs.TurnedBits.{SplitCallIsUnfair}
 use Rattle.bsc_line_model.proofs.OctetsHeard.{Reads}
 
 -- what is heard if one bit is turned
@@ -81,16 +82,29 @@ module _ (reads : Reads) (turns : Turns) where
   pub turned_alike_is_fair : TurnedAlikeIsFair
   turned_alike_is_fair w n item h s = turned_each_is_fair w n (λ t. item) h (λ t less. s)
 
+  heard_whole : (w : Message) (item : Option (List ℕ)) → IsMessage w → item ≡ Some (wire w)
+      → heard_in item ≡ Whole w
+  unfolding heard_in
+  heard_whole w item h e = ap heard_in e ∙ (reads.whole (wire w) w).1 (turns.sent w h)
+
   whole_or_item : (w : Message) (item : Option (List ℕ)) → IsMessage w → (item ≡ Some (wire w))
       ⊎ IsSpoiled w item → IsFairlyHeard w (heard_in item)
   unfolding heard_in
   whole_or_item w item h (inl e) =
-      let whole : heard_in item ≡ Whole w = ap heard_in e
-      ∙ (reads.whole (wire w) w).1 (turns.sent w h) in
-      subst (λ (x : Heard). IsFairlyHeard w x) (sym whole) (inl refl)
+      subst (λ (x : Heard). IsFairlyHeard w x) (sym (heard_whole w item h e)) (inl refl)
   whole_or_item w item h (inr s) = item_fair w item h s
 
   pub turned_for_some_is_fair : TurnedForSomeIsFair
   turned_for_some_is_fair (m.Call a) n items h is each = absurd cc
   turned_for_some_is_fair other n items h is each =
       λ t less. whole_or_item other (items t) h (each t less)
+
+  pub split_call_is_unfair : SplitCallIsUnfair
+  split_call_is_unfair (m.Call a) n t u items h is t_less u_less whole spoiled (inl all) =
+      subst IsMissed (all u u_less) (call_missed a (items u) h spoiled)
+  split_call_is_unfair (m.Call a) n t u items h is t_less u_less whole spoiled (inr missed) =
+      subst IsMissed (heard_whole (m.Call a) (items t) h whole) (missed t t_less)
+  split_call_is_unfair m.Eot n t u items h is t_less u_less whole spoiled fair = cc
+  split_call_is_unfair (m.Text x) n t u items h is t_less u_less whole spoiled fair = cc
+  split_call_is_unfair m.Enq n t u items h is t_less u_less whole spoiled fair = cc
+  split_call_is_unfair (m.Reply r) n t u items h is t_less u_less whole spoiled fair = cc

@@ -28,6 +28,7 @@ ghost use Rattle.bsc_line_model.specs.Rounds.{SeesEarlier};
 ghost use Rattle.bsc_line_model.specs.Together.{AreSound};
 ghost use Rattle.bsc_line_model.specs.TurnedBits.{TurnedIsFair, TurnedAlikeIsFair};
 ghost use Rattle.bsc_line_model.specs.TurnedBits.{TurnedEachIsFair, TurnedForSomeIsFair};
+ghost use Rattle.bsc_line_model.specs.TurnedBits.{SplitCallIsUnfair};
 
 use crate::bids::bid_laws;
 use bsc_block::laws::cut_into_blocks;
@@ -130,15 +131,17 @@ pub fn fair_in_octets()
     reading();
 }
 
-/// A transmission with one turned bit is heard fairly, so it never costs the line's trust: by the
-/// control station, by terminals that all hear the same, and by terminals each of which hears
-/// another bit turned, or nothing. If the message is not a call, other terminals may also hear it
-/// whole (GA27-3004: VRC checking).
+/// A transmission with one inverted bit is heard fairly by the control station, by terminals that
+/// all hear the same, and by terminals each of which hears another bit inverted, or nothing. If the
+/// message is not a call, other terminals may also hear it whole. A call that one terminal hears
+/// whole, and another one with an inverted bit or not at all, is not heard fairly (GA27-3004: VRC
+/// checking).
 pub fn turned_bits()
     ensures heard { TurnedIsFair }
     ensures alike { TurnedAlikeIsFair }
     ensures each { TurnedEachIsFair }
     ensures some { TurnedForSomeIsFair }
+    ensures split { SplitCallIsUnfair }
 {
     reading();
     one_reading();

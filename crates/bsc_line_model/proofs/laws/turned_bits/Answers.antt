@@ -1,7 +1,8 @@
--- `turned_bits`: a transmission with one turned bit is heard fairly.
+-- `turned_bits`: when a transmission with one turned bit is heard fairly.
 use Rattle.bsc_line_model.proofs.OctetsHeard.{Reads}
 use Rattle.bsc_line_model.proofs.TurnedBits.{Turns, turned_is_fair, turned_alike_is_fair}
 use Rattle.bsc_line_model.proofs.TurnedBits.{turned_each_is_fair, turned_for_some_is_fair}
+use Rattle.bsc_line_model.proofs.TurnedBits.{split_call_is_unfair}
 use Rattle.bsc_line_model.proofs.laws.turned_bits.Goals as goal
 
 pub returns : goal.returns
@@ -25,4 +26,5 @@ returns c =
       alike = turned_alike_is_fair reads turns;
       each = turned_each_is_fair reads turns;
       some = turned_for_some_is_fair reads turns;
+      split = split_call_is_unfair reads turns;
     }
