@@ -3,12 +3,13 @@
 ghost use Rattle.std.specs.Prelude.{IsTrue};
 ghost use Rattle.bsc_line_model.specs.EveryRun.{HasSameChannels, OffersAccepted};
 ghost use Rattle.bsc_line_model.specs.Headline.{KeepsRecords};
+ghost use Rattle.bsc_line_model.specs.Holding.{HoldsOnlyWhilePolled};
 ghost use Rattle.bsc_line_model.specs.Kept.{IsLine};
 ghost use Rattle.bsc_line_model.specs.Rounds.{DeliversVisit, DeliversRound};
 ghost use Rattle.bsc_line_model.specs.Runs.{Does, Runs};
 
 use crate::line::Line;
-use bsc_line_model::laws::{every_run, headline, round, visit};
+use bsc_line_model::laws::{every_run, headline, line_holder, round, visit};
 use bsc_line_model::{Event, LineError, Stopped};
 use std::alloc::Allocator;
 
@@ -21,6 +22,9 @@ impl<A: Allocator> Line<A> {
     /// that the sending end counts as delivered; and none reached a terminal that was not
     /// addressed.
     ///
+    /// If the line was new, is trusted after them, and none of them is a restart of the control
+    /// station, a terminal holds the line only while the control station polls it.
+    ///
     /// If the events are the transmissions of a visit or of a round from its beginning, as many as
     /// its length and each heard as it was sent, and no spool is refused room, then all records
     /// that wait there are delivered.
@@ -31,11 +35,13 @@ impl<A: Allocator> Line<A> {
         ensures offered { OffersAccepted self.old events.now result self.new }
         ensures headline { IsTrue self.new.trusted →
             KeepsRecords self.old events.now result self.new }
+        ensures holder { HoldsOnlyWhilePolled self.old events.now self.new }
         ensures visit { DeliversVisit self.old events.now result self.new }
         ensures round { DeliversRound self.old events.now result self.new }
     {
         every_run();
         headline();
+        line_holder();
         visit();
         round();
         self.is_line();

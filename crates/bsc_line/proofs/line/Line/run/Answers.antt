@@ -1,7 +1,13 @@
--- `run` keeps the records of a trusted line, and delivers those of a visit and of a round.
+-- `run` keeps the records of a trusted line, holds it only while polled if it was new, and delivers
+-- the records of a visit and of a round.
 use Rattle.bsc_line.proofs.line.Line.run.Goals as goal
 
 pub returns-clause-visit : goal.returns-clause-visit
 returns-clause-visit g c =
     λ place h. c.visit.ensures c.args.self.now c.do_each.new.self c.args.events.now c.do_each.result
     c.is_line.ensures c.do_each.ensures place h
+
+pub returns-clause-holder : goal.returns-clause-holder
+returns-clause-holder g c =
+    c.line_holder.ensures.since_new c.args.self.now c.do_each.new.self c.args.events.now
+    c.do_each.result c.is_line.ensures c.do_each.ensures
