@@ -4,11 +4,13 @@ mod exchange;
 mod forgetting;
 
 use crate::control::exchange::Step::{
-    AsksForLine, GivesBack, Hears, KeepsHi, Kept, Known, Polls, Recalls, Release, Spooled, Takes,
+    AsksForLine, Finds, GivesBack, Hears, KeepsHi, Kept, Known, Polls, Recalls, Release, Spooled,
+    Takes,
 };
 use crate::control::exchange::{Exchange, play};
 use crate::control::forgetting::FORGETS;
 use crate::hearing::{QUIET, SILENCE};
+use bsc_control::Way;
 use std::process::Abort;
 use std::test::Fail;
 use test_alloc::{Refusal, Refusing};
@@ -40,6 +42,19 @@ const POLLS: &[Exchange<'static>] = &[
             Hears(SILENCE, CALL_POLL_B),
             Hears(SILENCE, CALL_POLL_A),
             Polls(0),
+        ],
+    },
+    Exchange {
+        shows: "an address is found at the terminal and the way that it has",
+        tries: 3,
+        poll_list: &[0, 1],
+        steps: &[
+            Finds(b"A", Some((0, Way::FromTerminal))),
+            Finds(b"a", Some((0, Way::ToTerminal(0)))),
+            Finds(b"c", Some((0, Way::ToTerminal(1)))),
+            Finds(b"B", Some((1, Way::FromTerminal))),
+            Finds(b"b", Some((1, Way::ToTerminal(0)))),
+            Finds(b"C", None),
         ],
     },
     Exchange {

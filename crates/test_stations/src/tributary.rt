@@ -30,6 +30,7 @@ const CALLS: &[Exchange<'static>] = &[
         shows: "a terminal is polled and then selected",
         tries: 3,
         steps: &[
+            Hears(BROKEN_TEXT, QUIET),
             Takes(&[HI]),
             Hears(CALL_POLL_A, TEXT_HI),
             HoldsLine(true),

@@ -7,9 +7,9 @@ use crate::hearing::has_sent;
 use bsc_bid::{KeptSender, Station};
 use bsc_block::Record;
 use bsc_control::{Control, Replied, SetupError, Task, Way};
-use bsc_frame::Wire;
+use bsc_frame::{Address, Wire};
 use std::alloc::Allocator;
-use test_fixtures::lines::{address, setup, two_terminals_by_three};
+use test_fixtures::lines::{setup, two_terminals_by_three};
 use test_fixtures::records::are_records;
 
 /// A step of an exchange. Releases, known records, the records offered and forgotten, and what is
@@ -57,8 +57,11 @@ pub(crate) enum Step<'a> {
     Spooled(&'a [&'a [u8]]),
 
     /// The station polls the terminal of the present entry, the first or the second, and has heard
-    /// no reply since. The address a is found as that of a selection of terminal 0.
+    /// no reply since.
     Polls(usize),
+
+    /// These codes are the address of this terminal and way, or of none.
+    Finds(&'a [u8], Option<(usize, Way)>),
 }
 
 /// An exchange of a new control station with two terminals; terminal 0 has two selection addresses.
@@ -218,16 +221,23 @@ fn has_spooled<A: Allocator>(control: &Control<A>, records: &[&[u8]]) -> bool {
     control.terminals() > 0 && are_records(control.spool(0).records(), records)
 }
 
-/// Whether the station polls at this entry of the poll list, and finds the address a.
+/// Whether the station finds these codes as the address of this terminal and way, or of none.
+fn finds<A: Allocator>(control: &Control<A>, codes: &[u8], found: Option<(usize, Way)>) -> bool {
+    match Address::read(codes) {
+        Ok(address) => control.find(&address) == found,
+        Err(_) => false,
+    }
+}
+
+/// Whether the station polls at this entry of the poll list.
 fn polls<A: Allocator>(control: &Control<A>, place: usize) -> bool {
-    let finds = matches!(control.find(&address(b'a')), Some((0, Way::ToTerminal(0))));
     let polls = matches!(
         control.task(),
         Task::Polling {
             replied: Replied::Nothing,
         }
     );
-    finds && polls && control.place() == place && control.failures() == 0
+    polls && control.place() == place && control.failures() == 0
 }
 
 /// What is kept of a sender that knows this, and has this doubt.
@@ -255,6 +265,7 @@ fn goes<A: Allocator>(control: &mut Control<A>, step: &Step<'_>) -> bool {
         Step::Offered(records) => has_offered(control, records),
         Step::Spooled(records) => has_spooled(control, records),
         Step::Polls(place) => polls(control, *place),
+        Step::Finds(codes, found) => finds(control, codes, *found),
     }
 }
 
