@@ -30,7 +30,7 @@ to 1: offered 0, known 0, spooled 0
 trusted
 ";
 
-/// Eight records are offered at terminal 0, which is then polled.
+/// Seven records are offered at terminal 0, which is then polled, and an eighth while they are sent.
 const EIGHT_POLLED: &str = "offer-at 0 HI
 offer-at 0 HI
 offer-at 0 HI
@@ -38,8 +38,12 @@ offer-at 0 HI
 offer-at 0 HI
 offer-at 0 HI
 offer-at 0 HI
-offer-at 0 HI
 silence
+carry
+offer-at 0 HI
+carry
+carry
+carry
 carry
 carry
 carry
@@ -53,12 +57,16 @@ carry
 /// The output of these if the control station, after the eighth record, at first has no room for a
 /// further text.
 const NO_ROOM_FOR_ANOTHER: &str = "control CALL A
-terminal 0 TEXT ETB 7
+terminal 0 TEXT ETX 7
 control ACK1
+terminal 0 EOT
+control CALL B
+terminal 1 EOT
+control CALL A
 terminal 0 TEXT ETX 1
 control WACK
 terminal 0 ENQ
-control ACK0
+control ACK1
 terminal 0 EOT
 control CALL B
 from 0: offered 8, known 8, spooled 8
