@@ -30,7 +30,8 @@ to 1: offered 0, known 0, spooled 0
 trusted
 ";
 
-/// Seven records are offered at terminal 0, which is then polled, and an eighth while they are sent.
+/// Seven records are offered at terminal 0, which is then polled, and an eighth one while they are
+/// sent.
 const EIGHT_POLLED: &str = "offer-at 0 HI
 offer-at 0 HI
 offer-at 0 HI

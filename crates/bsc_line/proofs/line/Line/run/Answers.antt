@@ -1,5 +1,5 @@
--- `run` keeps the records of a trusted line and delivers those of a visit and of a round; from a new
--- line, a terminal holds it only while it is polled.
+-- `run` keeps the records of a trusted line and delivers those of a visit and of a round; from a
+-- new line, a terminal holds it only while it is polled.
 use Rattle.bsc_line.proofs.line.Line.run.Goals as goal
 
 pub returns-clause-visit : goal.returns-clause-visit
