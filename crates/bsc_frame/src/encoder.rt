@@ -8,7 +8,7 @@ ghost use Rattle.bsc_frame.specs.Units.{text_unit, end_code, ending, unit_wire, 
 ghost use Rattle.bsc_frame.specs.Wire.{wire as wire_of};
 
 use crate::buffer::append;
-use crate::limits::{MAX_SENT, MAX_UNIT_SENT};
+use crate::limits::{MAX_SENT, MAX_UNIT_SENT, WIRE_ROOM};
 use crate::{End, Message, Text, Unit};
 use arrayvec::ArrayVec;
 use bsc_octet::controls::{
@@ -16,8 +16,8 @@ use bsc_octet::controls::{
 };
 use bsc_octet::{carried, put_check};
 
-/// The octets of one transmission that is sent.
-pub type Wire = ArrayVec<u8, MAX_SENT>;
+/// The octets of one transmission that is sent: at most [`MAX_SENT`] of them.
+pub type Wire = ArrayVec<u8, WIRE_ROOM>;
 
 /// A buffer for the octets of a unit.
 type UnitOctets = [u8; MAX_UNIT_SENT];

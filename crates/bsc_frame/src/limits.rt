@@ -29,3 +29,7 @@ pub(crate) const MAX_TEXT_CHARS: usize = MAX_UNITS * MAX_CHARS;
 /// The maximum number of octets that are sent for one message. The longest is a text: two SYN, STX,
 /// the units, PAD.
 pub const MAX_SENT: usize = 3 + MAX_UNITS * MAX_UNIT_SENT + 1;
+
+/// The number of octets for which a [`Wire`](crate::Wire) has room: a round number from
+/// [`MAX_SENT`] up, so that the type stays the same if what is sent for a message changes a little.
+pub const WIRE_ROOM: usize = 1100;
