@@ -5,6 +5,7 @@ ghost use Rattle.bsc_control_calls.specs.Hearing.{Hears, PassesSilence};
 use bsc_bid::Station;
 use bsc_control::Control;
 use bsc_frame::Wire;
+use bsc_frame::laws::one_reading;
 use bsc_frame::limits::MAX_SENT;
 use bsc_interface::{Fault, put};
 use std::alloc::Global;
@@ -26,6 +27,8 @@ pub fn hear(
     }
     let mut wire = Wire::new();
     let _ = control.hear(octets, &mut wire);
+    // What is sent for a message has at most MAX_SENT octets.
+    one_reading();
     put(wire.as_slice(), sent, len)
 }
 
@@ -41,5 +44,7 @@ pub fn silence(control: &mut Control<Global>, sent: &mut [u8], len: &mut usize) 
     }
     let mut wire = Wire::new();
     let _ = control.silence(&mut wire);
+    // What is sent for a message has at most MAX_SENT octets.
+    one_reading();
     put(wire.as_slice(), sent, len)
 }

@@ -3,6 +3,7 @@
 ghost use Rattle.std.specs.Prelude.{◌≡◌};
 ghost use Rattle.bsc_line_calls.specs.Transmissions.{PendingIs, TrustIs, speaker_number};
 
+use bsc_frame::laws::one_reading;
 use bsc_frame::limits::MAX_SENT;
 use bsc_frame::{Wire, encode};
 use bsc_interface::{Fault, put};
@@ -34,6 +35,8 @@ pub fn pending(
     }
     let mut wire = Wire::new();
     encode(&sent.message, &mut wire);
+    // What is sent for a message has at most MAX_SENT octets.
+    one_reading();
     put(wire.as_slice(), octets, len)?;
     *sender = number_of(sent.speaker);
     Ok(())

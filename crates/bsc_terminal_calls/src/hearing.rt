@@ -5,6 +5,7 @@ ghost use Rattle.bsc_terminal_calls.specs.Hearing.{Hears, PassesSilence};
 use crate::MadeTerminal;
 use bsc_bid::Station;
 use bsc_frame::Wire;
+use bsc_frame::laws::one_reading;
 use bsc_frame::limits::MAX_SENT;
 use bsc_interface::{Fault, put};
 
@@ -25,6 +26,8 @@ pub fn hear(
     }
     let mut wire = Wire::new();
     let _ = terminal.station.hear(octets, &mut wire);
+    // What is sent for a message has at most MAX_SENT octets.
+    one_reading();
     put(wire.as_slice(), sent, len)
 }
 
@@ -40,5 +43,7 @@ pub fn silence(terminal: &mut MadeTerminal, sent: &mut [u8], len: &mut usize) ->
     }
     let mut wire = Wire::new();
     let _ = terminal.station.silence(&mut wire);
+    // What is sent for a message has at most MAX_SENT octets.
+    one_reading();
     put(wire.as_slice(), sent, len)
 }
