@@ -1,18 +1,21 @@
 -- The output for lines.
-use Rattle.std.proofs.Common.{◌≡◌, ℕ, List, [], ◌∷◌, ◌++◌, Bool, true, false, Option, Some, None}
+use Rattle.std.proofs.Common.{◌≡◌, ℕ, List, [], ◌∷◌, ◌++◌, Bool, true, false, Option, Some, None, Result, Ok, Err}
 use Rattle.std.proofs.Common.{refl, sym, ap, subst, ◌∙◌, append_assoc, append-nil}
-use Rattle.std.specs.Prelude.{if◌then◌else◌}
+use Rattle.std.specs.Prelude.{if◌then◌else◌, OnOk, OnErr}
 use Rattle.std.specs.Option.{option_to_list}
 use Rattle.std.proofs.KnownBytes.{Appends-nil, Appends-trans}
 use Rattle.bsc_frame.specs.declared.message.Heard.{Heard}
 use Rattle.bsc_frame.specs.Spells.{IsHeardAs}
-use Rattle.bsc_print.specs.Names.{Prints, shown}
+use Rattle.bsc_print.specs.Fronts.{AppendsFront, Extends}
+use Rattle.bsc_print.specs.Names.{Prints, PrintsFront, shown}
+use Rattle.bsc_print.proofs.Fronts.{extends_all, extends_front, front_none}
 use Rattle.bsc_print.specs.declared.printed.Detail.{Detail}
 use Rattle.bsc_print.specs.declared.printed.Detail.TheVariants.{Name, Units}
 use Rattle.std.specs.Io.KnownBytes.{Appends}
 use Rattle.bsc_input.specs.Lines.{is_blank}
 use Rattle.bsc_input.specs.Parts.{parts_at}
 use Rattle.bsc_naming.specs.Lines.{AreShown, IsOutputFor, IsOutputOf, PrintsLines, digits}
+use Rattle.bsc_naming.specs.Lines.{PrintsLinesFront}
 use Rattle.bsc_naming.specs.Lines.{given, is_traced, kept_line, last_part, shown_line}
 use Rattle.bsc_input.specs.Hexadecimal.{octets_of}
 
@@ -28,7 +31,7 @@ pub shown_line_plain : (detail : Detail) (line : List ℕ) (heard : Heard)
 shown_line_plain Name line heard = refl
 shown_line_plain Units line heard = refl
 
-are_shown_append : (detail : Detail) (xs ys : List (List ℕ)) (t u : List ℕ)
+pub are_shown_append : (detail : Detail) (xs ys : List (List ℕ)) (t u : List ℕ)
     → AreShown detail xs t → AreShown detail ys u → AreShown detail (xs ++ ys) (t ++ u)
 are_shown_append detail [] ys t u h k = rw h k
 are_shown_append detail (x ∷ xs) ys t u (first, rest, output, e, more) k = (
@@ -80,6 +83,70 @@ prints_lines_one detail traced line text octets a b is same blank e (heard, is_h
     prints_one_line detail line out a b
     (output_by_octets detail traced line out (octets ∷ []) is (ap given same ∙ some)
     (heard, is_heard, refl)) appended
+
+-- a front of the output for one line
+lines_front_one_line : (detail : Detail) (line text : List ℕ) (a b : Option (List ℕ))
+    → IsOutputOf detail line text → AppendsFront a b text
+    → PrintsLinesFront detail (line ∷ []) a b
+lines_front_one_line detail line text a b output front = record {
+  place = 1;
+  text = text;
+  shown = (text, [], output, sym (append-nil text), refl);
+  appended = front;
+}
+
+-- nothing was printed
+pub lines_front_none : (detail : Detail) (lines : List (List ℕ)) (a : Option (List ℕ))
+    → PrintsLinesFront detail lines a a
+lines_front_none detail lines a = record {
+  place = 0;
+  text = [];
+  shown = refl;
+  appended = front_none a [];
+}
+
+-- a front of the output for a line with a transmission
+pub lines_front_one : (detail : Detail) (traced : Bool) (line text octets : List ℕ)
+    (a b : Option (List ℕ)) → is_traced line ≡ traced → digits line ≡ text → is_blank text ≡ false
+    → octets_of text ≡ Some octets
+    → ((heard : Heard) × IsHeardAs octets heard
+    × AppendsFront a b (shown_line detail traced line heard))
+    → PrintsLinesFront detail (line ∷ []) a b
+lines_front_one detail traced line text octets a b is same blank e (heard, is_heard, front) =
+    let some : given text ≡ octets ∷ [] =
+    ap (λ b. if b then [] else option_to_list (octets_of text)) blank ∙ ap option_to_list e in
+    let out = shown_line detail traced line heard in
+    lines_front_one_line detail line out a b
+    (output_by_octets detail traced line out (octets ∷ []) is (ap given same ∙ some)
+    (heard, is_heard, refl)) front
+
+-- a front of that for a line that is no line of a trace
+pub lines_front_plain : (detail : Detail) (line octets : List ℕ) (a b : Option (List ℕ))
+    → is_traced line ≡ false → digits line ≡ line → is_blank line ≡ false
+    → octets_of line ≡ Some octets → PrintsFront (shown detail) octets a b
+    → PrintsLinesFront detail (line ∷ []) a b
+lines_front_plain detail line octets a b is same blank e p =
+    lines_front_one detail false line line octets a b is same blank e (
+      p.heard,
+      p.is_heard,
+      subst (λ t. AppendsFront a b t) (sym (shown_line_plain detail line p.heard)) p.appended,
+    )
+
+-- a front of the output for a line without a transmission
+pub lines_front_kept : (detail : Detail) (traced : Bool) (line text : List ℕ)
+    (a b : Option (List ℕ)) → is_traced line ≡ traced → digits line ≡ text → given text ≡ []
+    → AppendsFront a b (kept_line detail traced line) → PrintsLinesFront detail (line ∷ []) a b
+lines_front_kept detail traced line text a b is same none front =
+    let out = kept_line detail traced line in
+    lines_front_one_line detail line out a b
+    (output_by_octets detail traced line out [] is (ap given same ∙ none) refl) front
+
+-- what was written before stays, whether the output for lines was printed or a front of it
+pub extends_lines : {T E : Type 0} (detail : Detail) (lines : List (List ℕ))
+    (a b : Option (List ℕ)) (r : Result T E) → OnOk r (PrintsLines detail lines a b)
+    → OnErr r (PrintsLinesFront detail lines a b) → Extends a b
+extends_lines detail lines a b (Ok done) p q = extends_all a b p.text p.appended
+extends_lines detail lines a b (Err e) p q = extends_front a b q.text q.appended
 
 -- a line that is no line of a trace and has a transmission
 pub prints_lines_plain : (detail : Detail) (line octets : List ℕ) (a b : Option (List ℕ))

@@ -1,7 +1,7 @@
 -- The output for the lines of an input so far.
 use Rattle.std.proofs.Common.{◌≡◌, ◌<◌, ◌≤◌, ℕ, ◌+◌, ◌||◌, ◌&&◌, not, map, List, [], ◌∷◌, ◌++◌, Bool}
 use Rattle.std.proofs.Common.{true, false, Option, Some, None, Result, Ok, Err, length, refl, sym, ap}
-use Rattle.std.proofs.Common.{subst, ◌∙◌, append_assoc, append-nil, length-append, arith, get_or, take}
+use Rattle.std.proofs.Common.{zero, suc, subst, ◌∙◌, append_assoc, append-nil, length-append, arith, get_or, take}
 use Rattle.std.proofs.Math.Seq.{take-append_seam}
 use Rattle.std.proofs.lemmas.Bool.Decides.{nat_tests}
 use Rattle.std.proofs.lemmas.List.{map-append, take-map}
@@ -15,14 +15,16 @@ use Rattle.bsc_input.specs.declared.input.InputError.TheVariants as input
 use Rattle.bsc_input.specs.declared.reading.LineEnd.{LineEnd}
 use Rattle.bsc_input.specs.declared.reading.LineEnd.TheVariants.{LineFeed, InputEnd}
 use Rattle.bsc_input.proofs.LineParts.{first_part}
+use Rattle.bsc_print.specs.Fronts.{AppendsFront}
 use Rattle.bsc_print.specs.declared.printed.Detail.{Detail}
+use Rattle.bsc_print.proofs.Fronts.{front_after, front_all}
 use Rattle.bsc_naming.specs.Errors.{IsLineError, IsWrongOrPrintError, input_error}
 use Rattle.bsc_naming.specs.Inputs.{HasStopped, PrintsFirst, PrintsInput, StopsAt}
 use Rattle.bsc_naming.specs.Inputs.{is_misspelt, is_refused, is_too_long}
-use Rattle.bsc_naming.specs.Lines.{PrintsLines, is_wrong}
+use Rattle.bsc_naming.specs.Lines.{AreShown, PrintsLines, PrintsLinesFront, is_wrong}
 use Rattle.bsc_naming.specs.declared.error.NamingError.{NamingError}
 use Rattle.bsc_naming.specs.declared.error.NamingError.TheVariants as naming
-use Rattle.bsc_naming.proofs.Lines.{prints_lines_append, prints_lines_nil}
+use Rattle.bsc_naming.proofs.Lines.{are_shown_append, lines_front_none, prints_lines_append, prints_lines_nil}
 use Rattle.bsc_naming.proofs.Lists.{NonePasses, NonePasses-more, position-append, position_none}
 
 -- the first lines, of which the next one has this number, are not refused and their output was
@@ -86,6 +88,11 @@ not_long part h = grind (arith, nat_tests)
 long : (part : List ℕ) → 1048576 < length part → is_too_long part ≡ true
 long part h = grind (arith, nat_tests)
 
+take_none : {X : Type 0} (xs : List X) (k : ℕ) → xs ≡ [] → take k xs ≡ []
+take_none [] zero e = refl
+take_none [] (suc k) e = refl
+take_none (x ∷ xs) k e = cc
+
 module _ {detail : Detail} {n : ℕ} {a b : Option (List ℕ)} where
   has_printed_more : (all : List (List ℕ)) (part line : List ℕ) (left : List (List ℕ))
       (c : Option (List ℕ)) → HasPrinted detail all (part ∷ left) n a b → length part ≤ 1048576
@@ -142,6 +149,52 @@ module _ {detail : Detail} {n : ℕ} {a b : Option (List ℕ)} where
         subst (λ lines. PrintsLines detail lines a b)
         (sym (first_lines octets h.done left h.whole)) h.printed;
   }
+
+  -- the output for the first lines was printed, as a front of itself
+  has_printed_whole : (octets : List ℕ) (left : List (List ℕ))
+      → HasPrinted detail (parts_of octets) left n a b
+      → PrintsLinesFront detail (lines_of octets) a b
+  has_printed_whole octets left h = record {
+    place = length h.done;
+    text = h.printed.text;
+    shown =
+        subst (λ lines. AreShown detail lines h.printed.text)
+        (sym (first_lines octets h.done left h.whole)) h.printed.shown;
+    appended = front_all a b h.printed.text h.printed.appended;
+  }
+
+  -- the output for the first lines was printed, and that for these next ones, as far as it goes
+  has_printed_next : (octets : List ℕ) (part line : List ℕ) (left : List (List ℕ))
+      (c : Option (List ℕ)) (h : HasPrinted detail (parts_of octets) (part ∷ left) n a b)
+      (same : line ≡ strip_carriage_return part) (place : ℕ) (text : List ℕ)
+      → AreShown detail (take place (line ∷ [])) text → AppendsFront b c text
+      → PrintsLinesFront detail (lines_of octets) a c
+  has_printed_next octets part line left c h same zero text shown front =
+      let lines = map strip_carriage_return h.done in
+      record {
+        place = length h.done;
+        text = h.printed.text ++ text;
+        shown =
+            subst (λ l. AreShown detail l (h.printed.text ++ text))
+            (append-nil lines ∙ sym (first_lines octets h.done (part ∷ left) h.whole))
+            (are_shown_append detail lines [] h.printed.text text h.printed.shown shown);
+        appended = front_after a b c h.printed.text text h.printed.appended front;
+      }
+  has_printed_next octets part line left c h same (suc k) text shown front =
+      let lines = map strip_carriage_return h.done in
+      let more : lines ++ line ∷ [] ≡ map strip_carriage_return (h.done ++ part ∷ []) =
+      ap (λ l. lines ++ l ∷ []) same ∙ sym (map-append strip_carriage_return h.done (part ∷ [])) in
+      record {
+        place = length (h.done ++ part ∷ []);
+        text = h.printed.text ++ text;
+        shown =
+            subst (λ l. AreShown detail l (h.printed.text ++ text))
+            (more ∙ sym (first_lines octets (h.done ++ part ∷ []) left
+            (h.whole ∙ sym (append_assoc h.done (part ∷ []) left))))
+            (are_shown_append detail lines (line ∷ []) h.printed.text text h.printed.shown
+            (subst (λ l. AreShown detail (line ∷ l) text) (take_none [] k refl) shown));
+        appended = front_after a b c h.printed.text text h.printed.appended front;
+      }
 
 -- the part is what was read of the lines that were left, and others may be left
 part_left : (old new : List ℕ) (end : LineEnd) (part : List ℕ)
@@ -220,7 +273,22 @@ module _ (detail : Detail) (n : ℕ) (a b c : Option (List ℕ)) where
   stopped_read given left input.TooLong h more = stopped_long given left h (more refl)
   stopped_read given left (input.Device why) h more = stopped_first given left h
   stopped_read None left input.Memory h more = tt
-  stopped_read (Some all) left input.Memory h more = tt
+  stopped_read (Some all) None input.Memory h more = absurd h
+  stopped_read (Some all) (Some old) input.Memory h more = has_printed_whole all (parts_of old) h
+
+  -- a front of the output for the next line was printed
+  stopped_part : (given left next : Option (List ℕ)) (end : LineEnd) (part line : List ℕ)
+      → HasPrintedOf given left detail n a b → ReadsLine left next end part
+      → line ≡ strip_carriage_return part → PrintsLinesFront detail (line ∷ []) b c
+      → IfSome given (λ octets. PrintsLinesFront detail (lines_of octets) a c)
+  stopped_part None left next end part line h read same p = tt
+  stopped_part (Some all) None next end part line h read same p = absurd h
+  stopped_part (Some all) (Some old) None end part line h read same p = absurd read
+  stopped_part (Some all) (Some old) (Some new) end part line h read same p =
+      let found = part_left old new end part read in
+      has_printed_next all part line found.0 c
+      (subst (λ parts. HasPrinted detail (parts_of all) parts n a b) found.1 h) same p.place p.text
+      p.shown p.appended
 
   -- the line that was read was not printed, or in part
   pub stopped_write : (given left next : Option (List ℕ)) (end : LineEnd) (part line : List ℕ)
@@ -228,16 +296,24 @@ module _ (detail : Detail) (n : ℕ) (a b c : Option (List ℕ)) where
       → length part ≤ 1048576 → line ≡ strip_carriage_return part
       → ((k : ℕ) → e ≡ naming.NotHexadecimalAt k
       → (k ≡ n) × (is_wrong line ≡ true) × (c ≡ b))
+      → PrintsLinesFront detail (line ∷ []) b c
       → IsWrongOrPrintError e → IfSome given (λ octets. HasStopped detail e octets a c)
-  stopped_write given left next end part line (naming.NotHexadecimalAt k) h read fits same wrong kind =
+  stopped_write given left next end part line (naming.NotHexadecimalAt k) h read fits same wrong p kind =
       let told = wrong k refl in
       rw (told.0, told.2) (stopped_wrong given left next end part line h read fits same told.1)
-  stopped_write None left next end part line e h read fits same wrong kind = tt
-  stopped_write (Some all) left next end part line naming.NotHexadecimal h read fits same wrong kind = tt
-  stopped_write (Some all) left next end part line (naming.TooLongAt k) h read fits same wrong kind = absurd kind
-  stopped_write (Some all) left next end part line naming.Input h read fits same wrong kind = absurd kind
-  stopped_write (Some all) left next end part line naming.Output h read fits same wrong kind = tt
-  stopped_write (Some all) left next end part line naming.Memory h read fits same wrong kind = tt
+  stopped_write given left next end part line naming.NotHexadecimal h read fits same wrong p kind = absurd kind
+  stopped_write given left next end part line (naming.TooLongAt k) h read fits same wrong p kind = absurd kind
+  stopped_write given left next end part line naming.Input h read fits same wrong p kind = absurd kind
+  stopped_write given left next end part line naming.Output h read fits same wrong p kind =
+      stopped_part given left next end part line h read same p
+  stopped_write given left next end part line naming.Memory h read fits same wrong p kind =
+      stopped_part given left next end part line h read same p
+
+-- nothing was printed
+pub stopped_unread : (detail : Detail) (a : Option (List ℕ)) (given : Option (List ℕ))
+    → IfSome given (λ octets. PrintsLinesFront detail (lines_of octets) a a)
+stopped_unread detail a None = tt
+stopped_unread detail a (Some octets) = lines_front_none detail (lines_of octets) a
 
 -- the errors of one line are errors of lines
 pub line_error_of_write : (e : NamingError) → IsWrongOrPrintError e → IsLineError e

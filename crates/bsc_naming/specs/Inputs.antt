@@ -5,10 +5,11 @@ use Rattle.std.specs.Str.Lines.{strip_carriage_return}
 use Rattle.bsc_input.specs.Lines.{lines_of, parts_of}
 use Rattle.bsc_input.specs.declared.input.TheConstants.{MAX_INPUT}
 use Rattle.bsc_print.specs.declared.printed.Detail.{Detail}
-use Rattle.bsc_naming.specs.Lines.{PrintsLines, is_wrong}
+use Rattle.bsc_naming.specs.Lines.{PrintsLines, PrintsLinesFront, is_wrong}
 use Rattle.bsc_naming.specs.declared.error.NamingError.{NamingError}
+use Rattle.bsc_naming.specs.declared.error.NamingError.TheVariants.{NotHexadecimal}
 use Rattle.bsc_naming.specs.declared.error.NamingError.TheVariants.{NotHexadecimalAt, TooLongAt}
-use Rattle.bsc_naming.specs.declared.error.NamingError.TheVariants.{Input}
+use Rattle.bsc_naming.specs.declared.error.NamingError.TheVariants.{Input, Output, Memory}
 
 -- Whether the text between two line feeds of an input is too long. A carriage return at its end
 -- counts.
@@ -45,12 +46,14 @@ pub record PrintsFirst (detail : Detail) (input : List ℕ) (old new : Option (L
   pub place : ℕ
   pub before : PrintsLines detail (take place (lines_of input)) old new
 
--- What an error says of the input and of the output. Of an error while a line was printed it says
--- nothing.
+-- What an error says of the input and of the output. After an output fault or out of memory a front
+-- of the output for some first lines was printed.
 abbrev pub HasStopped : Detail → NamingError → List ℕ → Option (List ℕ) → Option (List ℕ) → Type 0
 HasStopped detail (NotHexadecimalAt number) input old new =
     StopsAt is_misspelt detail number input old new
 HasStopped detail (TooLongAt number) input old new =
     StopsAt is_too_long detail number input old new
 HasStopped detail Input input old new = PrintsFirst detail input old new
-HasStopped detail _ input old new = Unit {0}
+HasStopped detail Output input old new = PrintsLinesFront detail (lines_of input) old new
+HasStopped detail Memory input old new = PrintsLinesFront detail (lines_of input) old new
+HasStopped detail NotHexadecimal input old new = Unit {0}

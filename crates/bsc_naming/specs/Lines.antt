@@ -1,16 +1,17 @@
 -- The output for lines.
 use Rattle.std.specs.Prelude.{◌≡◌, ℕ, ◌+◌, ◌-◌, ◌==◌, ◌&&◌, not, Bool, true, false, List, [], ◌∷◌}
-use Rattle.std.specs.Prelude.{◌++◌, length, take, Option, is_none}
+use Rattle.std.specs.Prelude.{◌++◌, ◌⊎◌, length, take, Option, Some, is_none}
 use Rattle.std.specs.Prelude.{if◌then◌else◌}
 use Rattle.std.specs.List.{flat_map}
 use Rattle.std.specs.Option.{option_to_list}
-use Rattle.std.specs.Io.KnownBytes.{Appends}
+use Rattle.std.specs.Io.KnownBytes.{Appends, Keeps}
 use Rattle.bsc_frame.specs.declared.message.Heard.{Heard}
 use Rattle.bsc_frame.specs.Spells.{IsHeardAs}
 use Rattle.bsc_input.specs.Hexadecimal.{octets_of}
 use Rattle.bsc_input.specs.Lines.{is_blank}
 use Rattle.bsc_input.specs.Parts.{parts_at}
-use Rattle.bsc_print.specs.Names.{shown, unit_line, units_of}
+use Rattle.bsc_print.specs.Fronts.{AppendsFront}
+use Rattle.bsc_print.specs.Names.{PrintsFront, name_line, shown, unit_line, units_of}
 use Rattle.bsc_print.specs.declared.printed.Detail.{Detail}
 use Rattle.bsc_print.specs.declared.printed.Detail.TheVariants.{Units}
 
@@ -76,3 +77,17 @@ pub record PrintsLines (detail : Detail) (lines : List (List ℕ)) (old new : Op
   pub text : List ℕ
   pub shown : AreShown detail lines text
   pub appended : Appends old new text
+
+-- A front of the output for some first of these lines was appended, and nothing else.
+pub record PrintsLinesFront (detail : Detail) (lines : List (List ℕ)) (old new : Option (List ℕ))
+    : Type 0 where
+  pub place : ℕ
+  pub text : List ℕ
+  pub shown : AreShown detail (take place lines) text
+  pub appended : AppendsFront old new text
+
+-- A front of the name of the transmission in this text was appended, or nothing.
+abbrev pub PrintsNameFront : List ℕ → Option (List ℕ) → Option (List ℕ) → Type 0
+PrintsNameFront text old new =
+    Keeps old new
+    ⊎ ((octets : List ℕ) × (octets_of text ≡ Some octets) × PrintsFront name_line octets old new)

@@ -1,14 +1,16 @@
 //! Prints the names of transmissions given in hexadecimal text or in the lines of a trace.
-ghost use Rattle.std.specs.Prelude.{◌≡◌, ◌∷◌, [], true, false, None, OnOk, IfErr, IfSome};
+ghost use Rattle.std.specs.Prelude.{◌≡◌, ◌∷◌, [], true, false, None, OnOk, OnErr, IfErr, IfSome};
 ghost use Rattle.std.specs.Prelude.{IsErrOf, IsSomeAnd, ℕ};
 ghost use Rattle.std.specs.Io.KnownBytes.{Appends};
 ghost use Rattle.bsc_frame.specs.Spells.{IsHeardAs};
 ghost use Rattle.bsc_frame.specs.declared.message.Heard.{Heard as HeardValue};
 ghost use Rattle.bsc_input.specs.Hexadecimal.{octets_of};
 ghost use Rattle.bsc_input.specs.Parts.{parts_at};
-ghost use Rattle.bsc_print.specs.Names.{Prints, name_line, shown};
+ghost use Rattle.bsc_print.specs.Fronts.{AppendsFront, Extends};
+ghost use Rattle.bsc_print.specs.Names.{Prints, PrintsFront, name_line, shown};
 ghost use Rattle.bsc_naming.specs.Inputs.{HasStopped, PrintsInput};
-ghost use Rattle.bsc_naming.specs.Lines.{PrintsLines, is_traced, is_wrong, kept_line, last_part};
+ghost use Rattle.bsc_naming.specs.Lines.{PrintsLines, PrintsLinesFront, PrintsNameFront};
+ghost use Rattle.bsc_naming.specs.Lines.{is_traced, is_wrong, kept_line, last_part};
 ghost use Rattle.bsc_naming.specs.Lines.{before_last as text_before_last, shown_line};
 ghost use Rattle.bsc_naming.specs.Errors.{IsLineError, IsNameError, IsPrintError, input_error};
 ghost use Rattle.bsc_naming.specs.Errors.{IsWrongOrPrintError};
@@ -23,7 +25,8 @@ use std::alloc::Allocator;
 use std::io::{BufRead, BufReader, Read, Write};
 
 /// Prints the name of the transmission in hexadecimal text, and a line feed. If the text is not
-/// hexadecimal, nothing is printed.
+/// hexadecimal, nothing is printed. After an output fault or out of memory a front of that has been
+/// printed. What was written before stays.
 pub fn name<A: Allocator + Copy, W: Write>(
     alloc: A,
     text: &str,
@@ -34,6 +37,8 @@ pub fn name<A: Allocator + Copy, W: Write>(
         Prints name_line octets (W.contents out.old) (W.contents out.new))) }
     ensures wrong { IsErrOf result NamingError.NotHexadecimal →
         (octets_of text.now ≡ None) × (out.new ≡ out.old) }
+    ensures front { OnErr result
+        (PrintsNameFront text.now (W.contents out.old) (W.contents out.new)) }
     ensures faults { IfErr result IsNameError }
 {
     match read_octets(alloc, text.as_bytes())? {
@@ -46,8 +51,9 @@ pub fn name<A: Allocator + Copy, W: Write>(
 /// `+` is a line of a trace: its transmission is the hexadecimal text after its last space, and a
 /// line without one is skipped. Blank lines are skipped too. Skipped lines are counted. Stops at
 /// any other line that is not hexadecimal text, and at a line of more than `MAX_INPUT` octets; the
-/// names of the lines before it stay printed. The input may have any length: one line of it is kept
-/// at a time.
+/// names of the lines before it stay printed. After an output fault or out of memory a front of the
+/// output has been printed. What was written before stays. The input may have any length: one line
+/// of it is kept at a time.
 pub fn names<A: Allocator + Copy, R: Read, W: Write>(
     alloc: A,
     input: &mut R,
@@ -57,6 +63,7 @@ pub fn names<A: Allocator + Copy, R: Read, W: Write>(
         PrintsInput Detail.Name octets (W.contents out.old) (W.contents out.new))) }
     ensures stopped { IfErr result (λ error. IfSome (R.remaining input.old) (λ octets.
         HasStopped Detail.Name error octets (W.contents out.old) (W.contents out.new))) }
+    ensures stays { Extends (W.contents out.old) (W.contents out.new) }
     ensures faults { IfErr result IsLineError }
 {
     write_input(alloc, Detail::Name, input, out)
@@ -74,6 +81,7 @@ pub fn show<A: Allocator + Copy, R: Read, W: Write>(
         PrintsInput Detail.Units octets (W.contents out.old) (W.contents out.new))) }
     ensures stopped { IfErr result (λ error. IfSome (R.remaining input.old) (λ octets.
         HasStopped Detail.Units error octets (W.contents out.old) (W.contents out.new))) }
+    ensures stays { Extends (W.contents out.old) (W.contents out.new) }
     ensures faults { IfErr result IsLineError }
 {
     write_input(alloc, Detail::Units, input, out)
@@ -90,6 +98,7 @@ fn write_input<A: Allocator + Copy, R: Read, W: Write>(
         PrintsInput detail octets (W.contents out.old) (W.contents out.new))) }
     ensures stopped { IfErr result (λ error. IfSome (R.remaining input.old) (λ octets.
         HasStopped detail error octets (W.contents out.old) (W.contents out.new))) }
+    ensures stays { Extends (W.contents out.old) (W.contents out.new) }
     ensures faults { IfErr result IsLineError }
 {
     match BufReader::new(alloc, input) {
@@ -109,6 +118,7 @@ fn write_lines<A: Allocator + Copy, B: BufRead, W: Write>(
         PrintsInput detail octets (W.contents out.old) (W.contents out.new))) }
     ensures stopped { IfErr result (λ error. IfSome (B.remaining reader.old) (λ octets.
         HasStopped detail error octets (W.contents out.old) (W.contents out.new))) }
+    ensures stays { Extends (W.contents out.old) (W.contents out.new) }
     ensures faults { IfErr result IsLineError }
 {
     let mut line = Vec::new(alloc);
@@ -170,6 +180,8 @@ fn before_last(line: &[u8]) -> &[u8]
 fn write_kept<W: Write>(detail: Detail, line: &[u8], out: &mut W) -> Result<(), NamingError>
     ensures ok { OnOk result (Appends (W.contents out.old) (W.contents out.new)
         (kept_line detail true line.now)) }
+    ensures front { OnErr result (AppendsFront (W.contents out.old) (W.contents out.new)
+        (kept_line detail true line.now)) }
     ensures fault { IfErr result IsPrintError }
 {
     match detail {
@@ -191,6 +203,9 @@ fn write_spoken<A: Allocator + Copy, W: Write>(
 ) -> Result<(), NamingError>
     ensures ok { OnOk result ((heard : HeardValue) × IsHeardAs octets.now heard
         × Appends (W.contents out.old) (W.contents out.new)
+        (shown_line detail true line.now heard)) }
+    ensures front { OnErr result ((heard : HeardValue) × IsHeardAs octets.now heard
+        × AppendsFront (W.contents out.old) (W.contents out.new)
         (shown_line detail true line.now heard)) }
     ensures fault { IfErr result IsPrintError }
 {
@@ -216,6 +231,8 @@ fn write_traced<A: Allocator + Copy, W: Write>(
     requires { is_traced line.now ≡ true }
     ensures ok { OnOk result
         (PrintsLines detail (line.now ∷ []) (W.contents out.old) (W.contents out.new)) }
+    ensures front { OnErr result
+        (PrintsLinesFront detail (line.now ∷ []) (W.contents out.old) (W.contents out.new)) }
     ensures faults { IfErr result IsPrintError }
 {
     let word = last_word(line);
@@ -241,6 +258,8 @@ fn write_line<A: Allocator + Copy, W: Write>(
         (PrintsLines detail (line.now ∷ []) (W.contents out.old) (W.contents out.new)) }
     ensures wrong { (n : ℕ) → result ≡ Err (NamingError.NotHexadecimalAt n) →
         (n ≡ number) × (is_wrong line.now ≡ true) × (out.new ≡ out.old) }
+    ensures front { OnErr result
+        (PrintsLinesFront detail (line.now ∷ []) (W.contents out.old) (W.contents out.new)) }
     ensures faults { IfErr result IsWrongOrPrintError }
 {
     if is_traced_line(line) {
@@ -264,6 +283,8 @@ fn write_transmission<A: Allocator + Copy, W: Write>(
 ) -> Result<(), NamingError>
     ensures ok { OnOk result
         (Prints (shown detail) octets.now (W.contents out.old) (W.contents out.new)) }
+    ensures front { OnErr result
+        (PrintsFront (shown detail) octets.now (W.contents out.old) (W.contents out.new)) }
     ensures fault { IfErr result IsPrintError }
 {
     let mut buffer = TextBuffer::new();

@@ -1,2 +1,3 @@
 pub mod Escapes
 pub mod Lists
+pub mod Fronts

@@ -14,6 +14,7 @@ use Rattle.bsc_frame.specs.declared.message.Message.{Message}
 use Rattle.bsc_frame.specs.declared.message.Message.TheVariants.{Eot, Call, Enq, Reply, Text}
 use Rattle.bsc_frame.specs.declared.message.Heard.{Heard}
 use Rattle.bsc_frame.specs.declared.message.Heard.TheVariants.{Whole, Failed, Noise}
+use Rattle.bsc_print.specs.Fronts.{AppendsFront}
 use Rattle.bsc_print.specs.declared.printed.Detail.{Detail}
 use Rattle.bsc_print.specs.declared.printed.Detail.TheVariants.{Name, Units}
 
@@ -80,3 +81,10 @@ pub record Prints (show : Heard → List ℕ) (octets : List ℕ) (old new : Opt
   pub heard : Heard
   pub is_heard : IsHeardAs octets heard
   pub appended : Appends old new (show heard)
+
+-- A front of the output for the octets as they are heard was appended.
+pub record PrintsFront (show : Heard → List ℕ) (octets : List ℕ) (old new : Option (List ℕ))
+    : Type 0 where
+  pub heard : Heard
+  pub is_heard : IsHeardAs octets heard
+  pub appended : AppendsFront old new (show heard)

@@ -1,7 +1,8 @@
 //! The forms of a record in print.
-ghost use Rattle.std.specs.Prelude.{◌≡◌, ◌<◌, ◌^◌, ◌∷◌, [], OnOk};
+ghost use Rattle.std.specs.Prelude.{◌≡◌, ◌<◌, ◌^◌, ◌∷◌, [], OnErr, OnOk};
 ghost use Rattle.std.specs.Io.KnownBytes.{Appends};
 ghost use Rattle.std.specs.Char.{digit_char};
+ghost use Rattle.bsc_print.specs.Fronts.{AppendsFront};
 ghost use Rattle.bsc_print.specs.Forms.{escape_of, escaped, in_form};
 
 use crate::{PrintError, put, write_chars};
@@ -23,15 +24,17 @@ pub enum Form {
     Bytes,
 }
 
-/// Writes the characters of a record. After an error a part of the output may have been written.
+/// Writes the characters of a record. After an error a front of the output has been written.
 pub fn write_in_form<A: Allocator, W: Write>(
     alloc: A,
     form: Form,
     chars: &[u8],
     out: &mut W,
 ) -> Result<(), PrintError>
-    ensures { OnOk result
+    ensures ok { OnOk result
         (Appends (W.contents out.old) (W.contents out.new) (in_form form chars.now)) }
+    ensures front { OnErr result
+        (AppendsFront (W.contents out.old) (W.contents out.new) (in_form form chars.now)) }
 {
     match form {
         Form::Hexadecimal => write_chars(alloc, chars, out),
@@ -42,8 +45,10 @@ pub fn write_in_form<A: Allocator, W: Write>(
 
 /// Writes characters as text on one line.
 fn write_escaped<W: Write>(chars: &[u8], out: &mut W) -> Result<(), PrintError>
-    ensures { OnOk result
+    ensures ok { OnOk result
         (Appends (W.contents out.old) (W.contents out.new) (escaped chars.now)) }
+    ensures front { OnErr result
+        (AppendsFront (W.contents out.old) (W.contents out.new) (escaped chars.now)) }
 {
     'chars: for &code in chars {
         write_code(code, out)?;
@@ -53,8 +58,10 @@ fn write_escaped<W: Write>(chars: &[u8], out: &mut W) -> Result<(), PrintError>
 
 /// Writes a character as text on one line.
 fn write_code<W: Write>(code: u8, out: &mut W) -> Result<(), PrintError>
-    ensures { OnOk result
+    ensures ok { OnOk result
         (Appends (W.contents out.old) (W.contents out.new) (escape_of code)) }
+    ensures front { OnErr result
+        (AppendsFront (W.contents out.old) (W.contents out.new) (escape_of code)) }
 {
     match code {
         b'\\' => put(b"\\\\", out),

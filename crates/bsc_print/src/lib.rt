@@ -13,5 +13,5 @@ mod printed;
 pub use error::PrintError;
 pub use form::{Form, write_in_form};
 pub use printed::{
-    Detail, put, write_chars, write_heard_name, write_name, write_shown, write_units,
+    Detail, put, put_numbered, write_chars, write_heard_name, write_name, write_shown, write_units,
 };

@@ -3,8 +3,9 @@ use Rattle.std.proofs.Common.{◌≡◌, Some, true, false, sym, ap, ◌∙◌, 
 use Rattle.bsc_input.specs.Hexadecimal.{octets_of}
 use Rattle.bsc_input.specs.Lines.{is_blank}
 use Rattle.bsc_naming.specs.Lines.{is_traced}
+use Rattle.bsc_print.proofs.Fronts.{on_err}
 use Rattle.bsc_naming.proofs.Lines.{prints_lines_plain, prints_lines_skip, digits_plain}
-use Rattle.bsc_naming.proofs.Lines.{given_blank}
+use Rattle.bsc_naming.proofs.Lines.{given_blank, lines_front_plain}
 use Rattle.bsc_naming.proofs.Outcomes.{on_ok}
 use Rattle.bsc_naming.proofs.naming.write_line.Goals as goal
 
@@ -26,3 +27,14 @@ returns-in-Some-clause-ok g c =
     let blank : is_blank line ≡ false = search rules in
     on_ok c.write_transmission.result (prints_lines_plain c.args.detail line octets _ _ plain
     (digits_plain line plain) blank read) c.write_transmission.ensures.ok
+
+pub returns-in-Some-clause-front : goal.returns-in-Some-clause-front
+returns-in-Some-clause-front g c =
+    let line = c.args.line.now in
+    let octets = c.deref.result.now in
+    let read : octets_of line ≡ Some octets = sym c.in_ok-octets.ensures
+    ∙ ap (option_map (λ v. v.items)) c.in-Some.is ∙ ap Some (sym c.deref.ensures.value) in
+    let plain : is_traced line ≡ false = search rules in
+    let blank : is_blank line ≡ false = search rules in
+    on_err c.write_transmission.result (lines_front_plain c.args.detail line octets _ _ plain
+    (digits_plain line plain) blank read) c.write_transmission.ensures.front

@@ -1,8 +1,11 @@
 -- The lines before this number are printed.
+use Rattle.bsc_print.specs.Fronts.{Extends}
 use Rattle.bsc_naming.proofs.Printed.{HasPrintedOf}
 use Rattle.bsc_naming.proofs.naming.write_lines.Given as goal
 
 abbrev pub invariant-lines : goal.invariant-lines
-invariant-lines g l =
-    HasPrintedOf (g.B.Read.remaining l.fn.reader) (g.B.Read.remaining l.reader) l.detail l.number
-    (g.W.Write.contents l.fn.out) (g.W.Write.contents l.out)
+invariant-lines g l = record {
+  printed : HasPrintedOf (g.B.Read.remaining l.fn.reader) (g.B.Read.remaining l.reader) l.detail
+      l.number (g.W.Write.contents l.fn.out) (g.W.Write.contents l.out);
+  stays : Extends (g.W.Write.contents l.fn.out) (g.W.Write.contents l.out);
+}
