@@ -2,7 +2,9 @@
 //! hear, its line in the trace and its lines in the report; the longest records, and the longest
 //! transmissions that are sent and heard.
 
-use crate::written::written_over_sockets;
+use crate::written::{answer_over_sockets, nothing_written, written_over_sockets};
+use bsc_line_model::LineError;
+use bsc_run::RunError;
 use std::alloc::{AllocError, Global};
 use std::test::Fail;
 
@@ -100,6 +102,94 @@ fn each_of_64_terminals_hears_its_item(rt: HostRuntime) -> Result<(), Fail> {
     let written = written_over_sockets(&rt, &config, &script)?;
     assert!(rt; written.out.as_slice() == printed_of(rt.alloc(), COUNT)?.as_bytes());
     assert!(rt; written.trace.as_slice() == traced_of(rt.alloc(), COUNT)?.as_bytes());
+    Ok(())
+}
+
+/// A configuration with 64 terminals of two selection addresses each. The last and the first are
+/// polled.
+fn config_of_ends(alloc: Global) -> Result<String, Fail> {
+    let mut text = format!(in alloc; "version = 2\ntries = 1\npoll_list = [63, 0]\n")?;
+    for number in 0..COUNT {
+        write!(
+            text,
+            "[[terminals]]\npoll = \"A{number}\"\nselect = [\"a{number}\", \"b{number}\"]\n"
+        )?;
+    }
+    Ok(text)
+}
+
+/// The last terminal sends two records, the first one gets one at its second address, and a doubt
+/// is released that there is not.
+const SCRIPT_OF_ENDS: &str = "offer-at 63 HI
+offer-at 63
+offer-to 0 1 BYE
+silence
+carry
+carry
+carry
+carry
+carry
+carry
+carry
+carry
+carry
+carry
+carry
+carry
+lose
+release 63 from
+";
+
+/// What was pending after each event of this script.
+const TRACE_OF_ENDS: &str = "control CALL A63
+terminal 63 TEXT ETX 2
+control ACK1
+terminal 63 EOT
+control CALL b0
+terminal 0 ACK0
+control TEXT ETX 1
+terminal 0 ACK1
+control CALL A0
+terminal 0 EOT
+control CALL A63
+terminal 63 EOT
+control CALL A0
+quiet
+";
+
+/// The output of this script.
+fn printed_of_ends(alloc: Global) -> Result<String, Fail> {
+    let mut text = String::from_str(alloc, TRACE_OF_ENDS)?;
+    for number in 0..COUNT {
+        let sent = match number {
+            63 => "offered 2, known 2, spooled 2\n  4849\n  -",
+            _ => "offered 0, known 0, spooled 0",
+        };
+        let got = match number {
+            0 => "offered 1, known 1, spooled 1\n  425945",
+            _ => "offered 0, known 0, spooled 0",
+        };
+        write!(
+            text,
+            "from {number}: {sent}\nto {number}.0: offered 0, known 0, spooled 0\n\
+            to {number}.1: {got}\n"
+        )?;
+    }
+    text.push_str("trusted\n")?;
+    Ok(text)
+}
+
+#[test]
+fn the_first_and_the_last_of_64_terminals_exchange_records(rt: HostRuntime) -> Result<(), Fail> {
+    let config = config_of_ends(rt.alloc())?;
+    let mut written = nothing_written(rt.alloc());
+    let answer = answer_over_sockets(&rt, &config, SCRIPT_OF_ENDS, &mut written)?;
+    let refused = RunError::Refused {
+        line: 18,
+        why: LineError::NotInDoubt,
+    };
+    assert!(rt; answer == Err(refused));
+    assert!(rt; written.out.as_slice() == printed_of_ends(rt.alloc())?.as_bytes());
     Ok(())
 }
 

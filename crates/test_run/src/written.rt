@@ -73,16 +73,26 @@ fn run_in_memory(
     ))
 }
 
+/// The answer to a run over sockets, with a trace.
+pub(crate) fn answer_over_sockets(
+    rt: &HostRuntime,
+    config: &str,
+    script: &str,
+    written: &mut Written,
+) -> Result<Result<(), RunError>, Fail> {
+    let config = read_config(rt.alloc(), config.as_bytes())?;
+    let script = read_script(rt.alloc(), script.as_bytes())?;
+    run_over_sockets(rt, &config, &script, true, written)
+}
+
 /// What is written over sockets by a script that is not refused, with a trace.
 pub(crate) fn written_over_sockets(
     rt: &HostRuntime,
     config: &str,
     script: &str,
 ) -> Result<Written, Fail> {
-    let config = read_config(rt.alloc(), config.as_bytes())?;
-    let script = read_script(rt.alloc(), script.as_bytes())?;
     let mut written = nothing_written(rt.alloc());
-    run_over_sockets(rt, &config, &script, true, &mut written)??;
+    answer_over_sockets(rt, config, script, &mut written)??;
     Ok(written)
 }
 
