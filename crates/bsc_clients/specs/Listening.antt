@@ -26,10 +26,16 @@ abbrev pub bind_error : ErrorKind → ClientsError
 bind_error kind.AddrInUse = InUse
 bind_error _ = CannotListen
 
+-- Why a socket does not get its name at a path, by the kind of the error.
+abbrev pub link_error : ErrorKind → ClientsError
+link_error kind.AlreadyExists = InUse
+link_error _ = CannotListen
+
 -- Why a socket file is not removed, by the kind of the error with which connecting to it fails; if
--- that is refused, nobody listens there any more.
+-- that is refused, nobody listens there any more, and it may be gone by then.
 abbrev pub kept_by : ErrorKind → Option ClientsError
 kept_by kind.ConnectionRefused = None
+kept_by kind.NotFound = None
 kept_by kind.WouldBlock = Some InUse
 kept_by _ = Some CannotListen
 
@@ -56,11 +62,12 @@ IsAddressError anyone CannotListen = ⊤
 IsAddressError anyone Memory = ⊤
 IsAddressError anyone _ = ⊥
 
--- A path cannot be bound.
+-- A path cannot be bound, or memory is refused.
 abbrev pub IsPathError : ClientsError → Type 0
 IsPathError InUse = ⊤
 IsPathError OtherFile = ⊤
 IsPathError CannotListen = ⊤
+IsPathError Memory = ⊤
 IsPathError _ = ⊥
 
 -- A station cannot listen there.

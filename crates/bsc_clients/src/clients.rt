@@ -13,7 +13,7 @@ use crate::{ClientsError, ServedAt};
 use bsc_serving::{Called, MAX_PROGRAMS, Programs};
 use mio::{Events, Poll, Token, Waker};
 use std::alloc::Global;
-use std::fs::Files;
+use std::fs::{File, Files};
 use std::io::{ErrorKind, Read, Write};
 use std::net::{Net, SocketAddr};
 use std::os::fd::{AsRawFd, RawFd};
@@ -23,7 +23,8 @@ use std::time::Duration;
 const FULL: &[u8] = b"fault every place is taken\n";
 
 /// The sockets of the programs of a station: where they connect, and what the system reports of
-/// them. If that is at a path, the socket file is removed when this is dropped.
+/// them. If that is at a path, the socket file is removed when this is dropped, but not a file that
+/// has taken its place.
 #[derive(Drop)]
 pub struct Clients<'a, N: Files> {
     /// The socket file, if programs connect at a path. It comes before the listener, so that it is
@@ -47,9 +48,10 @@ struct Place<'a, N: Files> {
     host: Option<SocketAddr>,
 }
 
-impl<'a, N: Net + Files> Clients<'a, N> {
+impl<'a, N: Net + Files<File = File>> Clients<'a, N> {
     /// Listens for programs there. Of a host with several addresses it listens at the first that
-    /// can be bound. A socket file has mode 0600; one at which nobody listens any more is replaced.
+    /// can be bound. A socket file has mode 0600 from when it can be reached; one at which nobody
+    /// listens any more is replaced.
     ///
     /// Fails with `Address` if the text is not an address, with `NotLoopback` if not anyone may
     /// reach the station and an address is not a loopback address, with `InUse` if another process
@@ -84,7 +86,9 @@ impl<'a, N: Net + Files> Clients<'a, N> {
             file,
         })
     }
+}
 
+impl<'a, N: Net + Files> Clients<'a, N> {
     /// Returns the address and port at which it listens, as the system tells them; None at a path.
     pub fn address(&self) -> Option<SocketAddr> {
         self.listener.address()
@@ -117,7 +121,7 @@ impl<'a, N: Net + Files> Clients<'a, N> {
 }
 
 /// Listens there.
-fn bind_there<'a, N: Net + Files>(
+fn bind_there<'a, N: Net + Files<File = File>>(
     runtime: &'a N,
     alloc: Global,
     at: ServedAt<'_>,
@@ -136,8 +140,7 @@ fn bind_there<'a, N: Net + Files>(
             })
         }
         ServedAt::Path { path } => {
-            let listener = bind_path(runtime, path)?;
-            let file = SocketFile::at(runtime, alloc, path)?;
+            let (listener, file) = bind_path(runtime, alloc, path)?;
             Ok(Place {
                 listener: Listener::Unix { listener },
                 host: None,

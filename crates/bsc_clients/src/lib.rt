@@ -12,8 +12,11 @@
 mod calls;
 mod clients;
 mod error;
+mod identity;
 mod listener;
+mod private_folder;
 mod reaching;
+mod replacing;
 mod served_at;
 mod socket_file;
 mod stream;

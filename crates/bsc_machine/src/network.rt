@@ -19,6 +19,7 @@ use bsc_sockets::{
     Begun, ConnectionSettings, Listening, Reading, Sockets, SocketsError, Writing, listen,
 };
 use std::alloc::Global;
+use std::fs::File;
 use std::io::Write;
 use std::net::Net;
 use std::rt::Files as Filing;
@@ -44,7 +45,7 @@ fn tell_address<'a, R: Filing + Net, W: Write>(
 }
 
 /// Makes the connections that a station asks for.
-fn begin<'a, R: AllocGlobal + Clock + Eprint + Net>(
+fn begin<'a, R: AllocGlobal + Clock + Eprint + Filing + Net>(
     runtime: &'a R,
     screen: &'a Screen,
     wanted: &Wanted<'_>,
@@ -87,7 +88,7 @@ fn begin<'a, R: AllocGlobal + Clock + Eprint + Net>(
     }
 }
 
-impl<'a, R: AllocGlobal + Clock + Eprint + Filing + Net> Network for Machine<'a, R> {
+impl<'a, R: AllocGlobal + Clock + Eprint + Filing<File = File> + Net> Network for Machine<'a, R> {
     ghost use Rattle.std.specs.Prelude.{◌≡◌};
 
     type Reader = Reading;

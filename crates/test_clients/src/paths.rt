@@ -3,6 +3,7 @@
 use crate::station::{refused, unreached};
 use bsc_clients::{Clients, ClientsError, ServedAt};
 use std::fs;
+use std::fs::File;
 use std::os::unix::fs::{PermissionsExt, symlink};
 use std::os::unix::net::{UnixListener, UnixStream};
 use std::test::Fail;
@@ -39,6 +40,87 @@ fn a_path_is_in_use_while_somebody_listens(rt: HostRuntime) -> Result<(), Fail> 
     assert!(rt; is_reached(&rt, "left"));
     assert!(rt; refused(&rt, at) == Some(ClientsError::InUse));
     assert!(rt; is_reached(&rt, "left"));
+    Ok(())
+}
+
+/// Whether a station listens at this path, and nothing of how its socket was made is left there.
+fn has_only(rt: &HostRuntime, folder: &str, path: &str) -> Result<bool, Fail> {
+    let _clients = Clients::listen(rt, rt.alloc(), ServedAt::Path { path })?;
+    let mut names = 0;
+    for entry in fs::read_dir(rt, folder)? {
+        let _ = entry?;
+        names += 1;
+    }
+    Ok(is_reached(rt, path) && names == 1)
+}
+
+/// A folder that a killed station has left is not used, and neither is its lock.
+#[test]
+fn nothing_is_left_beside_a_socket_file(rt: HostRuntime) -> Result<(), Fail> {
+    fs::create_dir(&rt, "new")?;
+    assert!(rt; has_only(&rt, "new", "new/socket")?);
+    fs::create_dir(&rt, "left")?;
+    drop(UnixListener::bind(&rt, "left/socket")?);
+    fs::write(&rt, "left/socket.lock", b"")?;
+    assert!(rt; has_only(&rt, "left", "left/socket")?);
+    fs::create_dir(&rt, ".bsc0")?;
+    let at = ServedAt::Path { path: "taken" };
+    assert!(rt; refused(&rt, at) == None);
+    assert!(rt; fs::metadata(&rt, ".bsc0")?.is_dir());
+    assert!(rt; fs::metadata(&rt, ".bsc1").is_err());
+    Ok(())
+}
+
+/// A station that ends removes its own socket file, and no other file that stands at its path.
+#[test]
+fn what_another_has_put_at_a_path_is_kept(rt: HostRuntime) -> Result<(), Fail> {
+    let at = ServedAt::Path { path: "path" };
+    let first = Clients::listen(&rt, rt.alloc(), at)?;
+    fs::remove_file(&rt, "path")?;
+    let second = Clients::listen(&rt, rt.alloc(), at)?;
+    drop(first);
+    assert!(rt; is_reached(&rt, "path"));
+    fs::remove_file(&rt, "path")?;
+    fs::write(&rt, "path", b"kept")?;
+    drop(second);
+    assert!(rt; fs::metadata(&rt, "path")?.len() == 4);
+    Ok(())
+}
+
+/// While another station replaces a socket file that was left, the path is in use.
+#[test]
+fn one_station_at_a_time_replaces_a_socket_file(rt: HostRuntime) -> Result<(), Fail> {
+    drop(UnixListener::bind(&rt, "held")?);
+    let lock = File::create(&rt, "held.lock")?;
+    lock.try_lock()?;
+    let at = ServedAt::Path { path: "held" };
+    assert!(rt; refused(&rt, at) == Some(ClientsError::InUse));
+    assert!(rt; fs::symlink_metadata(&rt, "held").is_ok());
+    drop(lock);
+    assert!(rt; refused(&rt, at) == None);
+    Ok(())
+}
+
+/// A program cannot connect at a path of more than 107 octets, so that no station listens there.
+#[test]
+fn a_path_that_is_too_long_is_refused(rt: HostRuntime) -> Result<(), Fail> {
+    let longest = format!(in rt.alloc(); "{:0107}", 0)?;
+    assert!(rt;
+        refused(
+            &rt,
+            ServedAt::Path {
+                path: longest.as_str()
+            }
+        ) == None
+    );
+    let longer = format!(in rt.alloc(); "{:0108}", 0)?;
+    let why = refused(
+        &rt,
+        ServedAt::Path {
+            path: longer.as_str(),
+        },
+    );
+    assert!(rt; why == Some(ClientsError::CannotListen));
     Ok(())
 }
 

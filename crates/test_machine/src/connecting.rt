@@ -7,6 +7,7 @@ use bsc_options::Place;
 use bsc_peers::Networks;
 use bsc_sockets::SocketsError;
 use std::cell::RefCell;
+use std::fs::File;
 use std::net::{Net, TcpListener};
 use std::rt::Files;
 use std::test::Fail;
@@ -34,7 +35,7 @@ pub(crate) fn wanted(place: Place<'_>) -> Wanted<'_> {
 }
 
 /// How many connections a machine makes as it is asked to.
-pub(crate) fn opened<R: AllocGlobal + Clock + Eprint + Files + Net>(
+pub(crate) fn opened<R: AllocGlobal + Clock + Eprint + Files<File = File> + Net>(
     runtime: &R,
     wanted: &Wanted<'_>,
 ) -> Result<usize, SocketsError> {

@@ -6,6 +6,7 @@ use bsc_clients::{ClientsError, ServedAt};
 use bsc_feeding::{FeedError, Stations};
 use bsc_machine::Streams;
 use bsc_serving::{Called, Programs};
+use std::fs::File;
 use std::io;
 use std::io::{Error, ErrorKind, Read, Write};
 use std::net::{IpAddr, Ipv4Addr, Net, SocketAddr};
@@ -111,7 +112,7 @@ fn programs_reach_a_station(rt: HostRuntime) -> Result<(), Fail> {
 }
 
 /// Why a machine does not serve there.
-fn unserved<R: AllocGlobal + Clock + Eprint + Files + Net>(
+fn unserved<R: AllocGlobal + Clock + Eprint + Files<File = File> + Net>(
     runtime: &R,
     at: ServedAt<'_>,
 ) -> Option<ClientsError> {
