@@ -20,12 +20,13 @@ use Rattle.bsc_chart.specs.Named.{SaysOf}
 use Rattle.bsc_frame.specs.declared.message.Heard.{Heard}
 use Rattle.bsc_input.specs.Hexadecimal.{octets_of}
 use Rattle.bsc_input.specs.Lines.{lines_of}
+use Rattle.bsc_print.specs.Fronts.{AppendsFront}
 use Rattle.bsc_print.specs.Names.{Prints, name_line}
 use Rattle.bsc_print.specs.declared.printed.Detail.{Detail}
 use Rattle.bsc_print.specs.declared.printed.Detail.TheVariants.{Name, Units}
 use Rattle.bsc_run.specs.Printed.{report_of}
 use Rattle.bsc_naming.specs.Inputs.{HasStopped, PrintsInput, StopsAt, is_misspelt, is_too_long}
-use Rattle.bsc_naming.specs.Lines.{PrintsLines}
+use Rattle.bsc_naming.specs.Lines.{PrintsLines, PrintsLinesFront}
 use Rattle.bsc_naming.specs.declared.error.NamingError.{NamingError}
 use Rattle.bsc_naming.specs.declared.error.NamingError.TheVariants as naming
 use Rattle.bsc_run.specs.Crossing.{streams_of}
@@ -56,6 +57,24 @@ lines_printed_kept detail lines a b c p k = record {
   text = p.text;
   shown = p.shown;
   appended = Appends-kept a b c p.text p.appended k;
+}
+
+front_kept : (a b c : Option (List ℕ)) (text : List ℕ) → AppendsFront a b text → Keeps b c
+    → AppendsFront a c text
+front_kept a b c text p k = record {
+  front = p.front;
+  rest = p.rest;
+  whole = p.whole;
+  appended = Appends-kept a b c p.front p.appended k;
+}
+
+lines_front_kept : (detail : Detail) (lines : List (List ℕ)) (a b c : Option (List ℕ))
+    → PrintsLinesFront detail lines a b → Keeps b c → PrintsLinesFront detail lines a c
+lines_front_kept detail lines a b c p k = record {
+  place = p.place;
+  text = p.text;
+  shown = p.shown;
+  appended = front_kept a b c p.text p.appended k;
 }
 
 input_kept : (detail : Detail) (input : List ℕ) (a b c : Option (List ℕ))
@@ -93,8 +112,10 @@ stopped_kept naming.Input detail octets a b c p k = record {
   place = p.place;
   before = lines_printed_kept detail (take p.place (lines_of octets)) a b c p.before k;
 }
-stopped_kept naming.Output detail octets a b c p k = tt
-stopped_kept naming.Memory detail octets a b c p k = tt
+stopped_kept naming.Output detail octets a b c p k =
+    lines_front_kept detail (lines_of octets) a b c p k
+stopped_kept naming.Memory detail octets a b c p k =
+    lines_front_kept detail (lines_of octets) a b c p k
 
 lines_kept : (f : Fault) (detail : Detail) (given a b c : Option (List ℕ))
     → HasFailedLines f detail given a b → Keeps b c → HasFailedLines f detail given a c

@@ -47,7 +47,8 @@ HasFailedName fault text = Unit {0}
 
 -- What a fault of naming the lines of standard input says: the line with this number is the first
 -- that is wrong or too long, and the output for the lines before it was printed; or the input could
--- not be read further, and the output for some first lines was printed.
+-- not be read further, and the output for some first lines was printed; or standard output failed
+-- or memory ran out, and a front of the output for some first lines was printed.
 abbrev pub HasFailedLines : Fault → Detail → Option (List ℕ) → Option (List ℕ)
     → Option (List ℕ) → Type 0
 HasFailedLines (Naming error) detail input old new =

@@ -14,9 +14,9 @@ returns g c =
     let l = c.args.line.now in
     let t = c.args.terminal in
     let way = c.args.way in
-    let name = rw c.addresses.ensures.value at c.in_ok-write_channel_name.ensures in
+    let name = rw c.addresses.ensures.value at c.in_ok-write_channel_name.ensures.ok in
     let doubt = rw (c.doubt_text.ensures, c.in_doubt.ensures.value) at c.in_ok-put.ensures.ok in
-    let records = rw c.spooled-records.ensures.value at c.write_records.ensures in
+    let records = rw c.spooled-records.ensures.value at c.write_records.ensures.ok in
     four_on_ok (g.W.Write.contents c.args.out.now) (g.W.Write.contents c.write_channel_name.new.out)
     (g.W.Write.contents c.write_counts.new.out) (g.W.Write.contents c.put.new.out)
     (g.W.Write.contents c.write_records.new.out) (channel_name (select_count l t) t way)
