@@ -5,7 +5,7 @@ use Rattle.std.specs.Prelude.{IsErrOf}
 use Rattle.std.specs.List.{flat_map}
 use Rattle.std.specs.Io.KnownBytes.{Keeps}
 use Rattle.std.proofs.KnownBytes.{Appends-kept}
-use Rattle.bsc_feeding.specs.Answers.{EndsInFault, with_feed}
+use Rattle.bsc_feeding.specs.Answers.{EndsInFault, line_shown}
 use Rattle.bsc_feeding.specs.Feeding.{FeedsWords, HasFed, turned}
 use Rattle.bsc_feeding.specs.declared.error.FeedError.{FeedError}
 use Rattle.bsc_feeding.specs.declared.error.FeedError.TheVariants as feed
@@ -40,7 +40,7 @@ fed_words_kept said_old said_new words input a b c p k =
         faultless = feeds.faultless;
         each = feeds.each;
         ends = feeds.ends;
-        printed = Appends-kept a b c (flat_map with_feed (feeds.answered ++ feeds.followed))
+        printed = Appends-kept a b c (flat_map line_shown (feeds.answered ++ feeds.followed))
             feeds.printed k;
       };
     }
@@ -60,7 +60,7 @@ ends_in_fault_kept a b c p k = record {
   last = p.last;
   faultless = p.faultless;
   fault = p.fault;
-  printed = Appends-kept a b c (flat_map with_feed (p.told ++ p.last ∷ [])) p.printed k;
+  printed = Appends-kept a b c (flat_map line_shown (p.told ++ p.last ∷ [])) p.printed k;
 }
 
 fed_error_kept : (e : FeedError) (a b c : Option (List ℕ))

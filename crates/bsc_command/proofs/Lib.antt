@@ -1,6 +1,7 @@
 pub mod Charts
 pub mod Feeding
 pub mod Keeping
+pub mod Lines
 pub mod Outcomes
 pub mod Reports
 pub mod Stations

@@ -1,5 +1,7 @@
 -- The faults of the command.
-use Rattle.std.specs.Prelude.{◌≡◌, ◌≢◌, ◌⊎◌, ℕ, Bool, true, false, if◌then◌else◌}
+use Rattle.std.specs.Prelude.{◌≡◌, ◌≢◌, ◌⊎◌, ℕ, Bool, true, false, if◌then◌else◌, List, [], ◌∷◌}
+use Rattle.std.specs.Prelude.{◌++◌, codes}
+use Rattle.std.specs.List.{AllPass}
 use Rattle.clap.specs.Words.{kind_of}
 use Rattle.clap.specs.declared.error.Error.{Error}
 use Rattle.clap.specs.declared.error.kind.ErrorKind.{ErrorKind}
@@ -17,6 +19,8 @@ use Rattle.bsc_naming.specs.Errors.{IsLineError, IsNameError}
 use Rattle.bsc_naming.specs.declared.error.NamingError.TheVariants as naming
 use Rattle.bsc_options.specs.Errors.{is_conflict}
 use Rattle.bsc_options.specs.declared.error.OptionError.{OptionError}
+use Rattle.bsc_plain.specs.Lines.{in_lines}
+use Rattle.bsc_print.specs.Forms.{AreOctets, escaped, is_printable}
 use Rattle.bsc_run.specs.declared.error.RunError.{RunError}
 use Rattle.bsc_run.specs.declared.error.RunError.TheVariants as run
 use Rattle.bsc_running.specs.declared.error.RunningError.{RunningError}
@@ -176,3 +180,19 @@ IsEarly (Running error) = IsEarlyRunning error
 IsEarly (Attending error) = IsEarlyAttending error
 IsEarly (Usage text) = Unit {0}
 IsEarly _ = ⊥
+
+-- The line of a fault with this text: the name of the program, and the text as it is printed within
+-- a line.
+abbrev pub fault_line : List ℕ → List ℕ
+fault_line text = codes "bscline: " ++ escaped text ++ 10 ∷ []
+
+-- What is told of a fault with this text: wrong usage as lines, any other fault as one line.
+abbrev pub told_text : Fault → List ℕ → List ℕ
+told_text (Usage error) text = in_lines text
+told_text _ text = fault_line text
+
+-- The line of a fault is one line, whatever its text is: printable characters, and a line feed.
+abbrev pub IsOneFaultLine : Type 0
+IsOneFaultLine =
+    (text : List ℕ) → AreOctets text → (line : List ℕ) × AllPass is_printable line
+    × (fault_line text ≡ line ++ 10 ∷ [])

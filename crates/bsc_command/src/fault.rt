@@ -19,8 +19,8 @@ use clap::error::ErrorKind;
 use std::alloc::{AllocError, Global};
 use thiserror::Error;
 
-/// The reason why the command failed. The text is one line on standard error, after the name of the
-/// program.
+/// The reason why the command failed. [`fail`](crate::fail) prints the text on standard error, as
+/// one line after the name of the program.
 #[derive(Debug, Drop, Error)]
 pub enum Fault {
     /// Not all names were printed.
@@ -56,8 +56,7 @@ pub enum Fault {
     #[error("out of memory")]
     OutOfMemory,
 
-    /// The arguments are not a valid command line. The text is that of `clap`, and is printed
-    /// unchanged.
+    /// The arguments are not a valid command line. The text is that of `clap`, several lines.
     #[error(transparent)]
     Usage(clap::Error),
 }

@@ -8,10 +8,13 @@
 mod fault;
 mod given;
 mod help;
+pub mod laws;
 mod program;
+mod telling;
 mod whole_command;
 
 pub use fault::{Fault, not_text, status};
 pub use given::given_words;
 pub use program::perform;
-pub use whole_command::{command, fail};
+pub use telling::fail;
+pub use whole_command::command;

@@ -10,7 +10,7 @@ ghost use Rattle.bsc_command.specs.Faults.{is_about_records, status_of};
 ghost use Rattle.bsc_command.specs.Program.{HasFailedReportAt, IsFaultAt, IsObeyed, IsReportedAt};
 
 use crate::help::help_or_fault;
-use crate::{Fault, perform, status};
+use crate::{Fault, fail, perform};
 use bsc_attending::{AttendingError, Network, Stores};
 use bsc_chart::Traces;
 use bsc_feeding::Stations;
@@ -131,19 +131,6 @@ fn flush_after<W: Write + Drop>(
     }
 }
 
-/// Reports the fault on `errors`, and returns its exit status. Wrong usage is reported by the text
-/// of `clap`, unchanged; any other fault by one line that begins with `bscline: `.
-pub fn fail<E: Write>(fault: &Fault, errors: &mut E) -> u8
-    ensures { result ≡ status_of fault.now }
-{
-    // If `errors` accepts no text, only the status reports the fault.
-    let _ = match fault {
-        Fault::Usage(text) => write!(errors, "{text}"),
-        _ => writeln!(errors, "bscline: {fault}"),
-    };
-    status(fault)
-}
-
 /// Does the work that the arguments ask for, and returns the exit status: 0 if the work succeeded
 /// or the help or the version was printed, otherwise that of the fault, which `fail` reports. The
 /// first argument is the name of the program. The output is flushed even after a fault; if the
@@ -188,6 +175,6 @@ pub fn command<
     let outcome = obey_given(alloc, words, input, machine, out);
     match flush_after(outcome, out) {
         Ok(()) => 0,
-        Err(fault) => fail(&fault, errors),
+        Err(fault) => fail(alloc, &fault, errors),
     }
 }

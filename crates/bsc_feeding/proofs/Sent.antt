@@ -13,12 +13,12 @@ use Rattle.bsc_input.specs.Lines.{parts_of}
 use Rattle.bsc_input.specs.Reading.{ReadsLine}
 use Rattle.bsc_input.specs.declared.reading.LineEnd.TheVariants.{LineFeed, InputEnd}
 use Rattle.bsc_feeding.specs.Answers.{EndsInFault, IsAnswer, TellsNoFault, count_done, is_done}
-use Rattle.bsc_feeding.specs.Answers.{is_fault, kind_of, with_feed}
+use Rattle.bsc_feeding.specs.Answers.{is_fault, kind_of, line_shown, with_feed}
 use Rattle.bsc_feeding.specs.Commands.{commands_after, commands_of, is_follow, is_skipped}
 use Rattle.bsc_feeding.specs.Commands.{unless_empty, without_last_empty}
 use Rattle.bsc_feeding.specs.Feeding.{Feeds, SendsEach, SendsSome, turned}
 use Rattle.bsc_feeding.specs.declared.answers.Kind.TheVariants.{Done, News, Refused}
-use Rattle.bsc_feeding.proofs.Told.{all_append, prints_append}
+use Rattle.bsc_feeding.proofs.Told.{all_append, appends_all, prints_append}
 
 module _ {X : Type 0} (p : X → Bool) where
   filter_false : (x : X) (xs : List X) → p x ≡ false → filter p (x ∷ xs) ≡ filter p xs
@@ -75,7 +75,7 @@ sends_append : (xs ys : List (List ℕ)) (a b c d e f : Option (List ℕ))
     → SendsEach (xs ++ ys) (turned a c d f)
 sends_append xs ys a b c d e f p q = record {
   told = p.told ++ q.told;
-  said = prints_append a b c xs ys p.said q.said;
+  said = appends_all with_feed a b c xs ys p.said q.said;
   faultless =
       all_append (λ l. is_fault (kind_of l) ≡ false) p.told q.told p.faultless q.faultless;
   each =
@@ -228,7 +228,7 @@ fault_after commands f a b d e o p q = record {
       q.faultless;
   fault = q.fault;
   printed =
-      subst (λ l. Appends d o (flat_map with_feed l))
+      subst (λ l. Appends d o (flat_map line_shown l))
       (sym (append_assoc p.sends.told q.told (q.last ∷ [])))
       (prints_append d e o p.sends.told (q.told ++ q.last ∷ []) p.sends.printed q.printed);
 }
@@ -269,7 +269,7 @@ feeds_plain commands a b c d p = record {
       (sym (append-nil p.sends.told)) p.sends.faultless;
   each = p.sends.each;
   ends = λ _. refl;
-  printed = subst (λ l. Appends c d (flat_map with_feed l)) (sym (append-nil p.sends.told))
+  printed = subst (λ l. Appends c d (flat_map line_shown l)) (sym (append-nil p.sends.told))
       p.sends.printed;
 }
 

@@ -10,7 +10,7 @@ use Rattle.bsc_input.specs.Lines.{parts_of}
 use Rattle.bsc_feeding.specs.Answers.{EndsInFault, HasNoFault, Hears, HearsAll, HearsOne, HearsTo}
 use Rattle.bsc_feeding.specs.Answers.{IsAnswer}
 use Rattle.bsc_feeding.specs.Answers.{Prints, PrintsOne, TellsNoFault, is_fault, kind_of, whole_lines}
-use Rattle.bsc_feeding.specs.Answers.{with_feed, without_last}
+use Rattle.bsc_feeding.specs.Answers.{line_shown, without_last}
 use Rattle.bsc_feeding.specs.declared.answers.Kind.{Kind}
 use Rattle.bsc_feeding.specs.declared.answers.Kind.TheVariants.{News}
 
@@ -20,11 +20,16 @@ pub record TellsNews (old new : Option (List ℕ)) : Type 0 where
   pub others : AllByRecursion (λ line. kind_of line ≡ News) news
   pub printed : Prints old new news
 
+pub appends_all : (shown : List ℕ → List ℕ) (a b c : Option (List ℕ)) (xs ys : List (List ℕ))
+    → Appends a b (flat_map shown xs) → Appends b c (flat_map shown ys)
+    → Appends a c (flat_map shown (xs ++ ys))
+appends_all shown a b c xs ys p q =
+    subst (Appends a c) (sym (flat_map-append shown xs ys))
+    (Appends-trans a b c (flat_map shown xs) (flat_map shown ys) p q)
+
 pub prints_append : (a b c : Option (List ℕ)) (xs ys : List (List ℕ)) → Prints a b xs
     → Prints b c ys → Prints a c (xs ++ ys)
-prints_append a b c xs ys p q =
-    subst (Appends a c) (sym (flat_map-append with_feed xs ys))
-    (Appends-trans a b c (flat_map with_feed xs) (flat_map with_feed ys) p q)
+prints_append = appends_all line_shown
 
 pub all_append : {X : Type 0} (P : X → Type 0) (xs ys : List X) → AllByRecursion P xs
     → AllByRecursion P ys → AllByRecursion P (xs ++ ys)

@@ -7,6 +7,7 @@ use Rattle.std.specs.Io.KnownBytes.{Appends}
 use Rattle.bsc_input.specs.Lines.{parts_of}
 use Rattle.bsc_input.specs.Reading.{ReadsLine}
 use Rattle.bsc_input.specs.declared.reading.LineEnd.TheVariants.{LineFeed, InputEnd}
+use Rattle.bsc_plain.specs.Lines.{in_lines}
 use Rattle.bsc_feeding.specs.Commands.{first_word}
 use Rattle.bsc_feeding.specs.declared.answers.Kind.{Kind}
 use Rattle.bsc_feeding.specs.declared.answers.Kind.TheVariants.{Done, Refused, News}
@@ -33,9 +34,14 @@ is_fault News = false
 abbrev pub with_feed : List ℕ → List ℕ
 with_feed line = line ++ 10 ∷ []
 
--- These lines were printed, each with its line feed.
+-- A line as it is printed: each character from space to `~` as it is, any other code escaped, and a
+-- line feed.
+abbrev pub line_shown : List ℕ → List ℕ
+line_shown line = in_lines line ++ 10 ∷ []
+
+-- These lines were printed.
 abbrev pub Prints : Option (List ℕ) → Option (List ℕ) → List (List ℕ) → Type 0
-Prints old new lines = Appends old new (flat_map with_feed lines)
+Prints old new lines = Appends old new (flat_map line_shown lines)
 
 -- A line of this kind was printed, or none.
 abbrev pub PrintsOne : Option Kind → Option (List ℕ) → Option (List ℕ) → Type 0

@@ -1,16 +1,16 @@
 //! One command, and its answer.
 
 ghost use Rattle.std.specs.Prelude.{◌≡◌, IfErr, IfOk, IsErrOf, OnOk, true};
-ghost use Rattle.std.specs.Io.KnownBytes.{Appends};
+ghost use Rattle.std.specs.Io.KnownBytes.{Appends, Keeps};
 ghost use Rattle.bsc_feeding.specs.Answers.{EndsInFault, Hears, HearsAll, HearsOne, IsAnswer};
-ghost use Rattle.bsc_feeding.specs.Answers.{PrintsOne, TellsNoFault, with_feed};
+ghost use Rattle.bsc_feeding.specs.Answers.{PrintsOne, TellsNoFault, line_shown, with_feed};
 ghost use Rattle.bsc_feeding.specs.Errors.{IsAnswerError, IsHeardError};
 ghost use Rattle.bsc_feeding.specs.Errors.{heard_error as heard_fault};
 
 use crate::FeedError;
 use crate::answers::{Kind, kind_of};
 use bsc_input::{InputError, LineEnd, read_line};
-use bsc_print::put;
+use bsc_plain::Lines;
 use std::alloc::Allocator;
 use std::io::{BufRead, Write};
 
@@ -139,14 +139,24 @@ fn heard_error(error: InputError) -> FeedError
     }
 }
 
-/// Prints a line, with its line feed, so that it is seen at once.
+/// Prints a line, with its line feed, so that it is seen at once. What a terminal obeys is escaped.
 fn print<W: Write>(line: &[u8], out: &mut W) -> Result<(), FeedError>
     ensures ok { OnOk result
-        (Appends (W.contents out.old) (W.contents out.new) (with_feed line.now)) }
+        (Appends (W.contents out.old) (W.contents out.new) (line_shown line.now)) }
     ensures err { IfErr result (λ error. error ≡ FeedError.Output) }
 {
-    put(line, out)?;
-    put(b"\n", out)?;
+    let shown = Lines(line);
+    match writeln!(out, "{shown}") {
+        Ok(()) => flush(out),
+        Err(_) => Err(FeedError::Output),
+    }
+}
+
+/// Flushes what was printed.
+fn flush<W: Write>(out: &mut W) -> Result<(), FeedError>
+    ensures kept { OnOk result (Keeps (W.contents out.old) (W.contents out.new)) }
+    ensures err { IfErr result (λ error. error ≡ FeedError.Output) }
+{
     match out.flush() {
         Ok(()) => Ok(()),
         Err(_) => Err(FeedError::Output),

@@ -1,7 +1,9 @@
 //! The arguments of the command line.
-ghost use Rattle.std.specs.Prelude.{◌≡◌, ◌⊎◌, [], map, IfOk, IfErr, OnOk};
+ghost use Rattle.std.specs.Prelude.{◌≡◌, ◌⊎◌, [], map, IfOk, IfErr, IfSome, OnOk};
+ghost use Rattle.std.specs.Prelude.{string_bytes};
 ghost use Rattle.clap.specs.Words.{HasKind, app_of, found_of, kind_of, rows_of, subcommand_rows_of};
 ghost use Rattle.bsc_asked.specs.Asked.{asked};
+ghost use Rattle.bsc_print.specs.Forms.{escaped};
 ghost use Rattle.bsc_words.specs.CommandLine.{asked_chart, asked_feed, asked_of, asked_run};
 ghost use Rattle.bsc_words.specs.CommandLine.{asked_station, asked_store, asked_sub, bscline_app};
 ghost use Rattle.bsc_words.specs.CommandLine.{faults_at, program_app};
@@ -12,25 +14,28 @@ use crate::store_words::store_words;
 use crate::tables::{CHART, COMMANDS, FEED, RUN, STATION, STORE};
 use crate::values::{is_given, option_text, option_texts, required_text};
 use bsc_asked::{Asked, ChartWords};
+use bsc_plain::Escaped;
 use clap::error::ErrorKind;
 use clap::{ArgMatches, Command, Error};
 use std::alloc::{AllocError, Global};
 
-/// Returns the program without its commands.
-fn program<'a>(alloc: Global) -> Command<'a>
-    ensures { app_of result ≡ program_app }
+/// Returns the program without its commands. Its usage names it so, whatever the first argument is.
+fn program<'a>(alloc: Global) -> Result<Command<'a>, AllocError>
+    ensures { IfOk result (λ c. app_of c ≡ program_app) }
 {
     Command::new(alloc, "bscline")
         .about("Print the names of the transmissions on standard input, one a line")
         .after_help("Example: echo 16 16 10 B0 FF | bscline")
         .version("0.2.0")
+        .bin_name("bscline")
 }
 
 /// Returns the command line of `bscline`.
 fn command_line<'a>(alloc: Global) -> Result<Command<'a>, AllocError>
     ensures { IfOk result (λ c. app_of c ≡ bscline_app) }
 {
-    with_subcommands(alloc, program(alloc), COMMANDS)
+    let program = program(alloc)?;
+    with_subcommands(alloc, program, COMMANDS)
 }
 
 /// Returns the ladder that the matches of `chart` ask for.
@@ -104,7 +109,50 @@ fn work_of(alloc: Global, matches: &ArgMatches<'_>) -> Result<Asked, AllocError>
     }
 }
 
-/// Returns the work that the arguments ask for. The first argument is the name of the program.
+/// Returns the arguments as they are printed.
+fn words_in_print(alloc: Global, words: &[&str]) -> Result<Vec<String>, AllocError>
+    ensures { IfOk result (λ printed.
+        map string_bytes printed.items ≡ map (λ s. escaped s.now) words.now) }
+{
+    let mut printed = Vec::new(alloc);
+    'words: for word in words {
+        printed.push(Escaped(word.as_bytes()).to_string(alloc)?)?;
+    }
+    Ok(printed)
+}
+
+/// Returns the error of `clap` for the arguments as they are printed, or `None` if there is none.
+fn refusal_in_print(alloc: Global, words: &[&str]) -> Result<Option<Error>, AllocError>
+    ensures { IfOk result (λ refusal. IfSome refusal (HasKind (faults_at
+        (map (λ s. escaped s.now) words.now)))) }
+{
+    let printed = words_in_print(alloc, words)?;
+    let command_line = command_line(alloc)?;
+    match command_line.try_get_matches_from(&printed) {
+        Ok(_) => Ok(None),
+        Err(error) => Ok(Some(error)),
+    }
+}
+
+/// Returns the error that is shown for arguments that `clap` refuses with this error: the one for
+/// the arguments as they are printed, since `clap` shows them as they are. The help and the version
+/// show none of them.
+fn in_print(alloc: Global, words: &[&str], error: Error) -> Error
+    ensures { (kind_of result ≡ kind_of error) ⊎ (kind_of result ≡ ErrorKind.OutOfMemory) }
+{
+    let kind = error.kind();
+    match kind {
+        ErrorKind::DisplayHelp | ErrorKind::DisplayVersion | ErrorKind::OutOfMemory => error,
+        _ => match refusal_in_print(alloc, words) {
+            Ok(Some(refusal)) if refusal.kind() == kind => refusal,
+            Ok(_) => wrong_words(alloc, Shown::Program, kind, "the words are wrong"),
+            Err(error) => Error::from(error),
+        },
+    }
+}
+
+/// Returns the work that the arguments ask for. The first argument is the name of the program. The
+/// text of an error has the arguments as [`Escaped`] prints them.
 pub fn read_words(alloc: Global, words: &[&str]) -> Result<Asked, Error>
     ensures asked { IfOk result (λ w. asked w ≡ asked_of (map (λ s. s.now) words.now)) }
     ensures kinds { IfErr result (HasKind (faults_at (map (λ s. s.now) words.now))) }
@@ -113,7 +161,7 @@ pub fn read_words(alloc: Global, words: &[&str]) -> Result<Asked, Error>
     let command_line = command_line(alloc)?;
     match command_line.try_get_matches_from(words) {
         Ok(matches) => Ok(work_of(alloc, &matches)?),
-        Err(error) => Err(error),
+        Err(error) => Err(in_print(alloc, words, error)),
     }
 }
 

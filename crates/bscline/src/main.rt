@@ -49,7 +49,7 @@ fn main(rt: HostRuntime) -> ExitCode {
                 &mut errors,
             )
         }
-        Err(_) => fail(&Fault::OutOfMemory, &mut errors),
+        Err(_) => fail(rt.alloc(), &Fault::OutOfMemory, &mut errors),
     };
     // If standard error does not take the rest, only the status tells of the fault.
     let _ = errors.flush();

@@ -148,7 +148,7 @@ fn is_told(alloc: Global, cause: Cause, text: &str, exit: u8) -> bool {
         return false;
     };
     let mut told = Vec::new(alloc);
-    let is_failed = fail(&fault, &mut told) == exit && is_written(&fault, &told, text);
+    let is_failed = fail(alloc, &fault, &mut told) == exit && is_written(&fault, &told, text);
     is_failed && has_text(alloc, &fault, text) && status(&fault) == exit
 }
 

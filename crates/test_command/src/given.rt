@@ -113,7 +113,7 @@ fn an_argument_that_is_not_text_is_wrong_usage(rt: HostRuntime) -> Result<(), Fa
         };
         assert!(rt; matches!(&fault, Fault::Usage(_)), "{place}");
         let mut errors = Vec::new(rt.alloc());
-        assert_eq!(rt; fail(&fault, &mut errors), 2);
+        assert_eq!(rt; fail(rt.alloc(), &fault, &mut errors), 2);
         assert!(rt; errors.as_slice() == NOT_TEXT.as_bytes(), "{place}");
     }
     Ok(())

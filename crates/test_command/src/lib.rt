@@ -34,6 +34,8 @@ mod given;
 #[cfg(test)]
 mod helped;
 #[cfg(test)]
+mod hostile_words;
+#[cfg(test)]
 mod kept_lines;
 #[cfg(test)]
 mod kept_sizes;

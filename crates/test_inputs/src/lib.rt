@@ -11,4 +11,6 @@ mod names;
 #[cfg(test)]
 mod peers;
 #[cfg(test)]
+mod plain;
+#[cfg(test)]
 mod texts;

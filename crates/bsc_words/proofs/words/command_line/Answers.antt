@@ -17,7 +17,7 @@ of_program f (Err error) a b shapes e h = tt
 
 pub returns : goal.returns
 returns c =
-    of_program app_of c.with_subcommands.result (app_of c.program.result) program_app
+    of_program app_of c.with_subcommands.result (app_of c.in_ok-program.program) program_app
     (name_app.top ∷ show_app.top ∷ chart_app.top ∷ run_app.top ∷ station_app.top ∷ feed_app.top ∷ store_app.top ∷ [])
-    c.program.ensures
+    c.in_ok-program.ensures
     c.with_subcommands.ensures

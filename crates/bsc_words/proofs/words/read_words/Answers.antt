@@ -1,18 +1,13 @@
 -- Shows that the work and the errors are those of the command line of the program.
-use Rattle.std.proofs.Common.{ap, sym, refl, true, ◌≡◌, ◌∙◌, map, subst}
+use Rattle.std.proofs.Common.{ap, sym, ◌≡◌, ◌⊎◌, ◌∙◌, inl, inr, map, subst}
 use Rattle.clap.specs.Words.{App, app_of, fault_of, is_simple, is_simple_and_free, HasKind}
-use Rattle.clap.specs.Words.{subcommand_of}
-use Rattle.clap.proofs.OnLiterals.{clap_on_literals}
+use Rattle.clap.specs.Words.{IsAmong, Kinds, kind_of, subcommand_of}
+use Rattle.clap.specs.declared.error.Error.{Error}
+use Rattle.clap.specs.declared.error.kind.ErrorKind.{ErrorKind}
+use Rattle.clap.specs.declared.error.kind.ErrorKind.TheVariants as kind
 use Rattle.bsc_words.specs.CommandLine.{bscline_app, faults_at, asked_of, asked_sub}
+use Rattle.bsc_words.proofs.Simple.{are_simple, is_free}
 use Rattle.bsc_words.proofs.words.read_words.Goals as goal
-
-is_free : is_simple_and_free bscline_app ≡ true
-unfolding clap_on_literals
-is_free = refl
-
-are_simple : is_simple bscline_app ≡ true
-unfolding clap_on_literals
-are_simple = refl
 
 pub returns-in_ok-work_of-in-Ok-clause-asked : goal.returns-in_ok-work_of-in-Ok-clause-asked
 unfolding asked_of
@@ -33,6 +28,14 @@ returns-in_ok-work_of-in-Ok-clause-fits c =
     ap (λ a. fault_of a words) (sym app_is)
     ∙ c.in-Ok.ensures.kinds (ap is_simple_and_free app_is ∙ is_free)
 
+-- the error that is shown is of a kind of these, if the one that was given is
+shown_kind : (kinds : Kinds) (shown error : Error)
+    → (kind_of shown ≡ kind_of error) ⊎ (kind_of shown ≡ kind.OutOfMemory)
+    → HasKind kinds error → HasKind kinds shown
+shown_kind kinds shown error (inl same) has =
+    subst (λ (k : ErrorKind). (k ≡ kind.OutOfMemory) ⊎ IsAmong k kinds) (sym same) has
+shown_kind kinds shown error (inr memory) has = inl memory
+
 pub returns-in-Err-clause-kinds : goal.returns-in-Err-clause-kinds
 unfolding faults_at
 returns-in-Err-clause-kinds c =
@@ -40,4 +43,5 @@ returns-in-Err-clause-kinds c =
     c.in_ok-command_line.ensures in
     let words = map (λ s. s.now) c.args.words.now in
     let P : App → Type 0 = λ a. HasKind (fault_of a words) c.in-Err.error in
-    subst P app_is (c.in-Err.ensures.kinds (ap is_simple_and_free app_is ∙ is_free))
+    shown_kind (fault_of bscline_app words) c.in_print.result c.in-Err.error c.in_print.ensures
+    (subst P app_is (c.in-Err.ensures.kinds (ap is_simple_and_free app_is ∙ is_free)))
