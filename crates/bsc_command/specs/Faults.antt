@@ -19,7 +19,7 @@ use Rattle.bsc_naming.specs.Errors.{IsLineError, IsNameError}
 use Rattle.bsc_naming.specs.declared.error.NamingError.TheVariants as naming
 use Rattle.bsc_options.specs.Errors.{is_conflict}
 use Rattle.bsc_options.specs.declared.error.OptionError.{OptionError}
-use Rattle.bsc_plain.specs.Lines.{in_lines}
+use Rattle.bsc_print.specs.Lines.{in_lines}
 use Rattle.bsc_print.specs.Forms.{AreOctets, escaped, is_printable}
 use Rattle.bsc_run.specs.declared.error.RunError.{RunError}
 use Rattle.bsc_run.specs.declared.error.RunError.TheVariants as run

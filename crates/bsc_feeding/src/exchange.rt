@@ -10,7 +10,7 @@ ghost use Rattle.bsc_feeding.specs.Errors.{heard_error as heard_fault};
 use crate::FeedError;
 use crate::answers::{Kind, kind_of};
 use bsc_input::{InputError, LineEnd, read_line};
-use bsc_plain::Lines;
+use bsc_print::Lines;
 use std::alloc::Allocator;
 use std::io::{BufRead, Write};
 

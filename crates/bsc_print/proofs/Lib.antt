@@ -1,3 +1,4 @@
 pub mod Escapes
 pub mod Lists
 pub mod Fronts
+pub mod Plain

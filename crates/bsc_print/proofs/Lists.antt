@@ -27,8 +27,8 @@ flat_map_seam f (y ∷ ys) (suc i) x e =
     let more = flat_map_seam f ys i x e in (
       more.0,
       ap (λ l. f y ++ l) more.1
-      ∙ sym (append_assoc (f y) (flat_map f (take i ys) ++ f x) more.0)
-      ∙ ap (λ l. l ++ more.0) (sym (append_assoc (f y) (flat_map f (take i ys)) (f x))),
+          ∙ sym (append_assoc (f y) (flat_map f (take i ys) ++ f x) more.0)
+          ∙ ap (λ l. l ++ more.0) (sym (append_assoc (f y) (flat_map f (take i ys)) (f x))),
     )
 
 no_less : (i : ℕ) → i < 0 → ⊥
@@ -44,7 +44,7 @@ flat_map_seam_at f (y ∷ ys) (suc i) d below =
     let more = flat_map_seam_at f ys i d (omega (arith, below)) in (
       more.0,
       ap (λ l. f y ++ l) more.1
-      ∙ sym (append_assoc (f y) (flat_map f (take i ys) ++ f (get_or ys i d)) more.0)
-      ∙ ap (λ l. l ++ more.0)
-      (sym (append_assoc (f y) (flat_map f (take i ys)) (f (get_or ys i d)))),
+          ∙ sym (append_assoc (f y) (flat_map f (take i ys) ++ f (get_or ys i d)) more.0)
+          ∙ ap (λ l. l ++ more.0)
+          (sym (append_assoc (f y) (flat_map f (take i ys)) (f (get_or ys i d)))),
     )

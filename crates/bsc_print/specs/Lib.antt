@@ -1,3 +1,4 @@
 pub mod Names
 pub mod Forms
 pub mod Fronts
+pub mod Lines

@@ -74,7 +74,7 @@ fn write_code<W: Write>(code: u8, out: &mut W) -> Result<(), PrintError>
 }
 
 /// Returns the hexadecimal digit with this value, below 16.
-fn digit(value: u8) -> u8
+pub(crate) fn digit(value: u8) -> u8
     requires { value < 16 }
     ensures { result ≡ digit_char value }
 {

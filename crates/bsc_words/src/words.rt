@@ -14,7 +14,7 @@ use crate::store_words::store_words;
 use crate::tables::{CHART, COMMANDS, FEED, RUN, STATION, STORE};
 use crate::values::{is_given, option_text, option_texts, required_text};
 use bsc_asked::{Asked, ChartWords};
-use bsc_plain::Escaped;
+use bsc_print::Escaped;
 use clap::error::ErrorKind;
 use clap::{ArgMatches, Command, Error};
 use std::alloc::{AllocError, Global};

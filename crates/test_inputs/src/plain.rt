@@ -1,6 +1,6 @@
 //! Texts from elsewhere, as they are printed.
 
-use bsc_plain::{Escaped, Lines};
+use bsc_print::{Escaped, Lines};
 use std::test::Fail;
 
 /// A text, within a line, and as lines.

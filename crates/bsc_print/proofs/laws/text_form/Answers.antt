@@ -1,5 +1,6 @@
--- The law of the text of records.
+-- The law of texts that are printed within a line.
 use Rattle.bsc_print.proofs.Escapes.{has_one_reading, is_one_line}
+use Rattle.bsc_print.proofs.Plain.{is_as_it_is}
 use Rattle.bsc_print.proofs.laws.text_form.Goals as goal
 
 pub returns-clause-line : goal.returns-clause-line
@@ -7,3 +8,6 @@ returns-clause-line c = is_one_line
 
 pub returns-clause-reading : goal.returns-clause-reading
 returns-clause-reading c = has_one_reading
+
+pub returns-clause-same : goal.returns-clause-same
+returns-clause-same c = is_as_it_is

@@ -7,7 +7,7 @@ use Rattle.std.proofs.lemmas.Bool.Decides.{nat_tests}
 use Rattle.std.proofs.lemmas.List.Elements.{All-append}
 use Rattle.bsc_print.specs.Forms.{AreOctets, escape_of, escaped, is_printable}
 use Rattle.bsc_print.proofs.Escapes.{is_one_line}
-use Rattle.bsc_plain.specs.Lines.{AreLines, IsAsItIs, in_lines, is_of_lines, is_plain, line_code}
+use Rattle.bsc_print.specs.Lines.{AreLines, IsAsItIs, in_lines, is_of_lines, is_plain, line_code}
 
 split : {P : Type 0} (b : Bool) → (b ≡ true → P) → (b ≡ false → P) → P
 split true passes fails = passes refl

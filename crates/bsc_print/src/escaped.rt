@@ -1,13 +1,12 @@
 //! The forms of a text from elsewhere.
-ghost use Rattle.std.specs.Prelude.{◌≡◌, ◌<◌};
-ghost use Rattle.std.specs.Char.{digit_char};
 ghost use Rattle.std.specs.Fmt.{WritesOnOk};
 ghost use Rattle.bsc_print.specs.Forms.{escape_of, hex_escape};
-ghost use Rattle.bsc_plain.specs.Lines.{line_code};
+ghost use Rattle.bsc_print.specs.Lines.{line_code};
 
+use crate::form::digit;
 use std::fmt;
 
-/// A text as it is printed within a line: in the form [`Text`](bsc_print::Form::Text) of a record.
+/// A text as it is printed within a line: in the form [`Text`](crate::Form::Text) of a record.
 #[derive(Clone, Copy, Debug)]
 pub struct Escaped<'a>(pub &'a [u8]);
 
@@ -32,7 +31,7 @@ impl fmt::Display for Escaped<'_> {
 
 impl fmt::Display for Lines<'_> {
     ghost use Rattle.std.specs.Prelude.{Some};
-    ghost use Rattle.bsc_plain.specs.Lines.{in_lines};
+    ghost use Rattle.bsc_print.specs.Lines.{in_lines};
 
     ghost output = { λ it. Some (in_lines it.0.now) };
 
@@ -73,18 +72,6 @@ fn write_digits<W: fmt::Write>(code: u8, f: &mut fmt::Formatter<W>) -> fmt::Resu
     ensures { WritesOnOk W.write_str_gives f.old result (hex_escape code) f.new }
 {
     f.write_str("\\x")?;
-    f.write_char(digit(code / 16))?;
-    f.write_char(digit(code % 16))
-}
-
-/// Returns the hexadecimal digit with this value, below 16.
-fn digit(value: u8) -> char
-    requires { value < 16 }
-    ensures { result ≡ digit_char value }
-{
-    if value < 10 {
-        char::from(b'0' + value)
-    } else {
-        char::from(b'a' + (value - 10))
-    }
+    f.write_char(char::from(digit(code / 16)))?;
+    f.write_char(char::from(digit(code % 16)))
 }
