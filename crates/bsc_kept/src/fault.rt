@@ -31,6 +31,11 @@ pub enum StoreFault {
     #[error("the file is damaged or not a store")]
     Damaged,
 
+    /// The record with this number, counted from 0, of those of a channel that were offered or that
+    /// arrived, is not as it was kept.
+    #[error("record {number} of a channel is damaged")]
+    DamagedRecord { number: u32 },
+
     /// A change of the step breaks a rule of the store.
     #[error("the step does not fit what is kept")]
     Refused,

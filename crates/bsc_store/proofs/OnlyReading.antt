@@ -74,6 +74,12 @@ queries_read query.WrongPrinted = only_reads (query_text query.WrongPrinted) ref
 queries_read query.Progress = only_reads (query_text query.Progress) refl
 queries_read query.NextOffered = only_reads (query_text query.NextOffered) refl
 queries_read query.NextArrived = only_reads (query_text query.NextArrived) refl
+queries_read query.CheckedOffered = only_reads (query_text query.CheckedOffered) refl
+queries_read query.CheckedArrived = only_reads (query_text query.CheckedArrived) refl
+queries_read query.OfferedUpTo = only_reads (query_text query.OfferedUpTo) refl
+queries_read query.ArrivedUpTo = only_reads (query_text query.ArrivedUpTo) refl
+queries_read query.LastOffered = only_reads (query_text query.LastOffered) refl
+queries_read query.LastArrived = only_reads (query_text query.LastArrived) refl
 
 unchanged_keeps : (old new : State) → IsUnchanged old new → KeepsCommit old new
 unchanged_keeps old new same = record { was_open = λ _. same.0.was_open; committed = λ _. same.0.committed_is }

@@ -1,5 +1,5 @@
 -- What a statement of a step leaves.
-use Rattle.std.proofs.Common.{◌≡◌, ◌+◌, ◌<◌, ℕ, suc, List, ◌∷◌, length, drop, get_or, drop-cons, inl, inr, ◌∙◌, IsTrue, Result, Ok, Err, OnOk, OnErr, sym, subst, subst₂, arith}
+use Rattle.std.proofs.Common.{◌≡◌, ◌+◌, ◌<◌, ℕ, suc, List, ◌∷◌, length, drop, get_or, drop-cons, inl, inr, ◌∙◌, IsTrue, Option, Result, Ok, Err, OnOk, OnErr, sym, subst, subst₂, arith}
 use Rattle.sqlite.specs.Store.{Ghosts}
 use Rattle.sqlite.specs.Order.{Row}
 use Rattle.sqlite.specs.declared.error.Error.{Error}
@@ -7,6 +7,7 @@ use Rattle.sqlite.specs.State.{State, Executes, ExecutesInside, IsRolledBack, Ke
 use Rattle.sqlite.specs.Held.{Held, state}
 use Rattle.sqlite.specs.Steps.{FailsToCommit}
 use Rattle.bsc_kept.specs.declared.change.Change.{Change}
+use Rattle.bsc_store.specs.declared.checks.Marks.{Marks}
 use Rattle.bsc_store.specs.Tables.{text_of, values_of, Ran}
 
 -- What ran inside a transaction ran, under equal text and values.
@@ -17,12 +18,13 @@ executed text text' values values' old new count is given h =
     subst₂ (λ t v. Executes t v old new (Ok count)) is given h.0
 
 -- What ran inside a transaction is what the change asks for.
-pub ran_inside : {S : Type 0} (g : Ghosts S) (change : Change) (text : List ℕ) (values : Row)
-    (old new : Held S) (result : Result ℕ Error) → text ≡ text_of change → values ≡ values_of change
+pub ran_inside : {S : Type 0} (g : Ghosts S) (marks : Option Marks) (change : Change)
+    (text : List ℕ) (values : Row) (old new : Held S) (result : Result ℕ Error)
+    → text ≡ text_of change marks → values ≡ values_of change marks
     → ExecutesInside 0 text values (state g old) (state g new) result
-    → OnOk result (Ran g change old new)
-ran_inside g change text values old new (Err fault) is given h = tt
-ran_inside g change text values old new (Ok count) is given h = record {
+    → OnOk result (Ran g marks change old new)
+ran_inside g marks change text values old new (Err fault) is given h = tt
+ran_inside g marks change text values old new (Ok count) is given h = record {
   count = count;
   runs = executed text _ values _ _ _ count is given h;
   goes_on = h.1.mode;

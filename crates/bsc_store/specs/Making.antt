@@ -16,7 +16,8 @@ tables_text =
     ++ codes "CREATE TABLE offered (\n  id INTEGER PRIMARY KEY,\n"
     ++ codes "  way TEXT NOT NULL CHECK (way = 'from' OR way = 'to'),\n"
     ++ codes "  address BLOB NOT NULL,\n"
-    ++ codes "  record BLOB NOT NULL CHECK (length(record) <= 144)\n) STRICT;\n"
+    ++ codes "  record BLOB NOT NULL CHECK (length(record) <= 144),\n"
+    ++ codes "  checked BLOB NOT NULL\n) STRICT;\n"
     ++ codes "CREATE TABLE known (\n"
     ++ codes "  way TEXT NOT NULL CHECK (way = 'from' OR way = 'to'),\n"
     ++ codes "  address BLOB NOT NULL,\n  known INTEGER NOT NULL CHECK (known >= 0),\n"
@@ -25,7 +26,8 @@ tables_text =
     ++ codes "CREATE TABLE arrived (\n  id INTEGER PRIMARY KEY,\n"
     ++ codes "  way TEXT NOT NULL CHECK (way = 'from' OR way = 'to'),\n"
     ++ codes "  address BLOB NOT NULL,\n"
-    ++ codes "  record BLOB NOT NULL CHECK (length(record) <= 144)\n) STRICT;\n"
+    ++ codes "  record BLOB NOT NULL CHECK (length(record) <= 144),\n"
+    ++ codes "  checked BLOB NOT NULL\n) STRICT;\n"
     ++ codes "CREATE TABLE printed (\n"
     ++ codes "  way TEXT NOT NULL CHECK (way = 'from' OR way = 'to'),\n"
     ++ codes "  address BLOB NOT NULL,\n  printed INTEGER NOT NULL CHECK (printed >= 0),\n"
@@ -35,14 +37,14 @@ tables_text =
 abbrev pub name_text : List ℕ
 name_text = codes "INSERT INTO line (version, line) VALUES (?1, ?2)"
 
--- The tables of a store were made, with version 1 and this text of the line, in one transaction.
+-- The tables of a store were made, with version 2 and this text of the line, in one transaction.
 pub record IsMade {S : Type 0} (g : Ghosts S) (line : List ℕ) (old : Held S) (db : Database)
     : Type 0 where
   pub made : Held S
   pub last : Held S
   pub count : ℕ
   pub tables : ExecutesAllInside g 0 tables_text (record old { in_transaction = true }) made (Ok tt)
-  pub named : Executes name_text (Int (pos 1) ∷ Text line ∷ []) (state g made) (state g last)
+  pub named : Executes name_text (Int (pos 2) ∷ Text line ∷ []) (state g made) (state g last)
       (Ok count)
   pub is : db ≡ (state g last).now
 

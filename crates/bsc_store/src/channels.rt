@@ -1,6 +1,6 @@
 //! What the tables have of a channel.
 ghost use Rattle.std.specs.Prelude.{◌≡◌};
-ghost use Rattle.bsc_store.specs.Tables.{way_of, address_of};
+ghost use Rattle.bsc_store.specs.Channels.{way_of, address_of};
 
 use bsc_kept::Channel;
 

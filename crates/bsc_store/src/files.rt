@@ -43,7 +43,8 @@ impl TableStore<FileStore<File>> {
         path: &str,
         line: &str,
     ) -> Result<TableStore<FileStore<File>>, StoreFault>
-        ensures is { IfOk result (λ store. IsOpenedStore over_files line.now store.conn) }
+        ensures is { IfOk result
+            (λ store. IsOpenedStore over_files line.now store.marks store.conn) }
     {
         TableStore::resume(connect(rt, path)?, line)
     }
@@ -55,14 +56,15 @@ impl TableStore<FileStore<File>> {
         path: &str,
     ) -> Result<(TableStore<FileStore<File>>, String), StoreFault>
         ensures is { IfOk result
-            (λ found. IsOpenedStore over_files (string_bytes found.1) found.0.conn) }
+            (λ found. IsOpenedStore over_files (string_bytes found.1) found.0.marks
+            found.0.conn) }
     {
         TableStore::resume_any(connect(rt, path)?)
     }
 
     /// Copies what is kept into the file itself and closes it.
     pub fn close(self) -> Result<(), StoreFault> {
-        let TableStore { conn } = self;
+        let TableStore { conn, .. } = self;
         conn.close().map_err(fault_of)
     }
 }

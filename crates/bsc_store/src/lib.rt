@@ -6,6 +6,7 @@
 #![tactic(auto)]
 
 mod channels;
+mod checks;
 mod fault;
 mod files;
 mod making;

@@ -1,6 +1,6 @@
 //! What is asked of the tables.
 ghost use Rattle.std.specs.Prelude.{◌≡◌};
-ghost use Rattle.bsc_store.specs.Reading.{query_text};
+ghost use Rattle.bsc_store.specs.Reading.{next_query, query_text, up_to_query};
 
 /// A query.
 #[derive(Clone, Copy)]
@@ -28,6 +28,51 @@ pub(crate) enum Query {
 
     /// The next record that arrived on a channel.
     NextArrived,
+
+    /// The same two, with the check of the record.
+    CheckedOffered,
+    CheckedArrived,
+
+    /// How many offered records of a channel stand up to a mark.
+    OfferedUpTo,
+
+    /// How many records that arrived on a channel stand up to a mark.
+    ArrivedUpTo,
+
+    /// The greatest mark of an offered record, and of one that arrived.
+    LastOffered,
+    LastArrived,
+}
+
+/// Which records of a channel are meant: those that were offered, or those that arrived.
+#[derive(Clone, Copy)]
+pub(crate) enum Side {
+    Offered,
+    Arrived,
+}
+
+impl Side {
+    /// Returns the query for the next record, with its check if records have checks.
+    pub(crate) fn next(self, is_checked: bool) -> Query
+        ensures { result ≡ next_query self is_checked }
+    {
+        match (self, is_checked) {
+            (Side::Offered, false) => Query::NextOffered,
+            (Side::Offered, true) => Query::CheckedOffered,
+            (Side::Arrived, false) => Query::NextArrived,
+            (Side::Arrived, true) => Query::CheckedArrived,
+        }
+    }
+
+    /// Returns the query for how many records stand up to a mark.
+    pub(crate) fn up_to(self) -> Query
+        ensures { result ≡ up_to_query self }
+    {
+        match self {
+            Side::Offered => Query::OfferedUpTo,
+            Side::Arrived => Query::ArrivedUpTo,
+        }
+    }
 }
 
 impl Query {
@@ -67,6 +112,22 @@ impl Query {
                 "SELECT id, record FROM arrived WHERE id > ?3 AND way = ?1 AND address = ?2 \
                     ORDER BY id LIMIT 1 OFFSET ?4"
             }
+            Query::CheckedOffered => {
+                "SELECT id, record, checked FROM offered \
+                    WHERE id > ?3 AND way = ?1 AND address = ?2 ORDER BY id LIMIT 1 OFFSET ?4"
+            }
+            Query::CheckedArrived => {
+                "SELECT id, record, checked FROM arrived \
+                    WHERE id > ?3 AND way = ?1 AND address = ?2 ORDER BY id LIMIT 1 OFFSET ?4"
+            }
+            Query::OfferedUpTo => {
+                "SELECT count(*) FROM offered WHERE id <= ?3 AND way = ?1 AND address = ?2"
+            }
+            Query::ArrivedUpTo => {
+                "SELECT count(*) FROM arrived WHERE id <= ?3 AND way = ?1 AND address = ?2"
+            }
+            Query::LastOffered => "SELECT coalesce(max(id), 0) FROM offered",
+            Query::LastArrived => "SELECT coalesce(max(id), 0) FROM arrived",
         }
     }
 }

@@ -1,18 +1,23 @@
 //! The store.
-ghost use Rattle.std.specs.Prelude.{◌≡◌, IfErr, IfOk, IsTrue, List, OnOk, OnErr, string_bytes};
+ghost use Rattle.std.specs.Prelude.{◌≡◌, ◌⊎◌, IfErr, IfOk, IsTrue, List, OnOk, OnErr, Some, pos};
+ghost use Rattle.std.specs.Prelude.{string_bytes};
 ghost use Rattle.sqlite.specs.Held.{state};
 ghost use Rattle.sqlite.specs.State.{HasCleanDisk};
 ghost use Rattle.sqlite.specs.declared.error.Error.{Error};
+ghost use Rattle.sqlite.specs.declared.types.Value.TheVariants.{Int};
+ghost use Rattle.bsc_store.specs.Checks.{marks_after_all};
 ghost use Rattle.bsc_store.specs.Faults.{fault_for};
 ghost use Rattle.bsc_store.specs.Making.{IsBegun, IsMade, SurvivesMaking};
-ghost use Rattle.bsc_store.specs.Reading.{IsFound, IsProgress, IsStoreOf, IsStoreOfItself};
-ghost use Rattle.bsc_store.specs.Reading.{IsUnread, OnlyRead, channel_values};
-ghost use Rattle.bsc_store.specs.Reading.{place_values, query_text};
+ghost use Rattle.bsc_store.specs.Reading.{GivesValue, IsFound, IsNotFound, IsProgress, IsStoreOf};
+ghost use Rattle.bsc_store.specs.Reading.{IsStoreOfItself, IsUnread, OnlyRead, channel_values};
+ghost use Rattle.bsc_store.specs.Reading.{query_text};
 ghost use Rattle.bsc_store.specs.declared.queries.Query.TheVariants as query;
+ghost use Rattle.bsc_store.specs.declared.queries.Side.TheVariants as side;
 ghost use Rattle.bsc_store.specs.Tables.{IsAsBefore, Keeps, Stays, SurvivesStep};
 
+use crate::checks::Marks;
 use crate::fault::fault_of;
-use crate::queries::Query;
+use crate::queries::{Query, Side};
 use crate::writing::commit;
 use crate::{reading, tables};
 use bsc_kept::{Change, Channel, Found, Progress, Store, StoreFault};
@@ -22,6 +27,9 @@ use sqlite::{Alter, Connection, Error as SqlError, params};
 #[derive(Drop)]
 pub struct TableStore<S: Alter> {
     pub(crate) conn: Connection<S>,
+
+    /// The greatest marks, if the records have checks.
+    pub(crate) marks: Option<Marks>,
 }
 
 impl<S: Alter + Drop> TableStore<S> {
@@ -31,12 +39,20 @@ impl<S: Alter + Drop> TableStore<S> {
     pub fn begin(mut conn: Connection<S>, line: &str) -> Result<TableStore<S>, StoreFault>
         ensures made { IfOk result (λ store. HasCleanDisk (state S.Store store.conn)
             → IsBegun S.Store line.now conn store.conn) }
+        ensures marks { IfOk result (λ store.
+            store.marks ≡ Some (record { offered = 0; arrived = 0 })) }
     {
         if reading::number(&mut conn, Query::Tables)? != 0 {
             return Err(StoreFault::Taken);
         }
         match make(&mut conn, line) {
-            Ok(()) => Ok(TableStore { conn }),
+            Ok(()) => {
+                let marks = Some(Marks {
+                    offered: 0,
+                    arrived: 0,
+                });
+                Ok(TableStore { conn, marks })
+            }
             Err(error) => Err(fault_of(error)),
         }
     }
@@ -46,22 +62,22 @@ impl<S: Alter + Drop> TableStore<S> {
     /// or in doubt than were offered, or more printed than arrived.
     pub fn resume(mut conn: Connection<S>, line: &str) -> Result<TableStore<S>, StoreFault>
         ensures is { IfOk result (λ store. HasCleanDisk (state S.Store store.conn)
-            → IsStoreOf S.Store line.now conn store.conn) }
+            → IsStoreOf S.Store line.now store.marks conn store.conn) }
         ensures read { IfOk result (λ store. OnlyRead S.Store conn store.conn) }
     {
-        check(&mut conn, line)?;
-        Ok(TableStore { conn })
+        let marks = check(&mut conn, line)?;
+        Ok(TableStore { conn, marks })
     }
 
     /// Goes on with a store of whatever line, and returns the text of its line too. The faults are
     /// those of `resume` but for `OtherLine`, in the same order.
     pub fn resume_any(mut conn: Connection<S>) -> Result<(TableStore<S>, String), StoreFault>
         ensures is { IfOk result (λ found. HasCleanDisk (state S.Store found.0.conn)
-            → IsStoreOfItself S.Store (string_bytes found.1) found.0.conn) }
+            → IsStoreOfItself S.Store (string_bytes found.1) found.0.marks found.0.conn) }
         ensures read { IfOk result (λ found. OnlyRead S.Store conn found.0.conn) }
     {
-        let line = line_in(&mut conn)?;
-        Ok((TableStore { conn }, line))
+        let (line, marks) = line_in(&mut conn)?;
+        Ok((TableStore { conn, marks }, line))
     }
 }
 
@@ -76,19 +92,34 @@ fn check_version<S: Alter>(conn: &mut Connection<S>) -> Result<(), StoreFault>
     Ok(())
 }
 
-/// Checks that the database is a store of this line.
-fn check<S: Alter>(conn: &mut Connection<S>, line: &str) -> Result<(), StoreFault>
-    ensures is { HasCleanDisk (state S.Store conn.new)
-        → OnOk result (IsStoreOf S.Store line.now conn.old conn.new) }
+/// Returns the version. Fails with `Newer` or `Damaged` if it is none of those that are known.
+fn version_in<S: Alter>(conn: &mut Connection<S>) -> Result<u32, StoreFault>
+    ensures is { HasCleanDisk (state S.Store conn.new) → IfOk result (λ version.
+        GivesValue S.Store (query_text query.Version) (Int (pos version)) conn.old conn.new) }
+    ensures known { IfOk result (λ version. (version ≡ 1) ⊎ (version ≡ 2)) }
     ensures read { OnlyRead S.Store conn.old conn.new }
 {
     let version = reading::number(conn, Query::Version)?;
     if version > tables::VERSION {
         return Err(StoreFault::Newer { version });
     }
-    if version < tables::VERSION {
-        return Err(StoreFault::Damaged);
+    if version == tables::UNCHECKED {
+        return Ok(version);
     }
+    if version == tables::VERSION {
+        return Ok(version);
+    }
+    Err(StoreFault::Damaged)
+}
+
+/// Checks that the database is a store of this line, and returns the greatest marks, if records
+/// have checks.
+fn check<S: Alter>(conn: &mut Connection<S>, line: &str) -> Result<Option<Marks>, StoreFault>
+    ensures is { HasCleanDisk (state S.Store conn.new) → IfOk result (λ marks.
+        IsStoreOf S.Store line.now marks conn.old conn.new) }
+    ensures read { OnlyRead S.Store conn.old conn.new }
+{
+    let version = version_in(conn)?;
     if !reading::is_text(conn, Query::Line, line)? {
         return Err(StoreFault::OtherLine);
     }
@@ -98,19 +129,21 @@ fn check<S: Alter>(conn: &mut Connection<S>, line: &str) -> Result<(), StoreFaul
     if reading::number(conn, Query::WrongPrinted)? != 0 {
         return Err(StoreFault::Damaged);
     }
-    Ok(())
+    let marks = reading::marks(conn, version)?;
+    Ok(marks)
 }
 
-/// Checks that the database is a store, and returns the text of its line.
-fn line_in<S: Alter>(conn: &mut Connection<S>) -> Result<String, StoreFault>
-    ensures is { HasCleanDisk (state S.Store conn.new)
-        → IfOk result (λ line. IsStoreOfItself S.Store (string_bytes line) conn.new) }
+/// Checks that the database is a store, and returns the text of its line and the greatest marks, if
+/// records have checks.
+fn line_in<S: Alter>(conn: &mut Connection<S>) -> Result<(String, Option<Marks>), StoreFault>
+    ensures is { HasCleanDisk (state S.Store conn.new) → IfOk result (λ found.
+        IsStoreOfItself S.Store (string_bytes found.0) found.1 conn.new) }
     ensures read { OnlyRead S.Store conn.old conn.new }
 {
     check_version(conn)?;
     let line = reading::line_text(conn)?;
-    check(conn, line.as_str())?;
-    Ok(line)
+    let marks = check(conn, line.as_str())?;
+    Ok((line, marks))
 }
 
 /// Makes the tables and keeps the line, in one commit.
@@ -136,15 +169,22 @@ impl<S: Alter> TableStore<S> {
     /// Keeps the changes of a step, all or none. Each change must fit the changes before it: the
     /// records that are known or in doubt were offered, and those that are printed arrived.
     pub fn keep(&mut self, step: &[Change]) -> Result<(), StoreFault>
-        ensures kept { OnOk result (Keeps S.Store step.now self.old.conn self.new.conn) }
+        ensures kept { OnOk result
+            (Keeps S.Store self.old.marks step.now self.old.conn self.new.conn) }
+        ensures marks { OnOk result
+            (self.new.marks ≡ marks_after_all step.now self.old.marks) }
+        ensures same_marks { OnErr result (self.new.marks ≡ self.old.marks) }
         ensures unchanged { HasCleanDisk (state S.Store self.new.conn)
             → IsTrue (state S.Store self.new.conn).is_open
             → OnErr result (IsAsBefore S.Store self.old.conn self.new.conn) }
-        ensures crash { SurvivesStep S.Store step.now self.old.conn self.new.conn }
+        ensures crash { SurvivesStep S.Store self.old.marks step.now self.old.conn self.new.conn }
         ensures fault { IfErr result (λ fault. (error : Error) × (fault ≡ fault_for error)) }
     {
-        match commit(&mut self.conn, step) {
-            Ok(()) => Ok(()),
+        match commit(&mut self.conn, self.marks, step) {
+            Ok(marks) => {
+                self.marks = marks;
+                Ok(())
+            }
             Err(error) => Err(fault_of(error)),
         }
     }
@@ -156,6 +196,7 @@ impl<S: Alter> TableStore<S> {
         ensures read { OnlyRead S.Store self.old.conn self.new.conn }
         ensures fault { IfErr result (IsUnread S.Store (query_text query.Progress)
             (channel_values channel.now) self.old.conn self.new.conn) }
+        ensures same_marks { self.new.marks ≡ self.old.marks }
     {
         reading::progress(&mut self.conn, channel)
     }
@@ -169,13 +210,21 @@ impl<S: Alter> TableStore<S> {
         more: u32,
     ) -> Result<Option<Found>, StoreFault>
         ensures is { HasCleanDisk (state S.Store self.new.conn) → IfOk result
-            (IsFound S.Store (query_text query.NextOffered) (place_values channel.now mark more)
+            (IsFound S.Store self.old.marks side.Offered channel.now mark more
             self.old.conn self.new.conn) }
         ensures read { OnlyRead S.Store self.old.conn self.new.conn }
-        ensures fault { IfErr result (IsUnread S.Store (query_text query.NextOffered)
-            (place_values channel.now mark more) self.old.conn self.new.conn) }
+        ensures fault { IfErr result (IsNotFound S.Store self.old.marks side.Offered channel.now
+            mark more self.old.conn self.new.conn) }
+        ensures same_marks { self.new.marks ≡ self.old.marks }
     {
-        reading::next(&mut self.conn, Query::NextOffered, channel, mark, more)
+        reading::next(
+            &mut self.conn,
+            self.marks,
+            Side::Offered,
+            channel,
+            mark,
+            more,
+        )
     }
 
     /// Returns a record that arrived on a channel, as `offered_after` does.
@@ -186,22 +235,30 @@ impl<S: Alter> TableStore<S> {
         more: u32,
     ) -> Result<Option<Found>, StoreFault>
         ensures is { HasCleanDisk (state S.Store self.new.conn) → IfOk result
-            (IsFound S.Store (query_text query.NextArrived) (place_values channel.now mark more)
+            (IsFound S.Store self.old.marks side.Arrived channel.now mark more
             self.old.conn self.new.conn) }
         ensures read { OnlyRead S.Store self.old.conn self.new.conn }
-        ensures fault { IfErr result (IsUnread S.Store (query_text query.NextArrived)
-            (place_values channel.now mark more) self.old.conn self.new.conn) }
+        ensures fault { IfErr result (IsNotFound S.Store self.old.marks side.Arrived channel.now
+            mark more self.old.conn self.new.conn) }
+        ensures same_marks { self.new.marks ≡ self.old.marks }
     {
-        reading::next(&mut self.conn, Query::NextArrived, channel, mark, more)
+        reading::next(
+            &mut self.conn,
+            self.marks,
+            Side::Arrived,
+            channel,
+            mark,
+            more,
+        )
     }
 }
 
 impl<S: Alter> Store for TableStore<S> {
-    ghost keeps = { λ step old new. Keeps S.Store step old.conn new.conn };
+    ghost keeps = { λ step old new. Keeps S.Store old.marks step old.conn new.conn };
 
     ghost stays = { λ old new. Stays S.Store old.conn new.conn };
 
-    ghost survives = { λ step old new. SurvivesStep S.Store step old.conn new.conn };
+    ghost survives = { λ step old new. SurvivesStep S.Store old.marks step old.conn new.conn };
 
     ghost sound = { λ it. HasCleanDisk (state S.Store it.conn) };
 
@@ -211,12 +268,10 @@ impl<S: Alter> Store for TableStore<S> {
         → IsProgress S.Store channel old.conn new.conn it };
 
     ghost finds_offered = { λ channel mark more it old new. HasCleanDisk (state S.Store new.conn)
-        → IsFound S.Store (query_text query.NextOffered) (place_values channel mark more)
-        old.conn new.conn it };
+        → IsFound S.Store old.marks side.Offered channel mark more old.conn new.conn it };
 
     ghost finds_arrived = { λ channel mark more it old new. HasCleanDisk (state S.Store new.conn)
-        → IsFound S.Store (query_text query.NextArrived) (place_values channel mark more)
-        old.conn new.conn it };
+        → IsFound S.Store old.marks side.Arrived channel mark more old.conn new.conn it };
 
     fn commit(&mut self, step: &[Change]) -> Result<(), StoreFault> {
         self.keep(step)

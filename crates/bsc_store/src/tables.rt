@@ -1,7 +1,10 @@
 //! The tables, which `docs/STORE.md` describes.
 
 /// The version of the tables.
-pub(crate) const VERSION: u32 = 1;
+pub(crate) const VERSION: u32 = 2;
+
+/// The version of tables whose records have no check.
+pub(crate) const UNCHECKED: u32 = 1;
 
 /// Makes the tables.
 pub(crate) const MAKE: &str = "CREATE TABLE line (
@@ -12,7 +15,8 @@ CREATE TABLE offered (
   id INTEGER PRIMARY KEY,
   way TEXT NOT NULL CHECK (way = 'from' OR way = 'to'),
   address BLOB NOT NULL,
-  record BLOB NOT NULL CHECK (length(record) <= 144)
+  record BLOB NOT NULL CHECK (length(record) <= 144),
+  checked BLOB NOT NULL
 ) STRICT;
 CREATE TABLE known (
   way TEXT NOT NULL CHECK (way = 'from' OR way = 'to'),
@@ -25,7 +29,8 @@ CREATE TABLE arrived (
   id INTEGER PRIMARY KEY,
   way TEXT NOT NULL CHECK (way = 'from' OR way = 'to'),
   address BLOB NOT NULL,
-  record BLOB NOT NULL CHECK (length(record) <= 144)
+  record BLOB NOT NULL CHECK (length(record) <= 144),
+  checked BLOB NOT NULL
 ) STRICT;
 CREATE TABLE printed (
   way TEXT NOT NULL CHECK (way = 'from' OR way = 'to'),

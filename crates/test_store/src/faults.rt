@@ -70,12 +70,12 @@ INSERT INTO known VALUES ('from', x'41', 0, 1);";
 /// Statements after which it is refused, and the fault.
 const CHANGES: &[(&str, StoreFault)] = &[
     (
-        "UPDATE line SET version = 2",
-        StoreFault::Newer { version: 2 },
+        "UPDATE line SET version = 3",
+        StoreFault::Newer { version: 3 },
     ),
     (
-        "DROP TABLE line; CREATE TABLE line (version INTEGER); INSERT INTO line VALUES (2)",
-        StoreFault::Newer { version: 2 },
+        "DROP TABLE line; CREATE TABLE line (version INTEGER); INSERT INTO line VALUES (3)",
+        StoreFault::Newer { version: 3 },
     ),
     ("UPDATE line SET version = 0", StoreFault::Damaged),
     ("DELETE FROM line", StoreFault::Damaged),

@@ -1,6 +1,7 @@
 //! Stores that are opened, used and closed: the only functions that own one. A store that is used
 //! is taken out of its result by `match`, since `?` takes long to check with so large a type.
 
+use crate::checks::{are_checked, is_damaged};
 use crate::cut::{has_step, keep_step};
 use crate::facts::{from_terminal, to_terminal};
 use crate::faults::is_unchanged;
@@ -57,6 +58,12 @@ pub(crate) enum Task {
     /// Find the records that have great marks.
     Marked,
 
+    /// Find the records that have right checks.
+    Checked,
+
+    /// Find that the offered record with this number is damaged.
+    Damaged { number: u32 },
+
     /// Nothing.
     Nothing,
 }
@@ -83,6 +90,8 @@ fn perform<S: Store>(alloc: Global, store: &mut S, task: Task) -> Result<bool, S
         Task::HasStep { whole } => has_step(store, &one, whole),
         Task::Many => keeps_many(alloc, store, &one),
         Task::Marked => are_marked(store, &one),
+        Task::Checked => are_checked(store, &one),
+        Task::Damaged { number } => is_damaged(store, &one, number),
         Task::Nothing => Ok(true),
     }
 }

@@ -5,5 +5,5 @@ use Rattle.bsc_store.proofs.files.TableStore+FileStore+File.open_any.Goals as go
 
 pub returns : goal.returns
 returns c = record {
-  is = opened over_files (λ f. string_bytes f.1) (λ f. f.0.conn) _ c.resume_any.result c.resume_any.ensures.is c.resume_any.ensures.read;
+  is = opened over_files (λ f. string_bytes f.1) (λ f. f.0.marks) (λ f. f.0.conn) _ c.resume_any.result c.resume_any.ensures.is c.resume_any.ensures.read;
 }
