@@ -1,3 +1,4 @@
 pub mod Connections
 pub mod Feeding
+pub mod Limits
 pub mod Showing

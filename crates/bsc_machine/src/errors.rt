@@ -6,16 +6,21 @@
 
 ghost use Rattle.std.specs.Prelude.{◌≡◌};
 
+use crate::file_limit::room_at;
 use crate::readiness::is_ready_now;
 use crate::screen::{Raw, Screen};
 use arrayvec::ArrayVec;
 use std::io;
-use std::io::Write;
+use std::io::{Error, ErrorKind, Write};
 use std::net::Net;
 use std::os::fd::RawFd;
+use std::rt::Files as Filing;
 
 /// The descriptor of standard error.
 const STANDARD_ERROR: RawFd = 2;
+
+/// The path of standard error.
+const PATH: &str = "/dev/stderr";
 
 /// The most octets of a line that are written at once. The longest line of a trace is shorter.
 const MAX_LINE: usize = 8_192;
@@ -50,19 +55,31 @@ impl<'a, R> Errors<'a, R> {
     }
 }
 
-impl<R: AllocGlobal + Eprint + Net> Errors<'_, R> {
+impl<R: AllocGlobal + Eprint + Filing + Net> Errors<'_, R> {
     /// Writes the line that has begun.
     fn write_line(&mut self) -> io::Result<()> {
         if !self.may_fail && !is_ready_now(self.runtime, STANDARD_ERROR) {
             return Ok(());
         }
         self.screen.clear(self.runtime);
-        let mut raw = Raw {
-            runtime: self.runtime,
-        };
-        match raw.write_all(self.line.as_slice()) {
+        match self.write_whole() {
             Err(_) if !self.may_fail => Ok(()),
             written => written,
+        }
+    }
+
+    /// Writes the line that has begun, or nothing of it if standard error is a file that would pass
+    /// the limit on the size of files.
+    fn write_whole(&mut self) -> io::Result<()> {
+        let line = self.line.as_slice();
+        match room_at(self.runtime, STANDARD_ERROR, PATH) {
+            Some(room) if room < line.len() as u64 => Err(Error::from(ErrorKind::FileTooLarge)),
+            _ => {
+                let mut raw = Raw {
+                    runtime: self.runtime,
+                };
+                raw.write_all(line)
+            }
         }
     }
 
@@ -74,7 +91,7 @@ impl<R: AllocGlobal + Eprint + Net> Errors<'_, R> {
     }
 }
 
-impl<R: AllocGlobal + Eprint + Net> Write for Errors<'_, R> {
+impl<R: AllocGlobal + Eprint + Filing + Net> Write for Errors<'_, R> {
     fn write(&mut self, octets: &[u8]) -> io::Result<usize> {
         for (place, octet) in octets.iter().enumerate() {
             if self.line.is_full() {

@@ -11,6 +11,7 @@
 mod connecting;
 mod errors;
 mod feeding;
+mod file_limit;
 mod machine;
 mod network;
 mod output;

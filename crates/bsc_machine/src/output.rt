@@ -1,6 +1,7 @@
 //! Standard output, and the file that it may be.
 
-use crate::readiness::wait_for_output;
+use crate::file_limit::room_at;
+use crate::readiness::{STANDARD_OUTPUT as DESCRIPTOR, wait_for_output};
 use crate::screen::Screen;
 use std::cell::Cell;
 use std::fs::{File, OpenFile, metadata};
@@ -27,9 +28,12 @@ pub struct Output<'a, R> {
 
 impl<R: AllocGlobal + Eprint + Filing + Net + Print> Write for Output<'_, R> {
     /// If standard output does not wait by itself, since another program has made it so, it is
-    /// waited for.
+    /// waited for. If it is a file that has reached the limit on the size of files, this fails.
     fn write(&mut self, octets: &[u8]) -> io::Result<usize> {
         self.screen.clear(self.runtime);
+        if room_at(self.runtime, DESCRIPTOR, STANDARD_OUTPUT) == Some(0) {
+            return Err(Error::from(ErrorKind::FileTooLarge));
+        }
         for _ in 0..u64::MAX {
             match self.writer.write(octets) {
                 Err(error) if error.kind() == ErrorKind::WouldBlock => {

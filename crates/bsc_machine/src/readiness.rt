@@ -12,7 +12,7 @@ use std::os::fd::{AsRawFd, RawFd};
 use std::time::Duration;
 
 /// The descriptor of standard output.
-const STANDARD_OUTPUT: RawFd = 1;
+pub(crate) const STANDARD_OUTPUT: RawFd = 1;
 
 /// How many octets a pipe takes that is reported as ready: a page.
 const PIECE: usize = 4_096;

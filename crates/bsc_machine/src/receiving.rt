@@ -4,6 +4,7 @@ use crate::errors::Errors;
 use bsc_monitor::Beginning;
 use bsc_sockets::Reception;
 use std::net::{Net, SocketAddr};
+use std::rt::Files as Filing;
 
 /// Tells on standard error how a station waits for its peers. What standard error does not take is
 /// lost.
@@ -16,7 +17,7 @@ pub(crate) struct Receiving<'a, R> {
     pub(crate) of_terminals: bool,
 }
 
-impl<R: AllocGlobal + Eprint + Net> Reception for Receiving<'_, R> {
+impl<R: AllocGlobal + Eprint + Filing + Net> Reception for Receiving<'_, R> {
     fn listens(&mut self, address: SocketAddr) {
         let _ = self.lines.write_listening(address, &mut self.errors);
     }
