@@ -48,7 +48,7 @@ const CHANGES: &[(&str, u32)] = &[
         2,
     ),
     (
-        "UPDATE line SET version = 2; UPDATE offered SET id = 4294967299 WHERE id = 3;
+        "UPDATE line SET version = 2; UPDATE offered SET id = 9 WHERE id = 3;
         UPDATE offered SET id = 3 WHERE id = 1",
         1,
     ),
