@@ -118,8 +118,9 @@ const WORDS: &[Row] = &[
     ),
     (
         &["run", "c", "s", "--ev\x07il\n"],
-        "error: unexpected argument '--ev\\x07il\\n' found\n\n\
-        Usage: bscline run [OPTIONS] <CONFIG> <SCRIPT>",
+        "error: unexpected argument '--ev\\x07il\\n' found\n\n  \
+        tip: to pass '--ev\\x07il\\n' as a value, use '-- --ev\\x07il\\n'\n\n\
+        Usage: bscline run <CONFIG> <SCRIPT>",
     ),
     (
         &["run", "c", "s", "--quiet=a\nb"],
