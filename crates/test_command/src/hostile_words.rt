@@ -125,7 +125,7 @@ const WORDS: &[Row] = &[
     (
         &["run", "c", "s", "--quiet=a\nb"],
         "error: unexpected value 'a\\nb' for '--quiet' found; no more were expected\n\n\
-        Usage: bscline run [OPTIONS] <CONFIG> <SCRIPT>",
+        Usage: bscline run --quiet <CONFIG> <SCRIPT>",
     ),
     (
         &["run", "c\nd"],
