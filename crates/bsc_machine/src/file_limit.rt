@@ -42,7 +42,7 @@ fn room(limit: u64, reached: u64) -> u64
 }
 
 /// Returns the limit on the size of files of this process, if there is one.
-fn file_size_limit() -> Option<u64> {
+pub(crate) fn file_size_limit() -> Option<u64> {
     let mut limit = rlimit {
         rlim_cur: NO_LIMIT,
         rlim_max: NO_LIMIT,

@@ -18,6 +18,7 @@ mod output;
 mod readiness;
 mod receiving;
 mod screen;
+mod store_limit;
 mod stores;
 mod streams;
 

@@ -1,6 +1,7 @@
 //! The stores of the machine: files.
 
 use crate::machine::Machine;
+use crate::store_limit::StorePaths;
 use bsc_attending::Stores;
 use bsc_kept::{Change, Channel, Found, Progress, Store, StoreFault};
 use bsc_store::TableStore;
@@ -8,14 +9,16 @@ use bsc_storing::{Opened, StoreFiles};
 use sqlite::{File, FileStore};
 use std::rt::HostRuntime;
 
-/// A store in a file. It is a type without parameters, by which the program is checked at less cost
-/// than by the table itself.
+/// A store in a file, which is full if the file or its log comes near the limit on the size of
+/// files. It is a type without parameters, by which the program is checked at less cost than by the
+/// table itself.
 #[derive(Drop)]
-pub struct KeptFile {
+pub struct KeptFile<'a> {
+    paths: StorePaths<'a>,
     table: TableStore<FileStore<File>>,
 }
 
-impl Store for KeptFile {
+impl Store for KeptFile<'_> {
     ghost keeps = { λ step old new.
         ⟦<TableStore<FileStore<File>> as Store>⟧.keeps step old.table new.table };
 
@@ -42,6 +45,9 @@ impl Store for KeptFile {
         new.table };
 
     fn commit(&mut self, step: &[Change]) -> Result<(), StoreFault> {
+        if !self.paths.have_room(step.len()) {
+            return Err(StoreFault::Full);
+        }
         self.table.commit(step)
     }
 
@@ -68,31 +74,44 @@ impl Store for KeptFile {
     }
 }
 
-impl Stores for Machine<'_, HostRuntime> {
-    type Store = KeptFile;
+impl<'a> Stores for Machine<'a, HostRuntime> {
+    type Store = KeptFile<'a>;
 
-    fn open_store(&mut self, path: &str, own: &str) -> Result<KeptFile, StoreFault> {
+    fn open_store(&mut self, path: &str, own: &str) -> Result<KeptFile<'a>, StoreFault> {
+        let paths = paths_of(self.runtime, path)?;
         let table = TableStore::open(self.runtime, path, own)?;
-        Ok(KeptFile { table })
+        Ok(KeptFile { paths, table })
     }
 }
 
-impl StoreFiles for Machine<'_, HostRuntime> {
-    type Kept = KeptFile;
+impl<'a> StoreFiles for Machine<'a, HostRuntime> {
+    type Kept = KeptFile<'a>;
 
-    fn open_kept(&mut self, path: &str) -> Result<Opened<KeptFile>, StoreFault> {
+    fn open_kept(&mut self, path: &str) -> Result<Opened<KeptFile<'a>>, StoreFault> {
+        let paths = paths_of(self.runtime, path)?;
         let (table, line) = TableStore::open_any(self.runtime, path)?;
         Ok(Opened {
-            store: KeptFile { table },
+            store: KeptFile { paths, table },
             line,
         })
     }
 
-    fn close_kept(&mut self, opened: Opened<KeptFile>) -> Result<(), StoreFault> {
+    fn close_kept(&mut self, opened: Opened<KeptFile<'a>>) -> Result<(), StoreFault> {
         opened.store.table.close()
     }
 
     fn make_kept(&mut self, path: &str, line: &str) -> Result<(), StoreFault> {
+        if !paths_of(self.runtime, path)?.have_room(0) {
+            return Err(StoreFault::Full);
+        }
         TableStore::create(self.runtime, path, line)?.close()
+    }
+}
+
+/// Returns the paths of the files of a store.
+fn paths_of<'a>(runtime: &'a HostRuntime, path: &str) -> Result<StorePaths<'a>, StoreFault> {
+    match StorePaths::of(runtime, path) {
+        Ok(paths) => Ok(paths),
+        Err(_) => Err(StoreFault::OutOfMemory),
     }
 }
