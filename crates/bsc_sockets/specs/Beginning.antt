@@ -2,6 +2,7 @@
 use Rattle.std.specs.Prelude.{◌≡◌, ◌<◌, ℕ, Bool, true, List, [], Option, None, Some, replicate}
 use Rattle.std.specs.Prelude.{option_map, slice_get}
 use Rattle.std.specs.Net.Socket.{socket_ip}
+use Rattle.std.specs.declared.net.socket_addr.SocketAddr.{SocketAddr}
 use Rattle.bsc_peers.specs.Lists.{listed}
 use Rattle.bsc_peers.specs.Networks.{allows}
 use Rattle.bsc_peers.specs.declared.networks.Networks.{Networks}
@@ -21,10 +22,13 @@ pub record HasBegunSockets {A : Type 0} (places : ℕ) (ready : List ℕ) (stand
   pub pause : times.pause ≡ None
   pub no_gap : times.gaps.items ≡ replicate places None
 
+-- Whether these networks allow this address.
+abbrev pub is_allowed : Networks → SocketAddr → Bool
+is_allowed allowed address = allows (listed allowed) (socket_ip address)
+
 -- Whether these networks allow the address of the peer of a place, if that is known.
 abbrev pub peer_may : Networks → Option Standing → Option Bool
-peer_may allowed standing =
-    option_map (λ address. allows (listed allowed) (socket_ip address)) (peer_of standing)
+peer_may allowed standing = option_map (is_allowed allowed) (peer_of standing)
 
 -- At each of the first places, this many, is a peer whose address is known, and these networks
 -- allow it.

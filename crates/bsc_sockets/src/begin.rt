@@ -10,7 +10,6 @@ ghost use Rattle.bsc_sockets.specs.Standings.{after_joining, new_standings, stan
 
 use crate::directions::{Reading, Writing};
 use crate::listening::addresses;
-use crate::sockets::Peer;
 use crate::writable::Writable;
 use crate::{ConnectionSettings, Listening, Sockets, SocketsError};
 use mio::net::TcpStream;
@@ -44,7 +43,8 @@ pub trait Reception {
     /// This peer has the connection at this place.
     fn joined(&mut self, place: usize, peer: SocketAddr);
 
-    /// The peer at this place has gone before the station began.
+    /// The peer at this place has gone before the station began, or the system refused what its
+    /// connection needs.
     fn left(&mut self, place: usize, peer: Option<SocketAddr>);
 
     /// The address of this peer may not connect, and it was turned away.
@@ -164,11 +164,12 @@ fn is_own(stream: &TcpStream) -> bool {
 /// connect. A peer whose address is not allowed is turned away, and the patience goes on meanwhile.
 /// Fails with `NobodyConnected` if a peer does not connect within their patience, which begins anew
 /// for each, with `Stopped` if the station is asked to end before that, with `CannotWatchInput` if
-/// the system does not report the descriptor that asks it to, with `Sockets` if it refuses what a
-/// connection needs, and with `Memory` if memory cannot be allocated. If it keeps listening, a
-/// further peer is a newcomer; else the system refuses that peer. The reception is told of the
-/// address and of each peer. A peer that has gone before the last one connected is told too, and
-/// waited for anew.
+/// the system does not report the descriptor that asks it to, with `Sockets` if it refuses what the
+/// sockets need, and with `Memory` if memory cannot be allocated. A peer that the system cannot
+/// accept is tried again; one for which it refuses what a connection needs, for example since no
+/// descriptor is left, is turned away and waited for anew. If it keeps listening, a further peer is
+/// a newcomer; else the system refuses that peer. The reception is told of the address and of each
+/// peer. A peer that has gone before the last one connected is told too, and waited for anew.
 pub fn listen<'a, N: Net + Clock, A: Allocator + Copy, H: Reception>(
     runtime: &'a N,
     alloc: A,
@@ -291,9 +292,9 @@ impl<'a, N: Net + Clock, A: Allocator + Copy> Begun<'a, N, A> {
     {
         'peers: for place in 0..peers {
             reception.waits(place, peers);
-            let Peer { stream, address } = self.sockets.next_peer(patience, reception)?;
-            self.add(place, stream, Some(address))?;
-            reception.joined(place, address);
+            let made = self.sockets.next_connection(place, patience, reception)?;
+            self.connections.push(made.directions)?;
+            reception.joined(place, made.address);
         }
         Ok(())
     }
@@ -348,10 +349,9 @@ impl<'a, N: Net + Clock, A: Allocator + Copy> Begun<'a, N, A> {
         let wanted = self.connections.len();
         reception.left(place, self.sockets.standings.peer(place));
         reception.waits(wanted.saturating_sub(self.count_gone()), wanted);
-        let Peer { stream, address } = self.sockets.next_peer(patience, reception)?;
-        let directions = self.sockets.open(place, stream, Some(address))?;
-        self.connections[place] = directions;
-        reception.joined(place, address);
+        let made = self.sockets.next_connection(place, patience, reception)?;
+        self.connections[place] = made.directions;
+        reception.joined(place, made.address);
         Ok(())
     }
 

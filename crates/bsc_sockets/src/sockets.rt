@@ -173,6 +173,7 @@ impl<'a, N: Net + Clock, A: Allocator + Copy> Sockets<'a, N, A> {
         ensures places { self.new.places ≡ self.old.places }
         ensures listener { self.new.listener ≡ self.old.listener }
         ensures unread { self.new.unread ≡ self.old.unread }
+        ensures kept { IfErr result (λ _. self.new.standings ≡ self.old.standings) }
         ensures failed { IfErr result IsDenied }
     {
         let (runtime, alloc) = (self.runtime, self.alloc);

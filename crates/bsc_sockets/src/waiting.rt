@@ -29,6 +29,9 @@ const MAX_ANSWERS_UNASKED: usize = 16;
 /// the end.
 const MAX_SERVED_OVERDUE: usize = 4;
 
+/// How many milliseconds pass before a peer is tried again that the system could not accept.
+const BETWEEN_ATTEMPTS: u64 = 100;
+
 /// What is sought among what is ready.
 #[derive(Clone, Copy)]
 pub(crate) enum Sought {
@@ -216,7 +219,7 @@ impl<'a, N: Net + Clock, A: Allocator + Copy> Sockets<'a, N, A> {
         };
         let mut left = time;
         'asks: for _ in 0..u64::MAX {
-            self.ask(left)?;
+            self.ask(self.asked_at_once(left))?;
             if let Some(awaited) = self.found(sought) {
                 return Ok(awaited);
             }
@@ -226,6 +229,18 @@ impl<'a, N: Net + Clock, A: Allocator + Copy> Sockets<'a, N, A> {
             }
         }
         Ok(Awaited::TimeOut)
+    }
+
+    /// Returns how long the system is asked at once, if this is left of a time. A peer that it could
+    /// not accept is tried again after a short time: the system does not report that peer anew.
+    fn asked_at_once(&self, left: Duration) -> Duration
+        ensures { self.now.refuses ≡ false → result ≡ left }
+    {
+        if self.refuses {
+            left.min(Duration::from_millis(BETWEEN_ATTEMPTS))
+        } else {
+            left
+        }
     }
 
     /// Returns what is left of a time.
