@@ -9,10 +9,11 @@ use Rattle.bsc_line_model.specs.declared.error.LineError.{LineError}
 use Rattle.bsc_script.specs.Actions.{NumberedEvent}
 use Rattle.bsc_script.specs.Events.{Event as Asked}
 use Rattle.bsc_run.specs.declared.error.RunError.{RunError}
+use Rattle.bsc_run.specs.declared.error.RunError.TheVariants.{Output, Socket, Memory, Refused}
 use Rattle.bsc_run.specs.declared.error.StepError.{StepError}
 use Rattle.bsc_run.specs.declared.error.StepError.TheVariants as step
 use Rattle.bsc_run.specs.Causes.{HasEventCause, HasStepCause}
-use Rattle.bsc_run.specs.Faults.{HasCause, IsCableFault, IsItemsFault, IsTraceFault}
+use Rattle.bsc_run.specs.Faults.{HasCause, IsCableFault, IsItemsFault, IsTraceFault, TellsLine}
 use Rattle.bsc_run.specs.Faults.{IsTraceFaultOrRefusal, is_crossing, is_each, told}
 
 -- The error is a fault, not a refusal.
@@ -90,3 +91,13 @@ has_event_cause f tracing steps fault k step error below is cause = (
   get_or-map f steps k step (f step) below ∙ ap f (sym is),
   cause,
 )
+
+-- An error with the cause of an event tells the line of that event.
+pub tells_line : (tracing : Bool) (steps : List NumberedEvent) (fault : Option CarrierError)
+    (error : RunError) → HasEventCause tracing steps fault error
+    → TellsLine steps fault (Err error)
+tells_line tracing steps fault Output cause = tt
+tells_line tracing steps fault (Socket line) (k, step, within, at, (is, crossing, faulty)) =
+    ((k, step, within, at, (is, crossing)), faulty)
+tells_line tracing steps fault Memory cause = tt
+tells_line tracing steps fault (Refused line why) cause = tt

@@ -2,10 +2,11 @@
 
 ghost use Rattle.std.specs.Prelude.{◌≡◌, Some, OnOk, IfErr};
 ghost use Rattle.std.specs.Io.KnownBytes.{Appends};
+ghost use Rattle.bsc_print.specs.Fronts.{Extends};
 ghost use Rattle.bsc_run.specs.Printed.{speaker_name, pending_line};
 
 use bsc_line::{Line, Speaker, Transmission};
-use bsc_print::{PrintError, put, write_name};
+use bsc_print::{PrintError, put, put_numbered, write_name};
 use std::alloc::Allocator;
 use std::io::Write;
 
@@ -13,14 +14,12 @@ use std::io::Write;
 pub(crate) fn write_speaker<W: Write>(speaker: Speaker, out: &mut W) -> Result<(), PrintError>
     ensures ok { OnOk result
         (Appends (W.contents out.old) (W.contents out.new) (speaker_name speaker)) }
+    ensures stays { Extends (W.contents out.old) (W.contents out.new) }
     ensures err { IfErr result (λ error. error ≡ PrintError.Output) }
 {
     match speaker {
         Speaker::Control => put(b"control", out),
-        Speaker::Terminal(terminal) => match write!(out, "terminal {terminal}") {
-            Ok(()) => Ok(()),
-            Err(_) => Err(PrintError::Output),
-        },
+        Speaker::Terminal(terminal) => put_numbered(b"terminal ", terminal as u64, out),
     }
 }
 
@@ -28,6 +27,7 @@ pub(crate) fn write_speaker<W: Write>(speaker: Speaker, out: &mut W) -> Result<(
 fn write_sent<W: Write>(sent: &Transmission<'_>, out: &mut W) -> Result<(), PrintError>
     ensures ok { OnOk result
         (Appends (W.contents out.old) (W.contents out.new) (pending_line (Some sent.now))) }
+    ensures stays { Extends (W.contents out.old) (W.contents out.new) }
     ensures err { IfErr result (λ error. error ≡ PrintError.Output) }
 {
     write_speaker(sent.speaker, out)?;
@@ -43,6 +43,7 @@ pub(crate) fn write_pending<A: Allocator, W: Write>(
 ) -> Result<(), PrintError>
     ensures ok { OnOk result
         (Appends (W.contents out.old) (W.contents out.new) (pending_line line.now.pending)) }
+    ensures stays { Extends (W.contents out.old) (W.contents out.new) }
     ensures err { IfErr result (λ error. error ≡ PrintError.Output) }
 {
     match line.pending() {

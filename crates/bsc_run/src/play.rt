@@ -3,6 +3,7 @@
 
 ghost use Rattle.std.specs.Prelude.{◌≡◌, map, OnOk, IfErr, IsTrue};
 ghost use Rattle.std.specs.Io.KnownBytes.{Appends};
+ghost use Rattle.bsc_print.specs.Fronts.{Extends};
 ghost use Rattle.bsc_script.specs.Actions.{event_in, numbered};
 ghost use Rattle.bsc_run.specs.Crossing.{streams_of};
 ghost use Rattle.bsc_run.specs.Faults.{TellsLine};
@@ -74,6 +75,7 @@ pub fn run_on<
         (map numbered steps.now)
         (playing line.old cable.old (W.contents out.old) (D.contents trace.old)) result
         (playing line.new cable.new (W.contents out.new) (D.contents trace.new))) }
+    ensures stays { Extends (W.contents out.old) (W.contents out.new) }
 {
     every_run();
     headline();
@@ -117,6 +119,7 @@ fn play<
         (map numbered steps.now)
         (playing line.old cable.old (W.contents out.old) (D.contents trace.old)) result
         (playing line.new cable.new (W.contents out.new) (D.contents trace.new))) }
+    ensures stays { Extends (W.contents out.old) (W.contents out.new) }
 {
     let mut events: u64 = 0;
     'steps: for step in steps {
@@ -153,6 +156,7 @@ fn take<
         (playing line.old cable.old (W.contents out.old) (D.contents trace.old)) result
         (playing line.new cable.new (W.contents out.new) (D.contents trace.new)) }
     ensures cause { IfErr result (HasStepCause tracing (numbered step.now) cable.new.fault) }
+    ensures stays { Extends (W.contents out.old) (W.contents out.new) }
 {
     let number = traced_number(tracing, step.line);
     let before = line_standing(alloc, tracing, line)?;
@@ -182,6 +186,7 @@ fn write_after<A: Allocator, B: Allocator, W: Write>(
         (pending_after (event_in action.now) line.now)) }
     ensures err { IfErr result (λ error. error ≡ PrintError.Output) }
     ensures heard { IfErr result (λ error. IsTrue (is_heard_event (event_in action.now))) }
+    ensures stays { Extends (W.contents out.old) (W.contents out.new) }
 {
     if is_heard(action) {
         return write_pending(line, out);

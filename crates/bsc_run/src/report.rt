@@ -4,26 +4,28 @@
 ghost use Rattle.std.specs.Prelude.{◌≡◌, ◌<◌, OnOk};
 ghost use Rattle.std.specs.Io.KnownBytes.{Appends};
 ghost use Rattle.bsc_line_model.specs.Line.{terminal_count, IsChannel, channel_of};
+ghost use Rattle.bsc_print.specs.Fronts.{Extends};
 ghost use Rattle.bsc_run.specs.Printed.{counts_shown, channel_lines, terminal_lines, trust_line};
 ghost use Rattle.bsc_run.specs.Printed.{report_of};
 
 use bsc_control::Way;
 use bsc_line::Line;
-use bsc_print::{Form, PrintError, put};
+use bsc_print::{Form, PrintError, put, put_numbered};
 use bsc_report::{doubt_text, write_channel_name, write_records};
 use std::alloc::Allocator;
 use std::io::Write;
 
 /// Writes the report of a line: the counts of each channel of each terminal with the records that
 /// arrived on it, and whether the line is trusted. After an error a part of the report may have
-/// been written.
+/// been written. What was written before stays.
 pub fn write_report<A: Allocator + Copy, B: Allocator, W: Write>(
     alloc: A,
     line: &Line<B>,
     out: &mut W,
 ) -> Result<(), PrintError>
-    ensures { OnOk result
+    ensures ok { OnOk result
         (Appends (W.contents out.old) (W.contents out.new) (report_of line.now)) }
+    ensures stays { Extends (W.contents out.old) (W.contents out.new) }
 {
     'terminals: for terminal in 0..line.terminals() {
         write_terminal(alloc, line, terminal, out)?;
@@ -50,8 +52,9 @@ fn write_terminal<A: Allocator + Copy, B: Allocator, W: Write>(
     out: &mut W,
 ) -> Result<(), PrintError>
     requires { terminal < terminal_count line.now }
-    ensures { OnOk result
+    ensures ok { OnOk result
         (Appends (W.contents out.old) (W.contents out.new) (terminal_lines line.now terminal)) }
+    ensures stays { Extends (W.contents out.old) (W.contents out.new) }
 {
     write_channel(alloc, line, terminal, Way::FromTerminal, out)?;
     'selects: for select in 0..line.addresses(terminal) {
@@ -69,8 +72,9 @@ fn write_channel<A: Allocator + Copy, B: Allocator, W: Write>(
     out: &mut W,
 ) -> Result<(), PrintError>
     requires { IsChannel line.now terminal way }
-    ensures { OnOk result
+    ensures ok { OnOk result
         (Appends (W.contents out.old) (W.contents out.new) (channel_lines line.now terminal way)) }
+    ensures stays { Extends (W.contents out.old) (W.contents out.new) }
 {
     write_channel_name(line.addresses(terminal), terminal, way, out)?;
     write_counts(line, terminal, way, out)?;
@@ -87,15 +91,15 @@ fn write_counts<B: Allocator, W: Write>(
     out: &mut W,
 ) -> Result<(), PrintError>
     requires { IsChannel line.now terminal way }
-    ensures { OnOk result
+    ensures ok { OnOk result
         (Appends (W.contents out.old) (W.contents out.new)
         (counts_shown (channel_of line.now terminal way))) }
+    ensures stays { Extends (W.contents out.old) (W.contents out.new) }
 {
     let offered = line.offered(terminal, way).len();
     let known = line.known(terminal, way);
     let spooled = line.spooled(terminal, way).len();
-    match write!(out, ": offered {offered}, known {known}, spooled {spooled}") {
-        Ok(()) => Ok(()),
-        Err(_) => Err(PrintError::Output),
-    }
+    put_numbered(b": offered ", offered as u64, out)?;
+    put_numbered(b", known ", known as u64, out)?;
+    put_numbered(b", spooled ", spooled as u64, out)
 }

@@ -1,6 +1,7 @@
 //! Runs a script on the line of a configuration.
 
 ghost use Rattle.std.specs.Prelude.{◌≡◌, length, IfErr};
+ghost use Rattle.bsc_print.specs.Fronts.{Extends};
 ghost use Rattle.bsc_run.specs.Crossing.{connection_count, streams_of};
 ghost use Rattle.bsc_run.specs.Causes.{IsScriptEnded};
 ghost use Rattle.bsc_run.specs.Faults.{TellsLine};
@@ -36,7 +37,8 @@ use std::io::{Read, Write};
 ///
 /// `Refused` is returned after the report is printed, with the number of the line of the refused
 /// event; nothing crossed the cable for that event. After `Output`, `Socket` and `Memory` there is
-/// no report, and what was printed before stays. After `Socket` the cable remains faulty.
+/// no report. What was printed before stays, whatever the result is. After `Socket` the cable
+/// remains faulty.
 pub fn run_line<
     S: Read + Write + Drop,
     A: Allocator,
@@ -75,6 +77,7 @@ pub fn run_line<
           cable = cable.new;
           held = holding (W.contents out.new) (D.contents trace.new);
         })) }
+    ensures stays { Extends (W.contents out.old) (W.contents out.new) }
 {
     let (terminals, poll_list) = (config.terminal_list(), config.poll_list());
     trace_addresses(tracing, terminals, trace)?;

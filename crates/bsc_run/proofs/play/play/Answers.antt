@@ -1,5 +1,6 @@
 -- Shows that the loop performs the events in order, up to the first that fails.
 use Rattle.std.proofs.Common.{map, drop, ◌+◌, arith}
+use Rattle.bsc_print.proofs.Fronts.{extends_same, extends_trans}
 use Rattle.bsc_script.specs.Actions.{numbered}
 use Rattle.bsc_run.specs.Crossing.{streams_of}
 use Rattle.bsc_run.specs.Plays.{playing}
@@ -15,7 +16,12 @@ steps-init g c = record {
       has_played_none (streams_of g.S.Write.contents g.S.Read.remaining) c.args.tracing (map numbered c.args.steps.now)
       (playing c.args.line.now c.args.cable.now (g.W.Write.contents c.args.out.now)
       (g.D.Write.contents c.args.trace.now));
+  stays = extends_same _;
 }
+
+pub returns-in-Err-clause-stays : goal.returns-in-Err-clause-stays
+returns-in-Err-clause-stays g c =
+    extends_trans _ _ _ c.steps.invariant.stays c.take.ensures.stays
 
 pub returns-in-Err-clause-whole : goal.returns-in-Err-clause-whole
 returns-in-Err-clause-whole g c =
@@ -58,6 +64,7 @@ steps-preserved g c =
           (g.D.Write.contents c.take.new.trace))
           (rw next at c.steps.invariant.played) c.in_default.ensures.takes.fits.line
           c.in_default.ensures.takes.accepted c.in_default.ensures.takes.printed;
+      stays = extends_trans _ _ _ c.steps.invariant.stays c.take.ensures.stays;
     }
 
 pub returns-clause-whole : goal.returns-clause-whole

@@ -1,5 +1,6 @@
 -- The events so far are performed, and the cable fits the line.
 use Rattle.std.proofs.Common.{map, drop}
+use Rattle.bsc_print.specs.Fronts.{Extends}
 use Rattle.bsc_script.specs.Actions.{numbered}
 use Rattle.bsc_run.specs.Crossing.{streams_of}
 use Rattle.bsc_run.specs.Plays.{playing}
@@ -17,4 +18,5 @@ invariant-steps g l = record {
       (drop l.step-index (map numbered l.steps))
       (playing l.line l.cable (g.W.Write.contents l.out)
       (g.D.Write.contents l.trace));
+  stays : Extends (g.W.Write.contents l.initial.out) (g.W.Write.contents l.out);
 }

@@ -6,11 +6,12 @@ use Rattle.bsc_line_model.specs.Offers.{select_count}
 use Rattle.bsc_print.specs.declared.form.Form.TheVariants.{Hexadecimal}
 use Rattle.bsc_report.specs.Channels.{channel_name, doubt_shown, record_line}
 use Rattle.bsc_run.specs.Printed.{counts_shown}
-use Rattle.bsc_run.proofs.Appending.{four_on_ok}
+use Rattle.bsc_run.proofs.Appending.{extends_more, four_on_ok}
+use Rattle.bsc_print.proofs.Fronts.{extends_by, extends_trans}
 use Rattle.bsc_run.proofs.report.write_channel.Goals as goal
 
-pub returns : goal.returns
-returns g c =
+pub returns-clause-ok : goal.returns-clause-ok
+returns-clause-ok g c =
     let l = c.args.line.now in
     let t = c.args.terminal in
     let way = c.args.way in
@@ -22,4 +23,32 @@ returns g c =
     (g.W.Write.contents c.write_records.new.out) (channel_name (select_count l t) t way)
     (counts_shown (channel_of l t way)) (doubt_shown (is_in_doubt (phase_of l t way)))
     (flat_map (record_line Hexadecimal) (channel_of l t way).spooled) c.write_records.result name
-    c.in_ok-write_counts.ensures doubt records
+    c.in_ok-write_counts.ensures.ok doubt records
+
+pub returns-in_err-write_channel_name-clause-stays : goal.returns-in_err-write_channel_name-clause-stays
+returns-in_err-write_channel_name-clause-stays g c =
+    extends_by _ _ _ c.write_channel_name.result c.write_channel_name.ensures.ok
+    c.write_channel_name.ensures.front
+
+pub returns-in_err-write_counts-clause-stays : goal.returns-in_err-write_counts-clause-stays
+returns-in_err-write_counts-clause-stays g c =
+    extends_trans _ _ _
+    (extends_by _ _ _ c.write_channel_name.result c.write_channel_name.ensures.ok
+    c.write_channel_name.ensures.front) c.write_counts.ensures.stays
+
+pub returns-in_err-put-clause-stays : goal.returns-in_err-put-clause-stays
+returns-in_err-put-clause-stays g c =
+    extends_more _ _ _ _ c.put.result
+    (extends_trans _ _ _
+    (extends_by _ _ _ c.write_channel_name.result c.write_channel_name.ensures.ok
+    c.write_channel_name.ensures.front) c.write_counts.ensures.stays) c.put.ensures.ok
+    c.put.ensures.front
+
+pub returns-clause-stays : goal.returns-clause-stays
+returns-clause-stays g c =
+    extends_more _ _ _ _ c.write_records.result
+    (extends_more _ _ _ _ c.put.result
+    (extends_trans _ _ _
+    (extends_by _ _ _ c.write_channel_name.result c.write_channel_name.ensures.ok
+    c.write_channel_name.ensures.front) c.write_counts.ensures.stays) c.put.ensures.ok
+    c.put.ensures.front) c.write_records.ensures.ok c.write_records.ensures.front

@@ -1,10 +1,13 @@
 -- The lines of the terminals so far are written.
 use Rattle.std.specs.Io.KnownBytes.{Appends}
+use Rattle.bsc_print.specs.Fronts.{Extends}
 use Rattle.bsc_report.specs.Channels.{each_below}
 use Rattle.bsc_run.specs.Printed.{terminal_lines}
 use Rattle.bsc_run.proofs.report.write_report.Given as goal
 
 abbrev pub invariant-terminals : goal.invariant-terminals
-invariant-terminals g l =
-    Appends (g.W.Write.contents l.initial.out) (g.W.Write.contents l.out)
-    (each_below (terminal_lines l.line) l.terminal)
+invariant-terminals g l = record {
+  written : Appends (g.W.Write.contents l.initial.out) (g.W.Write.contents l.out)
+      (each_below (terminal_lines l.line) l.terminal);
+  stays : Extends (g.W.Write.contents l.fn.out) (g.W.Write.contents l.out);
+}
