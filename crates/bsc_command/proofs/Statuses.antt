@@ -35,7 +35,7 @@ attending_told _ is = absurd (let e = is in cc)
 storing_told : (e : StoringError) → storing_status_of e ≡ 0 → ⊥
 storing_told storing.NoTerminal is = absurd (let e = is in cc)
 storing_told (storing.Release error) is = absurd (let e = is in cc)
-storing_told (storing.Doubt name error) is = absurd (let e = is in cc)
+storing_told storing.Apart is = absurd (let e = is in cc)
 storing_told _ is = absurd (let e = is in cc)
 
 pub never_zero : (f : Fault) → status_of f ≡ 0 → ⊥

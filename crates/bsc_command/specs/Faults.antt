@@ -56,11 +56,11 @@ attending_status_of (attending.Unkept error) = 7
 attending_status_of _ = 1
 
 -- The exit status of a work on a store that was not done: 2 for wrong usage, 3 for a doubt that was
--- not released.
+-- not released, and for stores that do not fit together.
 abbrev pub storing_status_of : StoringError → ℕ
 storing_status_of storing.NoTerminal = 2
 storing_status_of (storing.Release error) = 3
-storing_status_of (storing.Doubt name error) = 3
+storing_status_of storing.Apart = 3
 storing_status_of _ = 1
 
 -- The exit status of a fault: 2 for wrong usage, that of a run, a station or a work on a store,

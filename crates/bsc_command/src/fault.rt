@@ -254,7 +254,7 @@ fn storing_status(error: &StoringError) -> u8
 {
     match error {
         StoringError::NoTerminal => 2,
-        StoringError::Release { .. } | StoringError::Doubt { .. } => 3,
+        StoringError::Release { .. } | StoringError::Apart => 3,
         _ => 1,
     }
 }

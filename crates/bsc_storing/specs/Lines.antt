@@ -1,6 +1,7 @@
 -- The lines that are printed of a channel.
 use Rattle.std.specs.Prelude.{◌≡◌, ◌+◌, ℕ, zero, suc, Bool, true, false, List, [], ◌∷◌, ◌++◌, codes}
-use Rattle.std.specs.Prelude.{Option, Some, None, length, slice_index_or}
+use Rattle.std.specs.Prelude.{Option, Some, None, length, slice_index_or, ◌-◌, nat_lt}
+use Rattle.std.specs.Prelude.{if◌then◌else◌}
 use Rattle.bsc_directory.specs.declared.way.Way.TheVariants.{FromTerminal}
 use Rattle.bsc_report.specs.Channels.{each_below}
 use Rattle.std.specs.Fmt.{decimal}
@@ -16,6 +17,7 @@ use Rattle.bsc_print.specs.declared.form.Form.{Form}
 use Rattle.bsc_storing.specs.declared.kept_line.KeptLine.{KeptLine}
 use Rattle.bsc_storing.specs.declared.name.ChannelName.{ChannelName}
 use Rattle.bsc_storing.specs.declared.reconciling.Ended.{Ended}
+use Rattle.bsc_storing.specs.declared.reconciling.Unfit.{Unfit}
 use Rattle.bsc_storing.specs.Names.{channel_at, name_at, name_shown, receives_on, sends_on}
 
 -- What follows the name of a channel at its sending end: how many records were offered, how many
@@ -90,6 +92,24 @@ ended_at line its place =
 abbrev pub all_ended_shown : KeptLine → List Ended → List ℕ
 all_ended_shown line [] = codes "nothing in doubt\n"
 all_ended_shown line (it ∷ its) = each_below (ended_at line (it ∷ its)) (length (it ∷ its))
+
+-- What follows the name of a channel whose counts do not fit: how many records have arrived that
+-- are not known, or are known and have not arrived.
+abbrev pub difference_shown : ℕ → ℕ → List ℕ
+difference_shown known arrived =
+    if nat_lt known arrived
+    then codes ": arrived but not known: " ++ decimal (arrived - known) ++ codes "\n"
+    else codes ": known but not arrived: " ++ decimal (known - arrived) ++ codes "\n"
+
+-- The line for the channel at this place.
+abbrev pub unfit_shown : KeptLine → Unfit → List ℕ
+unfit_shown line it = name_shown line it.name ++ difference_shown it.known it.arrived
+
+abbrev pub unfit_at : KeptLine → List Unfit → ℕ → List ℕ
+unfit_at line its place =
+    unfit_shown line
+    (slice_index_or its place
+    (record { name = record { terminal = 0; way = FromTerminal }; known = 0; arrived = 0 }))
 
 -- The line for a store that was made.
 abbrev pub made_shown : Role → List ℕ

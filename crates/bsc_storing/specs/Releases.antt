@@ -1,5 +1,6 @@
 -- The release of a doubt in a store, and in a sender.
-use Rattle.std.specs.Prelude.{◌≡◌, ℕ, zero, suc, ◌+◌, ◌==◌, ◌||◌, Result, Ok, Err}
+use Rattle.std.specs.Prelude.{◌≡◌, ℕ, zero, suc, ◌+◌, ◌==◌, ◌||◌, not, Bool, true, false}
+use Rattle.std.specs.Prelude.{Result, Ok, Err}
 use Rattle.std.specs.Prelude.{if◌then◌else◌}
 use Rattle.bsc_spool.specs.Queue.{QueueValue}
 use Rattle.bsc_bid.specs.declared.phase.Phase.{Phase}
@@ -11,6 +12,8 @@ use Rattle.bsc_kept.specs.declared.channel.Channel.{Channel}
 use Rattle.bsc_kept.specs.declared.change.Change.{Change}
 use Rattle.bsc_kept.specs.declared.change.Change.TheVariants.{Known}
 use Rattle.bsc_kept.specs.declared.store.Progress.{Progress}
+use Rattle.bsc_storing.specs.declared.reconciling.Verdict.{Verdict}
+use Rattle.bsc_storing.specs.declared.reconciling.Verdict.TheVariants.{Settled, Ends, Apart}
 
 -- The change that ends a doubt, by what the other end has.
 abbrev pub release_of : Channel → Progress → ℕ → Result Change ReleaseError
@@ -18,6 +21,33 @@ release_of channel it count =
     if it.in_doubt == 0 then Err NotInDoubt
     else (if (count == it.known) || (count == (it.known + it.in_doubt))
     then Ok (Known channel count 0) else Err CountMismatch)
+
+-- What the counts of the two ends of a channel say, by the release at the count of the receiving
+-- end. Without a doubt exactly the known records have arrived. With a doubt the block that is in
+-- doubt has arrived too, or not. All else is one store that is older than the other: if more have
+-- arrived, the sender's, and if fewer have, the receiver's.
+abbrev pub compared_by : Progress → ℕ → Result Change ReleaseError → Verdict
+compared_by it arrived (Ok change) = Ends change arrived
+compared_by it arrived (Err NotInDoubt) =
+    if arrived == it.known then Settled else Apart it.known arrived
+compared_by it arrived (Err CountMismatch) = Apart it.known arrived
+
+abbrev pub compared : Channel → Progress → ℕ → Verdict
+compared channel it arrived = compared_by it arrived (release_of channel it arrived)
+
+-- The counts fit: as many records have arrived as are known, or as are known and in doubt.
+abbrev pub fits : Progress → ℕ → Bool
+fits it arrived = (arrived == it.known) || (arrived == (it.known + it.in_doubt))
+
+-- Whether they were found not to fit.
+abbrev pub is_apart : Verdict → Bool
+is_apart (Apart known arrived) = true
+is_apart what = false
+
+-- Exactly the counts that do not fit are found so.
+abbrev pub FindsApart : Type 0
+FindsApart = (channel : Channel) (it : Progress) (arrived : ℕ)
+    → is_apart (compared channel it arrived) ≡ not (fits it arrived)
 
 -- The phase of a sender at rest with this many records in doubt.
 abbrev pub phase_at : ℕ → Phase

@@ -1,7 +1,7 @@
 //! Why the work on a store failed.
 ghost use Rattle.std.specs.Prelude.{◌≡◌};
 ghost use Rattle.bsc_storing.specs.Errors.{exchanged as exchanged_error};
-ghost use Rattle.bsc_storing.specs.Errors.{other_error, store_error};
+ghost use Rattle.bsc_storing.specs.Errors.{other_error, record_error, store_error};
 
 use crate::name::ShownName;
 use bsc_bid::ReleaseError;
@@ -19,28 +19,20 @@ use thiserror::Error;
 pub enum StoringError {
     /// The text of the configuration or of records could not be read.
     #[error(transparent)]
-    Text {
-        error: TextError,
-    },
+    Text { error: TextError },
 
     /// The configuration is refused.
     #[error(transparent)]
-    Config {
-        error: ConfigError,
-    },
+    Config { error: ConfigError },
 
     /// The store is refused, or does not keep the step.
     #[error(transparent)]
-    Store {
-        fault: StoreFault,
-    },
+    Store { fault: StoreFault },
 
     /// The other store is refused, or does not keep its step. The first store may have kept its
     /// own.
     #[error("the other store: {fault}")]
-    Other {
-        fault: StoreFault,
-    },
+    Other { fault: StoreFault },
 
     /// A store is to be made for a terminal that is not in the configuration.
     #[error("--terminal names a terminal that is not in CONFIG")]
@@ -52,23 +44,20 @@ pub enum StoringError {
 
     /// A line of the text at this path is not a record. Nothing is offered.
     #[error("{path} {error}")]
-    Offer {
-        path: String,
-        error: OfferError,
-    },
+    Offer { path: String, error: OfferError },
 
     /// The doubt of the channel is not released.
     #[error(transparent)]
-    Release {
-        error: ReleaseError,
-    },
+    Release { error: ReleaseError },
 
-    /// The doubt of this channel is not released at the count that the other store has.
-    #[error("{name}: {error}")]
-    Doubt {
-        name: ShownName,
-        error: ReleaseError,
-    },
+    /// The record with this number, counted from 0, of those that arrived on this channel is not as
+    /// it was kept. Those before it were printed.
+    #[error("record {number} of {name} is damaged")]
+    Record { name: ShownName, number: u32 },
+
+    /// The counts of a channel in the two stores do not fit. Each such channel was printed.
+    #[error("the stores do not fit together: one of them is an older copy")]
+    Apart,
 
     /// The stores are not those of a control station and a terminal of one line.
     #[error("the stores are not of two ends of one line")]
@@ -161,5 +150,17 @@ pub(crate) fn of_other(fault: StoreFault) -> StoringError
     match fault {
         StoreFault::OutOfMemory => StoringError::Memory,
         fault => StoringError::Other { fault },
+    }
+}
+
+/// Returns the error with the name of the channel of whose records one is damaged.
+pub(crate) fn of_record(name: ShownName, error: StoringError) -> StoringError
+    ensures { result ≡ record_error name error }
+{
+    match error {
+        StoringError::Store {
+            fault: StoreFault::DamagedRecord { number },
+        } => StoringError::Record { name, number },
+        error => error,
     }
 }

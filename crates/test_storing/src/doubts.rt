@@ -57,7 +57,12 @@ fn a_doubt_is_released_by_a_right_count(rt: HostRuntime) -> Result<(), Fail> {
 }
 
 /// Only one of two doubtful records has arrived.
-const UNRECONCILED: &[Row] = &[(RECONCILE, "", "refused: from 0: count mismatch")];
+const UNRECONCILED: &[Row] = &[(
+    RECONCILE,
+    "",
+    "from 0: arrived but not known: 1\nrefused: the stores do not fit together: one of them is an \
+    older copy",
+)];
 
 /// Both have, and the doubt is ended once.
 const RECONCILED: &[Row] = &[
@@ -75,6 +80,64 @@ fn doubts_are_released_by_what_both_have(rt: HostRuntime) -> Result<(), Fail> {
     assert_eq!(rt; first_wrong(alloc, &mut machine, UNRECONCILED), None);
     hear(&mut machine, "TWO")?;
     assert_eq!(rt; first_wrong(alloc, &mut machine, RECONCILED), None);
+    Ok(())
+}
+
+/// Keeps at the terminal that this many records are known, and none is in doubt.
+fn know(machine: &mut Machine, known: u32) -> Result<(), StoreFault> {
+    let change = Change::Known {
+        channel: channel()?,
+        known,
+        in_doubt: 0,
+    };
+    keep(machine, "terminal", &[change])
+}
+
+/// The store of the terminal is older: records have arrived that it does not know of.
+const OLDER_SENDER: &[Row] = &[
+    (
+        RECONCILE,
+        "",
+        "from 0: arrived but not known: 2\nrefused: the stores do not fit together: one of them is \
+        an older copy",
+    ),
+    (
+        BARE,
+        "",
+        "from 0: offered 3, known 0, in doubt 0\nto 0.0: arrived 0, printed 0\n\
+        to 0.1: arrived 0, printed 0\n",
+    ),
+];
+
+/// The store of the control station is older, on a channel in each direction.
+const OLDER_RECEIVER: &[Row] = &[(
+    Given {
+        file: "terminal",
+        first: "control",
+        ..RECONCILE
+    },
+    "",
+    "from 0: known but not arrived: 1\nto 0.1: arrived but not known: 1\nrefused: the stores do not \
+    fit together: one of them is an older copy",
+)];
+
+/// Both have the same.
+const FITTING: &[Row] = &[(RECONCILE, "", "nothing in doubt\n")];
+
+#[test]
+fn an_older_store_is_told_by_its_counts(rt: HostRuntime) -> Result<(), Fail> {
+    let alloc = rt.alloc();
+    let mut machine = two_stores(alloc)?;
+    told(alloc, &mut machine, OFFER, "")?;
+    assert_eq!(rt; first_wrong(alloc, &mut machine, FITTING), None);
+    hear(&mut machine, "ONE")?;
+    hear(&mut machine, "TWO")?;
+    assert_eq!(rt; first_wrong(alloc, &mut machine, OLDER_SENDER), None);
+    know(&mut machine, 2)?;
+    assert_eq!(rt; first_wrong(alloc, &mut machine, FITTING), None);
+    know(&mut machine, 3)?;
+    hear_back(&mut machine)?;
+    assert_eq!(rt; first_wrong(alloc, &mut machine, OLDER_RECEIVER), None);
     Ok(())
 }
 
@@ -112,7 +175,12 @@ const OFFER_BACK: Given = Given {
 
 /// The doubt of the control station fits, that of the terminal does not, and both stay.
 const HELD_BOTH_WAYS: &[Row] = &[
-    (RECONCILE, "", "refused: from 0: count mismatch"),
+    (
+        RECONCILE,
+        "",
+        "from 0: arrived but not known: 1\nrefused: the stores do not fit together: one of them is \
+        an older copy",
+    ),
     (
         Given {
             file: "control",

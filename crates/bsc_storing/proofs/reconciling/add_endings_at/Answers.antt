@@ -1,4 +1,4 @@
--- Shows that the doubt of the channel at one more place is found.
+-- Shows that the counts of the channel at one more place are compared.
 use Rattle.std.proofs.Common.{add-one, subst}
 use Rattle.bsc_storing.specs.declared.name.ChannelName.{ChannelName}
 use Rattle.bsc_storing.specs.Endings.{AddsIfAny}
@@ -8,12 +8,12 @@ pub places-preserved : goal.places-preserved
 places-preserved g c =
     let adds = subst
     (λ (name : ChannelName). AddsIfAny g.S.Store g.T.Store c.args.line.now c.args.other.now name
-    (c.places.step.items, c.places.ended.items)
-    (c.add_ending.new.step.items, c.add_ending.new.ended.items) c.places.sender
+    (c.places.step.items, (c.places.outcome.ended.items, c.places.outcome.unfit.items))
+    (c.add_ending.new.step.items, (c.add_ending.new.outcome.ended.items, c.add_ending.new.outcome.unfit.items)) c.places.sender
     c.add_ending.new.sender c.places.receiver c.add_ending.new.receiver)
     c.name_at-name.ensures c.in_ok-add_ending.ensures in
     rw add-one (
-      (c.places.step.items, c.places.ended.items),
+      (c.places.step.items, (c.places.outcome.ended.items, c.places.outcome.unfit.items)),
       c.places.sender,
       c.places.receiver,
       c.places.invariant,
