@@ -52,7 +52,7 @@ pub enum StoringError {
 
     /// The record with this number, counted from 0, of those that arrived on this channel is not as
     /// it was kept. Those before it were printed.
-    #[error("record {number} of {name} is damaged")]
+    #[error("record {number} of the channel {name} is damaged")]
     Record { name: ShownName, number: u32 },
 
     /// The counts of a channel in the two stores do not fit. Each such channel was printed.
