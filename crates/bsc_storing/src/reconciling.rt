@@ -1,9 +1,8 @@
 //! Comparing the counts of two stores, and ending the doubts between them.
 
-ghost use Rattle.std.specs.Prelude.{◌≡◌, ◌<◌, ◌+◌, IfErr, IfOk, OnOk, codes, length};
+ghost use Rattle.std.specs.Prelude.{◌≡◌, ◌<◌, ◌+◌, IfOk, OnOk, codes, length};
 ghost use Rattle.std.specs.Io.KnownBytes.{Appends};
 ghost use Rattle.bsc_report.specs.Channels.{each_below};
-ghost use Rattle.bsc_storing.specs.declared.error.StoringError.TheVariants.{Apart};
 ghost use Rattle.bsc_storing.specs.Endings.{AddsIfAny, AddsPlaces, AddsTerminals, EndsDoubts};
 ghost use Rattle.bsc_storing.specs.Endings.{FindsUnfit, IsComparedIfAny, KeepsIfAny, added};
 ghost use Rattle.bsc_storing.specs.Lines.{all_ended_shown, difference_shown, ended_at, unfit_at};
@@ -43,6 +42,16 @@ pub(crate) struct Unfit {
 pub(crate) struct Outcome {
     pub(crate) ended: Vec<Ended>,
     pub(crate) unfit: Vec<Unfit>,
+}
+
+/// What came of comparing two stores.
+#[derive(Clone, Copy)]
+pub(crate) enum Reconciled {
+    /// The counts of all channels fit, and each doubt is ended.
+    Ended,
+
+    /// The counts of some channels do not fit, and nothing is kept.
+    Apart,
 }
 
 /// What the counts of the two ends of a channel say.
@@ -291,18 +300,6 @@ fn write_unfit<W: Write>(line: &KeptLine, unfit: &[Unfit], out: &mut W) -> Resul
     Ok(())
 }
 
-/// Writes each channel whose counts do not fit, and returns the error that says that there are
-/// some.
-fn refuse<W: Write>(line: &KeptLine, unfit: &[Unfit], out: &mut W) -> StoringError
-    ensures { result ≡ Apart → Appends (W.contents out.old) (W.contents out.new)
-        (each_below (unfit_at line.now unfit.now) (length unfit.now)) }
-{
-    match write_unfit(line, unfit, out) {
-        Ok(()) => StoringError::Apart,
-        Err(_) => StoringError::Output,
-    }
-}
-
 /// Tells whether one station is the control station and the other a terminal.
 pub(crate) fn are_two_ends(one: Role, other: Role) -> bool
     ensures { result ≡ are_two_ends one other }
@@ -315,7 +312,7 @@ pub(crate) fn are_two_ends(one: Role, other: Role) -> bool
 
 /// Compares the counts of each channel between two stores of one line, and ends each doubt by what
 /// both have. All is found before anything is kept: if the counts of a channel do not fit, nothing
-/// is, each such channel is printed, and this fails with `Apart`.
+/// is, and each such channel is printed.
 pub(crate) fn reconcile<S: Store, T: Store, W: Write>(
     alloc: Global,
     one: &mut S,
@@ -323,10 +320,10 @@ pub(crate) fn reconcile<S: Store, T: Store, W: Write>(
     line: &KeptLine,
     other: &KeptLine,
     out: &mut W,
-) -> Result<(), StoringError>
-    ensures ends { OnOk result (EndsDoubts S.Store T.Store line.now other.now one.old one.new
-        two.old two.new (W.contents out.old) (W.contents out.new)) }
-    ensures apart { IfErr result (λ error. error ≡ Apart → FindsUnfit S.Store T.Store line.now
+) -> Result<Reconciled, StoringError>
+    ensures ends { IfOk result (λ it. it ≡ Reconciled.Ended → EndsDoubts S.Store T.Store line.now
+        other.now one.old one.new two.old two.new (W.contents out.old) (W.contents out.new)) }
+    ensures apart { IfOk result (λ it. it ≡ Reconciled.Apart → FindsUnfit S.Store T.Store line.now
         other.now one.old one.new two.old two.new (W.contents out.old) (W.contents out.new)) }
 {
     let mut outcome = Outcome {
@@ -337,11 +334,13 @@ pub(crate) fn reconcile<S: Store, T: Store, W: Write>(
     add_endings(one, two, line, other, &mut first, &mut outcome)?;
     add_endings(two, one, other, line, &mut second, &mut outcome).map_err(exchanged)?;
     if !outcome.unfit.is_empty() {
-        return Err(refuse(line, &outcome.unfit, out));
+        write_unfit(line, &outcome.unfit, out)?;
+        return Ok(Reconciled::Apart);
     }
     commit_if_any(one, &first).map_err(of_store)?;
     commit_if_any(two, &second).map_err(of_other)?;
-    write_ended(line, &outcome.ended, out)
+    write_ended(line, &outcome.ended, out)?;
+    Ok(Reconciled::Ended)
 }
 
 /// Keeps a step, unless it is empty.

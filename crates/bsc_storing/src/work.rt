@@ -13,7 +13,7 @@ use crate::error::{StoringError, of_other, of_record, of_store};
 use crate::kept_line::{KeptLine, read_line_text};
 use crate::name::ChannelName;
 use crate::offering::offer;
-use crate::reconciling::{are_two_ends, reconcile};
+use crate::reconciling::{Reconciled, are_two_ends, reconcile};
 use crate::releasing::release;
 use crate::status::{write_name, write_status};
 use crate::stores::{Opened, StoreFiles};
@@ -256,7 +256,10 @@ fn reconcile_open<S: Store, W: Write>(
     if !alike || !are_two_ends(line.station, other.station) {
         return Err(StoringError::NotTwoEnds);
     }
-    reconcile(alloc, &mut one.store, &mut two.store, &line, &other, out)
+    match reconcile(alloc, &mut one.store, &mut two.store, &line, &other, out)? {
+        Reconciled::Ended => Ok(()),
+        Reconciled::Apart => Err(StoringError::Apart),
+    }
 }
 
 /// Does what is to be done with an open store, other than to reconcile it.
