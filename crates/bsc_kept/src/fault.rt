@@ -1,5 +1,6 @@
 //! Why a store is not used.
 
+use crate::NamedChannel;
 use thiserror::Error;
 
 /// Why a store was refused, or a step was not kept. What was kept before remains. After `Refused`
@@ -33,8 +34,8 @@ pub enum StoreFault {
 
     /// The record with this number, counted from 0, of those of a channel that were offered or that
     /// arrived, is not as it was kept.
-    #[error("record {number} of a channel is damaged")]
-    DamagedRecord { number: u32 },
+    #[error("record {number} of the channel {channel} is damaged")]
+    DamagedRecord { channel: NamedChannel, number: u32 },
 
     /// A change of the step breaks a rule of the store.
     #[error("the step does not fit what is kept")]

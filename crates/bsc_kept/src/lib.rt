@@ -13,10 +13,12 @@ mod change;
 mod channel;
 mod ends;
 mod fault;
+mod named;
 mod store;
 
 pub use change::Change;
 pub use channel::Channel;
 pub use ends::{Receiving, Sending};
 pub use fault::StoreFault;
+pub use named::NamedChannel;
 pub use store::{Found, Progress, Store};

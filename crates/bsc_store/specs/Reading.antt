@@ -20,6 +20,7 @@ use Rattle.bsc_kept.specs.declared.store.Found.{Found}
 use Rattle.bsc_kept.specs.declared.fault.StoreFault.{StoreFault}
 use Rattle.bsc_kept.specs.declared.fault.StoreFault.TheVariants as fault
 use Rattle.bsc_store.specs.Faults.{fault_for, unread}
+use Rattle.bsc_kept.specs.Names.{named}
 use Rattle.bsc_store.specs.declared.queries.Query.{Query}
 use Rattle.bsc_store.specs.declared.queries.Query.TheVariants as query
 use Rattle.bsc_store.specs.declared.queries.Side.{Side}
@@ -56,14 +57,6 @@ abbrev pub IsUnread : {S : Type 0} → Ghosts S → List ℕ → Row → Held S 
 IsUnread g text values old new it = IsRefused g text values old new it
     ⊎ ((found : Option Row) × (HasCleanDisk (state g new) → Gives g text values old new found)
     × IsUnreadable it)
-
--- The fault names a record by the number that a query gives and this many more.
-abbrev pub IsNumbered : {S : Type 0} → Ghosts S → List ℕ → Row → ℕ → Held S → Held S
-    → StoreFault → Type 0
-IsNumbered g text values more old new it = (row : Row) × (before : ℕ)
-    × (HasCleanDisk (state g new) → Gives g text values old new (Some row)
-    × (column row 0 ≡ Int (pos before)))
-    × (it ≡ fault.DamagedRecord (before + more))
 
 -- The text of a query.
 abbrev pub query_text : Query → List ℕ
@@ -121,6 +114,16 @@ abbrev pub place_values : Channel → ℤ → ℕ → Row
 place_values channel mark more =
     Text (way_of channel) ∷ Blob (address_of channel) ∷ Int mark ∷ Int (pos more) ∷ []
 
+-- The fault names a record by its channel, and by how many records stand up to the mark and this
+-- many more.
+abbrev pub IsNumbered : {S : Type 0} → Ghosts S → Side → Channel → ℤ → ℕ → Held S → Held S
+    → StoreFault → Type 0
+IsNumbered g side channel mark more old new it = (row : Row) × (before : ℕ)
+    × (HasCleanDisk (state g new)
+    → Gives g (query_text (up_to_query side)) (up_to_values channel mark) old new (Some row)
+    × (column row 0 ≡ Int (pos before)))
+    × (it ≡ fault.DamagedRecord (named channel) (before + more))
+
 -- The numbers in a row.
 pub record AreNumbers (row : Row) (it : Progress) : Type 0 where
   pub offered : column row 0 ≡ Int (pos it.offered)
@@ -151,8 +154,8 @@ IsFound g marks side channel mark more old new None =
     Gives g (query_text (next_query side (is_some marks))) (place_values channel mark more)
     old new None
 
--- The query gives a row, and the fault says that it is not as it was kept: it names the number of
--- the record, which is how many records of the channel stand up to the mark and how many are passed
+-- The query gives a row, and the fault says that it is not as it was kept: it names the channel and
+-- the number of the record, which is how many records of the channel stand up to the mark and how many are passed
 -- over after it. If the records before it are not counted, it is why not.
 pub record IsDamaged {S : Type 0} (g : Ghosts S) (marks : Option Marks) (side : Side)
     (channel : Channel) (mark : ℤ) (more : ℕ) (old new : Held S) (it : StoreFault) : Type 0 where
@@ -163,7 +166,7 @@ pub record IsDamaged {S : Type 0} (g : Ghosts S) (marks : Option Marks) (side : 
       old mid (Some row)
   pub wrong : (found : Found) → ¬ IsRecord marks channel row found
   pub names : IsUnread g (query_text (up_to_query side)) (up_to_values channel mark) mid new it
-      ⊎ IsNumbered g (query_text (up_to_query side)) (up_to_values channel mark) more mid new it
+      ⊎ IsNumbered g side channel mark more mid new it
 
 -- A record is not found: the query is refused, memory has no room, or the record is damaged.
 abbrev pub IsNotFound : {S : Type 0} → Ghosts S → Option Marks → Side → Channel → ℤ → ℕ → Held S

@@ -24,7 +24,7 @@ use crate::queries::{Query, Side};
 use crate::tables::UNCHECKED;
 use bsc_block::Record;
 use bsc_block::limits::MAX_FULL;
-use bsc_kept::{Channel, Found, Progress, StoreFault};
+use bsc_kept::{Channel, Found, NamedChannel, Progress, StoreFault};
 use sqlite::types::ValueRef;
 use sqlite::{Alter, Connection, Error as SqlError, Row, params};
 
@@ -206,15 +206,17 @@ fn damaged<S: Alter>(
 ) -> StoreFault
     ensures names { IsUnread S.Store (query_text (up_to_query side))
         (up_to_values channel.now mark) conn.old conn.new result
-        ⊎ IsNumbered S.Store (query_text (up_to_query side)) (up_to_values channel.now mark) more
-        conn.old conn.new result }
+        ⊎ IsNumbered S.Store side channel.now mark more conn.old conn.new result }
     ensures read { OnlyRead S.Store conn.old conn.new }
 {
     let values = params![way(channel), address(channel), mark];
     match first_row(conn, side.up_to(), values) {
         Ok(Some(row)) => match number_at(&row, 0) {
             Ok(before) => match before.checked_add(more) {
-                Some(number) => StoreFault::DamagedRecord { number },
+                Some(number) => StoreFault::DamagedRecord {
+                    channel: NamedChannel::of(channel),
+                    number,
+                },
                 None => StoreFault::Damaged,
             },
             Err(fault) => fault,

@@ -8,7 +8,6 @@ use Rattle.bsc_kept.specs.declared.fault.StoreFault.TheVariants as fault
 use Rattle.bsc_print.specs.declared.error.PrintError.{PrintError}
 use Rattle.bsc_print.specs.declared.error.PrintError.TheVariants as print
 use Rattle.bsc_storing.specs.declared.error.StoringError.{StoringError}
-use Rattle.bsc_storing.specs.declared.name.ShownName.{ShownName}
 use Rattle.bsc_storing.specs.declared.error.StoringError.TheVariants as storing
 
 -- The error for a text that could not be read. Out of memory is always `Memory`.
@@ -29,15 +28,6 @@ store_error error = storing.Store error
 abbrev pub other_error : StoreFault → StoringError
 other_error fault.OutOfMemory = storing.Memory
 other_error error = storing.Other error
-
--- The error for records of the channel with this name, of which one is damaged.
-abbrev pub record_fault : ShownName → StoreFault → StoringError
-record_fault name (fault.DamagedRecord number) = storing.Record name number
-record_fault name error = storing.Store error
-
-abbrev pub record_error : ShownName → StoringError → StoringError
-record_error name (storing.Store error) = record_fault name error
-record_error name error = error
 
 -- The error for output that failed.
 abbrev pub print_error : PrintError → StoringError

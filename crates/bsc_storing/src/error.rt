@@ -1,9 +1,8 @@
 //! Why the work on a store failed.
 ghost use Rattle.std.specs.Prelude.{◌≡◌};
 ghost use Rattle.bsc_storing.specs.Errors.{exchanged as exchanged_error};
-ghost use Rattle.bsc_storing.specs.Errors.{other_error, record_error, store_error};
+ghost use Rattle.bsc_storing.specs.Errors.{other_error, store_error};
 
-use crate::name::ShownName;
 use bsc_bid::ReleaseError;
 use bsc_config::ConfigError;
 use bsc_input::TextError;
@@ -49,11 +48,6 @@ pub enum StoringError {
     /// The doubt of the channel is not released.
     #[error(transparent)]
     Release { error: ReleaseError },
-
-    /// The record with this number, counted from 0, of those that arrived on this channel is not as
-    /// it was kept. Those before it were printed.
-    #[error("record {number} of the channel {name} is damaged")]
-    Record { name: ShownName, number: u32 },
 
     /// The counts of a channel in the two stores do not fit. Each such channel was printed.
     #[error("the stores do not fit together: one of them is an older copy")]
@@ -150,17 +144,5 @@ pub(crate) fn of_other(fault: StoreFault) -> StoringError
     match fault {
         StoreFault::OutOfMemory => StoringError::Memory,
         fault => StoringError::Other { fault },
-    }
-}
-
-/// Returns the error with the name of the channel of whose records one is damaged.
-pub(crate) fn of_record(name: ShownName, error: StoringError) -> StoringError
-    ensures { result ≡ record_error name error }
-{
-    match error {
-        StoringError::Store {
-            fault: StoreFault::DamagedRecord { number },
-        } => StoringError::Record { name, number },
-        error => error,
     }
 }

@@ -9,7 +9,7 @@ ghost use Rattle.bsc_storing.specs.Names.{named_at};
 ghost use Rattle.bsc_storing.specs.Works.{Does, EndsDoubt, EndsOne, OffersAll, PrintsArrived, told};
 
 use crate::arrived::write_arrived;
-use crate::error::{StoringError, of_other, of_record, of_store};
+use crate::error::{StoringError, of_other, of_store};
 use crate::kept_line::{KeptLine, read_line_text};
 use crate::name::ChannelName;
 use crate::offering::offer;
@@ -200,11 +200,8 @@ fn print_arrived<S: Store, W: Write>(
     ensures { OnOk result (PrintsArrived S.Store line.now channel first form
         store.old store.new (W.contents out.old) (W.contents out.new)) }
 {
-    let (name, channel) = with_name(line, line.receiving(channel))?;
-    match write_arrived(alloc, store, &channel, first, form, out) {
-        Ok(()) => Ok(()),
-        Err(error) => Err(of_record(line.shown(name), error)),
-    }
+    let (_, channel) = with_name(line, line.receiving(channel))?;
+    write_arrived(alloc, store, &channel, first, form, out)
 }
 
 /// Does what is to be done with one store.

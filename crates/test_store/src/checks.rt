@@ -3,7 +3,7 @@
 
 use crate::facts::{Side, are_kept};
 use crate::files::{LINE, Task, create, delete, resumed, within};
-use bsc_kept::{Channel, Store, StoreFault};
+use bsc_kept::{Channel, NamedChannel, Store, StoreFault};
 use std::fs;
 use std::rt::HostRuntime;
 use std::test::Fail;
@@ -69,8 +69,8 @@ const CHANGES: &[(&str, u32)] = &[
     ),
 ];
 
-/// Tells whether the offered record with this number is damaged, by its number and after the one
-/// before it, and those before it are not.
+/// Tells whether the offered record with this number is damaged, by its channel and number and after
+/// the one before it, and those before it are not.
 pub(crate) fn is_damaged<S: Store>(
     store: &mut S,
     channel: &Channel,
@@ -83,7 +83,10 @@ pub(crate) fn is_damaged<S: Store>(
             None => return Ok(false),
         }
     }
-    let wanted = Some(StoreFault::DamagedRecord { number });
+    let wanted = Some(StoreFault::DamagedRecord {
+        channel: NamedChannel::of(channel),
+        number,
+    });
     let by_number = store.offered(channel, 0, number).err();
     Ok(by_number == wanted && store.offered(channel, mark, 0).err() == wanted)
 }

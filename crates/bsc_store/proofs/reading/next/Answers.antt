@@ -10,7 +10,7 @@ returns-in-Err-Damaged-clause-fault g c =
     let text = query_text (up_to_query c.args.side) in
     let names = subst
     (λ m. IsUnread g.S.Store text (up_to_values c.args.channel.now m) old new c.damaged.result
-    ⊎ IsNumbered g.S.Store text (up_to_values c.args.channel.now m) c.args.more old new c.damaged.result)
+    ⊎ IsNumbered g.S.Store c.args.side c.args.channel.now m c.args.more old new c.damaged.result)
     back c.damaged.ensures.names in
     inr (inr (record {
       mid = old;
