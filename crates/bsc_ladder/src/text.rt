@@ -313,7 +313,8 @@ fn write_pause_lane<W: Write>(style: Style, out: &mut W) -> Result<(), PrintErro
 {
     put_glyph(style, Glyph::Dash, out)?;
     put(b" silence ", out)?;
-    put_glyphs(style, Glyph::Dash, 8, out)
+    put_glyphs(style, Glyph::Dash, 8, out)?;
+    Ok(())
 }
 
 /// Writes the row for a silence, without its time.
