@@ -1,9 +1,9 @@
 //! Makes the first connections of a station.
 
 ghost use Rattle.std.specs.Prelude.{◌≡◌, ◌<◌, ◌≤◌, ◌^◌, ◌+◌, [], false, true, is_some, length};
-ghost use Rattle.std.specs.Prelude.{IfErr, IfOk, IfSome, IsNone, IsSome, OnOk, slice_get, ℕ};
+ghost use Rattle.std.specs.Prelude.{IfErr, IfOk, IfSome, IsNone, IsSome, OnOk, Some, slice_get, ℕ};
 ghost use Rattle.std.specs.Net.ToAddrs.{host_addrs};
-ghost use Rattle.bsc_sockets.specs.Beginning.{HasAdmitted};
+ghost use Rattle.bsc_sockets.specs.Beginning.{HasAdmitted, is_allowed};
 ghost use Rattle.bsc_sockets.specs.Listening.{IsAddressError, IsConnectError, IsDenied};
 ghost use Rattle.bsc_sockets.specs.Listening.{IsListenError, IsPeerError, IsUnwatched};
 ghost use Rattle.bsc_sockets.specs.Standings.{after_joining, new_standings, standings_value};
@@ -292,11 +292,35 @@ impl<'a, N: Net + Clock, A: Allocator + Copy> Begun<'a, N, A> {
     {
         'peers: for place in 0..peers {
             reception.waits(place, peers);
-            let made = self.sockets.next_connection(place, patience, reception)?;
-            self.connections.push(made.directions)?;
-            reception.joined(place, made.address);
+            let address = self.add_peer(place, patience, reception)?;
+            reception.joined(place, address);
         }
         Ok(())
+    }
+
+    /// Makes the next peer that may connect the connection at this place, which must be the next
+    /// one, and returns its address.
+    fn add_peer<H: Reception>(
+        &mut self,
+        place: usize,
+        patience: Duration,
+        reception: &mut H,
+    ) -> Result<SocketAddr, SocketsError>
+        ensures count { OnOk result
+            (length self.new.connections.items ≡ length self.old.connections.items + 1) }
+        ensures settings { self.new.sockets.settings ≡ self.old.sockets.settings }
+        ensures places { self.new.sockets.places ≡ self.old.sockets.places }
+        ensures listener { self.new.sockets.listener ≡ self.old.sockets.listener }
+        ensures peer { IfOk result (λ address. standings_value self.new.sockets.standings
+            ≡ after_joining (Some address) (standings_value self.old.sockets.standings) place
+            (slice_get self.old.sockets.standings.places.items place)) }
+        ensures admitted { IfOk result
+            (λ address. is_allowed self.old.sockets.settings.allowed address ≡ true) }
+        ensures failed { IfErr result IsPeerError }
+    {
+        let made = self.sockets.next_connection(place, patience, reception)?;
+        self.connections.push(made.directions)?;
+        Ok(made.address)
     }
 
     /// Takes another peer for each that has gone, until all are there.
