@@ -3,85 +3,45 @@
 use bsc_bid::{Setup, Terminal};
 use bsc_config::{Config, read_config};
 use std::alloc::Global;
+use test_fixtures::configurations::TWO_TERMINALS;
 
 /// The addresses of a terminal: its polling address, and its selection addresses.
 type Addresses<'a> = (&'a str, &'a [&'a str]);
 
-/// A document, and the configuration that it describes.
-struct Configuration<'a> {
-    document: &'a str,
-    full: u8,
-    block_chars: u16,
-    tries: u8,
-    waits: u8,
-    terminals: &'a [Addresses<'a>],
-    poll_list: &'a [u8],
-}
+/// A document, its full length, characters of a block, tries and waits, its terminals, and its poll
+/// list.
+type Configuration<'a> = (&'a str, (u8, u16, u8, u8), &'a [Addresses<'a>], &'a [u8]);
 
 /// Two terminals, each with one selection address.
 const TWO: &[Addresses<'static>] = &[("A", &["a"]), ("B", &["b"])];
 
 const CONFIGURATIONS: &[Configuration<'static>] = &[
-    Configuration {
-        document: "version = 1
-poll_list = [0, 1]
-
-[[terminals]]
-poll = \"A\"
-select = \"a\"
-
-[[terminals]]
-poll = \"B\"
-select = \"b\"
-",
-        full: 80,
-        block_chars: 400,
-        tries: 3,
-        waits: 10,
-        terminals: TWO,
-        poll_list: &[0, 1],
-    },
+    (TWO_TERMINALS, (80, 400, 3, 10), TWO, &[0, 1]),
     // The same line in version 2, with its keys in another order.
-    Configuration {
-        document: "terminals = [
-  { select = [\"a\"], poll = \"A\" }, # the first
-  { poll = \"B\", select = [\"b\"] },
-]
-poll_list = [0, 1]
-version = 2
-",
-        full: 80,
-        block_chars: 400,
-        tries: 3,
-        waits: 10,
-        terminals: TWO,
-        poll_list: &[0, 1],
-    },
+    (
+        "terminals = [\n  { select = [\"a\"], poll = \"A\" }, # the first\n\
+        { poll = \"B\", select = [\"b\"] },\n]\npoll_list = [0, 1]\nversion = 2\n",
+        (80, 400, 3, 10),
+        TWO,
+        &[0, 1],
+    ),
     // The same line with each number given, in lines that end with a carriage return.
-    Configuration {
-        document: "version = 1\r\npoll_list = [0, 1]\r\nfull = 0x51\r\nblock_chars = 3_00\r
-tries = +7\r\nwaits = 255\r\n\r\n[[terminals]]\r\npoll = \"A\"\r\nselect = \"a\"\r
-[[terminals]]\r\npoll = \"B\"\r\nselect = \"b\"\r\n",
-        full: 81,
-        block_chars: 300,
-        tries: 7,
-        waits: 255,
-        terminals: TWO,
-        poll_list: &[0, 1],
-    },
+    (
+        "version = 1\r\npoll_list = [0, 1]\r\nfull = 0x51\r\nblock_chars = 3_00\r\ntries = +7\r\n\
+        waits = 255\r\n\r\n[[terminals]]\r\npoll = \"A\"\r\nselect = \"a\"\r\n[[terminals]]\r\n\
+        poll = \"B\"\r\nselect = \"b\"\r\n",
+        (81, 300, 7, 255),
+        TWO,
+        &[0, 1],
+    ),
     // Four selection addresses of up to seven characters, whose order is kept.
-    Configuration {
-        document: "version = 2
-poll_list = [0, 0]
-terminals = [{ poll = \"A\", select = [\"!\", \"c\", \"abcdefg\", \"~\"] }]
-",
-        full: 80,
-        block_chars: 400,
-        tries: 3,
-        waits: 10,
-        terminals: &[("A", &["!", "c", "abcdefg", "~"])],
-        poll_list: &[0, 0],
-    },
+    (
+        "version = 2\npoll_list = [0, 0]\n\
+        terminals = [{ poll = \"A\", select = [\"!\", \"c\", \"abcdefg\", \"~\"] }]\n",
+        (80, 400, 3, 10),
+        &[("A", &["!", "c", "abcdefg", "~"])],
+        &[0, 0],
+    ),
 ];
 
 /// Whether a terminal has exactly this polling address and these selection addresses.
@@ -111,8 +71,8 @@ fn have_addresses(terminals: &[Terminal], wanted: &[Addresses<'_>]) -> bool {
 }
 
 /// Whether these are the expected settings.
-fn is_setup(setup: Setup, wanted: &Configuration<'_>) -> bool {
-    match Setup::new(wanted.full, wanted.block_chars, wanted.tries, wanted.waits) {
+fn is_setup(setup: Setup, (full, block_chars, tries, waits): (u8, u16, u8, u8)) -> bool {
+    match Setup::new(full, block_chars, tries, waits) {
         Ok(other) => other == setup,
         Err(_) => false,
     }
@@ -120,12 +80,13 @@ fn is_setup(setup: Setup, wanted: &Configuration<'_>) -> bool {
 
 /// Whether a document is read as the expected configuration.
 fn is_read(alloc: Global, wanted: &Configuration<'_>) -> bool {
-    match read_config(alloc, wanted.document.as_bytes()) {
+    let (document, numbers, terminals, poll_list) = *wanted;
+    match read_config(alloc, document.as_bytes()) {
         Ok(config) => {
-            is_setup(config.setup(), wanted)
-                && config.terminals() == wanted.terminals.len()
-                && have_addresses(config.terminal_list(), wanted.terminals)
-                && config.poll_list() == wanted.poll_list
+            is_setup(config.setup(), numbers)
+                && config.terminals() == terminals.len()
+                && have_addresses(config.terminal_list(), terminals)
+                && config.poll_list() == poll_list
         }
         Err(_) => false,
     }
@@ -134,6 +95,6 @@ fn is_read(alloc: Global, wanted: &Configuration<'_>) -> bool {
 #[test]
 fn a_configuration_keeps_what_its_document_says(rt: HostRuntime) {
     for wanted in CONFIGURATIONS {
-        assert!(rt; is_read(rt.alloc(), wanted), "{}", wanted.document);
+        assert!(rt; is_read(rt.alloc(), wanted), "{}", wanted.0);
     }
 }

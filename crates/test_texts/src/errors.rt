@@ -8,15 +8,18 @@ use bsc_connections::LiveError;
 use bsc_control::SetupError;
 use bsc_frame::AddressError;
 use bsc_input::{InputError, Unreadable};
+use bsc_peers::NetworkError;
 use bsc_print::PrintError;
 use bsc_script::ScriptError;
 use std::io::ErrorKind;
 use std::test::Fail;
 
 #[test]
-fn settings_and_addresses(rt: HostRuntime) -> Result<(), Fail> {
+fn settings_addresses_and_setups(rt: HostRuntime) -> Result<(), Fail> {
     let texts = format!(in rt.alloc();
-        "{}\n{}\n{}\n{}\n{}\n{}\n{}\n{}\n",
+        "{}\n{}\n{}\n{}\n{}\n{}\n{}\n{}\n{}\n{}\n{}\n{}\n{}\n{}\n{}\n{}\n{}\n{}\n",
+        NetworkError::NoAddress,
+        NetworkError::NoBits,
         SettingError::Full,
         SettingError::BlockChars,
         SettingError::Tries,
@@ -25,26 +28,6 @@ fn settings_and_addresses(rt: HostRuntime) -> Result<(), Fail> {
         AddressError::TooLong,
         AddressError::BadChar(3),
         TerminalError::Count,
-    )?;
-    assert_eq!(rt;
-        texts.as_str(),
-        "the full length is not 1 to 144
-the characters of a block are not 146 to 400
-the tries are not 1 to 15
-the waits are not 1 to 255
-the address is empty
-the address has more than seven characters
-wrong character at 3
-a terminal has one to four selection addresses
-"
-    );
-    Ok(())
-}
-
-#[test]
-fn setups_and_formats(rt: HostRuntime) -> Result<(), Fail> {
-    let texts = format!(in rt.alloc();
-        "{}\n{}\n{}\n{}\n{}\n{}\n{}\n{}\n",
         SetupError::NoTerminal,
         SetupError::TooMany,
         SetupError::SameAddress(0, 5),
@@ -56,15 +39,15 @@ fn setups_and_formats(rt: HostRuntime) -> Result<(), Fail> {
     )?;
     assert_eq!(rt;
         texts.as_str(),
-        "no terminal
-too many terminals
-addresses 0 and 5 are the same
-poll list is empty
-poll list entry 255 is wrong
-out of memory
-the full length of a record is not 1 to 144
-the characters of a block are not 146 to 400
-"
+        "not an IP address\nnot a number of bits of the address\n\
+        the full length is not 1 to 144\nthe characters of a block are not 146 to 400\n\
+        the tries are not 1 to 15\nthe waits are not 1 to 255\nthe address is empty\n\
+        the address has more than seven characters\nwrong character at 3\n\
+        a terminal has one to four selection addresses\n\
+        no terminal\ntoo many terminals\naddresses 0 and 5 are the same\npoll list is empty\n\
+        poll list entry 255 is wrong\nout of memory\n\
+        the full length of a record is not 1 to 144\n\
+        the characters of a block are not 146 to 400\n"
     );
     Ok(())
 }
@@ -91,20 +74,11 @@ fn records_and_carriers(rt: HostRuntime) -> Result<(), Fail> {
     )?;
     assert_eq!(rt;
         texts.as_str(),
-        "record too long
-wrong character at 80
-not in doubt
-count mismatch
-the length of a record is wrong
-the input ended within a record
-connection reset by peer
-connection aborted
-broken pipe
-timed out
-the peer cannot be reached
-a read or a write failed
-two far ends gave different octets
-"
+        "record too long\nwrong character at 80\nnot in doubt\ncount mismatch\n\
+        the length of a record is wrong\nthe input ended within a record\n\
+        connection reset by peer\nconnection aborted\nbroken pipe\ntimed out\n\
+        the peer cannot be reached\na read or a write failed\n\
+        two far ends gave different octets\n"
     );
     Ok(())
 }
@@ -130,19 +104,9 @@ fn inputs_outputs_and_waits(rt: HostRuntime) -> Result<(), Fail> {
     )?;
     assert_eq!(rt;
         texts.as_str(),
-        "input too long
-input fault
-out of memory
-output fault
-out of memory
-cannot wait for the sockets
-too much happened
-output fault
-out of memory
-script line 9: not an event
-out of memory
-out of memory
-"
+        "input too long\ninput fault\nout of memory\noutput fault\nout of memory\n\
+        cannot wait for the sockets\ntoo much happened\noutput fault\nout of memory\n\
+        script line 9: not an event\nout of memory\nout of memory\n"
     );
     Ok(())
 }

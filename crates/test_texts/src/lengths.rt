@@ -1,46 +1,9 @@
-//! Configurations with each number of terminals and of poll list entries, and the longest one.
+//! The longest configuration, and faults of long ones.
 
 use crate::documents::is_answer;
 use bsc_input::MAX_INPUT;
 use std::alloc::Global;
 use std::test::Fail;
-
-/// A document with this many terminals, of one to four selection addresses each, which are all
-/// polled; and with a poll list of at least this many entries.
-fn document_of(alloc: Global, count: usize, entries: usize) -> Result<String, Fail> {
-    let mut text = format!(in alloc; "version = 2\npoll_list = [0")?;
-    for entry in 1..count.max(entries) {
-        write!(text, ", {}", entry % count.max(1))?;
-    }
-    text.push_str("]\n")?;
-    for number in 0..count {
-        write!(
-            text,
-            "[[terminals]]\npoll = \"A{number}\"\nselect = [\"a{number}\""
-        )?;
-        for select in 0..number % 4 {
-            write!(text, ", \"b{select}-{number}\"")?;
-        }
-        text.push_str("]\n")?;
-    }
-    Ok(text)
-}
-
-/// Whether this is the answer to a document of so many terminals and poll list entries.
-fn have(alloc: Global, count: usize, entries: usize, answer: &str) -> Result<bool, Fail> {
-    let document = document_of(alloc, count, entries)?;
-    is_answer(alloc, document.as_str(), answer)
-}
-
-#[test]
-fn each_number_of_terminals_and_entries_is_read(rt: HostRuntime) -> Result<(), Fail> {
-    for count in 1..=64usize {
-        assert!(rt; have(rt.alloc(), count, 4 * count - 1, "read")?, "{count}");
-    }
-    assert!(rt; have(rt.alloc(), 65, 0, "config: too many terminals")?);
-    assert!(rt; have(rt.alloc(), 3, 256, "config: poll list entry 255 is wrong")?);
-    Ok(())
-}
 
 /// A document with the greatest settings, the most terminals, the most selection addresses of each,
 /// the longest addresses and the longest poll list, in as many octets as an input may have.
@@ -68,41 +31,11 @@ fn longest(alloc: Global) -> Result<String, Fail> {
 /// Parts of the longest configuration that are replaced, and what is told of it then.
 const LAST_PARTS: &[(&str, &str, &str)] = &[
     ("FOUR-73", "FIVE-73", "read"),
-    (
-        "FOUR-73",
-        "POLL-10",
-        "config: addresses 0 and 319 are the same",
-    ),
-    (
-        "FOUR-73",
-        "THREE73",
-        "config: addresses 318 and 319 are the same",
-    ),
-    (
-        "FOUR-73",
-        "FOUR--73",
-        "config: wrong value of terminals[63].select",
-    ),
-    (
-        "\"POLL-73\"",
-        "5",
-        "config: wrong value of terminals[63].poll",
-    ),
-    (
-        "poll = \"POLL-73\"",
-        "",
-        "config: missing key terminals[63].poll",
-    ),
-    (
-        "poll = \"POLL-73\"",
-        "pole = \"POLL-73\"",
-        "config: unknown key terminals[63].pole",
-    ),
-    (", 62]", ", 64]", "config: poll list entry 254 is wrong"),
-    (", 62]", ", 62, 0]", "config: poll list entry 255 is wrong"),
-    ("waits = 255", "waits = 256", "config: wrong value of waits"),
-    ("tries = 15", "tries = 16", "config: wrong value of tries"),
-    ("full = 144", "full = 145", "config: wrong value of full"),
+    ("FOUR-73", "THREE73", "addresses 318 and 319 are the same"),
+    ("FOUR-73", "FOUR--73", "wrong value of terminals[63].select"),
+    ("poll = \"POLL-73\"", "", "missing key terminals[63].poll"),
+    ("poll = \"POLL-73\"", "pole = \"POLL-73\"", "unknown key terminals[63].pole"),
+    (", 62]", ", 62, 0]", "poll list entry 255 is wrong"),
 ];
 
 /// Whether this is the answer to the document if a part is replaced by another one.
@@ -133,15 +66,19 @@ fn the_last_parts_of_the_longest_configuration_are_checked(rt: HostRuntime) -> R
     Ok(())
 }
 
-/// A fault after a million lines has their number, and the longest key is told whole.
+/// A fault after a million lines has their number, 65 terminals are too many, and the longest key
+/// is told whole.
 #[test]
 fn a_fault_is_told_whatever_its_length(rt: HostRuntime) -> Result<(), Fail> {
     let alloc = rt.alloc();
     let document = format!(in alloc; "{}?", "\n".repeat(alloc, 1_000_000)?)?;
-    assert!(rt; is_answer(alloc, &document, "config: not toml: line 1000001")?);
+    assert!(rt; is_answer(alloc, &document, "not toml: line 1000001")?);
+    let terminals = "{poll = 'A', select = ['a']}, ".repeat(alloc, 65)?;
+    let document = format!(in alloc; "version = 2\npoll_list = []\nterminals = [{terminals}]")?;
+    assert!(rt; is_answer(alloc, &document, "too many terminals")?);
     let key = "k".repeat(alloc, 1_000_000)?;
     let document = format!(in alloc; "{key} = 1\n")?;
-    let answer = format!(in alloc; "config: unknown key {key}")?;
+    let answer = format!(in alloc; "unknown key {key}")?;
     assert!(rt; is_answer(alloc, &document, &answer)?);
     Ok(())
 }

@@ -1,7 +1,8 @@
-//! Tests of the texts that the libraries read and print: configurations, scripts, and errors.
+//! Tests of the texts that the libraries read and print: inputs, configurations, scripts,
+//! errors, and the names of transmissions.
 //!
-//! All of these texts are this project's own; the settings and events in them are those of the line
-//! procedure (GA27-3004).
+//! All of these texts are this project's own; the transmissions, settings and events in them are
+//! those of the line procedure (GA27-3004).
 #![tactic(auto)]
 
 #[cfg(test)]
@@ -11,14 +12,18 @@ mod documents;
 #[cfg(test)]
 mod errors;
 #[cfg(test)]
-mod keys;
+mod files;
+#[cfg(test)]
+mod growths;
+#[cfg(test)]
+mod inputs;
 #[cfg(test)]
 mod lengths;
 #[cfg(test)]
-mod numbers;
+mod naming;
 #[cfg(test)]
 mod refusals;
 #[cfg(test)]
 mod scripts;
 #[cfg(test)]
-mod values;
+mod sizes;

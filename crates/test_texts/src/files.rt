@@ -17,11 +17,7 @@ struct Machine {
 
 /// The octet at this place of a text.
 fn octet_at(place: usize) -> u8 {
-    match place % 3 {
-        0 => b'a',
-        1 => b'\n',
-        _ => 0,
-    }
+    (place % 251) as u8
 }
 
 impl Files for Machine {
@@ -37,13 +33,19 @@ impl Files for Machine {
     }
 }
 
-/// A machine that gives this answer.
-fn answering(alloc: Global, answer: Result<usize, InputError>) -> Machine {
-    Machine {
+/// The text at a path, if each file has this answer, and how many files were read.
+fn text_at(
+    alloc: Global,
+    path: &str,
+    answer: Result<usize, InputError>,
+) -> (Result<Vec<u8>, TextError>, usize) {
+    let mut files = Machine {
         alloc,
         answer,
         reads: 0,
-    }
+    };
+    let text = read_text(alloc, path, &mut b"ab\ncd".as_slice(), &mut files);
+    (text, files.reads)
 }
 
 /// Whether these are the octets of a text of this length.
@@ -58,10 +60,18 @@ fn is_text(text: &[u8], length: usize) -> bool {
 
 /// Whether the text of a file with this many octets is read whole, with one read.
 fn is_read_whole(alloc: Global, length: usize) -> bool {
-    let mut files = answering(alloc, Ok(length));
-    let mut input = b"input".as_slice();
-    match read_text(alloc, PATH, &mut input, &mut files) {
-        Ok(text) => is_text(&text, length) && files.reads == 1 && input == b"input".as_slice(),
+    let (text, reads) = text_at(alloc, PATH, Ok(length));
+    match text {
+        Ok(text) => is_text(&text, length) && reads == 1,
+        Err(_) => false,
+    }
+}
+
+/// Whether standard input is read whole, and no file.
+fn is_input_read(alloc: Global) -> bool {
+    let (text, reads) = text_at(alloc, STANDARD_INPUT, Ok(1));
+    match text {
+        Ok(text) => text.as_slice() == b"ab\ncd".as_slice() && reads == 0,
         Err(_) => false,
     }
 }
@@ -70,17 +80,18 @@ fn is_read_whole(alloc: Global, length: usize) -> bool {
 const LENGTHS: &[usize] = &[0, 1, 4_096, 4_097, 65_537, MAX_INPUT];
 
 #[test]
-fn texts_of_files_are_read_whole(rt: HostRuntime) {
+fn texts_of_files_and_of_standard_input_are_read_whole(rt: HostRuntime) {
     for length in LENGTHS {
         assert!(rt; is_read_whole(rt.alloc(), *length), "{length}");
     }
+    assert!(rt; is_input_read(rt.alloc()));
 }
 
 /// Whether what is told of a file that cannot be read is its path and this reason, or one of its
 /// own if the file is too long or there is no memory for it.
 fn is_told(alloc: Global, error: InputError) -> bool {
-    let mut files = answering(alloc, Err(error));
-    match read_text(alloc, PATH, &mut b"".as_slice(), &mut files) {
+    let (text, _) = text_at(alloc, PATH, Err(error));
+    match text {
         Err(TextError::CannotRead { path, why }) => {
             path.as_str() == PATH && error == InputError::Device { why }
         }
@@ -108,19 +119,4 @@ fn why_a_file_cannot_be_read(rt: HostRuntime) {
     }
     assert!(rt; is_told(rt.alloc(), InputError::TooLong));
     assert!(rt; is_told(rt.alloc(), InputError::Memory));
-}
-
-/// Whether standard input is read whole, and no file.
-fn is_input_read(alloc: Global) -> bool {
-    let mut files = answering(alloc, Ok(1));
-    let mut input = b"ab\ncd".as_slice();
-    match read_text(alloc, STANDARD_INPUT, &mut input, &mut files) {
-        Ok(text) => text.as_slice() == b"ab\ncd".as_slice() && files.reads == 0,
-        Err(_) => false,
-    }
-}
-
-#[test]
-fn standard_input_is_read_for_a_dash(rt: HostRuntime) {
-    assert!(rt; is_input_read(rt.alloc()));
 }

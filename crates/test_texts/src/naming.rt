@@ -1,11 +1,10 @@
 //! The names of transmissions, of lines and of traces.
 
+use crate::inputs::Broken;
 use bsc_naming::{NamingError, name, names, show};
 use std::alloc::{Allocator, Global};
-use std::io;
-use std::io::{Error, ErrorKind, Read, Write};
+use std::io::{ErrorKind, Write};
 use std::ops::Range;
-use std::test::Fail;
 use test_fixtures::Full;
 
 /// A call that prints names.
@@ -55,52 +54,22 @@ fn first_wrong(alloc: Global, call: Call, rows: &[Row]) -> Option<usize> {
     None
 }
 
-/// Transmissions with their names, and text that is not hexadecimal: another character, an odd
-/// number of digits, a letter after F.
+/// Transmissions with their names, and text that is not hexadecimal.
 const NAMED: &[Row] = &[
-    ("16 16 10 B0 FF", "ACK0\n", None),
     ("161610b0ff", "ACK0\n", None),
-    ("16 16 10 31 FF", "ACK1\n", None),
-    ("16 16 10 30 FF", "NOISE\n", None),
+    ("16 16 10 B0 FF", "ACK0\n", None),
     ("", "NOISE\n", None),
-    ("16 16 04 FF", "EOT\n", None),
-    ("16 04", "EOT\n", None),
-    ("16 16 85 FF", "ENQ\n", None),
-    ("16 16 15 FF", "NAK\n", None),
-    ("16 16 10 3B FF", "WACK\n", None),
-    ("16 16 10 BC FF", "RVI\n", None),
     ("16 16 04 FF 16 16 C1 85 FF", "CALL A\n", None),
-    (
-        "16 16 04 FF 16 16 C1 C2 43 C4 45 46 C7 85 FF",
-        "CALL ABCDEFG\n",
-        None,
-    ),
-    (
-        "16 16 04 FF 16 16 C1 C2 43 C4 45 46 C7 C8 85 FF",
-        "NOISE\n",
-        None,
-    ),
-    ("16 16 04 FF 16 16 85 FF", "NOISE\n", None),
     ("16 16 02 C8 49 19 83 9B FF", "TEXT ETX 1\n", None),
-    ("16 16 02 C8 49 19 83 9A FF", "FAILED\n", None),
     ("16 16 02 85 FF", "FAILED\n", None),
-    (
-        "16 16 02 19 1F 86 19 1F 86 19 1F 86 19 1F 86 19 1F 86 19 1F 86 19 97 0E FF",
-        "TEXT ETB 7\n",
-        None,
-    ),
     ("zz", "", Some(NamingError::NotHexadecimal)),
-    ("1", "", Some(NamingError::NotHexadecimal)),
     ("16 1", "", Some(NamingError::NotHexadecimal)),
-    ("1g", "", Some(NamingError::NotHexadecimal)),
-    ("16\t04", "", Some(NamingError::NotHexadecimal)),
     ("é0", "", Some(NamingError::NotHexadecimal)),
 ];
 
 #[test]
-fn worked_transmissions(rt: HostRuntime) -> Result<(), Fail> {
+fn worked_transmissions(rt: HostRuntime) {
     assert_eq!(rt; first_wrong(rt.alloc(), Call::Name, NAMED), None);
-    Ok(())
 }
 
 /// The error in line 4.
@@ -116,25 +85,21 @@ const LINES: &[Row] = &[
         None,
     ),
     ("16 04\n\n   \n16 0\n16 10 B0\n", "EOT\n", WRONG),
-    ("16 04\n\r\n \r\nzz", "EOT\n", WRONG),
     ("16 04\n\n\n16 04\r\r\n", "EOT\n", WRONG),
 ];
 
 #[test]
-fn names_of_standard_input(rt: HostRuntime) -> Result<(), Fail> {
+fn names_of_standard_input(rt: HostRuntime) {
     assert_eq!(rt; first_wrong(rt.alloc(), Call::Names, LINES), None);
-    Ok(())
 }
 
 /// A trace that `station` wrote, and a line of hexadecimal text in between, which is read as such.
 const TRACE: &str = "+1 control heard CALL A 161604ff1616c185ff
 +3 terminal 0 sent TEXT ETX 1 161602c84919839bff
 +3000 silence
-+3050 connection 0 joined
 16 16 10 B0 FF
 
 +3100 connection 0 closed: the input ended within a record
-+3200 connection 0 closed
 +
 + \n";
 
@@ -143,10 +108,8 @@ const SHOWN_TRACE: &str = "+1 control heard CALL A
 +3 terminal 0 sent TEXT ETX 1
 unit 4849 EM
 +3000 silence
-+3050 connection 0 joined
 ACK0
 +3100 connection 0 closed: the input ended within a record
-+3200 connection 0 closed
 +
 + \n";
 
@@ -156,11 +119,7 @@ const NAMED_TRACE: &[Row] = &[(TRACE, "CALL A\nTEXT ETX 1\nACK0\n", None)];
 /// The units of texts, some without characters and some without EM. In traces, a line without the
 /// sign is still read as hexadecimal text.
 const SHOWN: &[Row] = &[
-    (
-        "16 16 02 C8 49 19 1F 07 19 83 1A FF",
-        "TEXT ETX 2\nunit 4849 EM\nunit - EM\n",
-        None,
-    ),
+    ("16 16 02 C8 49 19 1F 07 19 83 1A FF", "TEXT ETX 2\nunit 4849 EM\nunit - EM\n", None),
     (
         "16 04\n16 16 02 C8 49 83 02 FF\n16 16 02 83 83 FF\n1616 02 85",
         "EOT\nTEXT ETX 1\nunit 4849\nTEXT ETX 1\nunit -\nFAILED\n",
@@ -175,10 +134,9 @@ const SHOWN: &[Row] = &[
 ];
 
 #[test]
-fn units_of_texts_and_traces(rt: HostRuntime) -> Result<(), Fail> {
+fn units_of_texts_and_traces(rt: HostRuntime) {
     assert_eq!(rt; first_wrong(rt.alloc(), Call::Show, SHOWN), None);
     assert_eq!(rt; first_wrong(rt.alloc(), Call::Names, NAMED_TRACE), None);
-    Ok(())
 }
 
 /// The first of these numbers of successful writes after which a failing one is not reported.
@@ -193,26 +151,10 @@ fn first_untold(alloc: Global, call: Call, input: &str, writes: Range<usize>) ->
 
 /// A write fails at each place of the output.
 #[test]
-fn failing_write(rt: HostRuntime) -> Result<(), Fail> {
+fn failing_write(rt: HostRuntime) {
     let input = "16 04\n16 16 02 C8 49 19 83 9B FF\nzz";
     assert_eq!(rt; first_untold(rt.alloc(), Call::Show, input, 0..8), None);
     assert_eq!(rt; first_untold(rt.alloc(), Call::Name, "16 04", 1..2), None);
-    Ok(())
-}
-
-/// Gives this text, and then fails.
-#[derive(Drop)]
-struct Broken {
-    text: &'static [u8],
-}
-
-impl Read for Broken {
-    fn read(&mut self, buffer: &mut [u8]) -> io::Result<usize> {
-        if self.text.is_empty() {
-            return Err(Error::from(ErrorKind::Interrupted));
-        }
-        self.text.read(buffer)
-    }
 }
 
 /// Two lines, and a part of a third. One of these parts is a line by itself.
@@ -224,12 +166,12 @@ const BROKEN: &[&[u8]] = &[
 
 /// The lines before a read that fails are printed, and the part of a line is not.
 #[test]
-fn failing_read(rt: HostRuntime) -> Result<(), Fail> {
+fn failing_read(rt: HostRuntime) {
     for text in BROKEN {
         let mut out = Vec::new(rt.alloc());
-        let answer = names(rt.alloc(), &mut Broken { text: *text }, &mut out);
+        let kind = Some(ErrorKind::Interrupted);
+        let answer = names(rt.alloc(), &mut Broken { text: *text, kind }, &mut out);
         assert!(rt; answer == Err(NamingError::Input));
         assert!(rt; out.as_slice() == b"EOT\nNOISE\n".as_slice());
     }
-    Ok(())
 }

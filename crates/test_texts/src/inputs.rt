@@ -1,8 +1,7 @@
 //! Properties of inputs that no contract states: calls that succeed, streams that fail, and refused
 //! growths.
 use bsc_input::{
-    InputError, LineEnd, MAX_INPUT, Unreadable, is_blank, read_input, read_line, read_octets,
-    split_at_first, split_line, without_return,
+    InputError, LineEnd, MAX_INPUT, Unreadable, read_input, read_line, read_octets,
 };
 use std::alloc::{AllocError, Global};
 use std::io;
@@ -31,9 +30,9 @@ impl Read for Drip {
 
 /// Returns the text in one read, fails once with an error of this kind, and then ends.
 #[derive(Drop)]
-struct Broken {
-    text: &'static [u8],
-    kind: Option<ErrorKind>,
+pub(crate) struct Broken {
+    pub(crate) text: &'static [u8],
+    pub(crate) kind: Option<ErrorKind>,
 }
 
 impl Read for Broken {
@@ -46,22 +45,6 @@ impl Read for Broken {
             None => Ok(0),
         }
     }
-}
-
-// Whether the first line of the text is `ab cd`, and the rest `e`.
-fn is_divided(text: &[u8]) -> bool {
-    let (line, rest) = split_line(text);
-    let (word, last) = split_at_first(without_return(line), b' ');
-    !is_blank(word)
-        && word == b"ab".as_slice()
-        && last == Some(b"cd".as_slice())
-        && rest == Some(b"e".as_slice())
-}
-
-/// A line ends before its carriage return, and a word before a space.
-#[test]
-fn parts_of_a_text(rt: HostRuntime) {
-    assert!(rt; is_divided(b"ab cd\r\ne"));
 }
 
 // Whether a stream of this many octets, one in each read, is read whole in one read more, or is too
@@ -88,17 +71,12 @@ fn is_line_read_whole(left: usize, alloc: Global) -> bool {
     }
 }
 
-/// An input of the greatest length with one octet in each read, and a longer one.
+/// An input and a line of the greatest length with one octet in each read, and longer ones.
 #[test]
 fn one_octet_a_read(rt: HostRuntime) {
     assert!(rt; MAX_INPUT == 1_048_576);
     assert!(rt; is_read_whole(MAX_INPUT, rt.alloc()));
     assert!(rt; is_read_whole(MAX_INPUT + 1, rt.alloc()));
-}
-
-/// A line of the greatest length with one octet in each read, and a longer one.
-#[test]
-fn a_line_of_the_greatest_length(rt: HostRuntime) {
     assert!(rt; is_line_read_whole(MAX_INPUT, rt.alloc()));
     assert!(rt; is_line_read_whole(MAX_INPUT + 1, rt.alloc()));
 }
@@ -110,22 +88,14 @@ const REASONS: &[(ErrorKind, Unreadable)] = &[
     (ErrorKind::PermissionDenied, Unreadable::PermissionDenied),
 ];
 
-// Whether this is the error of an input of which a read fails after good ones with an error of this
-// kind.
-fn is_input_error(kind: ErrorKind, error: InputError, alloc: Global) -> bool {
+// Whether this is the error of an input and of a line of which a read fails after good ones with an
+// error of this kind.
+fn is_error(kind: ErrorKind, error: InputError, alloc: Global) -> bool {
     let mut broken = Broken {
         text: b"16 04\n",
         kind: Some(kind),
     };
-    match read_input(alloc, &mut broken) {
-        Ok(_) => false,
-        Err(other) => other == error,
-    }
-}
-
-// Whether this is the error of a line of which a read fails after a good line with an error of this
-// kind.
-fn is_line_error(kind: ErrorKind, error: InputError, alloc: Global) -> bool {
+    let is_input_error = read_input(alloc, &mut broken).err() == Some(error);
     let broken = Broken {
         text: b"16 04\n16",
         kind: Some(kind),
@@ -134,7 +104,8 @@ fn is_line_error(kind: ErrorKind, error: InputError, alloc: Global) -> bool {
         return false;
     };
     let mut line = Vec::new(alloc);
-    read_line(&mut reader, &mut line) == Ok(LineEnd::LineFeed)
+    is_input_error
+        && read_line(&mut reader, &mut line) == Ok(LineEnd::LineFeed)
         && read_line(&mut reader, &mut line) == Err(error)
 }
 
@@ -143,8 +114,7 @@ fn is_line_error(kind: ErrorKind, error: InputError, alloc: Global) -> bool {
 fn why_a_read_failed(rt: HostRuntime) {
     for (kind, why) in REASONS {
         let error = InputError::Device { why: *why };
-        assert!(rt; is_input_error(*kind, error, rt.alloc()), "{error}");
-        assert!(rt; is_line_error(*kind, error, rt.alloc()), "{error}");
+        assert!(rt; is_error(*kind, error, rt.alloc()), "{error}");
     }
 }
 
@@ -161,42 +131,18 @@ fn is_read_or_refused(alloc: &Refusing) -> bool {
     }
 }
 
-/// Each growth for an input is refused in turn, with one octet in each read.
-#[test]
-fn each_growth_of_an_input(rt: HostRuntime) -> Result<(), Fail> {
-    let alloc = Refusing::new(rt.alloc());
-    for request in alloc.in_turn(Refusal::Nth, 4..19) {
-        let number = request?;
-        assert!(rt; is_read_or_refused(&alloc), "{number}");
-    }
-    Ok(())
-}
-
 /// Hexadecimal text, with spaces anywhere and letters of both cases.
 const HEXADECIMAL: &[u8] = b"1616 10 b0 fF  1 6 1610B0FF";
 
-/// Its octets.
-const OCTETS: &[u8] = &[0x16, 0x16, 0x10, 0xb0, 0xff, 0x16, 0x16, 0x10, 0xb0, 0xff];
-
 // Whether the result is out of memory if this allocator refused something, and the octets
 // otherwise.
-fn are_octets_or_refused(alloc: &Refusing, text: &[u8]) -> bool {
-    match read_octets(alloc, text) {
-        Ok(Some(octets)) => alloc.refused() == 0 && octets.as_slice() == OCTETS,
+fn are_octets_or_refused(alloc: &Refusing) -> bool {
+    let expected = b"\x16\x16\x10\xb0\xff\x16\x16\x10\xb0\xff".as_slice();
+    match read_octets(alloc, HEXADECIMAL) {
+        Ok(Some(octets)) => alloc.refused() == 0 && octets.as_slice() == expected,
         Ok(None) => false,
         Err(AllocError) => alloc.refused() > 0,
     }
-}
-
-/// Each growth for octets is refused in turn; the result is out of memory, without octets.
-#[test]
-fn each_growth_of_octets(rt: HostRuntime) -> Result<(), Fail> {
-    let alloc = Refusing::new(rt.alloc());
-    for request in alloc.in_turn(Refusal::Nth, 2..19) {
-        let number = request?;
-        assert!(rt; are_octets_or_refused(&alloc, HEXADECIMAL), "{number}");
-    }
-    Ok(())
 }
 
 // Whether the result is out of memory if this allocator refused something, and a line otherwise.
@@ -215,10 +161,19 @@ fn is_line_or_refused(global: Global, alloc: &Refusing) -> bool {
     }
 }
 
-/// Each growth for a line is refused in turn, with one octet in each read.
+/// Each growth for an input, for octets and for a line is refused in turn; the result is out of
+/// memory.
 #[test]
-fn each_growth_of_a_line(rt: HostRuntime) -> Result<(), Fail> {
+fn each_growth_of_an_input_of_octets_and_of_a_line(rt: HostRuntime) -> Result<(), Fail> {
     let alloc = Refusing::new(rt.alloc());
+    for request in alloc.in_turn(Refusal::Nth, 4..19) {
+        let number = request?;
+        assert!(rt; is_read_or_refused(&alloc), "{number}");
+    }
+    for request in alloc.in_turn(Refusal::Nth, 2..19) {
+        let number = request?;
+        assert!(rt; are_octets_or_refused(&alloc), "{number}");
+    }
     for request in alloc.in_turn(Refusal::Nth, 4..19) {
         let number = request?;
         assert!(rt; is_line_or_refused(rt.alloc(), &alloc), "{number}");
