@@ -4,91 +4,33 @@ use bsc_asked::ChartWords;
 use bsc_chart::{ChartError, draw};
 use std::alloc::{AllocError, Global};
 
-/// A trace, how it is drawn, and the ladder.
-type Row = (&'static str, Asked, &'static str);
+/// A trace, the words with which it is drawn, and the ladder.
+type Row = (&'static str, &'static str, &'static str);
 
-/// The words, of which each is as it is given.
-#[derive(Clone, Copy)]
-pub(crate) struct Asked {
-    pub(crate) text: bool,
-    pub(crate) svg: bool,
-    pub(crate) html: bool,
-    pub(crate) ascii: bool,
-    pub(crate) width: Option<&'static str>,
-    pub(crate) from: Option<&'static str>,
-    pub(crate) to: Option<&'static str>,
-
-    /// The width that is told of the terminal.
-    pub(crate) columns: Option<&'static str>,
+/// The value after this name and before a space, if the name is there.
+fn value_of(alloc: Global, asked: &str, name: &str) -> Result<Option<String>, AllocError> {
+    let Some((_, rest)) = asked.split_once(name) else {
+        return Ok(None);
+    };
+    let value = match rest.split_once(' ') {
+        Some((value, _)) => value,
+        None => rest,
+    };
+    Ok(Some(String::from_str(alloc, value)?))
 }
 
-/// In box-drawing characters, of the width that is taken if none is given.
-pub(crate) const BOXES: Asked = Asked {
-    text: false,
-    svg: false,
-    html: false,
-    ascii: false,
-    width: None,
-    from: None,
-    to: None,
-    columns: None,
-};
-
-/// In ASCII characters.
-pub(crate) const ASCII: Asked = Asked {
-    text: true,
-    svg: false,
-    html: false,
-    ascii: true,
-    width: None,
-    from: None,
-    to: None,
-    columns: None,
-};
-
-/// In ASCII characters, and as narrow as can be.
-const NARROW: Asked = Asked {
-    text: false,
-    svg: false,
-    html: false,
-    ascii: true,
-    width: Some("40"),
-    from: None,
-    to: None,
-    columns: None,
-};
-
-/// In ASCII characters, the fifth line and the sixth.
-const PART: Asked = Asked {
-    text: false,
-    svg: false,
-    html: false,
-    ascii: true,
-    width: None,
-    from: Some("5"),
-    to: Some("6"),
-    columns: None,
-};
-
-/// Returns an owned word.
-fn word(alloc: Global, text: Option<&str>) -> Result<Option<String>, AllocError> {
-    match text {
-        Some(text) => Ok(Some(String::from_str(alloc, text)?)),
-        None => Ok(None),
-    }
-}
-
-/// Returns the words.
-pub(crate) fn words_of(alloc: Global, asked: Asked) -> Result<ChartWords, AllocError> {
+/// The words that are asked for: `text`, `svg`, `html`, `ascii`, `width=`, `from=` and `to=`. If
+/// there are none, a text in box-drawing characters is drawn.
+pub(crate) fn words_of(alloc: Global, asked: &str) -> Result<ChartWords, AllocError> {
     Ok(ChartWords {
         file: None,
-        text: asked.text,
-        svg: asked.svg,
-        html: asked.html,
-        ascii: asked.ascii,
-        width: word(alloc, asked.width)?,
-        from: word(alloc, asked.from)?,
-        to: word(alloc, asked.to)?,
+        text: asked.contains("text"),
+        svg: asked.contains("svg"),
+        html: asked.contains("html"),
+        ascii: asked.contains("ascii"),
+        width: value_of(alloc, asked, "width=")?,
+        from: value_of(alloc, asked, "from=")?,
+        to: value_of(alloc, asked, "to=")?,
     })
 }
 
@@ -217,40 +159,36 @@ const PART_DRAWN: &str = "    time control
        6 |                  |   ~ the doubt from 1 begins
 ";
 
-/// The addresses of the third station only.
-const LATE_NAME: &str = "+0 terminal 2 is C, selected as c\n";
-
-const LATE_NAME_DRAWN: &str = "    time control            0   1
-       0 |                  |   |   2 C, selected as c
-";
-
 /// Ladders.
 const DRAWN: &[Row] = &[
-    (FATES, ASCII, IN_ASCII),
-    (FATES, BOXES, IN_BOXES),
-    (LONG, NARROW, LONG_CUT),
-    (LONG, ASCII, LONG_WHOLE),
-    (MANY, ASCII, MANY_DRAWN),
-    (MARKS, ASCII, MARKS_DRAWN),
-    (LATE_NAME, ASCII, LATE_NAME_DRAWN),
-    (MARKS, PART, PART_DRAWN),
-    ("", BOXES, ""),
-    ("\n \r\n", BOXES, ""),
+    (FATES, "text ascii", IN_ASCII),
+    (FATES, "", IN_BOXES),
+    (LONG, "ascii width=40", LONG_CUT),
+    (LONG, "ascii", LONG_WHOLE),
+    (MANY, "ascii", MANY_DRAWN),
+    (MARKS, "ascii", MARKS_DRAWN),
+    (MARKS, "ascii from=5 to=6", PART_DRAWN),
+    ("\n \r\n", "", ""),
 ];
 
-/// Draws a trace, and returns the answer.
+/// Draws a trace, on a terminal whose width is told by `columns=`, and returns the answer.
 pub(crate) fn drawn(
     alloc: Global,
     trace: &str,
-    asked: Asked,
+    asked: &str,
     out: &mut Vec<u8>,
 ) -> Result<(), ChartError> {
     let words = words_of(alloc, asked)?;
-    draw(alloc, &words, asked.columns, &mut trace.as_bytes(), out)
+    let told = value_of(alloc, asked, "columns=")?;
+    let columns = match &told {
+        Some(columns) => Some(columns.as_str()),
+        None => None,
+    };
+    draw(alloc, &words, columns, &mut trace.as_bytes(), out)
 }
 
 /// Whether this ladder is drawn of a trace.
-fn is_drawn(alloc: Global, trace: &str, asked: Asked, ladder: &str) -> bool {
+fn is_drawn(alloc: Global, trace: &str, asked: &str, ladder: &str) -> bool {
     let mut out = Vec::new(alloc);
     let answer = drawn(alloc, trace, asked, &mut out);
     answer.is_ok() && out.as_slice() == ladder.as_bytes()
@@ -259,6 +197,6 @@ fn is_drawn(alloc: Global, trace: &str, asked: Asked, ladder: &str) -> bool {
 #[test]
 fn traces_are_drawn(rt: HostRuntime) {
     for (trace, asked, ladder) in DRAWN {
-        assert!(rt; is_drawn(rt.alloc(), trace, *asked, ladder), "{ladder}");
+        assert!(rt; is_drawn(rt.alloc(), trace, asked, ladder), "{ladder}");
     }
 }

@@ -1,19 +1,10 @@
 //! Pictures and pages: what is written for names, records and addresses, the tables of a summary,
 //! and the bound of arrows.
 
-use crate::ladders::{Asked, BOXES, drawn};
+use crate::ladders::drawn;
 use bsc_chart::{ChartError, MAX_ARROWS};
 use std::alloc::Global;
 use std::test::Fail;
-
-/// As a picture.
-pub(crate) const SVG: Asked = Asked { svg: true, ..BOXES };
-
-/// As a page.
-pub(crate) const HTML: Asked = Asked {
-    html: true,
-    ..BOXES
-};
 
 /// What a trace tells with characters that have a meaning in a document, and with control codes.
 const MEANT: &str = "+1 control heard CALL < 161604ff1616bc85ff\n+2 <b> & \"q\" 'r' \x1b[m\n";
@@ -55,34 +46,10 @@ const STATION_LINES: &[&str] = &[
     "<th scope=\"row\">silences</th><td>3000</td><td>30.0%</td></tr>\n",
 ];
 
-/// What a run tells of two terminals, with addresses that have a meaning in a document.
-const RUN: &str = "+0 terminal 0 is <, selected as &.
-+0 terminal 1 is B, selected as b.
-+1 control lost at 0 CALL B 161604ff1616c285ff
-+1 control heard at 1 CALL B 161604ff1616c285ff
-+2 terminal 1 turned NAK 161615ff
-+3 terminal 1 heard TEXT ETX 2 161602c849191f0719831aff
-+3 arrived from 1: |HI|
-+3 arrived from 1: ||
-+4 arrived to 1.0: |BYE|
-+5 silence
-";
-
-/// The lines of the tables of its page.
-const RUN_LINES: &[&str] = &[
-    "<th scope=\"row\">CALL</th><td>2</td><td>1</td><td></td><td></td></tr>\n",
-    "<th scope=\"row\">NAK</th><td>1</td><td></td><td></td><td>1</td></tr>\n",
-    "<th scope=\"row\">all</th><td>4</td><td>1</td><td></td><td>1</td></tr>\n",
-    "<th scope=\"row\">control</th><td class=\"text\"></td><td>2</td><td>2</td></tr>\n",
-    "<td class=\"text\">&lt;, selected as &amp;.</td><td></td><td></td></tr>\n",
-    "<td class=\"text\">B, selected as b.</td><td>2</td><td>1</td></tr>\n",
-];
-
 /// Traces, and texts that their pictures and pages have.
-const TEXTS: &[(&str, Asked, &[&str])] = &[
-    (MEANT, SVG, MEANT_TEXTS),
-    (STATION, HTML, STATION_LINES),
-    (RUN, HTML, RUN_LINES),
+const TEXTS: &[(&str, &str, &[&str])] = &[
+    (MEANT, "svg", MEANT_TEXTS),
+    (STATION, "html", STATION_LINES),
 ];
 
 /// Whether all of the texts are in the octets.
@@ -99,7 +66,7 @@ fn has_all(octets: &[u8], texts: &[&str]) -> bool {
 }
 
 /// Whether a trace is drawn with all of these texts.
-fn is_drawn_with(alloc: Global, trace: &str, asked: Asked, texts: &[&str]) -> bool {
+fn is_drawn_with(alloc: Global, trace: &str, asked: &str, texts: &[&str]) -> bool {
     let mut out = Vec::new(alloc);
     drawn(alloc, trace, asked, &mut out).is_ok() && has_all(&out, texts)
 }
@@ -107,28 +74,22 @@ fn is_drawn_with(alloc: Global, trace: &str, asked: Asked, texts: &[&str]) -> bo
 #[test]
 fn pictures_and_pages_have_their_texts(rt: HostRuntime) {
     for (trace, asked, texts) in TEXTS {
-        assert!(rt; is_drawn_with(rt.alloc(), trace, *asked, texts), "{trace}");
+        assert!(rt; is_drawn_with(rt.alloc(), trace, asked, texts), "{trace}");
     }
 }
 
 /// Draws a picture of this many arrows.
-fn drawn_arrows(alloc: Global, count: usize, asked: Asked) -> Result<(), ChartError> {
+fn drawn_arrows(alloc: Global, count: usize, asked: &str) -> Result<(), ChartError> {
     let trace = "+1 control sent EOT 161604ff\n".repeat(alloc, count)?;
     drawn(alloc, &trace, asked, &mut Vec::new(alloc))
 }
 
-/// From the second line on.
-const PART: Asked = Asked {
-    from: Some("2"),
-    ..SVG
-};
-
 /// 5,000 arrows are drawn and one more is refused, unless it is out of the range.
 #[test]
 fn arrows_at_their_bound(rt: HostRuntime) -> Result<(), Fail> {
-    assert!(rt; drawn_arrows(rt.alloc(), MAX_ARROWS, SVG).is_ok());
-    assert!(rt; drawn_arrows(rt.alloc(), MAX_ARROWS + 1, PART).is_ok());
-    let more = drawn_arrows(rt.alloc(), MAX_ARROWS + 1, HTML);
+    assert!(rt; drawn_arrows(rt.alloc(), MAX_ARROWS, "svg").is_ok());
+    assert!(rt; drawn_arrows(rt.alloc(), MAX_ARROWS + 1, "svg from=2").is_ok());
+    let more = drawn_arrows(rt.alloc(), MAX_ARROWS + 1, "html");
     assert!(rt; matches!(more, Err(ChartError::TooMany)));
     Ok(())
 }

@@ -1,14 +1,13 @@
 //! Large traces: the longest lines, and the most rows.
 
-use crate::ladders::{Asked, BOXES, drawn};
-use crate::pictures::{HTML, SVG};
+use crate::ladders::drawn;
 use bsc_chart::ChartError;
 use bsc_input::MAX_INPUT;
 use std::alloc::{AllocError, Global};
 use std::test::Fail;
 
 /// The forms.
-const FORMS: &[Asked] = &[BOXES, SVG, HTML];
+const FORMS: &[&str] = &["", "svg", "html"];
 
 /// Returns the longest line, with digits after this.
 fn longest(alloc: Global, front: &str) -> Result<String, AllocError> {
@@ -18,7 +17,7 @@ fn longest(alloc: Global, front: &str) -> Result<String, AllocError> {
 }
 
 /// Whether a line is drawn; if not, whether it is too long.
-fn is_drawn(alloc: Global, line: &str, asked: Asked) -> Result<bool, ChartError> {
+fn is_drawn(alloc: Global, line: &str, asked: &str) -> Result<bool, ChartError> {
     match drawn(alloc, line, asked, &mut Vec::new(alloc)) {
         Ok(()) => Ok(true),
         Err(ChartError::TooLongAt { line: 1 } | ChartError::TooMany) => Ok(false),
@@ -34,9 +33,9 @@ fn the_longest_lines_are_drawn(rt: HostRuntime) -> Result<(), Fail> {
     let told = longest(rt.alloc(), "+0 not ")?;
     let longer = format!(in rt.alloc(); "{told}99")?;
     for asked in FORMS {
-        assert!(rt; is_drawn(rt.alloc(), &sent, *asked)?);
-        assert!(rt; is_drawn(rt.alloc(), &told, *asked)?);
-        assert!(rt; !is_drawn(rt.alloc(), &longer, *asked)?);
+        assert!(rt; is_drawn(rt.alloc(), &sent, asked)?);
+        assert!(rt; is_drawn(rt.alloc(), &told, asked)?);
+        assert!(rt; !is_drawn(rt.alloc(), &longer, asked)?);
     }
     Ok(())
 }
@@ -49,7 +48,7 @@ fn a_picture_may_have_20000_rows(rt: HostRuntime) -> Result<(), Fail> {
     for line in KEPT {
         let most = line.repeat(rt.alloc(), 20_000)?;
         let more = line.repeat(rt.alloc(), 20_001)?;
-        assert!(rt; is_drawn(rt.alloc(), &most, SVG)? && !is_drawn(rt.alloc(), &more, SVG)?);
+        assert!(rt; is_drawn(rt.alloc(), &most, "svg")? && !is_drawn(rt.alloc(), &more, "svg")?);
     }
     Ok(())
 }
