@@ -6,8 +6,6 @@
 #![tactic(auto)]
 
 #[cfg(test)]
-mod configurations;
-#[cfg(test)]
 mod documents;
 #[cfg(test)]
 mod errors;
