@@ -111,13 +111,6 @@ const LONG_WHOLE: &str = "    time control            0   1
 123456789 = a.b.c..
 ";
 
-/// The eleventh station, whose label has two digits.
-const MANY: &str = "+1 terminal 10 sent EOT 1604\n";
-
-const MANY_DRAWN: &str = "    time control            0   1   2   3   4   5   6   7   8   9  10
-       1 (- EOT ------------+---+---+---+---+---+---+---+---+---+---*
-";
-
 /// The addresses of stations, and each mark; texts that are nearly marks.
 const MARKS: &str = "+0 terminal 0 is A, selected as a
 +0 terminal 1 is B, selected as b c
@@ -165,7 +158,6 @@ const DRAWN: &[Row] = &[
     (FATES, "", IN_BOXES),
     (LONG, "ascii width=40", LONG_CUT),
     (LONG, "ascii", LONG_WHOLE),
-    (MANY, "ascii", MANY_DRAWN),
     (MARKS, "ascii", MARKS_DRAWN),
     (MARKS, "ascii from=5 to=6", PART_DRAWN),
     ("\n \r\n", "", ""),

@@ -143,11 +143,13 @@ fn units_have_144_characters_and_transmissions_2048_octets(rt: HostRuntime) -> R
         } else {
             String::from_str(alloc, "FAILED\n")?
         };
-        assert!(rt; is_heard(alloc, &octets_of(alloc, &sent)?, &shown)?, "{count}");
+        let octets = octets_of(alloc, &sent)?;
+        assert!(rt; is_heard(alloc, &octets, &shown)?, "{count}");
     }
     for (count, shown) in [(2047usize, "EOT\n"), (2048, "NOISE\n")] {
         let sent = format!(in alloc; "{}04", "16".repeat(alloc, count)?)?;
-        assert!(rt; is_heard(alloc, &octets_of(alloc, &sent)?, shown)?, "{count}");
+        let octets = octets_of(alloc, &sent)?;
+        assert!(rt; is_heard(alloc, &octets, shown)?, "{count}");
     }
     Ok(())
 }

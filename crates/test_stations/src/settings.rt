@@ -17,7 +17,7 @@ const SETTINGS: &[(u8, u16, u8, u8, Option<SettingError>)] = &[
 fn the_first_wrong_setting_is_told(rt: HostRuntime) {
     for (full, block_chars, tries, waits, why) in SETTINGS {
         let made = Setup::new(*full, *block_chars, *tries, *waits);
-        assert!(rt; made.err() == *why, "{full}, {block_chars}, {tries}, {waits}");
+        assert_eq!(rt; made.err(), *why);
     }
 }
 

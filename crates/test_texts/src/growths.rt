@@ -74,7 +74,7 @@ fn each_growth_is_refused(rt: HostRuntime) -> Result<(), Fail> {
     for row in GROWING {
         let above = Refusal::Above { octets: row.1 };
         for refusal in [Refusal::Nth, Refusal::From, above] {
-            assert!(rt; is_each_due(rt.alloc(), &refusing, refusal, row)?, "{}", row.2);
+            assert!(rt; is_each_due(rt.alloc(), &refusing, refusal, row)?);
         }
     }
     Ok(())

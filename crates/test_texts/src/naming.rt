@@ -119,10 +119,9 @@ const NAMED_TRACE: &[Row] = &[(TRACE, "CALL A\nTEXT ETX 1\nACK0\n", None)];
 /// The units of texts, some without characters and some without EM. In traces, a line without the
 /// sign is still read as hexadecimal text.
 const SHOWN: &[Row] = &[
-    ("16 16 02 C8 49 19 1F 07 19 83 1A FF", "TEXT ETX 2\nunit 4849 EM\nunit - EM\n", None),
     (
-        "16 04\n16 16 02 C8 49 83 02 FF\n16 16 02 83 83 FF\n1616 02 85",
-        "EOT\nTEXT ETX 1\nunit 4849\nTEXT ETX 1\nunit -\nFAILED\n",
+        "16 16 02 C8 49 19 1F 07 19 83 1A FF\n16 16 02 83 83 FF",
+        "TEXT ETX 2\nunit 4849 EM\nunit - EM\nTEXT ETX 1\nunit -\n",
         None,
     ),
     (TRACE, SHOWN_TRACE, None),

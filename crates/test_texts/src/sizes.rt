@@ -39,7 +39,7 @@ fn a_line_may_have_a_mebibyte(rt: HostRuntime) -> Result<(), Fail> {
     let pairs = "16".repeat(alloc, HALF)?;
     for (after, printed, error) in LENGTHS {
         let input = format!(in alloc; "16 04\n{pairs}{after}")?;
-        assert!(rt; is_due(alloc, Call::Names, &input, printed, *error), "{after}");
+        assert!(rt; is_due(alloc, Call::Names, &input, printed, *error));
     }
     for (call, before, count, printed) in WORDS {
         let pairs = "16".repeat(alloc, *count)?;
