@@ -5,7 +5,7 @@ ghost use Rattle.std.specs.Prelude.{◌≡◌};
 use crate::hearing::card;
 use bsc_block::{Format, unpack};
 use bsc_frame::{End, Heard, Message, TextBuffer, decode};
-use bsc_spool::{Next, Queue, Spool};
+use bsc_spool::{Queue, Spool};
 use std::alloc::Allocator;
 use std::test::Fail;
 use test_fixtures::records::are_records;
@@ -68,21 +68,21 @@ fn marks<A: Allocator>(queue: &mut Queue<A>, known: usize) -> bool
 }
 
 /// Whether the step has its result.
-fn goes<A: Allocator>(queue: &mut Queue<A>, (count, chars, next, known): &Step) -> bool
+fn goes<A: Allocator>(queue: &mut Queue<A>, step: &Step) -> bool
     requires { queue.old.format.full ≡ 80 }
     ensures { queue.new.format ≡ queue.old.format }
 {
-    if !are_offered(queue, *count, *chars) {
+    let (count, chars, expected, known) = *step;
+    if !are_offered(queue, count, chars) {
         return false;
     }
-    let is_next = match (queue.next(), next) {
-        (Some(Next { count, end }), Some(expected)) => (count, end) == *expected,
-        (None, None) => true,
-        _ => false,
+    let next = match queue.next() {
+        Some(next) => Some((next.count, next.end)),
+        None => None,
     };
     match known {
-        Some(known) => is_next && marks(queue, *known),
-        None => is_next,
+        Some(known) => next == expected && marks(queue, known),
+        None => next == expected,
     }
 }
 
