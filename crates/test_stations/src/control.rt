@@ -232,10 +232,12 @@ fn acts<A: Allocator>(control: &mut Control<A>, act: &str, object: &str) -> bool
 
 /// Plays a word, and returns whether its result is the expected one.
 fn goes<A: Allocator>(control: &mut Control<A>, word: &str) -> bool {
-    match (word.split_once('>'), word.split_once(':')) {
-        (Some((heard, sent)), _) => sends(control, heard, sent),
-        (None, Some((act, object))) => acts(control, act, object),
-        (None, None) => false,
+    if let Some((heard, sent)) = word.split_once('>') {
+        return sends(control, heard, sent);
+    }
+    match word.split_once(':') {
+        Some((act, object)) => acts(control, act, object),
+        None => false,
     }
 }
 

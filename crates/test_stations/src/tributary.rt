@@ -234,10 +234,12 @@ fn goes<A: Allocator>(tributary: &mut Tributary<A>, word: &str) -> bool
     ensures selects { length tributary.new.terminal.selects ≡ 2 }
     ensures full { tributary.new.queue.format.full ≡ 80 }
 {
-    match (word.split_once('>'), word.split_once(':')) {
-        (Some((heard, sent)), _) => sends(tributary, heard, sent),
-        (None, Some((act, object))) => acts(tributary, act, object),
-        (None, None) => false,
+    if let Some((heard, sent)) = word.split_once('>') {
+        return sends(tributary, heard, sent);
+    }
+    match word.split_once(':') {
+        Some((act, object)) => acts(tributary, act, object),
+        None => false,
     }
 }
 
