@@ -34,7 +34,11 @@ const LAST_PARTS: &[(&str, &str, &str)] = &[
     ("FOUR-73", "THREE73", "addresses 318 and 319 are the same"),
     ("FOUR-73", "FOUR--73", "wrong value of terminals[63].select"),
     ("poll = \"POLL-73\"", "", "missing key terminals[63].poll"),
-    ("poll = \"POLL-73\"", "pole = \"POLL-73\"", "unknown key terminals[63].pole"),
+    (
+        "poll = \"POLL-73\"",
+        "pole = \"POLL-73\"",
+        "unknown key terminals[63].pole",
+    ),
     (", 62]", ", 62, 0]", "poll list entry 255 is wrong"),
 ];
 
