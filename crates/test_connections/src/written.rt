@@ -1,7 +1,7 @@
 //! What is written while the system has no room for it.
 
-use crate::machine::{HasRead, Machine};
-use crate::meeting::{SHORT, Times, Told, begin, bound, peer, peers};
+use crate::machine::Machine;
+use crate::meeting::{SHORT, Times, Untold, begin, bound, peer, peers};
 use bsc_sockets::{Listening, SocketsError};
 use std::alloc::{AllocError, Global};
 use std::io::Write;
@@ -40,23 +40,23 @@ fn writes<R, W: Write>(
     for _ in 0..100_000u32 {
         let count = writing.write(octets.get(written % 251..)?).ok()?;
         written = written.checked_add(count)?;
-        if machine.has_read()?.readings >= 12 {
+        if machine.has_read().0 >= 12 {
             return Some(written);
         }
     }
     None
 }
 
-/// What the far end has read when it has read this many octets.
-fn read_of(machine: &Machine<'_>, count: usize) -> Option<HasRead> {
+/// Whether the far end reads exactly this many octets, and those that it has to read.
+fn is_read(machine: &Machine<'_>, due: usize) -> bool {
     for _ in 0..1_000_000u32 {
         machine.empties();
-        let read = machine.has_read()?;
-        if read.count >= count {
-            return Some(read);
+        let (_, count, is_right) = machine.has_read();
+        if count >= due {
+            return is_right && count == due;
         }
     }
-    None
+    false
 }
 
 /// Writes to the only peer of a station on this machine, as `writes` does.
@@ -68,7 +68,7 @@ fn written_to<N: Net + Clock>(
     octets: &[u8],
 ) -> Result<Option<usize>, SocketsError> {
     let set = PATIENT.settings();
-    let mut begun = begin(own, alloc, listening, peers(1), set, &mut Told::new())?;
+    let mut begun = begin(own, alloc, listening, peers(1), set, &mut Untold)?;
     Ok(writes(machine, &mut begun.connections, octets))
 }
 
@@ -79,11 +79,10 @@ fn what_waits_for_room_is_written_in_order(rt: HostRuntime) -> Result<(), Fail> 
     let far = peer(&rt, address)?;
     far.set_nonblocking(true)?;
     let octets = counting(rt.alloc())?;
-    let machine = Machine::reading(&rt, &far, &octets);
+    let machine = Machine::with_far(&rt, &far, &octets);
     let Some(written) = written_to(&machine, rt.alloc(), listening, &machine, &octets)? else {
         return Err("not written".into());
     };
-    let read = read_of(&machine, written);
-    assert!(rt; read.is_some_and(|read| read.is_right && read.count == written));
+    assert!(rt; is_read(&machine, written));
     Ok(())
 }
