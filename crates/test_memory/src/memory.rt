@@ -23,9 +23,6 @@ pub struct Memory {
 
     /// How many commits succeed yet; then each fails with `Full`.
     pub left: u32,
-
-    /// How many there were.
-    pub commits: u32,
 }
 
 /// Returns the codes of a record, to be kept.
@@ -42,7 +39,6 @@ impl Memory {
             alloc,
             kept: Vec::new(alloc),
             left: u32::MAX,
-            commits: 0,
         }
     }
 
@@ -167,7 +163,6 @@ impl Store for Memory {
             return Err(StoreFault::Full);
         }
         self.left -= 1;
-        self.commits = self.commits.saturating_add(1);
         for change in step {
             if self.keep(self.alloc, change).is_err() {
                 return Err(StoreFault::OutOfMemory);

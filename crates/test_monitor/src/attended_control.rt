@@ -2,7 +2,6 @@
 
 use crate::fakes::{
     Counting, HEXADECIMAL, Scripted, Taking, Told, attend_station, connections, control_watch,
-    trust_of,
 };
 use crate::stations::{control_of, sending_control};
 use bsc_connections::{Connection, LiveError, SocketRecords};
@@ -21,12 +20,46 @@ const TO_CONTROL: &[u8] = b"\x00\x05\x16\x16\x10\xB0\xFF\
 \x00\x04\x16\x16\x04\xFF\
 \x00\x04\x16\x16\x04\xFF";
 
-/// ACK0, and nothing after it.
-const ACK0_ALONE: &[u8] = b"\x00\x05\x16\x16\x10\xB0\xFF";
+/// What a terminal sends that answers the last call with a text, until it has given up: after EOT a
+/// text, ENQ, since it has not heard the answer, the text again, and EOT.
+const TO_LAST_CALL: &[u8] = b"\x00\x04\x16\x16\x04\xFF\
+\x00\x04\x16\x16\x04\xFF\
+\x00\x09\x16\x16\x02\xC8\x49\x19\x83\x9B\xFF\
+\x00\x04\x16\x16\x85\xFF\
+\x00\x09\x16\x16\x02\xC8\x49\x19\x83\x9B\xFF\
+\x00\x04\x16\x16\x04\xFF";
 
-/// The trace of a control station that hears what the terminals send, and nothing from the terminal
-/// with the address B.
-const CONTROL_TRACE: &[u8] = b"+1 silence
+/// How a control station is attended: whether it has the record HI for terminal 0, its trace, its
+/// rounds and its idle rounds, the octets that it reads, and the waits before them: a time-out for
+/// each `t` of the steps, octets to read for each `r`, and that it is asked to end for each `s`.
+/// Then what it prints, with its report, and the end of its trace.
+type Attended = (
+    bool,
+    Tracing,
+    (Option<u64>, u64),
+    &'static [u8],
+    &'static [u8],
+    &'static str,
+    &'static str,
+);
+
+const ATTENDED: &[Attended] = &[
+    // One round: a selection, a bid, a poll that is answered with a text, and four polls without an
+    // answer. A trace of exchanges has all of that too: the call of the last poll stands before the
+    // line that says that a terminal has not answered.
+    (
+        true,
+        Tracing::Exchanges,
+        (Some(1), 9),
+        TO_CONTROL,
+        b"trrrrrrrrttttrr",
+        "from 0: 4849
+from 0: spooled 1
+to 0: offered 1, known 1
+from 1: spooled 0
+to 1: offered 0, known 0
+",
+        "+1 silence
 +2 control sent CALL a 161604ff16166185ff
 +3 connection 0 heard ACK0 161610b0ff
 +4 control sent TEXT ETX 1 161602c84919839bff
@@ -46,29 +79,18 @@ const CONTROL_TRACE: &[u8] = b"+1 silence
 +18 control sent CALL A 161604ff1616c185ff
 +19 terminal 1 has not answered
 +20 connection 0 heard EOT 161604ff
-";
-
-/// The trace of a control station that polls without an answer until it is asked to end, and is
-/// asked again before its last call is answered.
-const STOPPED_TRACE: &[u8] = b"+1 silence
-+2 control sent CALL A 161604ff1616c185ff
-+3 asked to end
-+4 silence
-+5 control sent CALL A 161604ff1616c185ff
-+6 asked to end
-";
-
-/// What a terminal sends that answers the last call with a text, until it has given up: after EOT a
-/// text, ENQ, since it has not heard the answer, the text again, and EOT.
-const TO_LAST_CALL: &[u8] = b"\x00\x04\x16\x16\x04\xFF\
-\x00\x04\x16\x16\x04\xFF\
-\x00\x09\x16\x16\x02\xC8\x49\x19\x83\x9B\xFF\
-\x00\x04\x16\x16\x85\xFF\
-\x00\x09\x16\x16\x02\xC8\x49\x19\x83\x9B\xFF\
-\x00\x04\x16\x16\x04\xFF";
-
-/// The end of the trace of a control station that hears this: it refuses each text, and ENQ.
-const REFUSED_TRACE: &[u8] = b"+6 control sent CALL A 161604ff1616c185ff
+",
+    ),
+    // The last call is answered with a text, which is refused until the terminal gives up. It is
+    // not printed.
+    (
+        false,
+        Tracing::All,
+        (Some(1), 9),
+        TO_LAST_CALL,
+        b"trrrrrrrrrrrr",
+        NOTHING,
+        "+6 control sent CALL A 161604ff1616c185ff
 +7 connection 0 heard TEXT ETX 1 161602c84919839bff
 +8 control sent NAK 161615ff
 +9 connection 0 heard ENQ 161685ff
@@ -76,175 +98,47 @@ const REFUSED_TRACE: &[u8] = b"+6 control sent CALL A 161604ff1616c185ff
 +11 connection 0 heard TEXT ETX 1 161602c84919839bff
 +12 control sent NAK 161615ff
 +13 connection 0 heard EOT 161604ff
-";
-
-/// What terminals send of which one answers the third of its polls with a text: EOT to each other.
-const TO_POLLS: &[u8] = b"\x00\x04\x16\x16\x04\xFF\
-\x00\x04\x16\x16\x04\xFF\
-\x00\x09\x16\x16\x02\xC8\x49\x19\x83\x9B\xFF\
-\x00\x04\x16\x16\x04\xFF\
-\x00\x04\x16\x16\x04\xFF\
-\x00\x04\x16\x16\x04\xFF";
-
-/// The trace of exchanges of the control station that hears this in two rounds: without idle polls.
-const EXCHANGES_TRACE: &[u8] = b"+1 silence
-+6 control sent CALL A 161604ff1616c185ff
-+7 connection 0 heard TEXT ETX 1 161602c84919839bff
-+8 control sent ACK1 16161031ff
-+9 connection 0 heard EOT 161604ff
-";
-
-/// The end of the trace of a control station in doubt.
-const DOUBT_TRACE: &[u8] = b"+29 control sent CALL A 161604ff1616c185ff
-+30 terminal 1 has not answered
-+31 silence
-";
-
-/// How a control station is attended: whether it has the record HI for terminal 0, its limits, the
-/// octets that it reads, and the waits before them: a time-out for each `t` of the steps, octets to
-/// read for each `r`, and that it is asked to end for each `s`. Then what it prints, with its
-/// report, and the end of its trace.
-struct Attended {
-    sends: bool,
-    trace: Tracing,
-    limits: Limits,
-    octets: &'static [u8],
-    steps: &'static [u8],
-    printed: &'static [u8],
-    traced: &'static [u8],
-}
-
-const ATTENDED: &[Attended] = &[
-    // One round: a selection, a bid, a poll that is answered with a text, and four polls without an
-    // answer.
-    Attended {
-        sends: true,
-        trace: Tracing::All,
-        limits: ONE_ROUND,
-        octets: TO_CONTROL,
-        steps: b"trrrrrrrrttttrr",
-        printed: HEARD,
-        traced: CONTROL_TRACE,
-    },
-    // A trace of exchanges has all of that too: the call of the last poll stands before the line
-    // that says that a terminal has not answered.
-    Attended {
-        sends: true,
-        trace: Tracing::Exchanges,
-        limits: ONE_ROUND,
-        octets: TO_CONTROL,
-        steps: b"trrrrrrrrttttrr",
-        printed: HEARD,
-        traced: CONTROL_TRACE,
-    },
-    // It has no idle polls: of four polls in two rounds one is answered by a text, and the poll
-    // after the last round by EOT.
-    Attended {
-        sends: false,
-        trace: Tracing::Exchanges,
-        limits: TWO_ROUNDS,
-        octets: TO_POLLS,
-        steps: b"trrrrrrrrrrrrrr",
-        printed: HEARD_ONLY,
-        traced: EXCHANGES_TRACE,
-    },
-    // The last call is answered with a text, which is refused until the terminal gives up. It is
-    // not printed.
-    Attended {
-        sends: false,
-        trace: Tracing::All,
-        limits: ONE_ROUND,
-        octets: TO_LAST_CALL,
-        steps: b"trrrrrrrrrrrr",
-        printed: NOTHING,
-        traced: REFUSED_TRACE,
-    },
-    // No terminal answers: the record waits, and no round is idle. The connection ends.
-    Attended {
-        sends: true,
-        trace: Tracing::All,
-        limits: ONE_IDLE_ROUND,
-        octets: b"",
-        steps: b"ttttttttttttttttttttttttt",
-        printed: WAITING,
-        traced: b" connection 0 closed\n",
-    },
+",
+    ),
     // The selected terminal answers once: after four failures the record is in doubt. The round is
     // idle, since nothing can be sent any more.
-    Attended {
-        sends: true,
-        trace: Tracing::All,
-        limits: ONE_IDLE_ROUND,
-        octets: ACK0_ALONE,
-        steps: b"trrttttttttttttttttttttttt",
-        printed: IN_DOUBT,
-        traced: DOUBT_TRACE,
-    },
-    // The station is asked to end, and does so at the next silence. It is asked again before its
-    // last call is answered.
-    Attended {
-        sends: false,
-        trace: Tracing::All,
-        limits: NINE_IDLE_ROUNDS,
-        octets: b"",
-        steps: b"tsts",
-        printed: NOTHING,
-        traced: STOPPED_TRACE,
-    },
-];
-
-const ONE_ROUND: Limits = Limits {
-    rounds: Some(1),
-    idle_rounds: 9,
-};
-
-const TWO_ROUNDS: Limits = Limits {
-    rounds: Some(2),
-    idle_rounds: 9,
-};
-
-const ONE_IDLE_ROUND: Limits = Limits {
-    rounds: None,
-    idle_rounds: 1,
-};
-
-const NINE_IDLE_ROUNDS: Limits = Limits {
-    rounds: None,
-    idle_rounds: 9,
-};
-
-/// What is printed if a record arrives from terminal 0 and one at it.
-const HEARD: &[u8] = b"from 0: 4849
-from 0: spooled 1
-to 0: offered 1, known 1
-from 1: spooled 0
-to 1: offered 0, known 0
-";
-
-/// What is printed if one arrives from it.
-const HEARD_ONLY: &[u8] = b"from 0: 4849
-from 0: spooled 1
-to 0: offered 0, known 0
-from 1: spooled 0
-to 1: offered 0, known 0
-";
-
-/// What is printed if the record for it waits.
-const WAITING: &[u8] = b"from 0: spooled 0
-to 0: offered 1, known 0
-from 1: spooled 0
-to 1: offered 0, known 0
-";
-
-/// What is printed if that record is in doubt.
-const IN_DOUBT: &[u8] = b"from 0: spooled 0
+    (
+        true,
+        Tracing::All,
+        (None, 1),
+        b"\x00\x05\x16\x16\x10\xB0\xFF",
+        b"trrttttttttttttttttttttttt",
+        "from 0: spooled 0
 to 0: offered 1, known 0, in doubt
 from 1: spooled 0
 to 1: offered 0, known 0
-";
+",
+        "+29 control sent CALL A 161604ff1616c185ff
++30 terminal 1 has not answered
++31 silence
+",
+    ),
+    // The station is asked to end, and does so at the next silence. It is asked again before its
+    // last call is answered.
+    (
+        false,
+        Tracing::All,
+        (None, 9),
+        b"",
+        b"tsts",
+        NOTHING,
+        "+1 silence
++2 control sent CALL A 161604ff1616c185ff
++3 asked to end
++4 silence
++5 control sent CALL A 161604ff1616c185ff
++6 asked to end
+",
+    ),
+];
 
 /// What is printed if there is no record.
-const NOTHING: &[u8] = b"from 0: spooled 0
+const NOTHING: &str = "from 0: spooled 0
 to 0: offered 0, known 0
 from 1: spooled 0
 to 1: offered 0, known 0
@@ -280,37 +174,32 @@ fn attend_control(
     control: &mut Control<Global>,
     attended: &Attended,
     out: &mut Vec<u8>,
-    trace: &mut Vec<u8>,
+    errors: &mut Vec<u8>,
 ) -> Result<(), LiveError> {
-    let mut connections = connections(alloc, attended.octets)?;
-    let printing = Printing {
-        records: HEXADECIMAL,
-        trace: attended.trace,
+    let (_, trace, (rounds, idle_rounds), octets, steps, _, _) = *attended;
+    let mut connections = connections(alloc, octets)?;
+    let records = HEXADECIMAL;
+    let limits = Limits {
+        rounds,
+        idle_rounds,
     };
-    let settings = (printing, attended.limits, false, trust_of(1_000));
-    let watch = control_watch(alloc, control, settings, out, trace)?;
-    let mut waiter = Scripted {
-        steps: attended.steps,
-    };
-    attend_and_last(control, &mut connections, &mut waiter, watch)
-}
-
-/// Returns the control station that is to be attended.
-fn control_for(alloc: Global, attended: &Attended) -> Result<Box<Control<Global>>, Fail> {
-    if attended.sends {
-        sending_control(alloc)
-    } else {
-        control_of(alloc, TWO_TERMINALS)
-    }
+    let settings = (Printing { records, trace }, limits, 0, 1_000);
+    let watch = control_watch(alloc, control, settings, out, errors)?;
+    attend_and_last(control, &mut connections, &mut Scripted { steps }, watch)
 }
 
 /// Whether a control station that is attended in this way prints what it should.
 fn prints(alloc: Global, attended: &Attended) -> Result<bool, Fail> {
-    let mut control = control_for(alloc, attended)?;
+    let (sends, _, _, _, _, printed, traced) = *attended;
+    let mut control = if sends {
+        sending_control(alloc)?
+    } else {
+        control_of(alloc, TWO_TERMINALS)?
+    };
     let (mut out, mut trace) = (Vec::new(alloc), Vec::new(alloc));
     attend_control(alloc, &mut control, attended, &mut out, &mut trace)?;
     write_report(alloc, None, &*control, &mut out)?;
-    Ok(out.as_slice() == attended.printed && trace.ends_with(attended.traced))
+    Ok(out.as_slice() == printed.as_bytes() && trace.ends_with(traced.as_bytes()))
 }
 
 #[test]

@@ -1,13 +1,16 @@
 //! A terminal attended over a scripted connection. The octets are those of docs/PROTOCOL.md.
 
-use crate::fakes::{HEXADECIMAL, Scripted, Unflushed, attend_station, connections, terminal_watch};
-use crate::stations::{quiet_terminal, sending_terminal};
+use crate::fakes::{
+    HEXADECIMAL, Scripted, TAKING, Taking, Told, attend_station, connection, connections,
+    terminal_watch,
+};
+use crate::stations::sending_terminal;
 use bsc_carrier::CarrierError;
-use bsc_connections::LiveError;
+use bsc_connections::{Connection, LiveError, SocketRecords};
 use bsc_monitor::{LineTerminal, Printing, RecordLines, Tracing, write_report};
 use bsc_print::Form;
 use std::alloc::Global;
-use std::io::Write;
+use std::io::{ErrorKind, Write};
 use std::test::Fail;
 use test_fixtures::Full;
 
@@ -19,19 +22,6 @@ const TO_TERMINAL: &[u8] = b"\x00\x09\x16\x16\x04\xFF\x16\x16\xC1\x85\xFF\
 \x00\x09\x16\x16\x02\xC8\x49\x19\x83\x9B\xFF\
 \x00\x04\x16\x16\x04\xFF";
 
-/// The trace of the terminal that hears this.
-const TERMINAL_TRACE: &[u8] = b"+1 control heard CALL A 161604ff1616c185ff
-+2 terminal 0 sent TEXT ETX 1 161602c84919839bff
-+3 control heard ACK1 16161031ff
-+4 terminal 0 sent EOT 161604ff
-+5 control heard CALL a 161604ff16166185ff
-+6 terminal 0 sent ACK0 161610b0ff
-+7 control heard TEXT ETX 1 161602c84919839bff
-+8 terminal 0 sent ACK1 16161031ff
-+9 control heard EOT 161604ff
-+10 connection 0 closed
-";
-
 /// The same, but for the last octet.
 const TO_TERMINAL_CUT: &[u8] = b"\x00\x09\x16\x16\x04\xFF\x16\x16\xC1\x85\xFF\
 \x00\x05\x16\x16\x10\x31\xFF\
@@ -39,36 +29,23 @@ const TO_TERMINAL_CUT: &[u8] = b"\x00\x09\x16\x16\x04\xFF\x16\x16\xC1\x85\xFF\
 \x00\x09\x16\x16\x02\xC8\x49\x19\x83\x9B\xFF\
 \x00\x04\x16\x16\x04";
 
-/// Polls of another terminal, of this one, of the other one again, and a selection.
-const CALLS: &[u8] = b"\x00\x09\x16\x16\x04\xFF\x16\x16\xC2\x85\xFF\
-\x00\x09\x16\x16\x04\xFF\x16\x16\xC1\x85\xFF\
-\x00\x09\x16\x16\x04\xFF\x16\x16\xC2\x85\xFF\
-\x00\x09\x16\x16\x04\xFF\x16\x16\x61\x85\xFF";
-
-/// How a terminal is attended: whether it has the record HI to send, how it prints, the octets that
-/// it reads, and the waits before them: octets to read for each `r`, and that it is asked to end
-/// for each `s`. Then what it prints, with its report and the records that arrived, its trace, and
-/// whether its connection was closed for a fault.
-struct Attended {
-    sends: bool,
-    printing: Printing,
-    octets: &'static [u8],
-    steps: &'static [u8],
-    printed: &'static [u8],
-    traced: &'static [u8],
-    is_cut: bool,
-}
+/// How a terminal with the record HI to send is attended: how it prints, the octets that it reads,
+/// and the waits before them: octets to read for each `r`, and that it is asked to end for each
+/// `s`. Then what it prints, with its report and the records that arrived, its trace, and why its
+/// connection was closed, if for a fault.
+type Attended = (
+    Printing,
+    &'static [u8],
+    &'static [u8],
+    &'static str,
+    &'static str,
+    Option<CarrierError>,
+);
 
 /// Hexadecimal records, with a trace.
 const ALL: Printing = Printing {
     records: HEXADECIMAL,
     trace: Tracing::All,
-};
-
-/// The same with a trace of exchanges.
-const EXCHANGES: Printing = Printing {
-    records: HEXADECIMAL,
-    trace: Tracing::Exchanges,
 };
 
 /// Records as text with their numbers, without a trace.
@@ -80,122 +57,81 @@ const TEXT: Printing = Printing {
     trace: Tracing::Off,
 };
 
-const ATTENDED: &[Attended] = &[
-    Attended {
-        sends: true,
-        printing: ALL,
-        octets: TO_TERMINAL,
-        steps: b"",
-        printed: b"to 0: 4849\nfrom 0: offered 1, known 1\nto 0: spooled 1\n  4849\n",
-        traced: TERMINAL_TRACE,
-        is_cut: false,
-    },
-    // Without a trace, only faults of the connection are told.
-    Attended {
-        sends: true,
-        printing: TEXT,
-        octets: TO_TERMINAL_CUT,
-        steps: b"",
-        printed: b"to 0 0: HI\nfrom 0: offered 1, known 1\nto 0: spooled 1\n  HI\n",
-        traced: b"connection 0 closed: the input ended within a record\n",
-        is_cut: true,
-    },
-    // A trace of exchanges has no calls without an answer.
-    Attended {
-        sends: false,
-        printing: EXCHANGES,
-        octets: CALLS,
-        steps: b"",
-        printed: b"from 0: offered 0, known 0\nto 0: spooled 0\n",
-        traced: b"+5 control heard CALL a 161604ff16166185ff
+const WHOLE: Attended = (
+    ALL,
+    TO_TERMINAL,
+    b"",
+    "to 0: 4849\nfrom 0: offered 1, known 1\nto 0: spooled 1\n  4849\n",
+    "+1 control heard CALL A 161604ff1616c185ff
++2 terminal 0 sent TEXT ETX 1 161602c84919839bff
++3 control heard ACK1 16161031ff
++4 terminal 0 sent EOT 161604ff
++5 control heard CALL a 161604ff16166185ff
 +6 terminal 0 sent ACK0 161610b0ff
-+7 connection 0 closed
++7 control heard TEXT ETX 1 161602c84919839bff
++8 terminal 0 sent ACK1 16161031ff
++9 control heard EOT 161604ff
++10 connection 0 closed
 ",
-        is_cut: false,
-    },
-    // A terminal in control mode that is asked to end does so at once.
-    Attended {
-        sends: true,
-        printing: ALL,
-        octets: TO_TERMINAL,
-        steps: b"s",
-        printed: NOTHING_KNOWN,
-        traced: b"+1 asked to end\n",
-        is_cut: false,
-    },
-    // One that sends a block ends when its bid has ended.
-    Attended {
-        sends: true,
-        printing: ALL,
-        octets: TO_TERMINAL,
-        steps: b"rrs",
-        printed: b"from 0: offered 1, known 1\nto 0: spooled 0\n",
-        traced: b"+1 control heard CALL A 161604ff1616c185ff
+    None,
+);
+
+const ATTENDED: &[Attended] = &[
+    WHOLE,
+    // Without a trace, only faults of the connection are told.
+    (
+        TEXT,
+        TO_TERMINAL_CUT,
+        b"",
+        "to 0 0: HI\nfrom 0: offered 1, known 1\nto 0: spooled 1\n  HI\n",
+        "connection 0 closed: the input ended within a record\n",
+        Some(CarrierError::Short),
+    ),
+    // A terminal that is asked to end while it sends a block ends when its bid has ended.
+    (
+        ALL,
+        TO_TERMINAL,
+        b"rrs",
+        "from 0: offered 1, known 1\nto 0: spooled 0\n",
+        "+1 control heard CALL A 161604ff1616c185ff
 +2 terminal 0 sent TEXT ETX 1 161602c84919839bff
 +3 asked to end
 +4 control heard ACK1 16161031ff
 +5 terminal 0 sent EOT 161604ff
 ",
-        is_cut: false,
-    },
-    // It ends at once if it is asked again.
-    Attended {
-        sends: true,
-        printing: ALL,
-        octets: TO_TERMINAL,
-        steps: b"rrss",
-        printed: NOTHING_KNOWN,
-        traced: b"+1 control heard CALL A 161604ff1616c185ff
-+2 terminal 0 sent TEXT ETX 1 161602c84919839bff
-+3 asked to end
-+4 asked to end
-",
-        is_cut: false,
-    },
+        None,
+    ),
 ];
 
-/// The report if nothing is known to have arrived.
-const NOTHING_KNOWN: &[u8] = b"from 0: offered 1, known 0\nto 0: spooled 0\n";
+/// A connection of a terminal.
+type Ends = Connection<Told, Taking, SocketRecords>;
 
-/// Attends a terminal in this way. Returns the fault for which the connection was closed, if there
-/// was one.
+/// Attends a terminal in this way over these connections. Returns the fault for which its
+/// connection was closed, if there was one.
 fn attend_terminal<W: Write>(
     alloc: Global,
     terminal: &mut LineTerminal<Global>,
     attended: &Attended,
-    out: &mut W,
-    trace: &mut Vec<u8>,
+    connections: &mut [Ends],
+    (out, trace): (&mut W, &mut Vec<u8>),
 ) -> Result<Option<CarrierError>, LiveError> {
-    let mut connections = connections(alloc, attended.octets)?;
-    let mut watch = terminal_watch(alloc, terminal, attended.printing, out, trace)?;
-    let mut waiter = Scripted {
-        steps: attended.steps,
-    };
-    attend_station(terminal, &mut connections, &mut waiter, &mut watch)?;
+    let (printing, _, steps, _, _, _) = *attended;
+    let mut watch = terminal_watch(alloc, terminal, printing, out, trace)?;
+    attend_station(terminal, connections, &mut Scripted { steps }, &mut watch)?;
     Ok(watch.closed())
-}
-
-/// Returns the terminal that is to be attended.
-fn terminal_for(alloc: Global, attended: &Attended) -> Result<Box<LineTerminal<Global>>, Fail> {
-    if attended.sends {
-        sending_terminal(alloc)
-    } else {
-        quiet_terminal(alloc)
-    }
 }
 
 /// Whether a terminal that is attended in this way prints what it should.
 fn prints(alloc: Global, attended: &Attended) -> Result<bool, Fail> {
-    let mut terminal = terminal_for(alloc, attended)?;
+    let (printing, octets, _, printed, traced, why) = *attended;
+    let mut terminal = sending_terminal(alloc)?;
     let (mut out, mut trace) = (Vec::new(alloc), Vec::new(alloc));
-    let closed = attend_terminal(alloc, &mut terminal, attended, &mut out, &mut trace)?;
-    let form = attended.printing.records.form;
-    write_report(alloc, Some(form), &*terminal, &mut out)?;
-    let is_told = match closed {
-        Some(why) => attended.is_cut && why == CarrierError::Short,
-        None => !attended.is_cut,
-    };
-    Ok(is_told && out.as_slice() == attended.printed && trace.as_slice() == attended.traced)
+    let mut ends = connections(alloc, octets)?;
+    let streams = (&mut out, &mut trace);
+    let closed = attend_terminal(alloc, &mut terminal, attended, &mut ends, streams)?;
+    write_report(alloc, Some(printing.records.form), &*terminal, &mut out)?;
+    let is_printed = out.as_slice() == printed.as_bytes();
+    Ok(closed == why && is_printed && trace.as_slice() == traced.as_bytes())
 }
 
 #[test]
@@ -217,7 +153,9 @@ const REFUSED_END: &[u8] = b"+5 control heard CALL a 161604ff16166185ff
 fn refuses<W: Write>(alloc: Global, out: &mut W) -> Result<bool, Fail> {
     let mut terminal = sending_terminal(alloc)?;
     let mut trace = Vec::new(alloc);
-    let ended = attend_terminal(alloc, &mut terminal, &ATTENDED[0], out, &mut trace);
+    let mut ends = connections(alloc, TO_TERMINAL)?;
+    let streams = (out, &mut trace);
+    let ended = attend_terminal(alloc, &mut terminal, &WHOLE, &mut ends, streams);
     Ok(matches!(ended, Err(LiveError::Unprinted)) && trace.ends_with(REFUSED_END))
 }
 
@@ -229,6 +167,62 @@ fn a_record_that_is_not_written_and_flushed_is_not_acknowledged(
 ) -> Result<(), Fail> {
     assert!(rt; refuses(rt.alloc(), &mut Full { left: 0 })?);
     assert!(rt; refuses(rt.alloc(), &mut Full { left: 1 })?);
-    assert!(rt; refuses(rt.alloc(), &mut Unflushed)?);
+    let mut stuck = Taking {
+        is_stuck: true,
+        ..TAKING
+    };
+    assert!(rt; refuses(rt.alloc(), &mut stuck)?);
+    Ok(())
+}
+
+/// Reads that fail, whether all writes do, and the end of the trace of the terminal. The first ones
+/// are no faults of the connection.
+const FAILING: &[(&[ErrorKind], bool, &str)] = &[
+    (
+        &[
+            ErrorKind::Interrupted,
+            ErrorKind::WouldBlock,
+            ErrorKind::TimedOut,
+        ],
+        false,
+        "+9 control heard EOT 161604ff\n+10 connection 0 closed\n",
+    ),
+    (
+        &[ErrorKind::ConnectionReset],
+        false,
+        "+1 connection 0 closed: connection reset by peer\n",
+    ),
+    (
+        &[],
+        true,
+        "+2 terminal 0 sent TEXT ETX 1 161602c84919839bff\n+3 connection 0 closed: broken pipe\n",
+    ),
+];
+
+/// Whether a terminal has a trace with this end over a connection that fails so.
+fn fails(
+    alloc: Global,
+    fails: &'static [ErrorKind],
+    is_broken: bool,
+    traced: &str,
+) -> Result<bool, Fail> {
+    let mut terminal = sending_terminal(alloc)?;
+    let (mut out, mut trace) = (Vec::<u8>::new(alloc), Vec::new(alloc));
+    let octets = TO_TERMINAL;
+    let taking = Taking {
+        is_broken,
+        ..TAKING
+    };
+    let mut ends = connection(alloc, Told { fails, octets }, taking)?;
+    let streams = (&mut out, &mut trace);
+    attend_terminal(alloc, &mut terminal, &WHOLE, &mut ends, streams)?;
+    Ok(trace.ends_with(traced.as_bytes()))
+}
+
+#[test]
+fn reads_and_writes_that_fail_are_told(rt: HostRuntime) -> Result<(), Fail> {
+    for (kinds, is_broken, traced) in FAILING {
+        assert!(rt; fails(rt.alloc(), *kinds, *is_broken, *traced)?, "{traced}");
+    }
     Ok(())
 }

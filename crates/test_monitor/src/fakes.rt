@@ -16,14 +16,19 @@ use std::io;
 use std::io::{Read, Write};
 use std::net::SocketAddr;
 
-/// Returns these octets, and then the end of the stream.
+/// Fails with these errors, one in each read, returns these octets, and then the end of the stream.
 #[derive(Drop)]
 pub(crate) struct Told {
+    pub(crate) fails: &'static [io::ErrorKind],
     pub(crate) octets: &'static [u8],
 }
 
 impl Read for Told {
     fn read(&mut self, buffer: &mut [u8]) -> io::Result<usize> {
+        if let Some((kind, rest)) = self.fails.split_first() {
+            self.fails = rest;
+            return Err(io::Error::from(*kind));
+        }
         let count = self.octets.len().min(buffer.len());
         buffer[..count].copy_from_slice(&self.octets[..count]);
         self.octets = &self.octets[count..];
@@ -31,31 +36,33 @@ impl Read for Told {
     }
 }
 
-/// Accepts everything that is written.
+/// Accepts everything that is written, or nothing if it is broken, and cannot pass it on if it is
+/// stuck.
 #[derive(Drop)]
-pub(crate) struct Taking;
+pub(crate) struct Taking {
+    pub(crate) is_broken: bool,
+    pub(crate) is_stuck: bool,
+}
+
+/// Accepts everything.
+pub(crate) const TAKING: Taking = Taking {
+    is_broken: false,
+    is_stuck: false,
+};
 
 impl Write for Taking {
     fn write(&mut self, octets: &[u8]) -> io::Result<usize> {
+        if self.is_broken {
+            return Err(io::Error::from(io::ErrorKind::BrokenPipe));
+        }
         Ok(octets.len())
     }
 
     fn flush(&mut self) -> io::Result<()> {
+        if self.is_stuck {
+            return Err(io::Error::from(io::ErrorKind::StorageFull));
+        }
         Ok(())
-    }
-}
-
-/// Accepts everything that is written, and cannot pass it on.
-#[derive(Drop)]
-pub(crate) struct Unflushed;
-
-impl Write for Unflushed {
-    fn write(&mut self, octets: &[u8]) -> io::Result<usize> {
-        Ok(octets.len())
-    }
-
-    fn flush(&mut self) -> io::Result<()> {
-        Err(io::Error::from(io::ErrorKind::StorageFull))
     }
 }
 
@@ -159,15 +166,24 @@ impl Waiter<Told, Taking> for Scripted {
     fn turn_away(&mut self) {}
 }
 
-/// A connection over these octets.
+/// A connection over this reader and this writer.
+pub(crate) fn connection(
+    alloc: Global,
+    told: Told,
+    taking: Taking,
+) -> Result<Vec<Connection<Told, Taking, SocketRecords>>, LiveError> {
+    match Vec::from_array(alloc, [Connection::new(told, taking)]) {
+        Ok(connections) => Ok(connections),
+        Err(_) => Err(LiveError::Memory),
+    }
+}
+
+/// A connection over these octets, without a fault.
 pub(crate) fn connections(
     alloc: Global,
     octets: &'static [u8],
 ) -> Result<Vec<Connection<Told, Taking, SocketRecords>>, LiveError> {
-    match Vec::from_array(alloc, [Connection::new(Told { octets }, Taking)]) {
-        Ok(connections) => Ok(connections),
-        Err(_) => Err(LiveError::Memory),
-    }
+    connection(alloc, Told { fails: &[], octets }, TAKING)
 }
 
 /// Attends a station over these connections until its monitor ends it.
@@ -186,23 +202,17 @@ pub(crate) const HEXADECIMAL: RecordLines = RecordLines {
     numbers: false,
 };
 
-/// Limits at which a control station never ends.
-pub(crate) const NO_LIMITS: Limits = Limits {
-    rounds: None,
-    idle_rounds: u64::MAX,
-};
-
-/// The watch of a control station that ends at these limits, over a line of which this is known. If
-/// `listens` is true other peers may connect later.
+/// The watch of a control station that ends at these limits, with a clock that was read so often,
+/// over one connection for all terminals, with this time-out in milliseconds.
 pub(crate) fn control_watch<'a, W: Write, D: Write>(
     alloc: Global,
     control: &Control<Global>,
-    (printing, limits, listens, trust): (Printing, Limits, bool, Trust),
+    (printing, limits, asked, time_out): (Printing, Limits, u64, u64),
     out: &'a mut W,
     errors: &'a mut D,
 ) -> Result<ControlWatch<'a, Global, Counting, W, D>, LiveError> {
-    match Watch::new(alloc, control, printing, Counting { asked: 0 }, out, errors) {
-        Ok(watch) => Ok(ControlWatch::new(control, watch, limits, listens, trust)),
+    match Watch::new(alloc, control, printing, Counting { asked }, out, errors) {
+        Ok(watch) => Ok(ControlWatch::new(control, watch, limits, false, trust_of(time_out))),
         Err(_) => Err(LiveError::Memory),
     }
 }

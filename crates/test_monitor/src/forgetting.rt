@@ -10,59 +10,16 @@ use test_fixtures::configurations::{THREE_ADDRESSES, TWO_TERMINALS};
 
 /// How many records have arrived, how many of these are to be forgotten, once or twice, and how
 /// many are forgotten after that.
-struct Row {
-    arrived: usize,
-    counts: &'static [usize],
-    forgotten: usize,
-}
-
-/// The bounds.
-const ROWS: &[Row] = &[
-    Row {
-        arrived: 1_023,
-        counts: &[1_023],
-        forgotten: 0,
-    },
-    Row {
-        arrived: 1_024,
-        counts: &[1_024],
-        forgotten: 1_024,
-    },
-    Row {
-        arrived: 1_024,
-        counts: &[1_023],
-        forgotten: 0,
-    },
-    Row {
-        arrived: 1_024,
-        counts: &[1_025],
-        forgotten: 0,
-    },
-    Row {
-        arrived: 2_048,
-        counts: &[1_024],
-        forgotten: 1_024,
-    },
-    Row {
-        arrived: 2_049,
-        counts: &[1_024],
-        forgotten: 0,
-    },
-    Row {
-        arrived: 2_049,
-        counts: &[1_024, 1_025],
-        forgotten: 1_025,
-    },
-    Row {
-        arrived: 2_048,
-        counts: &[1_024, 2_047],
-        forgotten: 1_024,
-    },
-    Row {
-        arrived: 2_048,
-        counts: &[1_024, 2_048],
-        forgotten: 2_048,
-    },
+const ROWS: &[(usize, &[usize], usize)] = &[
+    (1_023, &[1_023], 0),
+    (1_024, &[1_024], 1_024),
+    (1_024, &[1_023], 0),
+    (1_024, &[1_025], 0),
+    (2_048, &[1_024], 1_024),
+    (2_049, &[1_024], 0),
+    (2_049, &[1_024, 1_025], 1_025),
+    (2_048, &[1_024, 2_047], 1_024),
+    (2_048, &[1_024, 2_048], 2_048),
 ];
 
 /// Adds this many records to those that arrived at the first selection address, if there is memory
@@ -77,10 +34,10 @@ fn add_to_terminal(terminal: &mut LineTerminal<Global>, count: usize) -> Option<
     Some(())
 }
 
-/// Forgets these numbers of records that arrived on the first channel. Returns how many are
-/// forgotten, if there are still this many.
-fn forgotten_of<S: Forgets>(station: &mut S, row: &Row) -> Option<usize> {
-    for count in row.counts {
+/// Forgets these numbers of records that arrived on the first channel. Returns how many have
+/// arrived, and how many of them are forgotten.
+fn forgotten_of<S: Forgets>(station: &mut S, counts: &[usize]) -> Option<(usize, usize)> {
+    for count in counts {
         station.forget_first(0, *count);
         station.forget_first(9, *count);
     }
@@ -88,25 +45,19 @@ fn forgotten_of<S: Forgets>(station: &mut S, row: &Row) -> Option<usize> {
         return None;
     }
     let records = station.received(0).records;
-    (records.len() == row.arrived).then_some(records.forgotten())
+    Some((records.len(), records.forgotten()))
 }
 
 #[test]
-fn a_control_station_forgets_many_records_at_once(rt: HostRuntime) -> Result<(), Fail> {
-    for row in ROWS {
+fn stations_forget_many_records_at_once(rt: HostRuntime) -> Result<(), Fail> {
+    for (arrived, counts, forgotten) in ROWS {
+        let due = Some((*arrived, *forgotten));
         let mut control = control_of(rt.alloc(), TWO_TERMINALS)?;
-        assert!(rt; add(&mut control, 0, b"HI", row.arrived).is_some());
-        assert!(rt; forgotten_of(&mut *control, row) == Some(row.forgotten));
-    }
-    Ok(())
-}
-
-#[test]
-fn a_terminal_forgets_many_records_at_once(rt: HostRuntime) -> Result<(), Fail> {
-    for row in ROWS {
+        assert!(rt; add(&mut control, 0, b"HI", *arrived).is_some());
+        assert!(rt; forgotten_of(&mut *control, *counts) == due);
         let mut terminal = quiet_terminal(rt.alloc())?;
-        assert!(rt; add_to_terminal(&mut terminal, row.arrived).is_some());
-        assert!(rt; forgotten_of(&mut *terminal, row) == Some(row.forgotten));
+        assert!(rt; add_to_terminal(&mut terminal, *arrived).is_some());
+        assert!(rt; forgotten_of(&mut *terminal, *counts) == due);
     }
     Ok(())
 }
@@ -152,10 +103,7 @@ fn a_control_station_forgets_what_is_known(rt: HostRuntime) -> Result<(), Fail> 
         }
         control.forget_known();
         for channel in CHANNELS {
-            assert!(rt;
-                forgotten_on(&control, *channel) == Some(*forgotten),
-                "{count}"
-            );
+            assert!(rt; forgotten_on(&control, *channel) == Some(*forgotten), "{count}");
         }
     }
     Ok(())

@@ -1,8 +1,8 @@
 //! Tests of whole stations as the command runs them: attended over scripted connections, with
-//! single notes and events, and with growths and writes that fail.
+//! single notes and events, with growths and writes that fail, and with stores that outlive them.
 //!
-//! Calls and replies are the standard's (GA27-3004); rounds and visits as limits, notes, traces and
-//! reports are this project's own.
+//! Calls and replies are the standard's (GA27-3004); rounds and visits as limits, notes, traces,
+//! reports and stores are this project's own.
 #![tactic(auto)]
 
 #[cfg(test)]
@@ -16,20 +16,14 @@ mod fakes;
 #[cfg(test)]
 mod forgetting;
 #[cfg(test)]
-mod growths;
+mod kept_exchanges;
 #[cfg(test)]
-mod happenings;
+mod kept_stations;
 #[cfg(test)]
 mod notes;
 #[cfg(test)]
 mod offered;
 #[cfg(test)]
-mod progress;
-#[cfg(test)]
 mod some_printed;
 #[cfg(test)]
 mod stations;
-#[cfg(test)]
-mod trusted;
-#[cfg(test)]
-mod visits;

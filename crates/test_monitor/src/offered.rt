@@ -1,20 +1,17 @@
-//! Lines of a text as records.
+//! Lines of a text as records, and refused growths.
 
 use bsc_block::Record;
-use bsc_monitor::{OfferError, read_records};
+use bsc_config::{Config, read_config};
+use bsc_monitor::{OfferError, new_control, read_records};
 use std::alloc::Global;
 use std::test::Fail;
+use test_alloc::{Refusal, Refusing};
+use test_fixtures::configurations::TWO_TERMINALS;
 
-/// Texts, and the records of their lines.
-const RECORDS: &[(&[u8], &[&[u8]])] = &[
-    (b"", &[]),
-    (b"HI\nHO\n", &[b"HI", b"HO"]),
-    (b"HI\r\nHO", &[b"HI", b"HO"]),
-    (b"HI\n\nHO\n", &[b"HI", b"", b"HO"]),
-    (b"\n", &[b""]),
-    (b"A B ", &[b"A B "]),
-    (b"HI\r", &[b"HI\r"]),
-];
+/// A text, and the records of its lines.
+const TEXT: &[u8] = b"HI\r\n\nA B \nHI\r";
+
+const RECORDS: &[&[u8]] = &[b"HI", b"", b"A B ", b"HI\r"];
 
 /// Whether the records have these characters, in order.
 fn have_chars(records: &[Record], wanted: &[&[u8]]) -> bool {
@@ -26,19 +23,10 @@ fn have_chars(records: &[Record], wanted: &[&[u8]]) -> bool {
     records.len() == wanted.len()
 }
 
-/// Whether a text is read as these records.
-fn are_read(alloc: Global, text: &[u8], wanted: &[&[u8]]) -> bool {
-    match read_records(alloc, text, 80) {
-        Ok(records) => have_chars(&records, wanted),
-        Err(_) => false,
-    }
-}
-
 #[test]
-fn lines_become_records(rt: HostRuntime) {
-    for (text, wanted) in RECORDS {
-        assert!(rt; are_read(rt.alloc(), text, wanted), "{text:?}");
-    }
+fn lines_become_records(rt: HostRuntime) -> Result<(), Fail> {
+    assert!(rt; have_chars(&read_records(rt.alloc(), TEXT, 80)?, RECORDS));
+    Ok(())
 }
 
 /// Texts with a line that is not a record of at most four characters, and what is told of the first
@@ -63,5 +51,42 @@ fn the_first_refused_line_is_told(rt: HostRuntime) -> Result<(), Fail> {
     }
     let memory = OfferError::Memory.to_string(rt.alloc())?;
     assert!(rt; memory.as_str() == "out of memory");
+    Ok(())
+}
+
+/// Whether the result is out of memory if a growth was refused, and the two records otherwise.
+fn are_read_or_refused(alloc: &Refusing) -> bool {
+    match read_records(alloc, b"HI\nHO\n", 80) {
+        Ok(records) => alloc.refused() == 0 && records.len() == 2,
+        Err(error) => alloc.refused() == 1 && error == OfferError::Memory,
+    }
+}
+
+#[test]
+fn each_growth_of_reading_is_refused_in_turn(rt: HostRuntime) -> Result<(), Fail> {
+    let alloc = Refusing::new(rt.alloc());
+    for request in alloc.in_turn(Refusal::Nth, 1..8) {
+        request?;
+        assert!(rt; are_read_or_refused(&alloc));
+    }
+    Ok(())
+}
+
+/// Whether the result is an error if a growth was refused, and a control station otherwise.
+fn is_made_or_refused(alloc: &Refusing, config: &Config) -> bool {
+    match new_control(alloc, config) {
+        Ok(control) => alloc.refused() == 0 && control.terminals() == 2,
+        Err(_) => alloc.refused() == 1,
+    }
+}
+
+#[test]
+fn each_growth_of_a_control_station_is_refused_in_turn(rt: HostRuntime) -> Result<(), Fail> {
+    let config = read_config(rt.alloc(), TWO_TERMINALS.as_bytes())?;
+    let alloc = Refusing::new(rt.alloc());
+    for request in alloc.in_turn(Refusal::Nth, 1..29) {
+        request?;
+        assert!(rt; is_made_or_refused(&alloc, &config));
+    }
     Ok(())
 }

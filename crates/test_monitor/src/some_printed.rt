@@ -15,55 +15,14 @@ const LINES: RecordLines = RecordLines {
     numbers: true,
 };
 
-/// How many records may be printed, in turn; how many more could have been, and what is printed.
-struct Turn {
-    most: usize,
-    left: usize,
-    text: &'static str,
-}
-
-/// The turns of a station at which two records arrived on the first channel, and three on the
-/// other.
-const TURNS: &[Turn] = &[
-    Turn {
-        most: 0,
-        left: 0,
-        text: "",
-    },
-    Turn {
-        most: 1,
-        left: 0,
-        text: "from 0 0: A\n",
-    },
-    Turn {
-        most: 2,
-        left: 0,
-        text: "from 0 1: A\nfrom 1 0: B\n",
-    },
-    Turn {
-        most: 2,
-        left: 0,
-        text: "from 1 1: B\nfrom 1 2: B\n",
-    },
-    Turn {
-        most: 5,
-        left: 5,
-        text: "",
-    },
+/// How many records may be printed, in turn, at a station at which two records arrived on the first
+/// channel and three on the other; how many more could have been, and what is printed.
+const TURNS: &[(usize, usize, &str)] = &[
+    (0, 0, ""),
+    (1, 0, "from 0 0: A\n"),
+    (3, 0, "from 0 1: A\nfrom 1 0: B\nfrom 1 1: B\n"),
+    (5, 4, "from 1 2: B\n"),
 ];
-
-/// The same, all at once, and one more could have been printed.
-const AT_ONCE: &[Turn] = &[Turn {
-    most: 6,
-    left: 1,
-    text: "from 0 0: A\nfrom 0 1: A\nfrom 1 0: B\nfrom 1 1: B\nfrom 1 2: B\n",
-}];
-
-/// The same records, two on the first channel and three on the other.
-fn add_five(control: &mut Control<Global>) -> Option<()> {
-    add(control, 0, b"A", 2)?;
-    add(control, 1, b"B", 3)
-}
 
 /// Prints in a turn; `None` if it cannot be.
 fn print_turn(
@@ -79,19 +38,6 @@ fn print_turn(
     print_some(alloc, LINES, control, printed, most, out).ok()
 }
 
-/// The number of the first turn that prints or leaves something else.
-fn first_wrong(alloc: Global, control: &Control<Global>, turns: &[Turn]) -> Option<usize> {
-    let mut printed = [0; 2];
-    for (number, turn) in turns.iter().enumerate() {
-        let mut out = Vec::new(alloc);
-        let left = print_turn(alloc, control, &mut printed, turn.most, &mut out);
-        if left != Some(turn.left) || out.as_slice() != turn.text.as_bytes() {
-            return Some(number);
-        }
-    }
-    None
-}
-
 /// Whether a record is told that is not taken.
 fn is_refused(alloc: Global, control: &Control<Global>) -> bool {
     if control.spools() != 2 {
@@ -103,9 +49,14 @@ fn is_refused(alloc: Global, control: &Control<Global>) -> bool {
 #[test]
 fn records_are_printed_in_turns(rt: HostRuntime) -> Result<(), Fail> {
     let mut control = control_of(rt.alloc(), TWO_TERMINALS)?;
-    assert!(rt; add_five(&mut control).is_some());
-    assert!(rt; first_wrong(rt.alloc(), &control, TURNS).is_none());
-    assert!(rt; first_wrong(rt.alloc(), &control, AT_ONCE).is_none());
+    assert!(rt; add(&mut control, 0, b"A", 2).is_some());
+    assert!(rt; add(&mut control, 1, b"B", 3).is_some());
+    let mut printed = [0; 2];
+    for (most, left, text) in TURNS {
+        let mut out = Vec::new(rt.alloc());
+        let told = print_turn(rt.alloc(), &control, &mut printed, *most, &mut out);
+        assert!(rt; told == Some(*left) && out.as_slice() == text.as_bytes(), "{text}");
+    }
     assert!(rt; is_refused(rt.alloc(), &control));
     Ok(())
 }

@@ -14,42 +14,43 @@ use std::test::Fail;
 use test_fixtures::configurations::TWO_TERMINALS;
 use test_fixtures::on_heap;
 
-/// Offers the record HI at a terminal of a line with these settings.
-fn offer_at(alloc: Global, terminal: &mut LineTerminal<Global>, setup: Setup) -> Result<(), Fail>
+/// Offers the records of this text at a terminal of a line with these settings.
+fn offer_at(
+    alloc: Global,
+    terminal: &mut LineTerminal<Global>,
+    setup: Setup,
+    text: &[u8],
+) -> Result<(), Fail>
     requires { terminal.old.tributary.queue.format ≡ setup.format }
 {
-    let records = read_records(alloc, b"HI\n", setup.format().full())?;
+    let records = read_records(alloc, text, setup.format().full())?;
     Ok(offer_at_terminal(terminal, records)?)
 }
 
-/// Terminal 0 of a line, with nothing to send.
-fn terminal_of(alloc: Global, config: &Config) -> Result<Box<LineTerminal<Global>>, Fail> {
-    if config.terminals() == 0 {
-        return Err(Fail::new("no terminal"));
-    }
-    Ok(Box::new(alloc, new_terminal(alloc, config, 0))?)
-}
-
-/// The same with the record HI to send.
-fn sending_of(alloc: Global, config: &Config) -> Result<Box<LineTerminal<Global>>, Fail> {
+/// Terminal 0 of a line, with the records of this text to send.
+fn terminal_of(
+    alloc: Global,
+    config: &Config,
+    text: &[u8],
+) -> Result<Box<LineTerminal<Global>>, Fail> {
     if config.terminals() == 0 {
         return Err(Fail::new("no terminal"));
     }
     let mut terminal = Box::new(alloc, new_terminal(alloc, config, 0))?;
-    offer_at(alloc, &mut terminal, config.setup())?;
+    offer_at(alloc, &mut terminal, config.setup(), text)?;
     Ok(terminal)
 }
 
 /// Terminal 0 of a line of two, with the record HI to send.
 pub(crate) fn sending_terminal(alloc: Global) -> Result<Box<LineTerminal<Global>>, Fail> {
     let config = read_config(alloc, TWO_TERMINALS.as_bytes())?;
-    sending_of(alloc, &config)
+    terminal_of(alloc, &config, b"HI\n")
 }
 
 /// Terminal 0 of a line of two, with nothing to send.
 pub(crate) fn quiet_terminal(alloc: Global) -> Result<Box<LineTerminal<Global>>, Fail> {
     let config = read_config(alloc, TWO_TERMINALS.as_bytes())?;
-    terminal_of(alloc, &config)
+    terminal_of(alloc, &config, b"")
 }
 
 /// The control station of the line that a document describes, with nothing to send.
@@ -72,19 +73,10 @@ pub(crate) fn offer_for(
     Ok(offer_for_terminal(control, terminal, select, records)?)
 }
 
-/// Offers the record HI for this selection address of terminal 0.
-pub(crate) fn offer(
-    alloc: Global,
-    control: &mut Control<Global>,
-    select: usize,
-) -> Result<(), Fail> {
-    offer_for(alloc, control, 0, select)
-}
-
 /// The control station of a line of two terminals, with the record HI to send to terminal 0.
 pub(crate) fn sending_control(alloc: Global) -> Result<Box<Control<Global>>, Fail> {
     let mut control = control_of(alloc, TWO_TERMINALS)?;
-    offer(alloc, &mut control, 0)?;
+    offer_for(alloc, &mut control, 0, 0)?;
     Ok(control)
 }
 

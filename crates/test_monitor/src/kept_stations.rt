@@ -7,9 +7,9 @@ use bsc_block::Record;
 use bsc_config::{Config, read_config};
 use bsc_connections::{LiveError, Monitor, Note, Pace};
 use bsc_control::Control;
-use bsc_frame::{Address, Wire};
+use bsc_frame::Wire;
 use bsc_keeping::{Keeper, Keeping, Own, Owner, Prints, Sends, begin_control, begin_terminal};
-use bsc_kept::{Change, Channel, StoreFault};
+use bsc_kept::StoreFault;
 use bsc_monitor::{LineTerminal, Party, new_control, new_terminal};
 use std::alloc::Global;
 use std::test::Fail;
@@ -21,37 +21,21 @@ pub(crate) fn line(alloc: Global) -> Result<Config, Fail> {
     Ok(read_config(alloc, THREE_ADDRESSES.as_bytes())?)
 }
 
-/// A monitor that prints the records that arrive at once.
+/// A monitor that accepts everything, and knows of no channel what is printed.
 #[derive(Drop)]
-pub(crate) struct Quiet {
-    printed: [usize; 4],
-}
-
-impl Quiet {
-    /// Returns the monitor of a station at which nothing was printed.
-    pub(crate) fn new() -> Quiet {
-        Quiet { printed: [0; 4] }
-    }
-
-    /// Prints all that arrived.
-    fn print<S: Party>(&mut self, station: &S) {
-        for number in 0..station.spools().min(4) {
-            self.printed[number] = station.received(number).records.len();
-        }
-    }
-}
+struct Quiet;
 
 impl Prints for Quiet {
-    ghost use Rattle.std.specs.Prelude.{slice_get};
+    ghost use Rattle.std.specs.Prelude.{None};
 
-    ghost printed = { λ w number. slice_get w.printed number };
+    ghost printed = { λ _ _. None };
 
-    fn printed(&self, number: usize) -> Option<usize> {
-        self.printed.get(number).copied()
+    fn printed(&self, _number: usize) -> Option<usize> {
+        None
     }
 }
 
-impl<S: Party> Monitor<S> for Quiet {
+impl<S> Monitor<S> for Quiet {
     ghost use Rattle.std.specs.Prelude.{true, false};
     ghost use Rattle.bsc_connections.specs.declared.awaited.Pace.TheVariants.{AtOnce};
 
@@ -63,8 +47,7 @@ impl<S: Party> Monitor<S> for Quiet {
 
     ghost is_told = { λ _ _ _ _ _. Unit {0} };
 
-    fn note(&mut self, station: &S, _note: Note<'_>) -> Result<bool, LiveError> {
-        self.print(station);
+    fn note(&mut self, _station: &S, _note: Note<'_>) -> Result<bool, LiveError> {
         Ok(true)
     }
 
@@ -100,7 +83,7 @@ impl<S: Station + Party + Sends + Drop> Kept<S> {
     fn new(station: S, keeper: Keeper<Memory>) -> Kept<S> {
         Kept {
             station,
-            watch: Quiet::new(),
+            watch: Quiet,
             keeper,
         }
     }
@@ -177,31 +160,8 @@ pub(crate) fn terminal(
     Ok(Box::new(alloc, Kept::new(terminal, keeper))?)
 }
 
-/// The address of these codes.
-fn address(codes: &[u8]) -> Result<Address, Fail> {
-    Ok(Address::read(codes)?)
-}
-
-/// The channel from terminal 0.
-pub(crate) fn from_terminal() -> Result<Channel, Fail> {
-    let terminal = address(b"A")?;
-    Ok(Channel::From { terminal })
-}
-
-/// The channel to terminal 0 at the selection address of this code.
-pub(crate) fn to_terminal(code: u8) -> Result<Channel, Fail> {
-    let selection = address(&[code])?;
-    Ok(Channel::To { selection })
-}
-
 /// The record with this number, 0 to 999.
 pub(crate) fn record(number: usize) -> Result<Record, Fail> {
     let digit = |unit: usize| b'0' + (number / unit % 10) as u8;
     Ok(Record::read(&[digit(100), digit(10), digit(1)], 80)?)
-}
-
-/// Returns the change that offers the record with this number.
-pub(crate) fn offering(channel: Channel, number: usize) -> Result<Change, Fail> {
-    let record = record(number)?;
-    Ok(Change::Offered { channel, record })
 }
