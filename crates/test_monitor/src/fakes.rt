@@ -38,7 +38,7 @@ impl Read for Told {
 
 /// Accepts everything that is written, or nothing if it is broken, and cannot pass it on if it is
 /// stuck.
-#[derive(Drop)]
+#[derive(Clone, Copy, Drop)]
 pub(crate) struct Taking {
     pub(crate) is_broken: bool,
     pub(crate) is_stuck: bool,
