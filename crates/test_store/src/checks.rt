@@ -20,57 +20,21 @@ INSERT INTO offered VALUES (2, 'from', x'41', x'484F', x'4fd19c0792ced462');
 INSERT INTO offered VALUES (3, 'from', x'41', x'', x'fbdf997f7e324d64');
 INSERT INTO arrived VALUES (1, 'from', x'41', x'4849', x'd7bb84bff5724bf5');";
 
-/// Statements that change a record or its place, and the number of the first record that is
-/// damaged then.
+/// Statements that change a record or its place in a store of version 2, and the number of the
+/// first record that is damaged then.
 const CHANGES: &[(&str, u32)] = &[
+    ("UPDATE offered SET record = x'48' WHERE id = 2", 1),
+    ("UPDATE offered SET checked = NULL WHERE id = 3", 2),
+    ("UPDATE offered SET id = 4 WHERE id = 2", 2),
+    // Its check is that of the channel from terminal B.
     (
-        "UPDATE line SET version = 2; UPDATE offered SET record = x'4848' WHERE id = 1",
-        0,
-    ),
-    (
-        "UPDATE line SET version = 2; UPDATE offered SET record = x'48' WHERE id = 2",
-        1,
-    ),
-    (
-        "UPDATE line SET version = 2; UPDATE offered SET record = 'HO' WHERE id = 2",
-        1,
-    ),
-    (
-        "UPDATE line SET version = 2; UPDATE offered SET checked = x'fbdf997f7e324d65' WHERE id = 3",
-        2,
-    ),
-    (
-        "UPDATE line SET version = 2; UPDATE offered SET checked = x'fbdf997f7e324d' WHERE id = 3",
-        2,
-    ),
-    (
-        "UPDATE line SET version = 2; UPDATE offered SET checked = NULL WHERE id = 3",
-        2,
-    ),
-    (
-        "UPDATE line SET version = 2; UPDATE offered SET id = 9 WHERE id = 3;
-        UPDATE offered SET id = 3 WHERE id = 1",
-        1,
-    ),
-    (
-        "UPDATE line SET version = 2; UPDATE offered SET id = 4 WHERE id = 2",
-        2,
-    ),
-    (
-        "UPDATE line SET version = 2;
-        UPDATE offered SET record = x'4849', checked = x'd7bb84bff5724bf5' WHERE id = 2",
-        1,
-    ),
-    (
-        // Its check is that of the channel from terminal B.
-        "UPDATE line SET version = 2;
-        INSERT INTO offered VALUES (4, 'from', x'41', x'4849', x'851da130b3d71e12')",
+        "INSERT INTO offered VALUES (4, 'from', x'41', x'4849', x'851da130b3d71e12')",
         3,
     ),
 ];
 
-/// Tells whether the offered record with this number is damaged, by its channel and number and after
-/// the one before it, and those before it are not.
+/// Whether the offered record with this number is damaged, by its channel and number and after the
+/// one before it, and those before it are not.
 pub(crate) fn is_damaged<S: Store>(
     store: &mut S,
     channel: &Channel,
@@ -91,7 +55,7 @@ pub(crate) fn is_damaged<S: Store>(
     Ok(by_number == wanted && store.offered(channel, mark, 0).err() == wanted)
 }
 
-/// Tells whether a store has the records with the right checks.
+/// Whether a store has the records with the right checks.
 pub(crate) fn are_checked<S: Store>(store: &mut S, channel: &Channel) -> Result<bool, StoreFault> {
     let offered = are_kept(store, channel, Side::Offered, &["HI", "HO", ""])?;
     Ok(offered && are_kept(store, channel, Side::Arrived, &["HI"])?)
@@ -102,11 +66,9 @@ fn damaged_records_are_told_by_their_numbers(rt: HostRuntime) -> Result<(), Fail
     let sound = "UPDATE line SET version = 2";
     assert!(rt; resumed(rt.alloc(), CHECKED, sound, false, Task::Checked)?);
     for (changed, number) in CHANGES {
-        let task = Task::Damaged { number: *number };
-        assert!(rt;
-            resumed(rt.alloc(), CHECKED, changed, false, task)?,
-            "{changed}"
-        );
+        let changed = format!(in rt.alloc(); "{sound}; {changed}")?;
+        let found = resumed(rt.alloc(), CHECKED, &changed, false, Task::Damaged(*number))?;
+        assert!(rt; found, "{changed}");
     }
     Ok(())
 }
@@ -154,7 +116,7 @@ fn an_inverted_bit_of_a_record_in_the_file_is_found(rt: HostRuntime) -> Result<(
     create(&rt, "store_damaged")?;
     assert!(rt; within(&rt, "store_damaged", LINE, Task::Fill)?);
     assert!(rt; invert(&rt, "store_damaged", b"third")? > 0);
-    assert!(rt; within(&rt, "store_damaged", LINE, Task::Damaged { number: 2 })?);
+    assert!(rt; within(&rt, "store_damaged", LINE, Task::Damaged(2))?);
     delete(&rt, "store_damaged");
     Ok(())
 }

@@ -1,40 +1,35 @@
 //! What is left where a commit was cut off: copies of the files, in the log of which only the first
 //! octets stand, as a process leaves them that was killed as it wrote.
 
-use crate::facts::{Chars, Side, are_kept, is_at, keep, know, offer, sent};
+use crate::facts::{Side, are_kept, counts, know, offer};
 use crate::files::{LINE, Task, copied, create, delete, within};
 use bsc_kept::{Channel, Store, StoreFault};
-use std::alloc::Global;
 use std::fs;
 use std::rt::HostRuntime;
 use std::test::Fail;
 
 /// Offers two records and keeps that both are in doubt, in one step.
-pub(crate) fn keep_step<S: Store>(
-    alloc: Global,
-    store: &mut S,
-    channel: &Channel,
-) -> Result<(), StoreFault> {
-    let step = [
-        offer(channel, Chars::First),
+pub(crate) fn keep_step<S: Store>(store: &mut S, channel: &Channel) -> Result<(), StoreFault> {
+    store.commit(&[
+        offer(channel, "first")?,
         know(channel, 0, 2),
-        offer(channel, Chars::Second),
-    ];
-    keep(alloc, store, &step)
+        offer(channel, "second")?,
+    ])
 }
 
-/// Tells whether a store has the whole of that step, or nothing of it.
+/// Whether a store has the whole of that step, or nothing of it.
 pub(crate) fn has_step<S: Store>(
     store: &mut S,
     channel: &Channel,
     whole: bool,
 ) -> Result<bool, StoreFault> {
+    let numbers = counts(store, channel)?;
     if whole {
         let both = are_kept(store, channel, Side::Offered, &["first", "second"])?;
-        Ok(both && is_at(store, channel, sent(2, 0, 2))?)
+        Ok(both && numbers == [2, 0, 2, 0, 0])
     } else {
         let none = are_kept(store, channel, Side::Offered, &[])?;
-        Ok(none && is_at(store, channel, sent(0, 0, 0))?)
+        Ok(none && numbers == [0, 0, 0, 0, 0])
     }
 }
 
@@ -45,12 +40,12 @@ fn copy_cut(rt: &HostRuntime, log: &[u8], octets: usize) -> Result<(), Fail> {
     Ok(())
 }
 
-/// Tells whether the copy has the whole step, or nothing of it.
+/// Whether the copy has the whole step, or nothing of it.
 fn has(rt: &HostRuntime, whole: bool) -> Result<bool, StoreFault> {
-    within(rt, "store_cut", LINE, Task::HasStep { whole })
+    within(rt, "store_cut", LINE, Task::HasStep(whole))
 }
 
-/// Cuts the log at several places, in each frame of the step and after it. Tells whether the step
+/// Cuts the log at several places, in each frame of the step and after it. Returns whether the step
 /// is absent after the first cuts, more than one of them, and whole after all others: the log may
 /// have octets of older commits at its end.
 fn is_absent_then_whole(rt: &HostRuntime, log: &[u8]) -> Result<bool, Fail> {

@@ -2,103 +2,26 @@
 
 use bsc_block::Record;
 use bsc_frame::Address;
-use bsc_kept::{Change, Channel, Found, Progress, Store, StoreFault};
-use std::alloc::Global;
+use bsc_kept::{Change, Channel, Found, Store, StoreFault};
 
-/// The characters of a record.
-#[derive(Clone, Copy)]
-pub(crate) enum Chars {
-    Empty,
-    First,
-    Second,
-    Third,
-}
-
-impl Chars {
-    /// Returns them.
-    pub(crate) fn text(self) -> &'static str {
-        match self {
-            Chars::Empty => "",
-            Chars::First => "first",
-            Chars::Second => "second",
-            Chars::Third => "third",
-        }
-    }
-}
-
-/// A change, with the characters of its record.
-#[derive(Clone, Copy)]
-pub(crate) enum Fact {
-    Offered {
-        channel: Channel,
-        chars: Chars,
-    },
-    Known {
-        channel: Channel,
-        known: u32,
-        in_doubt: u32,
-    },
-    Arrived {
-        channel: Channel,
-        chars: Chars,
-    },
-    Printed {
-        channel: Channel,
-        count: u32,
-    },
-}
-
-/// Returns the address of these codes.
-fn address(codes: &[u8]) -> Result<Address, StoreFault> {
-    match Address::read(codes) {
+/// Returns the address of the terminal of the tests.
+fn address() -> Result<Address, StoreFault> {
+    match Address::read(b"A") {
         Ok(address) => Ok(address),
         Err(_) => Err(StoreFault::Refused),
     }
 }
 
-/// Returns the channel from the terminal of the tests.
+/// Returns the channel from the terminal.
 pub(crate) fn from_terminal() -> Result<Channel, StoreFault> {
-    let terminal = address(b"A")?;
+    let terminal = address()?;
     Ok(Channel::From { terminal })
 }
 
 /// Returns the channel to it. Its address is the same.
 pub(crate) fn to_terminal() -> Result<Channel, StoreFault> {
-    let selection = address(b"A")?;
+    let selection = address()?;
     Ok(Channel::To { selection })
-}
-
-/// The change by which a record is offered.
-pub(crate) fn offer(channel: &Channel, chars: Chars) -> Fact {
-    Fact::Offered {
-        channel: *channel,
-        chars,
-    }
-}
-
-/// The change by which this many records are known and in doubt.
-pub(crate) fn know(channel: &Channel, known: u32, in_doubt: u32) -> Fact {
-    Fact::Known {
-        channel: *channel,
-        known,
-        in_doubt,
-    }
-}
-
-/// The change by which a record arrives.
-pub(crate) fn arrive(channel: &Channel, chars: Chars) -> Fact {
-    Fact::Arrived {
-        channel: *channel,
-        chars,
-    }
-}
-
-/// The change by which this many records are printed.
-pub(crate) fn print(channel: &Channel, count: u32) -> Fact {
-    Fact::Printed {
-        channel: *channel,
-        count,
-    }
 }
 
 /// Returns a record with these characters. `Refused` says that they are none.
@@ -109,50 +32,33 @@ fn record(chars: &str) -> Result<Record, StoreFault> {
     }
 }
 
-/// Returns the change of a fact.
-fn change(fact: Fact) -> Result<Change, StoreFault> {
-    Ok(match fact {
-        Fact::Offered { channel, chars } => {
-            let record = record(chars.text())?;
-            Change::Offered { channel, record }
-        }
-        Fact::Known {
-            channel,
-            known,
-            in_doubt,
-        } => Change::Known {
-            channel,
-            known,
-            in_doubt,
-        },
-        Fact::Arrived { channel, chars } => {
-            let record = record(chars.text())?;
-            Change::Arrived { channel, record }
-        }
-        Fact::Printed { channel, count } => Change::Printed { channel, count },
-    })
+/// The change by which a record is offered.
+pub(crate) fn offer(channel: &Channel, chars: &str) -> Result<Change, StoreFault> {
+    let (channel, record) = (*channel, record(chars)?);
+    Ok(Change::Offered { channel, record })
 }
 
-/// Returns the changes of these facts.
-fn changes(alloc: Global, facts: &[Fact]) -> Result<Vec<Change>, StoreFault> {
-    let mut step = Vec::new(alloc);
-    for &fact in facts {
-        let change = change(fact)?;
-        if step.push(change).is_err() {
-            return Err(StoreFault::OutOfMemory);
-        }
+/// The change by which this many records are known and in doubt.
+pub(crate) fn know(channel: &Channel, known: u32, in_doubt: u32) -> Change {
+    Change::Known {
+        channel: *channel,
+        known,
+        in_doubt,
     }
-    Ok(step)
 }
 
-/// Keeps these facts in one step.
-pub(crate) fn keep<S: Store>(
-    alloc: Global,
-    store: &mut S,
-    facts: &[Fact],
-) -> Result<(), StoreFault> {
-    let step = changes(alloc, facts)?;
-    store.commit(&step)
+/// The change by which a record arrives.
+pub(crate) fn arrive(channel: &Channel, chars: &str) -> Result<Change, StoreFault> {
+    let (channel, record) = (*channel, record(chars)?);
+    Ok(Change::Arrived { channel, record })
+}
+
+/// The change by which this many records are printed.
+pub(crate) fn print(channel: &Channel, count: u32) -> Change {
+    Change::Printed {
+        channel: *channel,
+        count,
+    }
 }
 
 /// Which records of a channel are meant.
@@ -184,8 +90,8 @@ fn mark_of(found: Option<Found>, chars: &str) -> i64 {
     }
 }
 
-/// Tells whether these are the records of a channel, in order, and all of them. Each is found after
-/// the one before it, and by its number.
+/// Whether these are the records of a channel, in order, and all of them. Each is found after the
+/// one before it, and by its number.
 pub(crate) fn are_kept<S: Store>(
     store: &mut S,
     channel: &Channel,
@@ -206,33 +112,8 @@ pub(crate) fn are_kept<S: Store>(
     Ok(found(store, channel, side, mark, 0)?.is_none())
 }
 
-/// Tells whether these are the numbers of a channel.
-pub(crate) fn is_at<S: Store>(
-    store: &mut S,
-    channel: &Channel,
-    wanted: Progress,
-) -> Result<bool, StoreFault> {
-    Ok(store.progress(channel)? == wanted)
-}
-
-/// The numbers of a channel at its sending end.
-pub(crate) fn sent(offered: u32, known: u32, in_doubt: u32) -> Progress {
-    Progress {
-        offered,
-        known,
-        in_doubt,
-        arrived: 0,
-        printed: 0,
-    }
-}
-
-/// The numbers of a channel at its receiving end.
-pub(crate) fn heard(arrived: u32, printed: u32) -> Progress {
-    Progress {
-        offered: 0,
-        known: 0,
-        in_doubt: 0,
-        arrived,
-        printed,
-    }
+/// How many records of a channel are offered, known, in doubt, arrived and printed.
+pub(crate) fn counts<S: Store>(store: &mut S, channel: &Channel) -> Result<[u32; 5], StoreFault> {
+    let it = store.progress(channel)?;
+    Ok([it.offered, it.known, it.in_doubt, it.arrived, it.printed])
 }

@@ -1,9 +1,7 @@
 //! Each fault, by its name, and that what is kept is as it was.
 
-use crate::facts::{Chars, Side, are_kept, is_at, keep, know, offer, sent};
-use crate::files::{LINE, Task, create, delete, in_memory, is_in_use, resumed, within};
-use bsc_kept::{Channel, Store, StoreFault};
-use std::alloc::Global;
+use crate::files::{LINE, Task, create, delete, is_in_use, resumed, within};
+use bsc_kept::StoreFault;
 use std::fs;
 use std::rt::HostRuntime;
 use std::test::Fail;
@@ -51,15 +49,14 @@ fn files_are_refused_by_name(rt: HostRuntime) -> Result<(), Fail> {
     assert!(rt; fs::read(&rt, "store_log-wal")?.as_slice() == LOG.as_bytes());
     assert!(rt; is_in_use(&rt, "store_made")?);
     assert!(rt; within(&rt, "store_made", LINE, Task::Nothing)?);
-    delete(&rt, "store_made");
-    delete(&rt, "store_text");
-    delete(&rt, "store_nothing");
-    delete(&rt, "store_log");
+    for path in ["store_made", "store_text", "store_nothing", "store_log"] {
+        delete(&rt, path);
+    }
     Ok(())
 }
 
 /// Makes the tables of a store with a record in doubt. Its line is not kept yet.
-pub(crate) const SOUND: &str = "CREATE TABLE line (version INTEGER, line TEXT);
+const SOUND: &str = "CREATE TABLE line (version INTEGER, line TEXT);
 CREATE TABLE offered (id INTEGER PRIMARY KEY, way TEXT, address BLOB, record BLOB);
 CREATE TABLE known (way TEXT, address BLOB, known INTEGER, in_doubt INTEGER);
 CREATE TABLE arrived (id INTEGER PRIMARY KEY, way TEXT, address BLOB, record BLOB);
@@ -67,15 +64,15 @@ CREATE TABLE printed (way TEXT, address BLOB, printed INTEGER);
 INSERT INTO offered VALUES (1, 'from', x'41', x'4849');
 INSERT INTO known VALUES ('from', x'41', 0, 1);";
 
+/// The fault of a store of a later version.
+const NEWER: StoreFault = StoreFault::Newer { version: 3 };
+
 /// Statements after which it is refused, and the fault.
 const CHANGES: &[(&str, StoreFault)] = &[
-    (
-        "UPDATE line SET version = 3",
-        StoreFault::Newer { version: 3 },
-    ),
+    ("UPDATE line SET version = 3", NEWER),
     (
         "DROP TABLE line; CREATE TABLE line (version INTEGER); INSERT INTO line VALUES (3)",
-        StoreFault::Newer { version: 3 },
+        NEWER,
     ),
     ("UPDATE line SET version = 0", StoreFault::Damaged),
     ("DELETE FROM line", StoreFault::Damaged),
@@ -83,10 +80,7 @@ const CHANGES: &[(&str, StoreFault)] = &[
     ("DROP TABLE known", StoreFault::Damaged),
     ("DROP TABLE printed", StoreFault::Damaged),
     ("DELETE FROM offered", StoreFault::Damaged),
-    (
-        "INSERT INTO printed (way, address, printed) VALUES ('to', x'61', 1)",
-        StoreFault::Damaged,
-    ),
+    ("INSERT INTO printed VALUES ('to', x'61', 1)", StoreFault::Damaged),
 ];
 
 #[test]
@@ -99,30 +93,5 @@ fn changed_stores_are_refused_by_name(rt: HostRuntime) -> Result<(), Fail> {
             assert!(rt; refused == Err(*fault), "{any} {changed}");
         }
     }
-    Ok(())
-}
-
-/// Tells whether a step of which the last change is refused changes nothing, and the next one is
-/// kept.
-pub(crate) fn is_unchanged<S: Store>(
-    alloc: Global,
-    store: &mut S,
-    channel: &Channel,
-) -> Result<bool, StoreFault> {
-    keep(
-        alloc,
-        store,
-        &[offer(channel, Chars::First), know(channel, 0, 1)],
-    )?;
-    let step = [offer(channel, Chars::Second), know(channel, 0, 8)];
-    let refused = keep(alloc, store, &step) == Err(StoreFault::Refused);
-    let before = is_at(store, channel, sent(1, 0, 1))?;
-    keep(alloc, store, &[offer(channel, Chars::Second)])?;
-    Ok(refused && before && are_kept(store, channel, Side::Offered, &["first", "second"])?)
-}
-
-#[test]
-fn a_refused_step_changes_nothing(rt: HostRuntime) -> Result<(), Fail> {
-    assert!(rt; in_memory(rt.alloc(), Task::Refused)?);
     Ok(())
 }

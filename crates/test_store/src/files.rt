@@ -4,9 +4,7 @@
 use crate::checks::{are_checked, is_damaged};
 use crate::cut::{has_step, keep_step};
 use crate::facts::{from_terminal, to_terminal};
-use crate::faults::is_unchanged;
-use crate::kept::{fill, is_filled};
-use crate::many::{are_marked, keeps_many};
+use crate::kept::{fill, is_filled, is_unchanged, keeps_many};
 use bsc_kept::{Store, StoreFault};
 use bsc_store::TableStore;
 use sqlite::{Connection, MemStore, params};
@@ -34,37 +32,25 @@ polled 4c4c4c4c4c4c4c selected 614c4c4c4c4c4c 624c4c4c4c4c4c 634c4c4c4c4c4c 644c
 /// What is done with a store while it is open. The answer is whether all was as it should be.
 #[derive(Clone, Copy)]
 pub(crate) enum Task {
-    /// Keep the steps of two channels.
+    /// Keep the steps of two channels, read them, or both.
     Fill,
-
-    /// Read them.
     Read,
-
-    /// Both.
     FillAndRead,
 
     /// Keep a step that is refused, and find that nothing changed.
     Refused,
 
-    /// Keep the step that is cut off.
+    /// Keep the step that is cut off, and find it as a whole, or nothing of it.
     Step,
-
-    /// Find that step as a whole, or nothing of it.
-    HasStep { whole: bool },
+    HasStep(bool),
 
     /// Keep a step of many changes, and find its records.
     Many,
 
-    /// Find the records that have great marks.
-    Marked,
-
-    /// Find the records that have right checks.
+    /// Find the records that have right checks, or that the one with this number is damaged.
     Checked,
+    Damaged(u32),
 
-    /// Find that the offered record with this number is damaged.
-    Damaged { number: u32 },
-
-    /// Nothing.
     Nothing,
 }
 
@@ -74,24 +60,23 @@ fn perform<S: Store>(alloc: Global, store: &mut S, task: Task) -> Result<bool, S
     let other = to_terminal()?;
     match task {
         Task::Fill => {
-            fill(alloc, store, &one, &other)?;
+            fill(store, &one, &other)?;
             Ok(true)
         }
         Task::Read => is_filled(store, &one, &other),
         Task::FillAndRead => {
-            fill(alloc, store, &one, &other)?;
+            fill(store, &one, &other)?;
             is_filled(store, &one, &other)
         }
-        Task::Refused => is_unchanged(alloc, store, &one),
+        Task::Refused => is_unchanged(store, &one),
         Task::Step => {
-            keep_step(alloc, store, &one)?;
+            keep_step(store, &one)?;
             Ok(true)
         }
-        Task::HasStep { whole } => has_step(store, &one, whole),
+        Task::HasStep(whole) => has_step(store, &one, whole),
         Task::Many => keeps_many(alloc, store, &one),
-        Task::Marked => are_marked(store, &one),
         Task::Checked => are_checked(store, &one),
-        Task::Damaged { number } => is_damaged(store, &one, number),
+        Task::Damaged(number) => is_damaged(store, &one, number),
         Task::Nothing => Ok(true),
     }
 }

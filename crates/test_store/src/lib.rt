@@ -1,5 +1,6 @@
 //! Tests of the store of a station, over files and over memory: what is read back, each fault by
-//! its name, and what is left where a commit was cut off.
+//! its name, and what is left where a commit was cut off; and of the operations of `bscline store`,
+//! over stores in memory.
 #![tactic(auto)]
 
 #[cfg(test)]
@@ -15,6 +16,12 @@ mod files;
 #[cfg(test)]
 mod kept;
 #[cfg(test)]
+mod lines;
+#[cfg(test)]
+mod machine;
+#[cfg(test)]
 mod made;
 #[cfg(test)]
-mod many;
+mod texts;
+#[cfg(test)]
+mod works;

@@ -5,30 +5,15 @@ use bsc_storing::read_line_text;
 use std::alloc::Global;
 use std::test::Fail;
 
-/// Right texts, with the full length and the number of terminals.
-const RIGHT: &[(&str, u8, usize)] = &[
-    (
-        "control station\nfull length 1\npolled 41 selected 61\n",
-        1,
-        1,
-    ),
-    (
-        "terminal 0\nfull length 2\npolled 41 selected 61 62\n",
-        2,
-        1,
-    ),
-    (
-        "terminal 255\nfull length 79\npolled 41 selected 61 62 63 64\n",
-        79,
-        1,
-    ),
-    (
-        "terminal 1\nfull length 144\npolled 41 selected 61 62 63\n\
-        polled 42303030303030 selected 65303030303030\n",
-        144,
-        2,
-    ),
+/// The station, the full length, the number of terminals, and the lines of these in right texts.
+const RIGHT: &[(&str, u8, usize, &str)] = &[
+    ("control station", 1, 1, "polled 41 selected 61"),
+    ("terminal 0", 2, 1, "polled 41 selected 61 62"),
+    ("terminal 255", 79, 1, "polled 41 selected 61 62 63 64"),
+    ("terminal 1", 144, 2, TWO),
 ];
+
+const TWO: &str = "polled 41 selected 61 62 63\npolled 42303030303030 selected 65303030303030";
 
 /// Damaged texts: lines that are missing, doubled, or have wrong words, numbers or addresses.
 const DAMAGED: &[&str] = &[
@@ -79,8 +64,9 @@ fn is_damaged(alloc: Global, text: &str) -> bool {
 
 #[test]
 fn only_the_text_of_a_line_is_read(rt: HostRuntime) -> Result<(), Fail> {
-    for (text, full, terminals) in RIGHT {
-        assert!(rt; is_read(rt.alloc(), text, *full, *terminals), "{text}");
+    for (station, full, count, terminals) in RIGHT {
+        let text = format!(in rt.alloc(); "{station}\nfull length {full}\n{terminals}\n")?;
+        assert!(rt; is_read(rt.alloc(), &text, *full, *count), "{text}");
     }
     for text in DAMAGED {
         assert!(rt; is_damaged(rt.alloc(), text), "{text}");

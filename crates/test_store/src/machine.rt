@@ -87,16 +87,13 @@ impl Store for Kept {
     }
 }
 
-/// A machine with a store at the paths `control`, `terminal` and `other`, once they are made, and
-/// with the files `line.toml` and `cards.txt`, and two whose last line is no record.
+/// A machine with a store at the paths `control` and `terminal`, once they are made, and with the
+/// files `line.toml` and `cards.txt`, and two whose last line is no record.
 #[derive(Drop)]
 pub(crate) struct Machine {
     alloc: Global,
     control: Option<Opened<Kept>>,
     terminal: Option<Opened<Kept>>,
-
-    /// The store of terminal 1.
-    other: Option<Opened<Kept>>,
 
     /// The path of a store, and which of its calls fail.
     pub(crate) fails: (&'static str, Fails),
@@ -128,7 +125,6 @@ pub(crate) fn no_stores(alloc: Global) -> Machine {
         alloc,
         control: None,
         terminal: None,
-        other: None,
         fails: ("", Fails::Nothing),
     }
 }
@@ -167,7 +163,6 @@ impl StoreFiles for Machine {
         let opened = match path {
             "control" => self.control.take(),
             "terminal" => self.terminal.take(),
-            "other" => self.other.take(),
             "none" => return Err(StoreFault::Missing),
             _ => return Err(StoreFault::Damaged),
         };
@@ -175,11 +170,10 @@ impl StoreFiles for Machine {
             return Err(StoreFault::InUse);
         };
         let (failing, fails) = self.fails;
-        opened.store.fails = if path == failing {
-            fails
-        } else {
-            Fails::Nothing
-        };
+        opened.store.fails = Fails::Nothing;
+        if path == failing {
+            opened.store.fails = fails;
+        }
         Ok(opened)
     }
 
@@ -187,8 +181,6 @@ impl StoreFiles for Machine {
         let closed = opened.store.call(Fails::Closes, StoreFault::Full);
         if opened.line.as_str().starts_with("control station\n") {
             self.control = Some(opened);
-        } else if opened.line.as_str().starts_with("terminal 1\n") {
-            self.other = Some(opened);
         } else {
             self.terminal = Some(opened);
         }
@@ -198,7 +190,6 @@ impl StoreFiles for Machine {
     fn make_kept(&mut self, path: &str, line: &str) -> Result<(), StoreFault> {
         let is_there = match path {
             "control" => self.control.is_some(),
-            "other" => self.other.is_some(),
             _ => self.terminal.is_some(),
         };
         if is_there {
@@ -209,78 +200,83 @@ impl StoreFiles for Machine {
     }
 }
 
-/// The words of a work on the store at a path, of which an empty one is left out.
-#[derive(Clone, Copy)]
-pub(crate) struct Given {
-    pub(crate) file: &'static str,
-    pub(crate) work: &'static str,
-    pub(crate) first: &'static str,
-    pub(crate) second: &'static str,
-    pub(crate) control: bool,
-    pub(crate) terminal: &'static str,
-    pub(crate) from: &'static str,
-    pub(crate) text: bool,
-}
-
-/// Returns a word, unless it is empty.
-fn word(alloc: Global, text: &str) -> Result<Option<String>, AllocError> {
-    if text.is_empty() {
-        return Ok(None);
+/// Returns the word of an option, which is the one after it.
+fn value(alloc: Global, word: Option<&str>) -> Result<Option<String>, AllocError> {
+    match word {
+        Some(word) => Ok(Some(String::from_str(alloc, word)?)),
+        None => Ok(None),
     }
-    Ok(Some(String::from_str(alloc, text)?))
 }
 
-/// Returns the words as the command has read them.
-fn words_of(alloc: Global, given: Given) -> Result<StoreWords, AllocError> {
-    Ok(StoreWords {
-        file: String::from_str(alloc, given.file)?,
-        work: String::from_str(alloc, given.work)?,
-        first: word(alloc, given.first)?,
-        second: word(alloc, given.second)?,
-        control: given.control,
-        terminal: word(alloc, given.terminal)?,
-        from: word(alloc, given.from)?,
-        text: given.text,
-    })
+/// Returns the words as the command has read them: the path of a store, a work, and up to two words
+/// more. Options may stand anywhere after the work.
+fn words_of(alloc: Global, text: &str) -> Result<StoreWords, AllocError> {
+    let mut rest = text.split(' ');
+    let mut words = StoreWords {
+        file: String::from_str(alloc, rest.next().unwrap_or(""))?,
+        work: String::from_str(alloc, rest.next().unwrap_or(""))?,
+        first: None,
+        second: None,
+        control: false,
+        terminal: None,
+        from: None,
+        text: false,
+    };
+    for _ in 0..text.len() {
+        let Some(word) = rest.next() else {
+            break;
+        };
+        match word {
+            "--control" => words.control = true,
+            "--text" => words.text = true,
+            "--terminal" => words.terminal = value(alloc, rest.next())?,
+            "--from" => words.from = value(alloc, rest.next())?,
+            _ if words.first.is_none() => words.first = value(alloc, Some(word))?,
+            _ => words.second = value(alloc, Some(word))?,
+        }
+    }
+    Ok(words)
 }
 
-/// Does the work that the words ask for, with this standard input. Returns what was printed, and
-/// then the text of the error, if any.
+/// Does what the words ask for, with this standard input.
+fn done<W: Write>(
+    alloc: Global,
+    machine: &mut Machine,
+    words: &str,
+    input: &str,
+    out: &mut W,
+) -> Result<(), StoringError> {
+    let words = words_of(alloc, words)?;
+    let mut input = input.as_bytes();
+    match read_store_work(&words) {
+        Err(_) => Err(StoringError::NoTerminal),
+        Ok(work) => store(alloc, words.file.as_str(), work, &mut input, machine, out),
+    }
+}
+
+/// Does what the words ask for, with this standard input, and returns what was printed, and then
+/// the text of the error, if any.
 pub(crate) fn told(
     alloc: Global,
     machine: &mut Machine,
-    given: Given,
+    words: &str,
     input: &str,
 ) -> Result<Vec<u8>, StoringError> {
-    let words = words_of(alloc, given)?;
-    let mut input = input.as_bytes();
     let mut out = Vec::new(alloc);
-    let file = words.file.as_str();
-    let written = match read_store_work(&words) {
-        Err(error) => write!(out, "usage: {error}"),
-        Ok(work) => match store(alloc, file, work, &mut input, machine, &mut out) {
-            Err(error) => write!(out, "refused: {error}"),
-            Ok(()) => Ok(()),
-        },
-    };
-    match written {
+    match done(alloc, machine, words, input, &mut out) {
         Ok(()) => Ok(out),
-        Err(_) => Err(StoringError::Output),
+        Err(error) => match write!(out, "refused: {error}") {
+            Ok(()) => Ok(out),
+            Err(_) => Err(StoringError::Memory),
+        },
     }
 }
 
-/// Does the work that the words ask for, with an output that takes nothing.
-pub(crate) fn done(alloc: Global, machine: &mut Machine, given: Given) -> Result<(), StoringError> {
-    let words = words_of(alloc, given)?;
-    let mut input = b"".as_slice();
-    match read_store_work(&words) {
-        Err(_) => Err(StoringError::NoChannel),
-        Ok(work) => {
-            let file = words.file.as_str();
-            let mut out = Full { left: 0 };
-            store(alloc, file, work, &mut input, machine, &mut out)
-        }
-    }
+/// Whether what the words ask for fails because the output does, which takes nothing.
+pub(crate) fn is_unprinted(alloc: Global, machine: &mut Machine, words: &str) -> bool {
+    let mut out = Full { left: 0 };
+    let result = done(alloc, machine, words, "", &mut out);
+    matches!(result, Err(StoringError::Output))
 }
 
 /// Keeps a step in the store at a path.
