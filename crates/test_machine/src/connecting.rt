@@ -1,10 +1,11 @@
-//! How the machine connects to a peer, and how long it tries.
+//! How the machine connects to a peer, and how long it tries; and its cables.
 
 use crate::fake::{Fake, NO_FILE};
 use bsc_attending::{Network, Wanted};
 use bsc_machine::{Peer, Streams, connect_within};
 use bsc_options::Place;
 use bsc_peers::Networks;
+use bsc_running::Cables;
 use bsc_sockets::SocketsError;
 use std::cell::RefCell;
 use std::fs::File;
@@ -114,100 +115,75 @@ impl Peer for Late<'_> {
     }
 }
 
-/// Attempts of a station with a patience of 350 milliseconds.
-#[derive(Clone, Copy)]
-struct Attempts {
-    /// How many milliseconds each takes, and at how many nobody is there.
-    takes: u64,
-    misses: usize,
+/// How many milliseconds each attempt of a station with a patience of 350 takes, at how many nobody
+/// is there, whether the station meets its peer, and when each begins and how long it may wait.
+type Attempts = (u64, usize, bool, &'static [(u64, u128)]);
 
-    /// What the peer answers then.
-    answer: Result<&'static str, SocketsError>,
-
-    /// What they come to, and when each begins, and how long it may wait.
-    result: Result<&'static str, SocketsError>,
-    tried: &'static [(u64, u128)],
-}
+/// Five attempts, of which the last one begins when the patience ends.
+const FIVE: &[(u64, u128)] = &[(0, 350), (100, 350), (200, 250), (300, 150), (350, 50)];
 
 const ATTEMPTS: &[Attempts] = &[
-    Attempts {
-        takes: 0,
-        misses: 0,
-        answer: Ok("there"),
-        result: Ok("there"),
-        tried: &[(0, 350)],
-    },
-    Attempts {
-        takes: 0,
-        misses: 4,
-        answer: Ok("there"),
-        result: Ok("there"),
-        tried: &[(0, 350), (100, 350), (200, 250), (300, 150), (350, 50)],
-    },
-    Attempts {
-        takes: 0,
-        misses: 5,
-        answer: Ok("there"),
-        result: Err(SocketsError::NobodyThere),
-        tried: &[(0, 350), (100, 350), (200, 250), (300, 150), (350, 50)],
-    },
-    Attempts {
-        takes: 120,
-        misses: 5,
-        answer: Ok("there"),
-        result: Err(SocketsError::NobodyThere),
-        tried: &[(0, 350), (220, 230), (350, 10)],
-    },
-    Attempts {
-        takes: 351,
-        misses: 1,
-        answer: Ok("there"),
-        result: Err(SocketsError::NobodyThere),
-        tried: &[(0, 350)],
-    },
-    Attempts {
-        takes: 0,
-        misses: 1,
-        answer: Err(SocketsError::CannotWatchInput),
-        result: Err(SocketsError::CannotWatchInput),
-        tried: &[(0, 350), (100, 350)],
-    },
+    (0, 0, true, &[(0, 350)]),
+    (0, 4, true, FIVE),
+    (0, 5, false, FIVE),
+    (120, 5, false, &[(0, 350), (220, 230), (350, 10)]),
+    (351, 1, false, &[(0, 350)]),
 ];
 
-/// Whether a station makes these attempts, with a clock that can be read or not.
-fn tries(fake: &Fake<'_>, attempts: Attempts) -> bool {
-    let late = Late {
+/// Returns a peer at which each attempt takes this long, and that answers after these misses.
+fn peer_after<'a>(fake: &'a Fake<'a>, takes: u64, misses: usize) -> Late<'a> {
+    Late {
         fake,
-        takes: attempts.takes,
-        misses: attempts.misses,
-        answer: attempts.answer,
+        takes,
+        misses,
+        answer: Ok("there"),
         tried: RefCell::new(Vec::new(fake.alloc())),
-    };
-    let result = connect_within(fake, Duration::from_millis(350), &late);
-    result == attempts.result && late.has_tried(attempts.tried)
+    }
+}
+
+/// What the attempts come to.
+fn met(fake: &Fake<'_>, peer: &Late<'_>) -> Result<&'static str, SocketsError> {
+    connect_within(fake, Duration::from_millis(350), peer)
 }
 
 #[test]
 fn a_station_tries_until_its_patience_ends(rt: HostRuntime) -> Result<(), Fail> {
-    for (place, attempts) in ATTEMPTS.iter().enumerate() {
+    for (place, (takes, misses, is_met, tried)) in ATTEMPTS.iter().enumerate() {
         let fake = Fake::new(&rt, NO_FILE);
-        assert!(rt; tries(&fake, *attempts), "{place}");
+        let peer = peer_after(&fake, *takes, *misses);
+        let due = match *is_met {
+            true => Ok("there"),
+            false => Err(SocketsError::NobodyThere),
+        };
+        assert!(rt; met(&fake, &peer) == due && peer.has_tried(tried), "{place}");
     }
     let fake = Fake::new(&rt, NO_FILE);
-    let late = Late {
-        fake: &fake,
-        takes: 0,
-        misses: 35_999,
-        answer: Ok("there"),
-        tried: RefCell::new(Vec::new(rt.alloc())),
-    };
-    assert!(rt; connect_within(&fake, Duration::from_secs(3_600), &late) == Ok("there"));
+    let peer = peer_after(&fake, 0, 35_999);
+    assert!(rt; connect_within(&fake, Duration::from_secs(3_600), &peer) == Ok("there"));
+    Ok(())
+}
+
+/// Another error than that nobody is there ends the attempts, and so does a clock that cannot be
+/// read.
+#[test]
+fn a_station_tries_no_more_after_an_error(rt: HostRuntime) -> Result<(), Fail> {
+    let fake = Fake::new(&rt, NO_FILE);
+    let mut peer = peer_after(&fake, 0, 1);
+    peer.answer = Err(SocketsError::CannotWatchInput);
+    assert!(rt; met(&fake, &peer) == Err(SocketsError::CannotWatchInput));
+    assert!(rt; peer.has_tried(&[(0, 350), (100, 350)]));
     fake.ticks.set(false);
-    let none = Attempts {
-        result: Err(SocketsError::Sockets),
-        tried: &[],
-        ..ATTEMPTS[0]
-    };
-    assert!(rt; tries(&fake, none));
+    let peer = peer_after(&fake, 0, 0);
+    assert!(rt; met(&fake, &peer) == Err(SocketsError::Sockets) && peer.has_tried(&[]));
+    Ok(())
+}
+
+/// A cable has as many connections as are asked for, up to 64.
+#[test]
+fn a_cable_has_its_connections(rt: HostRuntime) -> Result<(), Fail> {
+    let (fake, streams) = (Fake::new(&rt, NO_FILE), Streams::new(false));
+    let mut machine = streams.machine(&fake);
+    assert!(rt; matches!(&machine.connect(1), Ok(cable) if cable.terminals() == 1));
+    assert!(rt; matches!(&machine.connect(64), Ok(cable) if cable.terminals() == 64));
     Ok(())
 }

@@ -25,47 +25,31 @@ const LISTENING: &str = "listening at ";
 /// What stands before the address in the line that tells which peer was turned away.
 const REFUSED: &str = "refused ";
 
-/// The file that standard output is.
-#[derive(Clone, Copy)]
-pub(crate) struct Taken {
-    /// The path whose kind is told.
-    pub(crate) told: &'static str,
-
-    /// The path that is opened.
-    pub(crate) opened: &'static str,
-}
+/// The file that standard output is: the path whose kind is told, and the path that is opened.
+pub(crate) type Taken = (&'static str, &'static str);
 
 /// Standard output is no file.
-pub(crate) const NO_FILE: Taken = Taken {
-    told: "/dev/null",
-    opened: "/dev/null",
-};
+pub(crate) const NO_FILE: Taken = ("/dev/null", "/dev/null");
 
 /// The runtime.
 #[derive(Drop)]
 pub(crate) struct Fake<'a> {
     host: &'a HostRuntime,
 
-    /// What standard output and standard error took.
+    /// What standard output and standard error took, and whether they take what is printed.
     out: RefCell<Vec<u8>>,
     told: RefCell<Vec<u8>>,
-
-    /// Whether standard output and standard error take what is printed.
     pub(crate) takes: Cell<bool>,
 
-    /// The time in milliseconds.
+    /// The time in milliseconds, and whether the clock can be read.
     pub(crate) time: Cell<u64>,
-
-    /// Whether the clock can be read.
     pub(crate) ticks: Cell<bool>,
 
     /// The width of the terminal that the environment tells.
     pub(crate) columns: Cell<Option<&'static str>>,
 
-    /// The file that standard output is.
+    /// The file that standard output is, and how often it was opened.
     taken: Taken,
-
-    /// How often it was opened.
     pub(crate) opened: Cell<usize>,
 
     /// The addresses of each host; those that the system knows if this has none.
@@ -294,14 +278,14 @@ impl Files for Fake<'_> {
             return self.host.open_file(how, path);
         }
         self.opened.set(self.opened.get().saturating_add(1));
-        self.host.open_file(how, self.taken.opened)
+        self.host.open_file(how, self.taken.1)
     }
 
     fn metadata(&self, path: &str) -> io::Result<Metadata> {
         if path != STANDARD_OUTPUT {
             return self.host.metadata(path);
         }
-        self.host.metadata(self.taken.told)
+        self.host.metadata(self.taken.0)
     }
 
     fn open_dir(&self, path: &str) -> io::Result<Self::Dir> {

@@ -5,20 +5,10 @@ use crate::fake::{Fake, NO_FILE};
 use bsc_chart::Traces;
 use bsc_input::{Files, InputError, MAX_INPUT, Unreadable};
 use bsc_machine::Streams;
-use std::alloc::Global;
 use std::fs;
 use std::io::Read;
 use std::rt::HostRuntime;
 use std::test::Fail;
-
-/// Returns octets of this number, each of which tells its place.
-fn octets(alloc: Global, count: usize) -> Result<Vec<u8>, Fail> {
-    let mut octets = Vec::new(alloc);
-    for place in 0..count {
-        octets.push((place % 251) as u8)?;
-    }
-    Ok(octets)
-}
 
 /// The result of reading the file at this path: the octets.
 fn read(host: &HostRuntime, path: &str) -> Result<Vec<u8>, InputError> {
@@ -38,12 +28,12 @@ fn is_read(host: &HostRuntime, path: &str, octets: &[u8]) -> bool {
 fn texts_of_files_are_read_whole(rt: HostRuntime) -> Result<(), Fail> {
     fs::write(&rt, "other", b"other")?;
     for count in [0, 1, 4_096, 70_001, MAX_INPUT] {
-        let text = octets(rt.alloc(), count)?;
+        let text = Vec::from_elem(rt.alloc(), b'x', count)?;
         fs::write(&rt, "text", text.as_slice())?;
         assert!(rt; is_read(&rt, "text", text.as_slice()), "{count}");
     }
     assert!(rt; is_read(&rt, "other", b"other"));
-    let longer = octets(rt.alloc(), MAX_INPUT + 1)?;
+    let longer = Vec::from_elem(rt.alloc(), b'x', MAX_INPUT + 1)?;
     fs::write(&rt, "text", longer.as_slice())?;
     assert!(rt; read(&rt, "text") == Err(InputError::TooLong));
     Ok(())
@@ -84,7 +74,7 @@ fn has_trace(host: &HostRuntime, path: &str, octets: &[u8]) -> Result<bool, Unre
 /// A trace is read to its end, and opening leaves it as it was.
 #[test]
 fn traces_are_opened(rt: HostRuntime) -> Result<(), Fail> {
-    let text = octets(rt.alloc(), 70_001)?;
+    let text = Vec::from_elem(rt.alloc(), b'x', 70_001)?;
     fs::write(&rt, "trace", text.as_slice())?;
     fs::write(&rt, "other", b"+0 silence\n")?;
     for _ in 0..2 {

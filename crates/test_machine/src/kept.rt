@@ -6,7 +6,6 @@ use bsc_frame::Address;
 use bsc_kept::{Change, Channel, Found, Progress, Store, StoreFault};
 use bsc_machine::{Machine, Streams};
 use bsc_storing::StoreFiles;
-use std::alloc::Global;
 use std::fs;
 use std::rt::HostRuntime;
 use std::test::Fail;
@@ -14,18 +13,12 @@ use std::test::Fail;
 /// The text of the line of a store.
 const LINE: &str = "terminal 0\nfull length 80\npolled 41 selected 61\n";
 
-/// Returns the address of these codes.
-fn address(codes: &[u8]) -> Result<Address, StoreFault> {
-    match Address::read(codes) {
-        Ok(address) => Ok(address),
-        Err(_) => Err(StoreFault::Refused),
-    }
-}
-
 /// Returns the channel from a terminal.
 fn channel() -> Result<Channel, StoreFault> {
-    let terminal = address(b"A")?;
-    Ok(Channel::From { terminal })
+    match Address::read(b"A") {
+        Ok(terminal) => Ok(Channel::From { terminal }),
+        Err(_) => Err(StoreFault::Refused),
+    }
 }
 
 /// Returns the record of these characters.
@@ -36,28 +29,22 @@ fn record(text: &str) -> Result<Record, StoreFault> {
     }
 }
 
-/// Keeps that two records were offered, of which one is known and one in doubt, and that three
-/// arrived, of which two were printed.
-fn keep<S: Store>(alloc: Global, store: &mut S, text: &str) -> Result<(), StoreFault> {
+/// Keeps that two records were offered, of which one is known and one in doubt, and that one
+/// arrived and was printed.
+fn keep<S: Store>(store: &mut S, text: &str) -> Result<(), StoreFault> {
     let channel = channel()?;
     for text in ["SENT FIRST", text] {
-        store.commit(&[Change::Offered {
-            channel,
-            record: record(text)?,
-        }])?;
+        let record = record(text)?;
+        store.commit(&[Change::Offered { channel, record }])?;
     }
-    for text in ["HEARD FIRST", "HEARD SECOND", text] {
-        store.commit(&[Change::Arrived {
-            channel,
-            record: record(text)?,
-        }])?;
-    }
+    let record = record(text)?;
+    store.commit(&[Change::Arrived { channel, record }])?;
     let known = Change::Known {
         channel,
         known: 1,
         in_doubt: 1,
     };
-    store.commit(&[known, Change::Printed { channel, count: 2 }])
+    store.commit(&[known, Change::Printed { channel, count: 1 }])
 }
 
 /// What is kept, in numbers.
@@ -65,8 +52,8 @@ const KEPT: Progress = Progress {
     offered: 2,
     known: 1,
     in_doubt: 1,
-    arrived: 3,
-    printed: 2,
+    arrived: 1,
+    printed: 1,
 };
 
 /// Whether these are the characters of the record that was found.
@@ -80,12 +67,9 @@ fn is_found(found: Option<Found>, text: &str) -> bool {
 /// Whether a store has what was kept with this text.
 fn has_kept<S: Store>(store: &mut S, text: &str) -> Result<bool, StoreFault> {
     let channel = channel()?;
-    Ok(
-        store.progress(&channel)? == KEPT
-            && is_found(store.offered(&channel, 0, 1)?, text)
-            && is_found(store.arrived(&channel, 0, 2)?, text)
-            && is_found(store.arrived(&channel, 0, 1)?, "HEARD SECOND"),
-    )
+    Ok(store.progress(&channel)? == KEPT
+        && is_found(store.offered(&channel, 0, 1)?, text)
+        && is_found(store.arrived(&channel, 0, 0)?, text))
 }
 
 /// The path of a copy of a store.
@@ -95,16 +79,8 @@ const COPY: &str = "copy.db";
 fn make(machine: &mut Machine<'_, HostRuntime>, path: &str) -> Result<(), StoreFault> {
     machine.make_kept(path, LINE)?;
     match machine.open_store(path, LINE) {
-        Ok(mut store) => keep(machine.runtime.alloc(), &mut store, path),
+        Ok(mut store) => keep(&mut store, path),
         Err(fault) => Err(fault),
-    }
-}
-
-/// The fault with which the store at a path is not opened, if it is not.
-fn refusal(machine: &mut Machine<'_, HostRuntime>, path: &str) -> Option<StoreFault> {
-    match machine.open_kept(path) {
-        Ok(_) => None,
-        Err(fault) => Some(fault),
     }
 }
 
@@ -118,7 +94,7 @@ fn is_whole(
     match machine.open_kept(path) {
         Ok(mut opened) => {
             let has_all = opened.line.as_str() == LINE && has_kept(&mut opened.store, text)?;
-            let is_used = refusal(machine, path) == Some(StoreFault::InUse);
+            let is_used = machine.open_kept(path).err() == Some(StoreFault::InUse);
             machine.close_kept(opened)?;
             Ok(has_all && is_used)
         }
@@ -146,23 +122,15 @@ fn each_store_keeps_what_is_kept_in_it(rt: HostRuntime) -> Result<(), Fail> {
     Ok(())
 }
 
-/// The fault with which a store is opened by a station with this line.
-fn not_opened(machine: &mut Machine<'_, HostRuntime>, path: &str, own: &str) -> Option<StoreFault> {
-    match machine.open_store(path, own) {
-        Ok(_) => None,
-        Err(fault) => Some(fault),
-    }
-}
-
 #[test]
 fn it_is_told_why_a_store_is_refused(rt: HostRuntime) -> Result<(), Fail> {
     let streams = Streams::new(false);
     let mut machine = streams.machine(&rt);
     assert!(rt; machine.make_kept("deck.db", LINE) == Ok(()));
     assert!(rt; machine.make_kept("deck.db", LINE) == Err(StoreFault::Taken));
-    assert!(rt; not_opened(&mut machine, "deck.db", LINE).is_none());
-    assert!(rt; not_opened(&mut machine, "deck.db", "x") == Some(StoreFault::OtherLine));
-    assert!(rt; not_opened(&mut machine, "none.db", LINE) == Some(StoreFault::Missing));
-    assert!(rt; refusal(&mut machine, "none.db") == Some(StoreFault::Missing));
+    assert!(rt; machine.open_store("deck.db", LINE).is_ok());
+    assert!(rt; machine.open_store("deck.db", "x").err() == Some(StoreFault::OtherLine));
+    assert!(rt; machine.open_store("none.db", LINE).err() == Some(StoreFault::Missing));
+    assert!(rt; machine.open_kept("none.db").err() == Some(StoreFault::Missing));
     Ok(())
 }

@@ -5,8 +5,6 @@
 #![tactic(auto)]
 
 #[cfg(test)]
-mod cables;
-#[cfg(test)]
 mod connecting;
 #[cfg(test)]
 mod fake;
@@ -18,8 +16,6 @@ mod kept;
 mod listening;
 #[cfg(test)]
 mod outputs;
-#[cfg(test)]
-mod readiness;
 #[cfg(test)]
 mod screens;
 #[cfg(test)]

@@ -42,19 +42,6 @@ fn are_lines(told: &str, lines: &str) -> bool {
     rest.next().is_none()
 }
 
-/// What a station tells that waits for peers, and what comes of it.
-#[derive(Clone, Copy)]
-struct Waits {
-    wanted: Wanted<'static>,
-
-    /// How many peers connect.
-    peers: usize,
-
-    /// How many connections it makes, and what it tells, with `~` in place of each port.
-    result: Result<usize, SocketsError>,
-    told: &'static str,
-}
-
 /// What the control station tells that waits for two terminals.
 const CONTROL: &str = "listening at 127.0.0.2:~
 waiting for terminals: 0 of 2 connected
@@ -63,13 +50,7 @@ waiting for terminals: 1 of 2 connected
 connection 1 from 127.0.0.1:~ joined
 ";
 
-/// What a terminal tells that waits for the control station.
-const TERMINAL: &str = "listening at 127.0.0.2:~
-waiting for the control station
-connection 0 from 127.0.0.1:~ joined
-";
-
-/// The same with a trace.
+/// What a terminal tells with a trace that waits for the control station.
 const TRACED: &str = "+0 listening at 127.0.0.2:~
 +0 waiting for the control station
 +0 connection 0 from 127.0.0.1:~ joined
@@ -90,52 +71,44 @@ fn elsewhere() -> Networks {
     }
 }
 
-fn cases() -> [Waits; 4] {
+/// What is wanted of a machine, how many peers connect, how many connections it makes, and what it
+/// tells, with `~` in place of each port.
+type Waits = (
+    Wanted<'static>,
+    usize,
+    Result<usize, SocketsError>,
+    &'static str,
+);
+
+fn cases() -> [Waits; 3] {
     let one = wanted(HERE);
+    let control = Wanted {
+        connections: 2,
+        stays: true,
+        ..one
+    };
+    let traced = Wanted { trace: true, ..one };
+    let closed = Wanted {
+        allowed: elsewhere(),
+        ..one
+    };
+    let nobody = Err(SocketsError::NobodyConnected);
     [
-        Waits {
-            wanted: Wanted {
-                connections: 2,
-                stays: true,
-                ..one
-            },
-            peers: 2,
-            result: Ok(2),
-            told: CONTROL,
-        },
-        Waits {
-            wanted: one,
-            peers: 1,
-            result: Ok(1),
-            told: TERMINAL,
-        },
-        Waits {
-            wanted: Wanted { trace: true, ..one },
-            peers: 1,
-            result: Ok(1),
-            told: TRACED,
-        },
-        Waits {
-            wanted: Wanted {
-                allowed: elsewhere(),
-                ..one
-            },
-            peers: 3,
-            result: Err(SocketsError::NobodyConnected),
-            told: TURNED_AWAY,
-        },
+        (control, 2, Ok(2), CONTROL),
+        (traced, 1, Ok(1), TRACED),
+        (closed, 3, nobody, TURNED_AWAY),
     ]
 }
 
 #[test]
 fn a_station_tells_how_it_waits(rt: HostRuntime) -> Result<(), Fail> {
-    for case in cases() {
+    for (asked, peers, due, lines) in cases() {
         let fake = Fake::new(&rt, NO_FILE);
-        fake.due.set(case.peers);
-        let result = opened(&fake, &case.wanted);
-        assert!(rt; result == case.result, "{result:?}");
+        fake.due.set(peers);
+        let result = opened(&fake, &asked);
+        assert!(rt; result == due, "{result:?}");
         let told = fake.told()?;
-        assert!(rt; are_lines(told.as_str(), case.told), "{told}");
+        assert!(rt; are_lines(told.as_str(), lines), "{told}");
     }
     Ok(())
 }

@@ -1,7 +1,7 @@
-//! Standard output: what it takes, and when it is synced.
+//! Standard output: what it takes, when it is synced, and whether it takes more without waiting.
 
 use crate::fake::{Fake, NO_FILE, Taken};
-use bsc_attending::Network;
+use bsc_attending::{Network, Readiness};
 use bsc_machine::Streams;
 use std::fs;
 use std::io::{ErrorKind, Write};
@@ -34,29 +34,15 @@ fn printed(host: &HostRuntime, syncs: bool, taken: Taken) -> (Result<(), ErrorKi
     (result, fake.opened.get())
 }
 
-/// A regular file.
-const FILE: Taken = Taken {
-    told: "taken",
-    opened: "taken",
-};
+/// A regular file, one that cannot be synced, as the null device, a directory, which is no regular
+/// file, and a file that was removed.
+const FILE: Taken = ("taken", "taken");
 
-/// A file that cannot be synced, as the null device.
-const NOT_SYNCED: Taken = Taken {
-    told: "taken",
-    opened: "/dev/null",
-};
+const NOT_SYNCED: Taken = ("taken", "/dev/null");
 
-/// A directory is no regular file.
-const DIRECTORY: Taken = Taken {
-    told: ".",
-    opened: "taken",
-};
+const DIRECTORY: Taken = (".", "taken");
 
-/// A file that was removed.
-const GONE: Taken = Taken {
-    told: "gone",
-    opened: "gone",
-};
+const GONE: Taken = ("gone", "gone");
 
 /// Once it is asked for, a flush opens the file that standard output is, and syncs it; the flush
 /// fails if that does. What is no regular file is not opened. Otherwise nothing is.
@@ -81,5 +67,31 @@ fn standard_output_may_refuse(rt: HostRuntime) -> Result<(), Fail> {
     fake.takes.set(false);
     assert!(rt; print(&fake, &streams, b"x") == Err(ErrorKind::StorageFull));
     assert!(rt; fake.has_printed(b""));
+    Ok(())
+}
+
+/// How many octets standard output takes, asked twice, and again after the descriptor was to become
+/// readable.
+fn rooms<R: Readiness>(readiness: &mut R) -> [usize; 3] {
+    let (first, second) = (readiness.room(), readiness.room());
+    readiness.call_when_ready();
+    [first, second, readiness.room()]
+}
+
+/// Whether the descriptor is none of the standard streams, if there is one.
+fn is_own<R: Readiness>(readiness: &R) -> bool {
+    match readiness.descriptor() {
+        Some(descriptor) => descriptor > 2,
+        None => true,
+    }
+}
+
+/// A test prints nothing before its result, so that its output is ready whatever it is.
+#[test]
+fn standard_output_is_ready_each_time_that_it_is_asked(rt: HostRuntime) -> Result<(), Fail> {
+    let streams = Streams::new(false);
+    let mut readiness = streams.machine(&rt).readiness();
+    assert_eq!(rt; rooms(&mut readiness), [4_096; 3]);
+    assert!(rt; is_own(&readiness));
     Ok(())
 }

@@ -20,8 +20,6 @@ const COUNTS: Counts = Counts {
 /// The line that is shown after two seconds.
 const EVENTS: &str = "\r8 events, known 3, arrived 2, in doubt 1, 4 a second\x1b[K";
 
-const ROUNDS: &str = "\r8 rounds, known 3, arrived 2, in doubt 1, 4 a second\x1b[K";
-
 /// What clears the line.
 const CLEARED: &str = "\r\x1b[K";
 
@@ -33,37 +31,17 @@ fn show<M: Meter>(time: &Cell<u64>, meter: &mut M) {
     }
 }
 
-/// Shows how far the work of a run has come.
-fn show_run(fake: &Fake<'_>, streams: &Streams, work: Option<Work>) {
+/// Shows how far the work of a run has come, or that of a station.
+fn show_run(fake: &Fake<'_>, streams: &Streams) {
     fake.time.set(5_000);
-    show(&fake.time, &mut streams.machine(fake).meter(work));
+    let mut meter = streams.machine(fake).meter(Some(Work::Events));
+    show(&fake.time, &mut meter);
 }
 
-/// Shows how far the work of a station has come.
-fn show_station(fake: &Fake<'_>, streams: &Streams, work: Option<Work>) {
+fn show_station(fake: &Fake<'_>, streams: &Streams) {
     fake.time.set(5_000);
-    show(&fake.time, &mut streams.machine(fake).timer(work));
-}
-
-/// Whether both show this line on standard error, which may be a terminal.
-fn is_shown(fake: &Fake<'_>, is_terminal: bool, work: Option<Work>, line: &str) -> bool {
-    let (run, station) = (Streams::new(is_terminal), Streams::new(is_terminal));
-    show_run(fake, &run, work);
-    let of_run = fake.has_told(line);
-    show_station(fake, &station, work);
-    of_run && fake.has_told(line)
-}
-
-/// Progress is shown of work, on a terminal only.
-#[test]
-fn progress_is_shown_of_work_on_a_terminal(rt: HostRuntime) -> Result<(), Fail> {
-    let fake = Fake::new(&rt, NO_FILE);
-    assert!(rt; is_shown(&fake, true, Some(Work::Events), EVENTS));
-    assert!(rt; is_shown(&fake, true, Some(Work::Rounds), ROUNDS));
-    assert!(rt; is_shown(&fake, true, None, ""));
-    assert!(rt; is_shown(&fake, false, Some(Work::Events), ""));
-    assert!(rt; is_shown(&fake, false, Some(Work::Rounds), ""));
-    Ok(())
+    let mut timer = streams.machine(fake).timer(Some(Work::Events));
+    show(&fake.time, &mut timer);
 }
 
 /// The line is cleared once, if it is there.
@@ -72,7 +50,7 @@ fn progress_is_cleared_once(rt: HostRuntime) -> Result<(), Fail> {
     let (fake, streams) = (Fake::new(&rt, NO_FILE), Streams::new(true));
     streams.clear(&fake);
     assert!(rt; fake.has_told(""));
-    show_run(&fake, &streams, Some(Work::Events));
+    show_run(&fake, &streams);
     assert!(rt; fake.has_told(EVENTS));
     streams.clear(&fake);
     streams.clear(&fake);
@@ -85,7 +63,7 @@ fn progress_is_cleared_once(rt: HostRuntime) -> Result<(), Fail> {
 #[test]
 fn progress_is_cleared_before_a_line(rt: HostRuntime) -> Result<(), Fail> {
     let (fake, streams) = (Fake::new(&rt, NO_FILE), Streams::new(true));
-    show_station(&fake, &streams, Some(Work::Events));
+    show_station(&fake, &streams);
     assert!(rt; fake.has_told(EVENTS));
     let mut trace = streams.machine(&fake).trace(true);
     trace.write_all(b"+0 silence\n")?;
@@ -93,7 +71,7 @@ fn progress_is_cleared_before_a_line(rt: HostRuntime) -> Result<(), Fail> {
     trace.write_all(b"+1 silence\n")?;
     trace.flush()?;
     assert!(rt; fake.has_told("+1 silence\n"));
-    show_station(&fake, &streams, Some(Work::Events));
+    show_station(&fake, &streams);
     assert!(rt; fake.has_told(EVENTS));
     let mut output = streams.output(&fake);
     output.write_all(b"ACK0\n")?;
@@ -128,31 +106,21 @@ fn refused(fake: &Fake<'_>, streams: &Streams, octets: &[u8]) -> Option<ErrorKin
     }
 }
 
-/// Whether progress that was shown before is due again after a quarter of a second, and not sooner.
-fn is_due_again(fake: &Fake<'_>, streams: &Streams) -> bool {
-    fake.time.set(5_000);
-    let mut meter = streams.machine(fake).meter(Some(Work::Events));
-    show(&fake.time, &mut meter);
-    fake.time.set(7_249);
-    let is_early = meter.is_due();
-    fake.time.set(7_250);
-    !is_early && meter.is_due()
-}
-
 /// What standard error does not take is told, but for lines of a station that are not traced, and
 /// what is not UTF-8 is not written. Progress that it does not take is not shown again.
 #[test]
 fn standard_error_may_refuse(rt: HostRuntime) -> Result<(), Fail> {
     let (fake, streams) = (Fake::new(&rt, NO_FILE), Streams::new(true));
     assert!(rt; refused(&fake, &streams, b"\xff\n") == Some(ErrorKind::InvalidData));
-    assert!(rt; is_due_again(&fake, &streams) && fake.has_told(EVENTS));
     fake.takes.set(false);
     assert!(rt; refused(&fake, &streams, b"x\n") == Some(ErrorKind::StorageFull));
     let mut machine = streams.machine(&fake);
     assert!(rt; machine.trace(true).write_all(b"x\n").is_err());
     assert!(rt; machine.trace(false).write_all(b"x\n").is_ok());
-    assert!(rt; !is_due_again(&fake, &streams));
-    assert!(rt; fake.has_told(""));
+    let mut meter = machine.meter(Some(Work::Events));
+    show(&fake.time, &mut meter);
+    fake.time.set(86_400_000);
+    assert!(rt; !meter.is_due() && fake.has_told(""));
     Ok(())
 }
 

@@ -6,13 +6,11 @@ use bsc_clients::{ClientsError, ServedAt};
 use bsc_feeding::{FeedError, Stations};
 use bsc_machine::Streams;
 use bsc_serving::{Called, Programs};
-use std::fs::File;
 use std::io;
 use std::io::{Error, ErrorKind, Read, Write};
 use std::net::{IpAddr, Ipv4Addr, Net, SocketAddr};
-use std::rt::Files;
 use std::test::Fail;
-use std::time::{Clock, Duration};
+use std::time::Duration;
 
 /// How often a program is asked for what it says.
 const ASKS: usize = 1_000_000;
@@ -106,18 +104,8 @@ fn programs_reach_a_station(rt: HostRuntime) -> Result<(), Fail> {
     let fake = Fake::new(&rt, NO_FILE);
     assert!(rt; are_served(&fake, false, "serving programs at ")?);
     assert!(rt; fake.patience.get() == Some(Duration::from_secs(3)));
-    let fake = Fake::new(&rt, NO_FILE);
     assert!(rt; are_served(&fake, true, "+0 serving programs at ")?);
     Ok(())
-}
-
-/// Why a machine does not serve there.
-fn unserved<R: AllocGlobal + Clock + Eprint + Files<File = File> + Net>(
-    runtime: &R,
-    at: ServedAt<'_>,
-) -> Option<ClientsError> {
-    let streams = Streams::new(false);
-    streams.machine(runtime).serve(at, false).err()
 }
 
 /// Why a machine does not reach a station there.
@@ -133,8 +121,9 @@ fn it_is_told_why_programs_and_stations_do_not_meet(rt: HostRuntime) -> Result<(
         address: "0.0.0.0:0",
         anyone: false,
     };
-    assert!(rt; unserved(&fake, everywhere) == Some(ClientsError::NotLoopback));
-    assert!(rt; fake.has_told(""));
+    let streams = Streams::new(false);
+    let why = streams.machine(&fake).serve(everywhere, false).err();
+    assert!(rt; why == Some(ClientsError::NotLoopback) && fake.has_told(""));
     for (address, due) in [
         ("127.0.0.1:1", FeedError::NobodyThere),
         ("unix:/nowhere/of/a/station", FeedError::NobodyThere),
