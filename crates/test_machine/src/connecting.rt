@@ -155,7 +155,8 @@ fn a_station_tries_until_its_patience_ends(rt: HostRuntime) -> Result<(), Fail> 
             true => Ok("there"),
             false => Err(SocketsError::NobodyThere),
         };
-        assert!(rt; met(&fake, &peer) == due && peer.has_tried(tried), "{place}");
+        assert!(rt; met(&fake, &peer) == due, "{place}");
+        assert!(rt; peer.has_tried(tried), "{place}");
     }
     let fake = Fake::new(&rt, NO_FILE);
     let peer = peer_after(&fake, 0, 35_999);

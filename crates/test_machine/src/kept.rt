@@ -67,9 +67,11 @@ fn is_found(found: Option<Found>, text: &str) -> bool {
 /// Whether a store has what was kept with this text.
 fn has_kept<S: Store>(store: &mut S, text: &str) -> Result<bool, StoreFault> {
     let channel = channel()?;
-    Ok(store.progress(&channel)? == KEPT
-        && is_found(store.offered(&channel, 0, 1)?, text)
-        && is_found(store.arrived(&channel, 0, 0)?, text))
+    Ok(
+        store.progress(&channel)? == KEPT
+            && is_found(store.offered(&channel, 0, 1)?, text)
+            && is_found(store.arrived(&channel, 0, 0)?, text),
+    )
 }
 
 /// The path of a copy of a store.

@@ -80,7 +80,10 @@ const CHANGES: &[(&str, StoreFault)] = &[
     ("DROP TABLE known", StoreFault::Damaged),
     ("DROP TABLE printed", StoreFault::Damaged),
     ("DELETE FROM offered", StoreFault::Damaged),
-    ("INSERT INTO printed VALUES ('to', x'61', 1)", StoreFault::Damaged),
+    (
+        "INSERT INTO printed VALUES ('to', x'61', 1)",
+        StoreFault::Damaged,
+    ),
 ];
 
 #[test]
