@@ -18,11 +18,10 @@ pub(crate) struct Station<'a> {
     events: Events,
 }
 
-/// Any free port of this machine itself.
-pub(crate) const LOCAL: ServedAt<'static> = ServedAt::Address {
-    address: "127.0.0.1:0",
-    anyone: false,
-};
+/// An address at which a station listens, which anyone may reach or not.
+pub(crate) fn at(address: &str, anyone: bool) -> ServedAt<'_> {
+    ServedAt::Address { address, anyone }
+}
 
 impl<'a> Station<'a> {
     /// A station that listens there.
@@ -63,11 +62,7 @@ pub(crate) fn connects(
         return Ok(reach(rt, rt.alloc(), ServedAt::Path { path }, patience)?);
     };
     let text = text_of(rt.alloc(), address)?;
-    let at = ServedAt::Address {
-        address: &text,
-        anyone: true,
-    };
-    Ok(reach(rt, rt.alloc(), at, patience)?)
+    Ok(reach(rt, rt.alloc(), at(&text, true), patience)?)
 }
 
 /// Why a program does not reach a station there, if it does not.

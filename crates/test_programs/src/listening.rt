@@ -1,7 +1,7 @@
 //! Addresses at which a station listens, or may not, and at which no program reaches one.
 
-use crate::station::{LOCAL, refused, text_of, unreached};
-use bsc_clients::{Clients, ClientsError, ServedAt};
+use crate::sockets::{at, refused, text_of, unreached};
+use bsc_clients::{Clients, ClientsError};
 use std::net::{SocketAddr, TcpListener};
 use std::test::Fail;
 
@@ -19,36 +19,25 @@ const REFUSED: &[(&str, bool, ClientsError)] = &[
 #[test]
 fn addresses_at_which_a_station_cannot_listen_are_told(rt: HostRuntime) -> Result<(), Fail> {
     for (address, anyone, why) in REFUSED {
-        let at = ServedAt::Address {
-            address: *address,
-            anyone: *anyone,
-        };
-        if refused(&rt, at) != Some(*why) {
-            return Err(Fail::new(*address));
-        }
+        let fault = refused(&rt, at(address, *anyone));
+        assert!(rt; fault == Some(*why), "{address}");
     }
     Ok(())
 }
 
 /// The address at which a station listens that is to listen there.
-fn listens_at(rt: &HostRuntime, at: ServedAt<'_>) -> Option<SocketAddr> {
-    match Clients::listen(rt, rt.alloc(), at) {
+fn listens_at(rt: &HostRuntime, address: &str, anyone: bool) -> Option<SocketAddr> {
+    match Clients::listen(rt, rt.alloc(), at(address, anyone)) {
         Ok(clients) => clients.address(),
         Err(_) => None,
     }
 }
 
-/// Any free port of this machine, which anyone may reach.
-const ANYONE: ServedAt<'static> = ServedAt::Address {
-    address: "0.0.0.0:0",
-    anyone: true,
-};
-
 #[test]
 fn a_station_listens_at_an_address_of_this_machine(rt: HostRuntime) {
-    let local = listens_at(&rt, LOCAL);
+    let local = listens_at(&rt, "127.0.0.1:0", false);
     assert!(rt; local.is_some_and(|address| address.ip().is_loopback() && address.port() != 0));
-    let anyone = listens_at(&rt, ANYONE);
+    let anyone = listens_at(&rt, "0.0.0.0:0", true);
     assert!(rt; anyone.is_some_and(|address| !address.ip().is_loopback() && address.port() != 0));
 }
 
@@ -56,17 +45,9 @@ fn a_station_listens_at_an_address_of_this_machine(rt: HostRuntime) {
 fn an_address_in_use_and_one_where_nobody_is_are_told(rt: HostRuntime) -> Result<(), Fail> {
     let listener = TcpListener::bind(&rt, "127.0.0.1:0")?;
     let text = text_of(rt.alloc(), listener.local_addr()?)?;
-    let at = ServedAt::Address {
-        address: &text,
-        anyone: false,
-    };
-    assert!(rt; refused(&rt, at) == Some(ClientsError::InUse));
+    assert!(rt; refused(&rt, at(&text, false)) == Some(ClientsError::InUse));
     drop(listener);
-    assert!(rt; unreached(&rt, at) == Some(ClientsError::NobodyThere));
-    let none = ServedAt::Address {
-        address: "nothing",
-        anyone: false,
-    };
-    assert!(rt; unreached(&rt, none) == Some(ClientsError::Address));
+    assert!(rt; unreached(&rt, at(&text, false)) == Some(ClientsError::NobodyThere));
+    assert!(rt; unreached(&rt, at("nothing", false)) == Some(ClientsError::Address));
     Ok(())
 }

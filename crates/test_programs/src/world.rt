@@ -1,6 +1,6 @@
 //! Programs and their connections, in memory.
 
-use bsc_serving::{Called, Programs};
+use bsc_serving::{Called, MAX_PROGRAMS, Programs};
 use std::alloc::{AllocError, Global};
 use std::cell::{Cell, RefCell};
 use std::collections::VecDeque;
@@ -8,28 +8,27 @@ use std::io;
 use std::io::{Error, ErrorKind, Read, Write};
 use std::test::Fail;
 
+/// How many programs a world has.
+const PROGRAMS: usize = 2 * MAX_PROGRAMS + 1;
+
 /// What one program says and was told.
 #[derive(Drop)]
 pub(crate) struct Program {
     said: RefCell<VecDeque<u8>>,
     told: RefCell<Vec<u8>>,
 
-    /// Whether it says nothing more.
+    /// Whether it says nothing more, and whether its connection is reset.
     ended: Cell<bool>,
-
-    /// Whether its connection is reset.
     reset: Cell<bool>,
 
     /// How many octets it takes yet.
-    pub(crate) room: Cell<usize>,
+    room: Cell<usize>,
 
     /// How many octets a read or a write takes at most.
     pub(crate) piece: Cell<usize>,
 
-    /// Its place, once it is taken.
+    /// Its place, once it is taken, and whether the system has something to tell of it.
     place: Cell<Option<usize>>,
-
-    /// Whether the system has something to tell of it.
     changed: Cell<bool>,
 
     /// How many reads and writes there were.
@@ -58,7 +57,7 @@ impl Program {
         Ok(())
     }
 
-    /// Says more, this many times.
+    /// Says this, this many times.
     pub(crate) fn say_often(&self, octets: &[u8], times: usize) -> Result<(), Fail> {
         for _ in 0..times {
             self.say(octets)?;
@@ -84,12 +83,12 @@ impl Program {
         self.changed.set(true);
     }
 
-    /// Whether it was told exactly this.
-    pub(crate) fn was_told(&self, expected: &[u8]) -> bool {
-        match self.told.try_borrow() {
-            Ok(told) => told.as_slice() == expected,
-            Err(_) => false,
-        }
+    /// Whether it was told exactly this since this was asked last.
+    pub(crate) fn was_told(&self, expected: &[u8]) -> Result<bool, Fail> {
+        let mut told = self.told.try_borrow_mut()?;
+        let is_told = told.as_slice() == expected;
+        told.clear();
+        Ok(is_told)
     }
 
     /// How many lines it was told.
@@ -114,16 +113,13 @@ impl Program {
     }
 }
 
-/// All programs of a test, and what is asked of the system.
+/// All programs of a test, in the order in which they connect, and what is asked of the system.
 #[derive(Drop)]
 pub(crate) struct World {
-    /// The programs, in the order in which they connect.
-    pub(crate) programs: Vec<Program>,
+    programs: Vec<Program>,
 
-    /// How many of them have connected.
+    /// How many of them have connected, and how many of these were taken or turned away.
     connected: Cell<usize>,
-
-    /// How many of these were taken or turned away.
     met: Cell<usize>,
 
     /// How many were turned away.
@@ -134,10 +130,10 @@ pub(crate) struct World {
 }
 
 impl World {
-    /// Returns a world of this many programs, none of which has connected.
-    pub(crate) fn new(alloc: Global, count: usize) -> Result<World, AllocError> {
+    /// Returns a world of which no program has connected.
+    pub(crate) fn new(alloc: Global) -> Result<World, AllocError> {
         let mut programs = Vec::new(alloc);
-        for _ in 0..count {
+        for _ in 0..PROGRAMS {
             programs.push(Program::new(alloc))?;
         }
         Ok(World {
@@ -182,15 +178,12 @@ impl World {
     }
 }
 
-/// The programs of a world.
+/// The programs of a world: the one of which is told next, and whether it is to be told that
+/// programs have connected.
 #[derive(Drop)]
 pub(crate) struct Scripted<'a> {
     world: &'a World,
-
-    /// The program of which is told next.
     asked: usize,
-
-    /// Whether it is to be told that programs have connected.
     newcomer: bool,
 }
 

@@ -1,6 +1,6 @@
 //! Unix sockets at paths.
 
-use crate::station::{refused, unreached};
+use crate::sockets::{refused, unreached};
 use bsc_clients::{Clients, ClientsError, ServedAt};
 use std::fs;
 use std::fs::File;
@@ -8,21 +8,9 @@ use std::os::unix::fs::{PermissionsExt, symlink};
 use std::os::unix::net::{UnixListener, UnixStream};
 use std::test::Fail;
 
-/// Whether a station listens at a path and has no address, and the socket file is for its user only
-/// and is removed with the sockets.
-fn is_for_the_user_only(rt: &HostRuntime, path: &str) -> Result<bool, Fail> {
-    let clients = Clients::listen(rt, rt.alloc(), ServedAt::Path { path })?;
-    let has_address = clients.address().is_some();
-    let mode = fs::symlink_metadata(rt, path)?.permissions().mode();
-    drop(clients);
-    let is_left = fs::symlink_metadata(rt, path).is_ok();
-    Ok(!has_address && mode & 0o777 == 0o600 && !is_left)
-}
-
-#[test]
-fn a_socket_file_is_for_the_user_only_and_removed(rt: HostRuntime) -> Result<(), Fail> {
-    assert!(rt; is_for_the_user_only(&rt, "own")?);
-    Ok(())
+/// Why a station cannot listen at a path, if it cannot.
+fn fault_at(rt: &HostRuntime, path: &str) -> Option<ClientsError> {
+    refused(rt, ServedAt::Path { path })
 }
 
 /// Whether a program can connect at a path.
@@ -30,15 +18,27 @@ fn is_reached(rt: &HostRuntime, path: &str) -> bool {
     UnixStream::connect(rt, path).is_ok()
 }
 
+/// A station at a path has no address, and its socket file is for its user only and is removed with
+/// the sockets.
+#[test]
+fn a_socket_file_is_for_the_user_only_and_removed(rt: HostRuntime) -> Result<(), Fail> {
+    let clients = Clients::listen(&rt, rt.alloc(), ServedAt::Path { path: "own" })?;
+    assert!(rt; clients.address().is_none());
+    let mode = fs::symlink_metadata(&rt, "own")?.permissions().mode();
+    assert!(rt; mode & 0o777 == 0o600);
+    drop(clients);
+    assert!(rt; fs::symlink_metadata(&rt, "own").is_err());
+    Ok(())
+}
+
 /// A socket file that was left is replaced, and while a station listens there the path is in use.
 #[test]
 fn a_path_is_in_use_while_somebody_listens(rt: HostRuntime) -> Result<(), Fail> {
     drop(UnixListener::bind(&rt, "left")?);
     assert!(rt; !is_reached(&rt, "left"));
-    let at = ServedAt::Path { path: "left" };
-    let _clients = Clients::listen(&rt, rt.alloc(), at)?;
+    let _clients = Clients::listen(&rt, rt.alloc(), ServedAt::Path { path: "left" })?;
     assert!(rt; is_reached(&rt, "left"));
-    assert!(rt; refused(&rt, at) == Some(ClientsError::InUse));
+    assert!(rt; fault_at(&rt, "left") == Some(ClientsError::InUse));
     assert!(rt; is_reached(&rt, "left"));
     Ok(())
 }
@@ -64,8 +64,7 @@ fn nothing_is_left_beside_a_socket_file(rt: HostRuntime) -> Result<(), Fail> {
     fs::write(&rt, "left/socket.lock", b"")?;
     assert!(rt; has_only(&rt, "left", "left/socket")?);
     fs::create_dir(&rt, ".bsc0")?;
-    let at = ServedAt::Path { path: "taken" };
-    assert!(rt; refused(&rt, at) == None);
+    assert!(rt; fault_at(&rt, "taken") == None);
     assert!(rt; fs::metadata(&rt, ".bsc0")?.is_dir());
     assert!(rt; fs::metadata(&rt, ".bsc1").is_err());
     Ok(())
@@ -93,61 +92,40 @@ fn one_station_at_a_time_replaces_a_socket_file(rt: HostRuntime) -> Result<(), F
     drop(UnixListener::bind(&rt, "held")?);
     let lock = File::create(&rt, "held.lock")?;
     lock.try_lock()?;
-    let at = ServedAt::Path { path: "held" };
-    assert!(rt; refused(&rt, at) == Some(ClientsError::InUse));
+    assert!(rt; fault_at(&rt, "held") == Some(ClientsError::InUse));
     assert!(rt; fs::symlink_metadata(&rt, "held").is_ok());
     drop(lock);
-    assert!(rt; refused(&rt, at) == None);
+    assert!(rt; fault_at(&rt, "held") == None);
     Ok(())
 }
 
-/// A program cannot connect at a path of more than 107 octets, so that no station listens there.
+/// A program cannot connect at a path of more than 107 octets, so that no station listens there,
+/// and neither does one in a folder that is not there.
 #[test]
-fn a_path_that_is_too_long_is_refused(rt: HostRuntime) -> Result<(), Fail> {
+fn a_path_at_which_no_station_can_listen_is_told(rt: HostRuntime) -> Result<(), Fail> {
     let longest = format!(in rt.alloc(); "{:0107}", 0)?;
-    assert!(rt;
-        refused(
-            &rt,
-            ServedAt::Path {
-                path: longest.as_str()
-            }
-        ) == None
-    );
+    assert!(rt; fault_at(&rt, longest.as_str()) == None);
     let longer = format!(in rt.alloc(); "{:0108}", 0)?;
-    let why = refused(
-        &rt,
-        ServedAt::Path {
-            path: longer.as_str(),
-        },
-    );
-    assert!(rt; why == Some(ClientsError::CannotListen));
-    Ok(())
-}
-
-#[test]
-fn a_file_of_another_kind_is_kept(rt: HostRuntime) -> Result<(), Fail> {
-    // A socket file at which nobody listens any more would be replaced, but no link to one.
-    drop(UnixListener::bind(&rt, "socket")?);
-    fs::write(&rt, "file", b"kept")?;
-    let file = refused(&rt, ServedAt::Path { path: "file" });
-    assert!(rt; file == Some(ClientsError::OtherFile));
-    assert!(rt; fs::metadata(&rt, "file")?.len() == 4);
-    fs::create_dir(&rt, "folder")?;
-    let folder = refused(&rt, ServedAt::Path { path: "folder" });
-    assert!(rt; folder == Some(ClientsError::OtherFile));
-    symlink(&rt, "socket", "link")?;
-    let link = refused(&rt, ServedAt::Path { path: "link" });
-    assert!(rt; link == Some(ClientsError::OtherFile));
-    assert!(rt; fs::symlink_metadata(&rt, "link")?.is_symlink());
-    Ok(())
-}
-
-#[test]
-fn a_path_in_no_folder_and_one_where_nobody_is_are_told(rt: HostRuntime) {
-    let at = ServedAt::Path {
-        path: "nowhere/socket",
-    };
-    assert!(rt; refused(&rt, at) == Some(ClientsError::CannotListen));
+    assert!(rt; fault_at(&rt, longer.as_str()) == Some(ClientsError::CannotListen));
+    assert!(rt; fault_at(&rt, "nowhere/socket") == Some(ClientsError::CannotListen));
     let nobody = ServedAt::Path { path: "nobody" };
     assert!(rt; unreached(&rt, nobody) == Some(ClientsError::NobodyThere));
+    Ok(())
+}
+
+/// A socket file at which nobody listens any more would be replaced, but no link to one, and no
+/// file of another kind.
+#[test]
+fn a_file_of_another_kind_is_kept(rt: HostRuntime) -> Result<(), Fail> {
+    drop(UnixListener::bind(&rt, "socket")?);
+    fs::write(&rt, "file", b"kept")?;
+    fs::create_dir(&rt, "folder")?;
+    symlink(&rt, "socket", "link")?;
+    for path in ["file", "folder", "link"] {
+        let fault = fault_at(&rt, path);
+        assert!(rt; fault == Some(ClientsError::OtherFile), "{path}");
+    }
+    assert!(rt; fs::metadata(&rt, "file")?.len() == 4);
+    assert!(rt; fs::symlink_metadata(&rt, "link")?.is_symlink());
+    Ok(())
 }

@@ -1,0 +1,130 @@
+//! Programs that a station serves which keeps its records.
+
+use crate::stations::{Quiet, control, line};
+use crate::world::{Scripted, World};
+use bsc_block::Record;
+use bsc_connections::LiveError;
+use bsc_control::Control;
+use bsc_frame::Address;
+use bsc_keeping::{Keeper, Own, Owner, begin_control};
+use bsc_kept::{Change, Channel, Store};
+use bsc_serving::Serving;
+use std::alloc::Global;
+use std::test::Fail;
+use test_fixtures::on_heap;
+use test_memory::Memory;
+
+/// A control station and what keeps its records.
+#[derive(Drop)]
+struct Kept {
+    station: Box<Control<Global>>,
+    keeper: Keeper<Memory>,
+}
+
+/// Returns the control station of the line, made again from its store.
+fn begun(alloc: Global, store: Memory) -> Result<Box<Kept>, Fail> {
+    let config = line(alloc)?;
+    let mut station = control(alloc)?;
+    let own = Own::of(alloc, &config, Owner::Control)?;
+    let keeper = begin_control(alloc, &mut station, own, store, false)?;
+    Ok(Box::new(alloc, Kept { station, keeper })?)
+}
+
+/// Serves the programs once.
+fn served(serving: &mut Serving<Scripted<'_>>, kept: &mut Kept) -> Result<bool, LiveError> {
+    serving.serve_kept(&mut *kept.station, &mut kept.keeper, &Quiet)
+}
+
+/// What programs say, each of which is served once, and what each has to be told.
+type Talks = &'static [(&'static [u8], &'static [u8])];
+
+/// A control station over a store: what the case shows, whether a record is in doubt on the second
+/// channel to terminal 0, how many commits succeed, the talks, and the result of serving.
+type Case = (&'static str, bool, u32, Talks, Result<bool, LiveError>);
+
+const CASES: &[Case] = &[
+    (
+        "what is answered is kept",
+        false,
+        2,
+        &[(
+            b"offer to 0.1 ONE\noffer to 0.1 TWO\nrelease to 0.1 0\n",
+            b"ok 0\nok 1\nfault not in doubt\n",
+        )],
+        Ok(false),
+    ),
+    (
+        "a record that is not kept is not answered, and no program is served after it",
+        false,
+        1,
+        &[
+            (b"offer to 0 ONE\noffer to 0 TWO\n", b"ok 0\n"),
+            (b"stop\n", b""),
+        ],
+        Err(LiveError::Unkept),
+    ),
+    (
+        "a release is kept, but not one of a count that does not fit",
+        true,
+        100,
+        &[(
+            b"release to 0.1 2\nrelease to 0.1 1\nfollow to 0.1 0\n",
+            b"fault count mismatch\nok\nok\ndelivered to 0.1 1\n",
+        )],
+        Ok(false),
+    ),
+    (
+        "a release that is not kept is not answered",
+        true,
+        0,
+        &[(b"release to 0.1 1\n", b"")],
+        Err(LiveError::Unkept),
+    ),
+];
+
+/// Returns a store, with a record in doubt on the second channel or not, of which this many commits
+/// succeed.
+fn store_of(alloc: Global, is_doubtful: bool, left: u32) -> Result<Memory, Fail> {
+    let mut store = Memory::new(alloc);
+    if is_doubtful {
+        let selection = Address::read(b"c")?;
+        let channel = Channel::To { selection };
+        let record = Record::read(b"ONE", 80)?;
+        store.commit(&[Change::Offered { channel, record }])?;
+        let (known, in_doubt) = (0, 1);
+        store.commit(&[Change::Known {
+            channel,
+            known,
+            in_doubt,
+        }])?;
+    }
+    store.left = left;
+    Ok(store)
+}
+
+/// Whether serving has the result of the case, and the programs are told what they have to be told.
+fn goes(alloc: Global, case: &Case) -> Result<bool, Fail> {
+    let (_, is_doubtful, left, talks, due) = case;
+    let world = World::new(alloc)?;
+    let mut kept = begun(alloc, store_of(alloc, *is_doubtful, *left)?)?;
+    let mut serving = on_heap(alloc, Serving::new(alloc, world.scripted()))?;
+    world.connect(talks.len());
+    for (number, (said, _)) in talks.iter().enumerate() {
+        world.at(number)?.say(said)?;
+    }
+    let result = served(&mut serving, &mut kept);
+    for (number, (_, told)) in talks.iter().enumerate() {
+        if !world.at(number)?.was_told(told)? {
+            return Ok(false);
+        }
+    }
+    Ok(result == *due)
+}
+
+#[test]
+fn what_is_answered_is_kept(rt: HostRuntime) -> Result<(), Fail> {
+    for case in CASES {
+        assert!(rt; goes(rt.alloc(), case)?, "{}", case.0);
+    }
+    Ok(())
+}
