@@ -1,7 +1,5 @@
 //! Tests of the machine on which the program runs: on the system with its files, stores and
 //! sockets, and on a runtime for tests, which keeps what is printed and whose clock is set.
-//!
-//! The standard, GA27-3004, speaks of no machine; all of this is this project's own.
 #![tactic(auto)]
 
 #[cfg(test)]

@@ -107,20 +107,28 @@ fn refused(fake: &Fake<'_>, streams: &Streams, octets: &[u8]) -> Option<ErrorKin
 }
 
 /// What standard error does not take is told, but for lines of a station that are not traced, and
-/// what is not UTF-8 is not written. Progress that it does not take is not shown again.
+/// what is not UTF-8 is not written. Progress that was shown is due again after a quarter of a
+/// second, and not sooner; what standard error does not take of it is not shown again.
 #[test]
 fn standard_error_may_refuse(rt: HostRuntime) -> Result<(), Fail> {
     let (fake, streams) = (Fake::new(&rt, NO_FILE), Streams::new(true));
     assert!(rt; refused(&fake, &streams, b"\xff\n") == Some(ErrorKind::InvalidData));
-    fake.takes.set(false);
-    assert!(rt; refused(&fake, &streams, b"x\n") == Some(ErrorKind::StorageFull));
+    fake.time.set(5_000);
     let mut machine = streams.machine(&fake);
-    assert!(rt; machine.trace(true).write_all(b"x\n").is_err());
-    assert!(rt; machine.trace(false).write_all(b"x\n").is_ok());
     let mut meter = machine.meter(Some(Work::Events));
     show(&fake.time, &mut meter);
+    fake.time.set(7_249);
+    assert!(rt; !meter.is_due() && fake.has_told(EVENTS));
+    fake.time.set(7_250);
+    assert!(rt; meter.is_due());
+    fake.takes.set(false);
+    meter.show(COUNTS);
     fake.time.set(86_400_000);
-    assert!(rt; !meter.is_due() && fake.has_told(""));
+    assert!(rt; !meter.is_due());
+    assert!(rt; refused(&fake, &streams, b"x\n") == Some(ErrorKind::StorageFull));
+    assert!(rt; machine.trace(true).write_all(b"x\n").is_err());
+    assert!(rt; machine.trace(false).write_all(b"x\n").is_ok());
+    assert!(rt; fake.has_told(""));
     Ok(())
 }
 

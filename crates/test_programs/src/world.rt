@@ -21,10 +21,8 @@ pub(crate) struct Program {
     ended: Cell<bool>,
     reset: Cell<bool>,
 
-    /// How many octets it takes yet.
+    /// How many octets it takes yet, and how many a read or a write moves at most.
     room: Cell<usize>,
-
-    /// How many octets a read or a write takes at most.
     pub(crate) piece: Cell<usize>,
 
     /// Its place, once it is taken, and whether the system has something to tell of it.
@@ -122,10 +120,8 @@ pub(crate) struct World {
     connected: Cell<usize>,
     met: Cell<usize>,
 
-    /// How many were turned away.
+    /// How many were turned away, and how often the next wait was to end at once.
     pub(crate) turned_away: Cell<usize>,
-
-    /// How often the next wait was to end at once.
     pub(crate) calls: Cell<usize>,
 }
 
