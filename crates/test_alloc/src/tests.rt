@@ -6,83 +6,21 @@ use std::test::Fail;
 /// Which of five requests of 1 to 5 octets a refusal and a number grant.
 const GRANTED: &[(Refusal, usize, [bool; 5])] = &[
     (Refusal::Nth, 2, [true, false, true, true, true]),
-    (Refusal::Nth, 6, [true; 5]),
     (Refusal::From, 4, [true, true, true, false, false]),
     (
         Refusal::Above { octets: 2 },
         1,
         [true, true, false, false, false],
     ),
-    (
-        Refusal::Above { octets: 1 },
-        4,
-        [true, true, true, true, false],
-    ),
 ];
 
-/// The runs of a test that requests 1 to 5 octets.
-struct Runs {
-    refusal: Refusal,
-    least: usize,
-    end: usize,
-
-    /// How many runs there are: their numbers are those from 1 on.
-    count: usize,
-
-    /// The name of the error at the end; nothing if there is none.
-    error: &'static str,
-}
-
-const RUNS: &[Runs] = &[
-    Runs {
-        refusal: Refusal::Nth,
-        least: 5,
-        end: 6,
-        count: 6,
-        error: "",
-    },
-    Runs {
-        refusal: Refusal::From,
-        least: 0,
-        end: 100,
-        count: 6,
-        error: "",
-    },
-    Runs {
-        refusal: Refusal::Above { octets: 1 },
-        least: 4,
-        end: 5,
-        count: 5,
-        error: "",
-    },
-    Runs {
-        refusal: Refusal::Above { octets: 5 },
-        least: 0,
-        end: 9,
-        count: 1,
-        error: "TooFew",
-    },
-    Runs {
-        refusal: Refusal::Above { octets: 1 },
-        least: 5,
-        end: 6,
-        count: 5,
-        error: "TooFew",
-    },
-    Runs {
-        refusal: Refusal::Above { octets: 1 },
-        least: 0,
-        end: 4,
-        count: 4,
-        error: "NoEnd",
-    },
-    Runs {
-        refusal: Refusal::From,
-        least: 0,
-        end: 0,
-        count: 0,
-        error: "NoEnd",
-    },
+/// A refusal, the range of the number of runs that meet one while 1 to 5 octets are requested, how
+/// many runs there are, and whether fewer or more met one than may.
+const RUNS: &[(Refusal, usize, usize, usize, bool)] = &[
+    (Refusal::Nth, 5, 6, 6, false),
+    (Refusal::Above { octets: 1 }, 4, 5, 5, false),
+    (Refusal::Above { octets: 1 }, 5, 6, 5, true),
+    (Refusal::From, 0, 4, 4, true),
 ];
 
 /// Whether a request of this many octets is granted. What is granted is returned at once.
@@ -90,68 +28,42 @@ fn is_granted<A: Allocator>(alloc: A, octets: usize) -> bool {
     Vec::<u8, A>::with_capacity(alloc, octets).is_ok()
 }
 
-/// Whether these requests, of 1 octet, 2 octets and so on, are granted, and all are counted.
-fn are_granted(alloc: &Refusing, granted: &[bool]) -> bool {
-    let mut octets = 0usize;
-    let mut refused = 0usize;
-    for expected in granted {
-        octets = octets.wrapping_add(1);
-        if is_granted(alloc, octets) != *expected {
-            return false;
-        }
-        if !*expected {
-            refused = refused.wrapping_add(1);
-        }
-    }
-    alloc.requests() == octets && alloc.refused() == refused
-}
-
 #[test]
 fn refusals_by_a_number(rt: HostRuntime) {
     let alloc = Refusing::new(rt.alloc());
     for (refusal, number, granted) in GRANTED {
         alloc.refuse(*refusal, *number);
-        assert!(rt; are_granted(&alloc, granted), "{refusal:?} {number}");
-    }
-    alloc.refuse_none();
-    assert!(rt; are_granted(&alloc, &[true; 5]));
-}
-
-/// The name of the error.
-fn name(error: TurnError) -> &'static str {
-    match error {
-        TurnError::TooFew => "TooFew",
-        TurnError::NoEnd => "NoEnd",
+        for (place, expected) in granted.iter().enumerate() {
+            assert!(rt; is_granted(&alloc, place.saturating_add(1)) == *expected, "{refusal:?}");
+        }
+        let refused = granted.iter().filter(|granted| !**granted).count();
+        assert!(rt; alloc.requests() == 5 && alloc.refused() == refused);
     }
 }
 
-/// Whether the runs have the expected numbers and the expected end, after which nothing is refused.
-fn goes(alloc: &Refusing, runs: &Runs) -> bool {
+/// How many runs there are, whether their last is an error, and whether nothing is refused then.
+fn runs_of(alloc: &Refusing, refusal: Refusal, least: usize, end: usize) -> (usize, bool, bool) {
     let mut count = 0usize;
-    let mut is_ended = runs.error.is_empty();
-    for number in alloc.in_turn(runs.refusal, runs.least..runs.end) {
+    let mut is_wrong = false;
+    for number in alloc.in_turn(refusal, least..end) {
         match number {
-            Ok(number) => {
-                count = count.wrapping_add(1);
-                if number != count {
-                    return false;
-                }
-            }
-            Err(error) => is_ended = name(error) == runs.error,
+            Ok(number) => count = number,
+            Err(TurnError::TooFew | TurnError::NoEnd) => is_wrong = true,
         }
         for octets in 1..6 {
             is_granted(alloc, octets);
         }
     }
-    count == runs.count && is_ended && is_granted(alloc, 9) && alloc.refused() == 0
+    (count, is_wrong, is_granted(alloc, 9) && alloc.refused() == 0)
 }
 
 #[test]
 fn runs_go_on_until_one_meets_no_refusal(rt: HostRuntime) {
     let alloc = Refusing::new(rt.alloc());
-    for runs in RUNS {
+    for (refusal, least, end, count, is_wrong) in RUNS {
         alloc.refuse_from(1);
-        assert!(rt; goes(&alloc, runs), "{} {}", runs.count, runs.error);
+        let runs = runs_of(&alloc, *refusal, *least, *end);
+        assert!(rt; runs == (*count, *is_wrong, true), "{refusal:?} {least}");
     }
 }
 
@@ -180,7 +92,8 @@ fn is_refused_once<A: Allocator + Copy>(alloc: A, request: usize) -> bool {
     refused == usize::from(1 <= request && request <= 5) && pushed.len() == 3
 }
 
-/// The heap is used while a list is, and is as before after each list.
+/// The heap is used while a list is, and is as before after each list. What it has no room for is
+/// no refusal.
 #[test]
 fn every_block_goes_back(rt: HostRuntime) -> Result<(), Fail> {
     let heap = LocalHeap::new(rt.alloc(), 1 << 12)?;
@@ -190,14 +103,7 @@ fn every_block_goes_back(rt: HostRuntime) -> Result<(), Fail> {
         assert!(rt; is_refused_once(&alloc, round % 8), "{round}");
         assert!(rt; heap.used() == 0, "{round}");
     }
-    Ok(())
-}
-
-#[test]
-fn an_allocator_below_that_is_full_is_no_refusal(rt: HostRuntime) -> Result<(), Fail> {
-    let heap = LocalHeap::new(rt.alloc(), 64)?;
-    let alloc = Refusing::new(&heap);
-    assert!(rt; !is_granted(&alloc, 65));
-    assert!(rt; alloc.requests() == 1 && alloc.refused() == 0);
+    alloc.refuse_none();
+    assert!(rt; !is_granted(&alloc, 1 << 13) && alloc.requests() == 1 && alloc.refused() == 0);
     Ok(())
 }
