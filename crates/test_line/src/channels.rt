@@ -1,76 +1,13 @@
-//! The state of a channel, compared with the expected one.
+//! What a line shows of its channels, and whether they are sound.
 
 ghost use Rattle.std.specs.Prelude.{◌<◌, IsTrue};
 ghost use Rattle.bsc_line_model.specs.Line.{IsChannel, terminal_count};
 
-use crate::events::NONE;
 use bsc_block::Records;
 use bsc_control::Way;
+use bsc_frame::{Message, Reply};
 use bsc_line::{Line, LineError};
 use std::alloc::Allocator;
-use test_fixtures::records::are_records;
-
-/// The expected state of a channel: the records that were offered, how many of them the sending end
-/// knows to have arrived, and the records that arrived.
-#[derive(Clone, Copy)]
-pub(crate) enum Has<'a> {
-    /// Each of these records arrived once, in order, and the sending end knows it.
-    Delivered(&'a [&'a [u8]]),
-
-    /// These records wait, and none of them arrived.
-    Waiting(&'a [&'a [u8]]),
-
-    /// The sending end knows that `known` of the offered records arrived, and is not in doubt;
-    /// `spooled` arrived.
-    Arrived {
-        offered: &'a [&'a [u8]],
-        known: usize,
-        spooled: &'a [&'a [u8]],
-    },
-
-    /// The sending end knows that `known` of the offered records arrived, and is in doubt;
-    /// `spooled` arrived.
-    InDoubt {
-        offered: &'a [&'a [u8]],
-        known: usize,
-        spooled: &'a [&'a [u8]],
-    },
-}
-
-/// The state of a channel: the offered records, how many of them the sending end knows to have
-/// arrived, the records that arrived, and whether the sending end is in doubt.
-#[derive(Clone, Copy)]
-struct Ends<'a> {
-    offered: &'a [&'a [u8]],
-    known: usize,
-    spooled: &'a [&'a [u8]],
-    in_doubt: bool,
-}
-
-impl<'a> Has<'a> {
-    fn ends(&self) -> Ends<'a> {
-        let (offered, known, spooled, in_doubt) = match *self {
-            Has::Delivered(records) => (records, records.len(), records, false),
-            Has::Waiting(records) => (records, 0, NONE, false),
-            Has::Arrived {
-                offered,
-                known,
-                spooled,
-            } => (offered, known, spooled, false),
-            Has::InDoubt {
-                offered,
-                known,
-                spooled,
-            } => (offered, known, spooled, true),
-        };
-        Ends {
-            offered,
-            known,
-            spooled,
-            in_doubt,
-        }
-    }
-}
 
 /// Whether the line has this channel.
 pub(crate) fn is_channel<A: Allocator>(line: &Line<A>, terminal: usize, way: Way) -> bool
@@ -105,19 +42,27 @@ pub(crate) fn offered_count<A: Allocator>(line: &Line<A>, terminal: usize, way: 
     }
 }
 
-/// Whether the line has this channel, and the channel has the expected state.
-pub(crate) fn has_left<A: Allocator>(
+/// Whether this many records were offered on a channel, arrived, and are known to have arrived,
+/// without a doubt.
+pub(crate) fn has_count<A: Allocator>(
     line: &Line<A>,
     terminal: usize,
     way: Way,
-    expected: &Has<'_>,
+    count: usize,
 ) -> bool {
-    let ends = expected.ends();
     is_channel(line, terminal, way)
-        && are_records(line.offered(terminal, way), ends.offered)
-        && line.known(terminal, way) == ends.known
-        && are_records(line.spooled(terminal, way), ends.spooled)
-        && line.in_doubt(terminal, way) == ends.in_doubt
+        && line.offered(terminal, way).len() == count
+        && line.spooled(terminal, way).len() == count
+        && line.known(terminal, way) == count
+        && !line.in_doubt(terminal, way)
+}
+
+/// Whether the receiver of a text or of a selection puts the sender off, with NAK or WACK.
+pub(crate) fn is_put_off<A: Allocator>(line: &Line<A>) -> bool {
+    match line.pending() {
+        Some(sent) => matches!(&sent.message, Message::Reply(Reply::Nak | Reply::Wack)),
+        None => false,
+    }
 }
 
 /// Whether `first` are the first of `records`, in order.

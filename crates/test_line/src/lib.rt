@@ -9,36 +9,18 @@ mod accepting;
 #[cfg(test)]
 mod channels;
 #[cfg(test)]
-mod doubt;
-#[cfg(test)]
-mod events;
+mod exchanges;
 #[cfg(test)]
 mod fixtures;
 #[cfg(test)]
 mod growths;
 #[cfg(test)]
-mod hearings;
-#[cfg(test)]
-mod limits;
-#[cfg(test)]
 mod makings;
-#[cfg(test)]
-mod memory;
-#[cfg(test)]
-mod pending;
 #[cfg(test)]
 mod play;
 #[cfg(test)]
-mod polling;
-#[cfg(test)]
 mod refusals;
 #[cfg(test)]
-mod restarts;
-#[cfg(test)]
 mod rounds;
-#[cfg(test)]
-mod runs;
-#[cfg(test)]
-mod selecting;
 #[cfg(test)]
 mod sizes;

@@ -1,271 +1,257 @@
-//! Exchanges as tables: the events on a line, their results, and the state of channels at the end.
+//! Exchanges as texts: a word for each event, and what comes of them.
 
-use crate::channels::{Has, are_sound, has_left};
-use crate::fixtures::{On, Play, play_on};
-use crate::pending::{Pending, is_pending};
+ghost use Rattle.std.specs.Prelude.{◌<◌};
+ghost use Rattle.bsc_line_model.specs.Line.{IsChannel, terminal_count};
+
+use crate::channels::are_sound;
 use bsc_control::Way;
-use bsc_line::{Event, Line, LineError, Speaker, Stopped};
+use bsc_frame::{Wire, encode};
+use bsc_line::{Event, Line, Speaker, Transmission};
 use std::alloc::Allocator;
-use std::process::Abort;
 use std::test::Fail;
-use test_alloc::{Refusal, Refusing};
+use test_alloc::Refusing;
+use test_fixtures::octets::{
+    ACK0, ACK1, BROKEN_TEXT, CALL_POLL_A, CALL_POLL_B, CALL_SELECT_A, CALL_SELECT_B, CALL_SELECT_C,
+    ENQ, EOT, NAK, NOISE, RVI, TEXT_EMPTY, TEXT_FIRST_SEVEN, TEXT_HI, TEXT_LAST_SEVEN, WACK,
+};
 
-/// Channels, each with its terminal, its direction and its expected state.
-pub(crate) type Left<'a> = &'a [(usize, Way, Has<'a>)];
+/// The name of each transmission of the exchanges, and its octets. A call has its address for a
+/// name, and a text its record, or its seven empty records with its end.
+const SENT: &[(&str, &[u8])] = &[
+    ("A", CALL_POLL_A),
+    ("B", CALL_POLL_B),
+    ("a", CALL_SELECT_A),
+    ("b", CALL_SELECT_B),
+    ("c", CALL_SELECT_C),
+    ("EOT", EOT),
+    ("ENQ", ENQ),
+    ("NAK", NAK),
+    ("ACK0", ACK0),
+    ("ACK1", ACK1),
+    ("WACK", WACK),
+    ("RVI", RVI),
+    ("HI", TEXT_HI),
+    ("empty", TEXT_EMPTY),
+    ("7ETX", TEXT_LAST_SEVEN),
+    ("7ETB", TEXT_FIRST_SEVEN),
+];
 
-/// The result of an event.
-pub(crate) enum Then<'a> {
-    /// It is accepted, and what was pending stays pending.
-    Done,
-
-    /// It is accepted, and nothing is pending.
-    Quiet,
-
-    /// It is accepted, and the first of these transmissions is pending. Each time that what is
-    /// pending is carried as it was sent, the next one is pending.
-    Sent(&'a [(Speaker, &'a [u8])]),
-
-    /// It is refused, and what was pending stays pending.
-    Refused(LineError),
-}
-
-impl<'a> Then<'a> {
-    /// The answer to a list with only this event.
-    fn answer(&self) -> Result<(), Stopped> {
-        match self {
-            Then::Refused(why) => Err(Stopped { at: 0, why: *why }),
-            _ => Ok(()),
+/// The name of a transmission.
+fn name_of(sent: &Transmission<'_>) -> &'static str {
+    let mut wire = Wire::new();
+    encode(&sent.message, &mut wire);
+    for (name, octets) in SENT {
+        if wire.as_slice() == *octets {
+            return *name;
         }
     }
+    "another"
+}
 
-    /// The number of events: one, and one more for each further transmission.
-    fn count(&self) -> usize {
-        match self {
-            Then::Sent(sent) => sent.len(),
-            _ => 1,
-        }
+/// The name of what is pending.
+pub(crate) fn pending_name<A: Allocator>(line: &Line<A>) -> &'static str {
+    match line.pending() {
+        Some(sent) => name_of(&sent),
+        None => "-",
     }
 }
 
-/// A part of an exchange.
-pub(crate) struct Part<'a> {
-    /// The events with their results.
-    pub(crate) steps: &'a [(Event<'a>, Then<'a>)],
-
-    /// Whether the line is trusted after each step.
-    pub(crate) trusted: bool,
-
-    /// The state of channels after the last step.
-    pub(crate) left: Left<'a>,
+/// Offers a record at a terminal.
+fn at(terminal: usize, codes: &'static [u8]) -> Event<'static> {
+    Event::OfferAt { terminal, codes }
 }
 
-/// Growths that are refused: the number of the part before which that begins, the kind of refusal,
-/// which starts at the first growth, and the number of growths refused by the end of the exchange.
-pub(crate) type Starved = (usize, Refusal, usize);
-
-/// A named exchange, which is played on a new line.
-pub(crate) struct Exchange<'a> {
-    pub(crate) name: &'static str,
-
-    /// The line.
-    pub(crate) on: On<'a>,
-
-    /// The growths that are refused.
-    pub(crate) starved: Option<Starved>,
-
-    /// What happens, and what comes of it.
-    pub(crate) parts: &'a [Part<'a>],
-}
-
-/// The first difference between an exchange and its table: the number of the part, the number of
-/// the event or channel in it, both counted from 0, and the kind of difference.
-#[derive(Debug, PartialEq, Drop)]
-pub(crate) struct Wrong {
-    exchange: &'static str,
-    part: usize,
-    place: usize,
-    what: What,
-}
-
-/// The kind of difference.
-#[derive(Clone, Copy, Debug, PartialEq)]
-enum What {
-    /// The event had another answer.
-    Answer,
-
-    /// Something else was pending after the event.
-    Pending,
-
-    /// The line was trusted although it should not be, or the reverse.
-    Trust,
-
-    /// The line was trusted, and the records that had arrived on a channel were not the first of
-    /// those offered.
-    Sound,
-
-    /// A channel had another state.
-    Left,
-
-    /// Another number of growths was refused.
-    Refused,
-}
-
-/// The first difference of a line from what should be pending and from the expected trust. While
-/// the line is trusted, each of its channels has to be sound.
-fn wrong_now<A: Allocator>(line: &Line<A>, pending: Pending<'_>, trusted: bool) -> Option<What> {
-    if !is_pending(line, pending) {
-        Some(What::Pending)
-    } else if line.trusted() != trusted {
-        Some(What::Trust)
-    } else if trusted && !are_sound(line) {
-        Some(What::Sound)
-    } else {
-        None
+/// Offers a record for a selection address of a terminal.
+fn to(terminal: usize, select: usize, codes: &'static [u8]) -> Event<'static> {
+    Event::OfferFor {
+        terminal,
+        select,
+        codes,
     }
 }
 
-/// The number of the first of these channels that has another state.
-pub(crate) fn wrong_left<A: Allocator>(line: &Line<A>, left: Left<'_>) -> Option<usize> {
-    for (place, (terminal, way, expected)) in left.iter().enumerate() {
-        if !has_left(line, *terminal, *way, expected) {
-            return Some(place);
-        }
-    }
-    None
+/// Each terminal hears its own item.
+fn each(heard: &'static [Option<&'static [u8]>]) -> Event<'static> {
+    Event::CarryEach { heard }
 }
 
-/// Carries what is pending until the last of these transmissions is pending. Returns it, or the
-/// number of the first difference and its kind.
-fn carry_each<'a, A: Allocator>(
-    line: &mut Line<A>,
-    sent: &[(Speaker, &'a [u8])],
-    trusted: bool,
-) -> Result<Pending<'a>, (usize, What)> {
-    let mut pending = None;
-    for (place, (speaker, octets)) in sent.iter().enumerate() {
-        if place > 0 && line.run(&[Event::CarrySent]).is_err() {
-            return Err((place, What::Answer));
-        }
-        pending = Some((*speaker, *octets));
-        if let Some(what) = wrong_now(line, pending, trusted) {
-            return Err((place, what));
-        }
-    }
-    Ok(pending)
+/// The doubt about a channel of terminal 0 is ended.
+fn release(way: Way) -> Event<'static> {
+    Event::Release { terminal: 0, way }
 }
 
-/// Plays a step. Returns what is pending after its last event, or the number of the first event
-/// that differs and how.
-fn play_step<'a, A: Allocator>(
-    line: &mut Line<A>,
-    (event, then): &(Event<'a>, Then<'a>),
-    before: Pending<'a>,
-    trusted: bool,
-) -> Result<Pending<'a>, (usize, What)> {
-    if line.run(&[*event]) != then.answer() {
-        return Err((0, What::Answer));
-    }
-    let pending = match then {
-        Then::Sent(sent) => return carry_each(line, sent, trusted),
-        Then::Quiet => None,
-        Then::Done | Then::Refused(_) => before,
+/// A terminal accepts selections, or does not.
+fn ready(terminal: usize, ready: bool) -> Event<'static> {
+    Event::Ready { terminal, ready }
+}
+
+/// The event of a word. `.` is a silence, and `>` carries what is pending as it was sent.
+fn event_of(word: &str) -> Option<Event<'static>> {
+    let event = match word {
+        "." => Event::Silence,
+        ">" => Event::CarrySent,
+        "lose" => Event::Carry { heard: None },
+        "broken" => Event::Carry {
+            heard: Some(BROKEN_TEXT),
+        },
+        "each1" => each(&[None]),
+        "each2" => each(&[None, None]),
+        "noise1" => each(&[None, Some(NOISE)]),
+        "broken0" => each(&[Some(BROKEN_TEXT), None]),
+        "text0" => each(&[Some(TEXT_HI), None]),
+        "calls" => each(&[Some(CALL_POLL_A), Some(CALL_POLL_B)]),
+        "at0" => at(0, b"HI"),
+        "at1" => at(1, b"HI"),
+        "at64" => at(64, b"HI"),
+        "to0" => to(0, 0, b"HI"),
+        "to1" => to(1, 0, b"HI"),
+        "to0.2" => to(0, 2, b"HI"),
+        "e0" => to(0, 0, b""),
+        "e0.1" => to(0, 1, b""),
+        "unready0" => ready(0, false),
+        "ready63" => ready(63, true),
+        "ready64" => ready(64, true),
+        "urgent" => Event::UrgentAt { terminal: 0 },
+        "ask" => Event::UrgentFor { terminal: 0 },
+        "release-from" => release(Way::FromTerminal),
+        "release-to" => release(Way::ToTerminal(0)),
+        "restart" => Event::Restart {
+            party: Speaker::Control,
+        },
+        "restart0" => Event::Restart {
+            party: Speaker::Terminal(0),
+        },
+        _ => return None,
     };
-    match wrong_now(line, pending, trusted) {
-        Some(what) => Err((0, what)),
-        None => Ok(pending),
-    }
+    Some(event)
 }
 
-/// Plays a part. Returns what is pending after its last event, or the number of the first event or
-/// channel that differs and how.
-fn play_part<'a, A: Allocator>(
-    line: &mut Line<A>,
-    part: &Part<'a>,
-    before: Pending<'a>,
-) -> Result<Pending<'a>, (usize, What)> {
-    let mut pending = before;
-    let mut count = 0usize;
-    for step in part.steps {
-        match play_step(line, step, pending, part.trusted) {
-            Ok(after) => pending = after,
-            Err((place, what)) => return Err((count.saturating_add(place), what)),
-        }
-        count = count.saturating_add(step.1.count());
-    }
-    match wrong_left(line, part.left) {
-        Some(place) => Err((place, What::Left)),
-        None => Ok(pending),
-    }
+/// Whether something else may be pending after the event.
+fn is_turn(event: &Event<'_>) -> bool {
+    matches!(
+        event,
+        Event::Silence
+            | Event::CarrySent
+            | Event::Carry { .. }
+            | Event::CarryEach { .. }
+            | Event::Restart { .. }
+    )
 }
 
-/// Begins to refuse the growths of an exchange, if they are refused from this part on.
-fn starve(alloc: &Refusing, exchange: &Exchange<'_>, part: usize) {
-    match exchange.starved {
-        Some((from, refusal, _)) if from == part => alloc.refuse(refusal, 1),
-        _ => {}
-    }
-}
-
-/// Whether the expected number of growths was refused.
-fn is_starved(alloc: &Refusing, exchange: &Exchange<'_>) -> bool {
-    let refused = match exchange.starved {
-        Some((_, _, count)) => count,
-        None => 0,
+/// Adds what is pending: the number of the terminal that sent it, its name, and a star if the line
+/// is not trusted.
+fn write_pending<A: Allocator>(line: &Line<A>, log: &mut String) -> Result<(), Fail> {
+    let mark = if line.trusted() { "" } else { "*" };
+    let Some(sent) = line.pending() else {
+        return Ok(write!(log, " -{mark}")?);
     };
-    alloc.refused() == refused
+    let name = name_of(&sent);
+    match sent.speaker {
+        Speaker::Control => write!(log, " {name}{mark}")?,
+        Speaker::Terminal(terminal) => write!(log, " {terminal}:{name}{mark}")?,
+    }
+    Ok(())
 }
 
-/// An exchange, and the allocator that refuses its growths.
-#[derive(Clone, Copy)]
-struct Played<'a> {
-    alloc: &'a Refusing,
-    exchange: &'a Exchange<'a>,
+/// Plays an event, and adds what comes of it: why it is refused, or what is pending if it may have
+/// changed. While the line is trusted, each of its channels has to be sound.
+fn play_event<A: Allocator>(
+    line: &mut Line<A>,
+    event: &Event<'_>,
+    log: &mut String,
+) -> Result<(), Fail> {
+    if let Err(stopped) = line.run(&[*event]) {
+        let why = stopped.why;
+        return Ok(write!(log, " !{why}")?);
+    }
+    if is_turn(event) {
+        write_pending(line, log)?;
+    }
+    if line.trusted() && !are_sound(line) {
+        return Err("a channel is not sound".into());
+    }
+    Ok(())
 }
 
-impl Play for Played<'_> {
-    /// The number of the first part that differs, the number of its event or channel, and the kind
-    /// of difference.
-    type Answer = Option<(usize, usize, What)>;
+/// Adds a record: its characters, or `-` if it has none.
+fn write_record(chars: &[u8], log: &mut String) -> Result<(), Fail> {
+    log.push_str(if chars.is_empty() { " -" } else { " " })?;
+    for code in chars {
+        write!(log, "{}", char::from(*code))?;
+    }
+    Ok(())
+}
 
-    fn play<A: Allocator>(&self, line: &mut Line<A>) -> Option<(usize, usize, What)> {
-        let mut pending = None;
-        for (number, part) in self.exchange.parts.iter().enumerate() {
-            starve(self.alloc, self.exchange, number);
-            match play_part(line, part, pending) {
-                Ok(after) => pending = after,
-                Err((place, what)) => return Some((number, place, what)),
+/// Adds the state of a channel on which a record was offered or arrived: the numbers of the records
+/// known to have arrived and of those offered, a question mark if it is in doubt, and the records
+/// that arrived.
+fn write_channel<A: Allocator>(
+    line: &Line<A>,
+    terminal: usize,
+    way: Way,
+    log: &mut String,
+) -> Result<(), Fail>
+    requires { IsChannel line.now terminal way }
+{
+    let offered = line.offered(terminal, way).len();
+    let known = line.known(terminal, way);
+    let doubt = if line.in_doubt(terminal, way) { "?" } else { "" };
+    let spooled = line.spooled(terminal, way);
+    if offered == 0 && spooled.len() == 0 {
+        return Ok(());
+    }
+    match way {
+        Way::FromTerminal => write!(log, "; from {terminal}: {known}/{offered}{doubt}")?,
+        Way::ToTerminal(select) => {
+            write!(log, "; to {terminal}.{select}: {known}/{offered}{doubt}")?
+        }
+    }
+    for place in 0..spooled.len() {
+        write_record(spooled.chars(place), log)?;
+    }
+    Ok(())
+}
+
+/// Adds the state of the channels of a terminal.
+fn write_terminal<A: Allocator>(
+    line: &Line<A>,
+    terminal: usize,
+    log: &mut String,
+) -> Result<(), Fail>
+    requires { terminal < terminal_count line.now }
+{
+    write_channel(line, terminal, Way::FromTerminal, log)?;
+    for select in 0..line.addresses(terminal) {
+        write_channel(line, terminal, Way::ToTerminal(select), log)?;
+    }
+    Ok(())
+}
+
+/// Adds the state of all channels.
+fn write_state<A: Allocator>(line: &Line<A>, log: &mut String) -> Result<(), Fail> {
+    for terminal in 0..line.terminals() {
+        write_terminal(line, terminal, log)?;
+    }
+    Ok(())
+}
+
+/// Plays the events of these words, and adds what comes of each, and the state of the channels at
+/// the end and at each `=`. At `starve` the next growth is refused.
+pub(crate) fn play<A: Allocator>(
+    memory: &Refusing,
+    line: &mut Line<A>,
+    words: &str,
+    log: &mut String,
+) -> Result<(), Fail> {
+    for word in words.split(' ') {
+        match word {
+            "=" => write_state(line, log)?,
+            "starve" => memory.refuse_nth(1),
+            word => {
+                let event = event_of(word).ok_or("no such word")?;
+                play_event(line, &event, log)?;
             }
         }
-        if is_starved(self.alloc, self.exchange) {
-            None
-        } else {
-            Some((self.exchange.parts.len(), 0, What::Refused))
-        }
     }
-}
-
-/// Plays these exchanges up to the first difference.
-fn first_wrong(alloc: &Refusing, exchanges: &[Exchange<'_>]) -> Result<Option<Wrong>, Fail> {
-    for exchange in exchanges {
-        let played = Played { alloc, exchange };
-        if let Some((part, place, what)) = play_on(alloc, &exchange.on, &played)? {
-            return Ok(Some(Wrong {
-                exchange: exchange.name,
-                part,
-                place,
-                what,
-            }));
-        }
-    }
-    Ok(None)
-}
-
-/// Asserts that each of these exchanges agrees with its table.
-pub(crate) fn passes_each(
-    rt: &(impl Abort + AllocGlobal),
-    exchanges: &[Exchange<'_>],
-) -> Result<(), Fail> {
-    let alloc = Refusing::new(rt.alloc());
-    assert_eq!(rt; first_wrong(&alloc, exchanges)?, None);
-    Ok(())
+    write_state(line, log)
 }

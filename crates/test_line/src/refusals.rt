@@ -1,31 +1,28 @@
-//! Each error by name, the order in which they are checked, and their messages.
+//! Why a line cannot be made, each growth of a new line refused, and the messages of the errors.
 
-use crate::channels::Has::Delivered;
-use crate::events::{LOSE, NONE, OFFER_AT, OFFER_FOR, RELEASE_FROM, RELEASE_TO};
-use crate::fixtures::{Codes, FIRST, MOST, SECOND, TWO, TWO_BY_THREE, refusal};
-use crate::play::Then::{Done, Refused, Sent};
-use crate::play::{Exchange, Part, Then, passes_each};
+use bsc_bid::Terminal;
 use bsc_block::RecordError;
 use bsc_control::SetupError;
-use bsc_control::Way::{FromTerminal, ToTerminal};
-use bsc_line::Event::{CarrySent, Silence};
-use bsc_line::Speaker::{Control, Terminal};
-use bsc_line::{Event, LineError};
+use bsc_frame::Address;
+use bsc_line::{Line, LineError};
+use std::alloc::Global;
 use std::test::Fail;
 use test_alloc::{Refusal, Refusing};
-use test_fixtures::lines::two_terminals;
-use test_fixtures::octets::{CALL_POLL_A, EOT, TEXT_HI};
+use test_fixtures::lines::{setup, two_terminals};
 
-/// More codes than a record may have.
-const TOO_LONG: &[u8] = &[0x41; 81];
+/// The codes of a terminal's polling address, and those of its selection addresses.
+type Codes<'a> = (&'a [u8], &'a [&'a [u8]]);
+
+const FIRST: Codes<'static> = (b"A", &[b"a"]);
+
+const SECOND: Codes<'static> = (b"B", &[b"b"]);
 
 /// The codes of the terminals of a new line, its poll list, and the error; None if the line can be
 /// made.
-pub(crate) type Setting<'a> = (&'a [Codes<'a>], &'a [u8], Option<SetupError>);
+type Setting<'a> = (&'a [Codes<'a>], &'a [u8], Option<SetupError>);
 
-/// Each error except those of a wrong number of terminals, and the longest poll list, which is
-/// accepted.
-pub(crate) const SETTINGS: &[Setting<'static>] = &[
+/// Each error except those of a wrong number of terminals, and the longest poll list.
+const SETTINGS: &[Setting<'static>] = &[
     (
         &[(b"A", &[b"A"]), SECOND],
         &[],
@@ -42,225 +39,75 @@ pub(crate) const SETTINGS: &[Setting<'static>] = &[
     (&[FIRST, SECOND], &[0; 255], None),
 ];
 
+/// The terminal with these codes.
+fn terminal_of(alloc: Global, (poll, selects): &Codes<'_>) -> Result<Terminal, Fail> {
+    let mut addresses = Vec::new(alloc);
+    for address in *selects {
+        addresses.push(Address::read(address)?)?;
+    }
+    Ok(Terminal::new(Address::read(poll)?, &addresses)?)
+}
+
+/// The terminals with these codes.
+fn terminals_of(alloc: Global, codes: &[Codes<'_>]) -> Result<Vec<Terminal>, Fail> {
+    let mut terminals = Vec::new(alloc);
+    for codes in codes {
+        terminals.push(terminal_of(alloc, codes)?)?;
+    }
+    Ok(terminals)
+}
+
+/// The error of a new line with these terminals and this poll list; None if it can be made.
+fn refusal(
+    memory: &Refusing,
+    terminals: &[Terminal],
+    poll_list: &[u8],
+) -> Result<Option<SetupError>, Fail> {
+    Ok(Line::new(memory, setup(3)?, terminals, poll_list).err())
+}
+
 #[test]
 fn a_wrong_number_of_terminals_is_told_without_memory(rt: HostRuntime) -> Result<(), Fail> {
-    let alloc = Refusing::new(rt.alloc());
-    alloc.refuse_from(1);
+    let memory = Refusing::new(rt.alloc());
+    memory.refuse_from(1);
     let [first, _] = two_terminals();
     let many = [first; 65];
-    let refusals = (
-        refusal(&alloc, &many[..0], &[])?,
-        refusal(&alloc, &many, &[])?,
-        alloc.requests(),
-    );
-    let expected = (Some(SetupError::NoTerminal), Some(SetupError::TooMany), 0);
-    assert_eq!(rt; refusals, expected);
+    assert_eq!(rt; refusal(&memory, &many[..0], &[])?, Some(SetupError::NoTerminal));
+    assert_eq!(rt; refusal(&memory, &many, &[])?, Some(SetupError::TooMany));
+    assert_eq!(rt; memory.requests(), 0);
     Ok(())
 }
 
-/// Each of two terminals hears nothing.
-const NOTHING_HEARD: Event<'static> = Event::CarryEach {
-    heard: &[None, None],
-};
+/// Whether a line is answered rightly while growths are refused in this way, from each number in
+/// turn: out of memory if one was refused, and otherwise as expected.
+fn is_answered(alloc: Global, which: Refusal, setting: &Setting<'_>) -> Result<bool, Fail> {
+    let (codes, poll_list, expected) = setting;
+    let memory = Refusing::new(alloc);
+    let terminals = terminals_of(alloc, codes)?;
+    for number in memory.in_turn(which, 1..999) {
+        number?;
+        let answer = refusal(&memory, &terminals, poll_list)?;
+        let due = if memory.refused() > 0 {
+            Some(SetupError::Memory)
+        } else {
+            *expected
+        };
+        if answer != due {
+            return Ok(false);
+        }
+    }
+    Ok(true)
+}
 
-/// Only the first of two terminals has a hearing.
-const ONE_HEARING: Event<'static> = Event::CarryEach { heard: &[None] };
-
-/// Events for terminal 64, one past the last possible terminal; each has four selection addresses.
-const AT_NO_TERMINAL: &[(Event<'static>, Then<'static>)] = &[
-    (
-        Event::OfferAt {
-            terminal: 64,
-            codes: TOO_LONG,
-        },
-        Refused(LineError::NoSuchTerminal),
-    ),
-    (
-        Event::OfferFor {
-            terminal: 64,
-            select: 4,
-            codes: TOO_LONG,
-        },
-        Refused(LineError::NoSuchTerminal),
-    ),
-    (
-        Event::Ready {
-            terminal: 64,
-            ready: true,
-        },
-        Refused(LineError::NoSuchTerminal),
-    ),
-    (
-        Event::UrgentAt { terminal: 64 },
-        Refused(LineError::NoSuchTerminal),
-    ),
-    (
-        Event::UrgentFor { terminal: 64 },
-        Refused(LineError::NoSuchTerminal),
-    ),
-    (
-        Event::Release {
-            terminal: 64,
-            way: FromTerminal,
-        },
-        Refused(LineError::NoSuchTerminal),
-    ),
-    (
-        Event::Release {
-            terminal: 64,
-            way: ToTerminal(4),
-        },
-        Refused(LineError::NoSuchTerminal),
-    ),
-    (
-        Event::Restart {
-            party: Terminal(64),
-        },
-        Refused(LineError::NoSuchTerminal),
-    ),
-];
-
-/// Events for the last possible terminal.
-const AT_LAST_TERMINAL: &[(Event<'static>, Then<'static>)] = &[
-    (
-        Event::OfferAt {
-            terminal: 63,
-            codes: b"HI",
-        },
-        Done,
-    ),
-    (
-        Event::OfferFor {
-            terminal: 63,
-            select: 3,
-            codes: b"HI",
-        },
-        Done,
-    ),
-    (
-        Event::Ready {
-            terminal: 63,
-            ready: true,
-        },
-        Done,
-    ),
-    (Event::UrgentAt { terminal: 63 }, Done),
-    (Event::UrgentFor { terminal: 63 }, Done),
-    (
-        Event::Restart {
-            party: Terminal(63),
-        },
-        Done,
-    ),
-];
-
-/// Events for a selection address that the terminal does not have: terminal 0 has two, terminal 1
-/// has one.
-const AT_NO_ADDRESS: &[(Event<'static>, Then<'static>)] = &[
-    (
-        Event::OfferFor {
-            terminal: 0,
-            select: 2,
-            codes: b"HI",
-        },
-        Refused(LineError::NoSuchAddress),
-    ),
-    (
-        Event::OfferFor {
-            terminal: 0,
-            select: 2,
-            codes: TOO_LONG,
-        },
-        Refused(LineError::NoSuchAddress),
-    ),
-    (
-        Event::OfferFor {
-            terminal: 1,
-            select: 1,
-            codes: TOO_LONG,
-        },
-        Refused(LineError::NoSuchAddress),
-    ),
-    (
-        Event::Release {
-            terminal: 0,
-            way: ToTerminal(2),
-        },
-        Refused(LineError::NoSuchAddress),
-    ),
-    (
-        Event::Release {
-            terminal: 1,
-            way: ToTerminal(1),
-        },
-        Refused(LineError::NoSuchAddress),
-    ),
-];
-
-/// Releases of channels of terminal 0 that are not in doubt.
-const NOT_IN_DOUBT: &[(Event<'static>, Then<'static>)] = &[
-    (RELEASE_FROM, Refused(LineError::NotInDoubt)),
-    (RELEASE_TO, Refused(LineError::NotInDoubt)),
-    (
-        Event::Release {
-            terminal: 0,
-            way: ToTerminal(1),
-        },
-        Refused(LineError::NotInDoubt),
-    ),
-];
-
-/// Codes that are not a record, and a record for which there is no memory, at terminal 0 and for
-/// it.
-const NO_RECORDS: &[(Event<'static>, Then<'static>)] = &[
-    (
-        Event::OfferAt {
-            terminal: 0,
-            codes: TOO_LONG,
-        },
-        Refused(LineError::BadRecord(RecordError::TooLong)),
-    ),
-    (
-        Event::OfferFor {
-            terminal: 0,
-            select: 0,
-            codes: TOO_LONG,
-        },
-        Refused(LineError::BadRecord(RecordError::TooLong)),
-    ),
-    (
-        Event::OfferAt {
-            terminal: 0,
-            codes: b"H\x19I\x19",
-        },
-        Refused(LineError::BadRecord(RecordError::NotText(1))),
-    ),
-    (
-        Event::OfferFor {
-            terminal: 0,
-            select: 0,
-            codes: b"H\x19I\x19",
-        },
-        Refused(LineError::BadRecord(RecordError::NotText(1))),
-    ),
-    (
-        Event::OfferAt {
-            terminal: 0,
-            codes: b"HI\x80",
-        },
-        Refused(LineError::BadRecord(RecordError::NotText(2))),
-    ),
-    (
-        Event::OfferFor {
-            terminal: 0,
-            select: 0,
-            codes: b"HI\x80",
-        },
-        Refused(LineError::BadRecord(RecordError::NotText(2))),
-    ),
-    (OFFER_AT, Refused(LineError::Memory)),
-    (OFFER_FOR, Refused(LineError::Memory)),
-];
+#[test]
+fn a_new_line_is_refused_by_name_and_without_memory(rt: HostRuntime) -> Result<(), Fail> {
+    for setting in SETTINGS {
+        for which in [Refusal::Nth, Refusal::From, Refusal::Above { octets: 64 }] {
+            assert!(rt; is_answered(rt.alloc(), which, setting)?, "{:?}", setting.2);
+        }
+    }
+    Ok(())
+}
 
 /// Each error and its message.
 const TEXTS: &[(LineError, &str)] = &[
@@ -290,117 +137,4 @@ fn each_refusal_is_printed(rt: HostRuntime) -> Result<(), Fail> {
         assert_eq!(rt; printed.as_str(), *text);
     }
     Ok(())
-}
-
-/// What may not happen by what is pending.
-const PENDING: &[Exchange<'static>] = &[Exchange {
-    name: "what is pending says what may happen",
-    on: TWO,
-    starved: None,
-    parts: &[Part {
-        steps: &[
-            (OFFER_AT, Done),
-            (LOSE, Refused(LineError::NothingSent)),
-            (
-                Event::Carry { heard: Some(EOT) },
-                Refused(LineError::NothingSent),
-            ),
-            (CarrySent, Refused(LineError::NothingSent)),
-            (
-                Event::CarryEach { heard: &[] },
-                Refused(LineError::NothingSent),
-            ),
-            (NOTHING_HEARD, Refused(LineError::NothingSent)),
-            (Silence, Sent(&[(Control, CALL_POLL_A)])),
-            (Silence, Refused(LineError::Pending)),
-            (ONE_HEARING, Refused(LineError::WrongCount)),
-            (
-                Event::CarryEach { heard: &[None; 3] },
-                Refused(LineError::WrongCount),
-            ),
-            (CarrySent, Sent(&[(Terminal(0), TEXT_HI)])),
-            (Silence, Refused(LineError::Pending)),
-            (ONE_HEARING, Refused(LineError::NotControl)),
-            (NOTHING_HEARD, Refused(LineError::NotControl)),
-        ],
-        trusted: true,
-        left: &[],
-    }],
-}];
-
-/// Numbers of terminals.
-const OF_TERMINALS: &[Exchange<'static>] = &[Exchange {
-    name: "what names no terminal is refused first",
-    on: MOST,
-    starved: None,
-    parts: &[
-        Part {
-            steps: AT_NO_TERMINAL,
-            trusted: true,
-            left: &[],
-        },
-        Part {
-            steps: AT_LAST_TERMINAL,
-            trusted: true,
-            left: &[],
-        },
-    ],
-}];
-
-/// Addresses.
-const OF_ADDRESSES: &[Exchange<'static>] = &[Exchange {
-    name: "what names no address is refused next",
-    on: TWO_BY_THREE,
-    starved: None,
-    parts: &[
-        Part {
-            steps: AT_NO_ADDRESS,
-            trusted: true,
-            left: &[],
-        },
-        Part {
-            steps: NOT_IN_DOUBT,
-            trusted: true,
-            left: &[
-                (0, FromTerminal, Delivered(NONE)),
-                (0, ToTerminal(0), Delivered(NONE)),
-                (0, ToTerminal(1), Delivered(NONE)),
-            ],
-        },
-    ],
-}];
-
-/// Records.
-const OF_RECORDS: &[Exchange<'static>] = &[Exchange {
-    name: "what is no record is refused before memory is asked for",
-    on: TWO,
-    starved: Some((0, Refusal::From, 2)),
-    parts: &[Part {
-        steps: NO_RECORDS,
-        trusted: true,
-        left: &[
-            (0, FromTerminal, Delivered(NONE)),
-            (0, ToTerminal(0), Delivered(NONE)),
-        ],
-    }],
-}];
-
-#[test]
-fn what_is_pending_says_what_may_happen(rt: HostRuntime) -> Result<(), Fail> {
-    passes_each(&rt, PENDING)
-}
-
-#[test]
-fn what_names_no_terminal_is_refused(rt: HostRuntime) -> Result<(), Fail> {
-    passes_each(&rt, OF_TERMINALS)
-}
-
-#[test]
-fn what_names_no_address_is_refused(rt: HostRuntime) -> Result<(), Fail> {
-    passes_each(&rt, OF_ADDRESSES)
-}
-
-#[test]
-fn what_is_no_record_is_refused(rt: HostRuntime) -> Result<(), Fail> {
-    passes_each(&rt, OF_RECORDS)
 }

@@ -1,137 +1,62 @@
 //! The number of transmissions of a visit and of a round, which deliver all waiting records.
 
-use crate::channels::{is_channel, offer};
-use crate::fixtures::{Answer, On, Play, TWO_BY_THREE, TWO_BY_THREE_ENTRIES, play_on};
-use crate::limits::carry_on;
-use crate::pending::is_pending;
-use bsc_control::Way;
+use crate::channels::{has_count, offer};
+use crate::fixtures::{carry_on, line_of};
+use crate::play::pending_name;
 use bsc_control::Way::{FromTerminal, ToTerminal};
-use bsc_line::Line;
-use bsc_line::Speaker::Control;
+use bsc_line::{Line, LineError};
 use std::alloc::Allocator;
 use std::test::Fail;
 use test_alloc::Refusing;
-use test_fixtures::octets::CALL_POLL_A;
+use test_fixtures::lines::{setup, two_terminals_by_three};
 
-/// The records that wait on a line of two terminals, and the numbers of transmissions that they
-/// take.
-struct Row<'a> {
-    on: On<'a>,
-
-    /// Channels, each with the number of empty records that are offered on it.
-    channels: &'a [(usize, Way, usize)],
-
-    /// The numbers of transmissions of a visit of terminal 0 and of a visit of terminal 1.
-    visits: [u64; 2],
-
-    /// The number of transmissions of a round, after which terminal 0 is polled.
-    round: u64,
-}
-
-/// Nothing waits; two blocks to terminal 0 and one from it; the same, with terminal 0 visited
-/// twice; a record for each of two selection addresses; and 43 blocks in each direction.
-const ROWS: &[Row<'static>] = &[
-    Row {
-        on: TWO_BY_THREE,
-        channels: &[],
-        visits: [2, 2],
-        round: 4,
-    },
-    Row {
-        on: TWO_BY_THREE,
-        channels: &[(0, ToTerminal(0), 8), (0, FromTerminal, 1)],
-        visits: [10, 2],
-        round: 12,
-    },
-    Row {
-        on: TWO_BY_THREE_ENTRIES,
-        channels: &[(0, ToTerminal(0), 8), (0, FromTerminal, 1)],
-        visits: [10, 2],
-        round: 14,
-    },
-    Row {
-        on: TWO_BY_THREE,
-        channels: &[(0, ToTerminal(0), 1), (0, ToTerminal(1), 1)],
-        visits: [10, 2],
-        round: 12,
-    },
-    Row {
-        on: TWO_BY_THREE,
-        channels: &[(0, ToTerminal(0), 300), (0, FromTerminal, 300)],
-        visits: [176, 2],
-        round: 178,
-    },
+/// The poll list, the numbers of empty records from terminal 0 and to its two addresses, the
+/// numbers of transmissions of a visit of it, and of a round after which it is polled. A visit of
+/// terminal 1 takes two.
+const ROWS: &[(&[u8], [usize; 3], u64, u64)] = &[
+    (&[0, 1], [0, 0, 0], 2, 4),
+    (&[0, 1], [1, 8, 0], 10, 12),
+    (&[0, 0, 1], [1, 8, 0], 10, 14),
+    (&[0, 1], [0, 1, 1], 10, 12),
+    (&[0, 1], [300, 300, 0], 176, 178),
 ];
 
-/// Offers this many empty records on a channel, and returns whether each was accepted.
-fn offers<A: Allocator>(line: &mut Line<A>, terminal: usize, way: Way, count: usize) -> bool {
-    for _ in 0..count {
-        if offer(line, terminal, way, b"").is_err() {
-            return false;
+/// Offers these numbers of empty records.
+fn offer_each<A: Allocator>(line: &mut Line<A>, counts: [usize; 3]) -> Result<(), LineError> {
+    let ways = [FromTerminal, ToTerminal(0), ToTerminal(1)];
+    for (way, count) in ways.iter().zip(&counts) {
+        for _ in 0..*count {
+            offer(line, 0, *way, b"")?;
         }
     }
-    true
+    Ok(())
 }
 
-/// Whether exactly this many records arrived on a channel, and are known to have arrived.
-fn arrived<A: Allocator>(line: &Line<A>, terminal: usize, way: Way, count: usize) -> bool {
-    is_channel(line, terminal, way)
-        && line.known(terminal, way) == count
-        && line.spooled(terminal, way).len() == count
+/// Whether these numbers of records arrived, and are known to have arrived.
+fn has_each<A: Allocator>(line: &Line<A>, counts: [usize; 3]) -> bool {
+    let [from, first, second] = counts;
+    has_count(line, 0, FromTerminal, from)
+        && has_count(line, 0, ToTerminal(0), first)
+        && has_count(line, 0, ToTerminal(1), second)
 }
 
-/// Whether the visits of the two terminals take these numbers of transmissions.
-fn has_visits<A: Allocator>(line: &Line<A>, visits: &[u64; 2]) -> bool {
-    line.terminals() == 2 && [line.visit(0), line.visit(1)] == *visits
-}
-
-/// Whether a round takes this many transmissions, after which terminal 0 is polled, and the line
-/// reports this number before the round and at its beginning.
-fn is_round<A: Allocator>(line: &mut Line<A>, round: u64) -> Answer {
-    let before = line.round();
-    line.silence()?;
-    let within = line.round();
-    carry_on(line, round)?;
-    let is_polling = is_pending(line, Some((Control, CALL_POLL_A)));
-    Ok(is_polling && before == round && within == round)
-}
-
-/// Offers the empty records on each channel, and returns whether each was accepted.
-fn offers_all<A: Allocator>(line: &mut Line<A>, channels: &[(usize, Way, usize)]) -> bool {
-    for (terminal, way, count) in channels {
-        if !offers(line, *terminal, *way, *count) {
-            return false;
-        }
-    }
-    true
-}
-
-/// Whether the records arrived on each channel.
-fn all_arrived<A: Allocator>(line: &Line<A>, channels: &[(usize, Way, usize)]) -> bool {
-    for (terminal, way, count) in channels {
-        if !arrived(line, *terminal, *way, *count) {
-            return false;
-        }
-    }
-    true
-}
-
-impl Play for Row<'_> {
-    type Answer = Answer;
-
-    fn play<A: Allocator>(&self, line: &mut Line<A>) -> Answer {
-        if !offers_all(line, self.channels) || !has_visits(line, &self.visits) {
-            return Ok(false);
-        }
-        Ok(is_round(line, self.round)? && all_arrived(line, self.channels))
-    }
+/// Whether visits take these numbers of transmissions.
+fn has_visits<A: Allocator>(line: &Line<A>, visit: u64) -> bool {
+    line.terminals() == 2 && line.visit(0) == visit && line.visit(1) == 2
 }
 
 #[test]
 fn a_round_delivers_what_waits(rt: HostRuntime) -> Result<(), Fail> {
-    let alloc = Refusing::new(rt.alloc());
-    for (place, row) in ROWS.iter().enumerate() {
-        assert_eq!(rt; play_on(&alloc, &row.on, row)?, Ok(true), "at {place}");
+    let memory = Refusing::new(rt.alloc());
+    for (poll_list, counts, visit, round) in ROWS {
+        let terminals = two_terminals_by_three();
+        let mut line = line_of(rt.alloc(), &memory, setup(3)?, &terminals, poll_list)?;
+        offer_each(&mut line, *counts)?;
+        assert!(rt; has_visits(&line, *visit) && line.round() == *round);
+        line.silence()?;
+        assert!(rt; line.round() == *round);
+        carry_on(&mut line, *round)?;
+        assert!(rt; pending_name(&line) == "A" && has_each(&line, *counts));
     }
     Ok(())
 }

@@ -1,115 +1,42 @@
-//! Large sizes, with enough memory: long lists of records, the longest records, and the longest
-//! text. The lines with the most terminals are in `limits.rt`.
+//! Large sizes, with enough memory: long lists of records, a record on each channel of the largest
+//! line, and the longest text.
 
-use crate::channels::Has::{Arrived, Delivered};
-use crate::channels::{has_left, is_channel, offer};
-use crate::events::{HI, NONE};
-use crate::fixtures::{Answer, Play, TWO, TWO_OF_LONGEST, play_on};
-use crate::growths::{has_count, is_put_off};
-use crate::limits::carry_on;
-use crate::pending::{has_begun, is_pending};
-use bsc_block::Records;
+use crate::channels::{are_sound, has_count, is_put_off, offer};
+use crate::fixtures::{On, carry_on, line_of, line_on, longest_poll_list, most_terminals};
 use bsc_control::Way;
 use bsc_control::Way::{FromTerminal, ToTerminal};
 use bsc_frame::{Message, Reply};
-use bsc_line::Speaker::{Control, Terminal};
-use bsc_line::{Line, LineError, Speaker};
+use bsc_line::{Line, LineError};
 use std::alloc::{AllocError, Allocator, Global};
 use std::test::Fail;
 use test_alloc::Refusing;
-use test_fixtures::octets::{ACK0, ACK1, CALL_POLL_A, CALL_POLL_B, CALL_SELECT_A};
+use test_fixtures::lines::setup;
 
-/// The number of records offered on each channel.
-const COUNT: usize = 100_000;
+/// The number of records offered each way, and of those that are offered before the first arrives.
+const COUNT: usize = 500_000;
+const WAITING: usize = 100_000;
 
-/// The decimal digits of a number below `COUNT`, which are the characters of its record.
-fn digits(number: usize) -> [u8; 5] {
-    let digit = |value: usize| b'0' + (value % 10) as u8;
-    [
-        digit(number / 10_000),
-        digit(number / 1000),
-        digit(number / 100),
-        digit(number / 10),
-        digit(number),
-    ]
-}
-
-/// Offers a record for each number below `COUNT` at terminal 0 and for its first selection address.
-fn offer_all<A: Allocator>(line: &mut Line<A>) -> Result<(), LineError> {
-    for number in 0..COUNT {
-        let codes = digits(number);
-        line.offer_at(0, &codes)?;
-        line.offer_for(0, 0, &codes)?;
-    }
-    Ok(())
-}
-
-/// Whether these are the records of all numbers below `COUNT`, in order.
-fn are_all<A: Allocator>(records: &Records<A>) -> bool {
-    for place in 0..records.len() {
-        if records.chars(place) != digits(place).as_slice() {
-            return false;
-        }
-    }
-    records.len() == COUNT
-}
-
-/// Whether all of them were offered on this channel of terminal 0, arrived, and are known to have
-/// arrived.
-fn has_all<A: Allocator>(line: &Line<A>, way: Way) -> bool {
-    is_channel(line, 0, way)
-        && are_all(line.offered(0, way))
-        && are_all(line.spooled(0, way))
-        && line.known(0, way) == COUNT
-}
-
-/// The records, delivered in exactly the transmissions that they take.
-struct All;
-
-impl Play for All {
-    type Answer = Answer;
-
-    fn play<A: Allocator>(&self, line: &mut Line<A>) -> Answer {
-        offer_all(line)?;
-        line.silence()?;
-
-        // A selection and a poll, each of two transmissions and two more for each of 14,286 blocks
-        // of seven records.
-        carry_on(line, 2 * (2 + 2 * 14_286))?;
-        let is_polling = is_pending(line, Some((Control, CALL_POLL_B)));
-        let arrived = has_all(line, FromTerminal) && has_all(line, ToTerminal(0));
-        Ok(is_polling && line.trusted() && arrived)
-    }
-}
-
-#[test]
-fn a_hundred_thousand_records_arrive_each_way(rt: HostRuntime) -> Result<(), Fail> {
-    let alloc = Refusing::new(rt.alloc());
-    assert_eq!(rt; play_on(&alloc, &TWO, &All)?, Ok(true));
-    Ok(())
-}
-
-/// The number of records offered on each channel while records arrive there.
-const LATER: usize = 500_000;
-
-/// The characters of the longest record of `TWO`.
+/// The characters of the longest record.
 const EIGHTY: &[u8] = &[b'B'; 80];
 
-/// Offers a record of this number each way of terminal 0, of 0 to 80 characters, and carries what
-/// is pending as it was sent. Returns whether nobody is put off.
-fn offer_and_carry<A: Allocator>(line: &mut Line<A>, number: usize) -> Answer {
-    let codes = EIGHTY.get(..number % 81).unwrap_or(EIGHTY);
-    line.offer_at(0, codes)?;
-    line.offer_for(0, 0, codes)?;
-    line.carry_sent()?;
-    Ok(!is_put_off(line))
-}
-
-/// Carries what is pending as it was sent until nothing waits, in at most this many transmissions.
-/// Returns whether nobody is put off.
-fn carry_rest<A: Allocator>(line: &mut Line<A>, most: usize) -> Answer {
-    for _ in 0..most {
-        if has_count(line, 0, FromTerminal, LATER) && has_count(line, 0, ToTerminal(0), LATER) {
+/// Offers the records each way of terminal 0, of 0 to 80 characters in turn, and carries what is
+/// pending as it was sent once enough wait, until all are delivered. Returns whether nobody is put
+/// off.
+fn delivers_all<A: Allocator>(line: &mut Line<A>) -> Result<bool, LineError> {
+    line.silence()?;
+    for number in 0..COUNT {
+        let codes = EIGHTY.get(..number % 81).unwrap_or(EIGHTY);
+        line.offer_at(0, codes)?;
+        line.offer_for(0, 0, codes)?;
+        if number >= WAITING {
+            line.carry_sent()?;
+        }
+        if is_put_off(line) {
+            return Ok(false);
+        }
+    }
+    for _ in 0..COUNT {
+        if has_count(line, 0, FromTerminal, COUNT) && has_count(line, 0, ToTerminal(0), COUNT) {
             return Ok(true);
         }
         line.carry_sent()?;
@@ -117,45 +44,54 @@ fn carry_rest<A: Allocator>(line: &mut Line<A>, most: usize) -> Answer {
             return Ok(false);
         }
     }
-    Ok(true)
-}
-
-/// Records that are offered while others arrive.
-struct Later;
-
-impl Play for Later {
-    type Answer = Answer;
-
-    fn play<A: Allocator>(&self, line: &mut Line<A>) -> Answer {
-        line.silence()?;
-        for number in 0..LATER {
-            if !offer_and_carry(line, number)? {
-                return Ok(false);
-            }
-        }
-        let is_carried = carry_rest(line, LATER)?;
-        let up = has_count(line, 0, FromTerminal, LATER);
-        let down = has_count(line, 0, ToTerminal(0), LATER);
-        Ok(is_carried && up && down && line.trusted())
-    }
+    Ok(false)
 }
 
 #[test]
-fn records_are_accepted_while_hundreds_of_thousands_arrive(rt: HostRuntime) -> Result<(), Fail> {
-    let alloc = Refusing::new(rt.alloc());
-    assert_eq!(rt; play_on(&alloc, &TWO, &Later)?, Ok(true));
-    assert_eq!(rt; alloc.refused(), 0);
+fn hundreds_of_thousands_of_records_arrive_each_way(rt: HostRuntime) -> Result<(), Fail> {
+    let memory = Refusing::new(rt.alloc());
+    let mut line = line_on(rt.alloc(), &memory, On::Two)?;
+    assert!(rt; delivers_all(&mut line)?);
+    assert!(rt; line.trusted() && are_sound(&line) && memory.refused() == 0);
     Ok(())
 }
 
-/// A record of the greatest length.
-const LONGEST: &[u8] = &[b'A'; 144];
+/// The number of channels of the largest line: five at each of 64 terminals.
+const CHANNELS: usize = 64 * 5;
 
-/// The greatest number of such records in a text.
-const SEVEN_LONGEST: &[&[u8]] = &[LONGEST; 7];
+/// The terminal and direction of the channel of this number; each terminal has five.
+fn channel(number: usize) -> (usize, Way) {
+    match number % 5 {
+        0 => (number / 5, FromTerminal),
+        select => (number / 5, ToTerminal(select - 1)),
+    }
+}
 
-/// The 1,033 octets of the text of these records, the longest that is sent. Each unit is 144 times
-/// A, EM, the ending character and the check; the even number of A adds nothing to the check.
+/// Each of the 64 terminals has four selections and one poll of four transmissions each. Each of
+/// the other 191 entries of the poll list is a poll of two transmissions.
+#[test]
+fn a_record_each_way_of_each_address_arrives_in_one_round(rt: HostRuntime) -> Result<(), Fail> {
+    let memory = Refusing::new(rt.alloc());
+    let poll_list = longest_poll_list(rt.alloc())?;
+    let most = most_terminals(4)?;
+    let mut line = line_of(rt.alloc(), &memory, setup(3)?, &most, &poll_list)?;
+    for number in 0..CHANNELS {
+        let (terminal, way) = channel(number);
+        offer(&mut line, terminal, way, b"HI")?;
+    }
+    line.silence()?;
+    carry_on(&mut line, 64 * 5 * 4 + 191 * 2)?;
+    for number in 0..CHANNELS {
+        let (terminal, way) = channel(number);
+        assert!(rt; has_count(&line, terminal, way, 1), "{number}");
+    }
+    assert!(rt; line.trusted() && are_sound(&line));
+    Ok(())
+}
+
+/// The 1,033 octets of the text of seven records of the greatest length, the longest that is sent.
+/// Each unit is 144 times A, EM, the ending character and the check; the even number of A adds
+/// nothing to the check.
 fn longest_text(alloc: Global) -> Result<Vec<u8>, AllocError> {
     let mut octets = Vec::new(alloc);
     octets.extend_from_slice(&[0x16, 0x16, 0x02])?;
@@ -168,171 +104,33 @@ fn longest_text(alloc: Global) -> Result<Vec<u8>, AllocError> {
     Ok(octets)
 }
 
-/// Whether ACK1 is pending.
-fn is_acknowledged<A: Allocator>(line: &Line<A>) -> bool {
-    match line.pending() {
-        Some(sent) => matches!(&sent.message, Message::Reply(Reply::Ack1)),
-        None => false,
-    }
-}
-
-/// Each direction of terminal 0, and the number of transmissions after which its text is pending.
-const WAYS: &[(Way, u64)] = &[(FromTerminal, 1), (ToTerminal(0), 2)];
-
-/// HI is offered in this direction of terminal 0, and this many transmissions after the first call
-/// its text is heard as `text`.
-#[derive(Clone, Copy)]
-struct Heard<'a> {
+/// HI is offered in this direction of terminal 0, and its text, which is pending this many
+/// transmissions after the first call, is heard as another one. Returns whether that is
+/// acknowledged.
+fn takes<A: Allocator>(
+    line: &mut Line<A>,
     way: Way,
     count: u64,
-    text: &'a [u8],
-}
-
-impl Heard<'_> {
-    /// Whether seven records of 144 characters were stored and acknowledged.
-    fn is_stored<A: Allocator>(&self, line: &Line<A>) -> bool {
-        let arrived = Arrived {
-            offered: HI,
-            known: 0,
-            spooled: SEVEN_LONGEST,
-        };
-        is_acknowledged(line) && has_left(line, 0, self.way, &arrived)
-    }
-}
-
-impl Play for Heard<'_> {
-    type Answer = Answer;
-
-    fn play<A: Allocator>(&self, line: &mut Line<A>) -> Answer {
-        offer(line, 0, self.way, b"HI")?;
-        line.silence()?;
-        carry_on(line, self.count)?;
-        line.carry(Some(self.text))?;
-        Ok(self.is_stored(line))
-    }
+    text: &[u8],
+) -> Result<bool, LineError> {
+    offer(line, 0, way, b"HI")?;
+    line.silence()?;
+    carry_on(line, count)?;
+    line.carry(Some(text))?;
+    Ok(match line.pending() {
+        Some(sent) => matches!(&sent.message, Message::Reply(Reply::Ack1)),
+        None => false,
+    })
 }
 
 #[test]
 fn the_longest_text_is_stored_whole(rt: HostRuntime) -> Result<(), Fail> {
     let text = longest_text(rt.alloc())?;
-    let text = text.as_slice();
     assert_eq!(rt; text.len(), 1033);
-    let alloc = Refusing::new(rt.alloc());
-    for (way, count) in WAYS {
-        let (way, count) = (*way, *count);
-        assert_eq!(rt;
-            play_on(&alloc, &TWO, &Heard { way, count, text })?,
-            Ok(true)
-        );
-    }
-    Ok(())
-}
-
-/// Records of the greatest length, each of a different character.
-const LONG: &[&[u8]] = &[
-    &[b'A'; 144],
-    &[b'B'; 144],
-    &[b'C'; 144],
-    &[b'D'; 144],
-    &[b'E'; 144],
-    &[b'F'; 144],
-];
-
-/// The first octets of a text that begins with the first of these records: two SYN, STX and A.
-const TEXT_OF_A: &[u8] = &[0x16, 0x16, 0x02, 0xc1];
-
-/// What is pending when records are offered during a bid: the station that sent it, and its first
-/// octets.
-type Moments<'a> = &'a [(Speaker, &'a [u8])];
-
-/// During a poll: after the call, after the text and after the acknowledgement.
-const POLLED: Moments<'static> = &[
-    (Control, CALL_POLL_A),
-    (Terminal(0), TEXT_OF_A),
-    (Control, ACK1),
-];
-
-/// During a selection: after the call, after its acknowledgement, after the text and after the
-/// acknowledgement of the text.
-const SELECTED: Moments<'static> = &[
-    (Control, CALL_SELECT_A),
-    (Terminal(0), ACK0),
-    (Control, TEXT_OF_A),
-    (Terminal(0), ACK1),
-];
-
-/// A bid in this direction of terminal 0: the moments at which records are offered, the number of
-/// transmissions that follow, and the call that is then pending.
-struct Bid<'a> {
-    way: Way,
-    moments: Moments<'a>,
-    further: u64,
-    call: &'a [u8],
-}
-
-/// After the second text come ACK0, the third text, ACK1, at a poll EOT, and the next call.
-const BIDS: &[Bid<'static>] = &[
-    Bid {
-        way: FromTerminal,
-        moments: POLLED,
-        further: 5,
-        call: CALL_POLL_B,
-    },
-    Bid {
-        way: ToTerminal(0),
-        moments: SELECTED,
-        further: 4,
-        call: CALL_POLL_A,
-    },
-];
-
-/// Offers the first two of the longest records in this direction of terminal 0.
-fn offer_two<A: Allocator>(line: &mut Line<A>, way: Way) -> Result<(), LineError> {
-    offer(line, 0, way, LONG[0])?;
-    offer(line, 0, way, LONG[1])
-}
-
-/// Offers another of the longest records at each of these moments, and returns whether all the
-/// moments came.
-fn offer_within<A: Allocator>(line: &mut Line<A>, way: Way, moments: Moments<'_>) -> Answer {
-    for ((speaker, front), record) in moments.iter().zip(&LONG[2..]) {
-        if !has_begun(line, *speaker, front) {
-            return Ok(false);
-        }
-        offer(line, 0, way, record)?;
-        line.carry_sent()?;
-    }
-    Ok(true)
-}
-
-impl Bid<'_> {
-    /// Whether each record was delivered and the call is pending.
-    fn is_done<A: Allocator>(&self, line: &Line<A>) -> bool {
-        let count = self.moments.len().saturating_add(2);
-        let delivered = Delivered(LONG.get(..count).unwrap_or(NONE));
-        is_pending(line, Some((Control, self.call)))
-            && line.trusted()
-            && has_left(line, 0, self.way, &delivered)
-    }
-}
-
-impl Play for Bid<'_> {
-    type Answer = Answer;
-
-    fn play<A: Allocator>(&self, line: &mut Line<A>) -> Answer {
-        offer_two(line, self.way)?;
-        line.silence()?;
-        let came = offer_within(line, self.way, self.moments)?;
-        carry_on(line, self.further)?;
-        Ok(came && self.is_done(line))
-    }
-}
-
-#[test]
-fn the_longest_records_are_taken_while_a_bid_goes_on(rt: HostRuntime) -> Result<(), Fail> {
-    let alloc = Refusing::new(rt.alloc());
-    for bid in BIDS {
-        assert_eq!(rt; play_on(&alloc, &TWO_OF_LONGEST, bid)?, Ok(true));
+    let memory = Refusing::new(rt.alloc());
+    for (way, count) in [(FromTerminal, 1), (ToTerminal(0), 2)] {
+        let mut line = line_on(rt.alloc(), &memory, On::Two)?;
+        assert!(rt; takes(&mut line, way, count, &text)?);
     }
     Ok(())
 }
