@@ -1,8 +1,8 @@
-//! Tests of whole runs: over loopback connections, both ends of which the test holds, and over
-//! connections in memory whose calls go wrong in turn.
+//! Tests of whole runs: over loopback connections, and over connections in memory whose calls go
+//! wrong in turn; and of runs from the texts of files.
 //!
-//! The messages of a run are the standard's (GA27-3004); scripts, traces and reports are this
-//! project's own.
+//! The messages of a run are the standard's (GA27-3004); configurations, scripts, traces and
+//! reports are this project's own.
 #![tactic(auto)]
 
 #[cfg(test)]
@@ -10,13 +10,7 @@ mod devices;
 #[cfg(test)]
 mod fates;
 #[cfg(test)]
-mod growths;
-#[cfg(test)]
-mod largest;
-#[cfg(test)]
-mod long;
-#[cfg(test)]
-mod loopback;
+mod files;
 #[cfg(test)]
 mod memory;
 #[cfg(test)]
@@ -25,8 +19,6 @@ mod progress;
 mod runs;
 #[cfg(test)]
 mod sweeps;
-#[cfg(test)]
-mod traces;
 #[cfg(test)]
 mod watched;
 #[cfg(test)]

@@ -2,59 +2,18 @@
 //! size.
 
 use crate::runs::REPORT;
-use crate::watched::{NO_TROUBLE, RunWatch, watched_writer};
-use crate::worked::{Case, WORKED, Worked};
+use crate::watched::{NO_TROUBLE, RunWatch};
+use crate::worked::{POLLED, WORKED, Worked};
+use crate::written::{Case, Written};
 use bsc_line::LineError;
 use bsc_run::RunError;
 use std::alloc::Global;
 use std::test::Fail;
 use test_alloc::{Refusal, Refusing};
-
-/// How a run ends if a growth was refused.
-#[derive(Clone, Copy, PartialEq, Eq)]
-enum Told {
-    /// Out of memory, without a report.
-    Memory,
-
-    /// The offer on the first line is refused as out of memory, and the report follows.
-    Offer,
-
-    /// A text was not accepted at once, because a growth of its spool was refused; the report
-    /// followed.
-    Delay,
-
-    /// The output and the answer are those of a run without faults.
-    Whole,
-}
-
-/// How the run ended, from its output and its answer, or None if no run may end so. If only one
-/// growth was refused, the output before out of memory is that of a run without faults.
-fn what_is_told(
-    worked: &Worked<'_>,
-    printed: &[u8],
-    answer: Result<(), RunError>,
-    is_one: bool,
-) -> Option<Told> {
-    let is_reported = printed.ends_with(b"trusted\n");
-    match answer {
-        Err(RunError::Memory) if !is_reported && (!is_one || worked.is_part(printed)) => {
-            Some(Told::Memory)
-        }
-        Err(
-            RunError::Refused {
-                line: 1,
-                why: LineError::Memory,
-            },
-        ) if printed == REPORT.as_bytes() => Some(Told::Offer),
-        Err(RunError::Output | RunError::Socket { .. } | RunError::Memory) => None,
-        _ if worked.is_whole(printed, answer) => Some(Told::Whole),
-        _ if is_reported && is_delayed(worked, printed) => Some(Told::Delay),
-        _ => None,
-    }
-}
+use test_fixtures::configurations::TWO_TERMINALS;
 
 /// Whether the first line that differs from a run without faults is a NAK or a WACK.
-fn is_delayed(worked: &Worked<'_>, printed: &[u8]) -> bool {
+fn is_delayed(worked: &Worked, printed: &[u8]) -> bool {
     let lines = printed.split(|octet| *octet == b'\n');
     let expected = worked.printed.as_bytes().split(|octet| *octet == b'\n');
     for (line, other) in lines.zip(expected) {
@@ -65,47 +24,61 @@ fn is_delayed(worked: &Worked<'_>, printed: &[u8]) -> bool {
     false
 }
 
-/// Runs the script while growths are refused in this way. Returns how the run ended.
-fn try_refusal(
-    alloc: Global,
-    refusing: &Refusing,
-    case: &Case<'_>,
-    refusal: Refusal,
-) -> Result<Told, Fail> {
-    let watch = RunWatch::new(NO_TROUBLE);
-    let mut out = watched_writer(alloc, &watch);
-    let answer = case.run(alloc, refusing, &watch, &mut out)?;
-    let is_one = refusal == Refusal::Nth;
-    match what_is_told(case.worked, &out.inner, answer, is_one) {
-        Some(told) if refusing.refused() > 0 || told == Told::Whole => Ok(told),
-        _ => Err(Fail::new("something else is told")),
-    }
-}
+/// How often a run was out of memory without a report, how often the offer on the first line was
+/// refused, and how often a text was accepted later, because a growth of its spool was refused.
+type Counts = [usize; 3];
 
-/// How often a run was out of memory, how often the offer was refused, and how often a text was
-/// accepted later.
-type Counts = (usize, usize, usize);
-
-/// The counts with one more run added.
-fn add(counts: Counts, told: Told) -> Counts {
-    let (memory, offers, delays) = counts;
-    match told {
-        Told::Memory => (memory.wrapping_add(1), offers, delays),
-        Told::Offer => (memory, offers.wrapping_add(1), delays),
-        Told::Delay => (memory, offers, delays.wrapping_add(1)),
-        Told::Whole => counts,
+/// How a run ended in which growths may have been refused: as one of these counts, or without
+/// faults. None if no run may end so. If only one growth was refused, what was written before out
+/// of memory is a beginning of what is written without faults.
+fn ending(
+    worked: &Worked,
+    written: &Written<'_>,
+    answer: Result<(), RunError>,
+    is_one: bool,
+) -> Option<Counts> {
+    let (printed, traced) = (&written.out.inner, &written.trace.inner);
+    let is_reported = printed.ends_with(b"trusted\n");
+    let is_front = worked.is_part(printed) && worked.is_traced(traced);
+    match answer {
+        Err(RunError::Memory) if !is_reported && (!is_one || is_front) => Some([1, 0, 0]),
+        Err(
+            RunError::Refused {
+                line: 1,
+                why: LineError::Memory,
+            },
+        ) if written.is(REPORT) && worked.is_traced(traced) => Some([0, 1, 0]),
+        Err(RunError::Output | RunError::Socket { .. } | RunError::Memory) => None,
+        _ if worked.is_whole(printed, answer) => Some([0, 0, 0]),
+        _ if is_reported && is_delayed(worked, printed) => Some([0, 0, 1]),
+        _ => None,
     }
 }
 
 /// Runs the script with refusals from each number in turn, until no growth is refused. Returns how
 /// often the run ended in each way.
-fn count_told(alloc: Global, worked: &Worked<'_>, refusal: Refusal) -> Result<Counts, Fail> {
-    let case = Case::read(alloc, worked)?;
+fn count_endings(
+    alloc: Global,
+    worked: &Worked,
+    refusal: Refusal,
+    tracing: bool,
+) -> Result<Counts, Fail> {
+    let case = Case::read(alloc, TWO_TERMINALS, worked.script)?;
     let refusing = Refusing::new(alloc);
-    let mut counts = (0, 0, 0);
+    let watch = RunWatch::new(NO_TROUBLE);
+    let mut counts = [0usize; 3];
     for number in refusing.in_turn(refusal, 1..99_999) {
         number?;
-        counts = add(counts, try_refusal(alloc, &refusing, &case, refusal)?);
+        let mut written = Written::new(alloc, &watch);
+        let answer = case.run(alloc, &refusing, &watch, tracing, &mut written)?;
+        let ended = ending(worked, &written, answer, refusal == Refusal::Nth);
+        let ended = ended.ok_or("something else is told")?;
+        if refusing.refused() == 0 && ended != [0, 0, 0] {
+            return Err(Fail::new("told without a refusal"));
+        }
+        for (count, more) in counts.iter_mut().zip(&ended) {
+            *count = count.saturating_add(*more);
+        }
     }
     Ok(counts)
 }
@@ -113,53 +86,84 @@ fn count_told(alloc: Global, worked: &Worked<'_>, refusal: Refusal) -> Result<Co
 /// A list of records grows in two allocations: two growths are those of the offer, and two are
 /// those of the spool before the text comes.
 #[test]
-fn each_growth_of_a_run_is_refused_in_turn(rt: HostRuntime) -> Result<(), Fail> {
+fn each_growth_of_a_run_is_refused(rt: HostRuntime) -> Result<(), Fail> {
     for worked in WORKED {
-        let (memory, offers, delays) = count_told(rt.alloc(), worked, Refusal::Nth)?;
-        assert!(rt; memory > 3 && offers == 2 && delays == 2);
-    }
-    Ok(())
-}
-
-#[test]
-fn all_growths_of_a_run_from_each_on_are_refused(rt: HostRuntime) -> Result<(), Fail> {
-    for worked in WORKED {
-        let (memory, offers, _) = count_told(rt.alloc(), worked, Refusal::From)?;
-        assert!(rt; memory > 3 && offers == 2);
-    }
-    Ok(())
-}
-
-#[test]
-fn growths_of_a_run_above_each_size_are_refused(rt: HostRuntime) -> Result<(), Fail> {
-    for worked in WORKED {
-        let (memory, _, _) = count_told(rt.alloc(), worked, Refusal::Above { octets: 8 })?;
-        assert!(rt; memory > 3);
-    }
-    Ok(())
-}
-
-/// Whether the records that arrived are in order, with refusals from each number in turn.
-fn is_each_in_order(alloc: Global, worked: &Worked<'_>, refusal: Refusal) -> Result<bool, Fail> {
-    let case = Case::read(alloc, worked)?;
-    let refusing = Refusing::new(alloc);
-    let watch = RunWatch::new(NO_TROUBLE);
-    for number in refusing.in_turn(refusal, 1..59) {
-        number?;
-        if !case.is_in_order(alloc, &refusing, &watch)? {
-            return Ok(false);
+        for tracing in [false, true] {
+            for refusal in [Refusal::Nth, Refusal::From, Refusal::Above { octets: 8 }] {
+                let counts = count_endings(rt.alloc(), worked, refusal, tracing)?;
+                let [memory, offers, delays] = counts;
+                assert!(rt; memory > 3, "{refusal:?}");
+                assert!(rt; refusal != Refusal::Nth || (offers == 2 && delays == 2));
+                assert!(rt; refusal != Refusal::From || offers == 2);
+            }
         }
     }
-    Ok(true)
+    Ok(())
 }
 
-/// The records that arrived while growths were refused are the first of those that arrive
-/// otherwise.
-#[test]
-fn what_arrived_without_memory_is_in_order(rt: HostRuntime) -> Result<(), Fail> {
-    for worked in WORKED {
-        assert!(rt; is_each_in_order(rt.alloc(), worked, Refusal::Nth)?);
-        assert!(rt; is_each_in_order(rt.alloc(), worked, Refusal::From)?);
+/// The output of `POLLED` if the control station at first has no room for the text.
+const NO_ROOM_FOR_IT: &str = "control CALL A
+terminal 0 TEXT ETX 1
+control NAK
+terminal 0 TEXT ETX 1
+control ACK1
+terminal 0 EOT
+control CALL B
+from 0: offered 1, known 1, spooled 1
+  4849
+to 0: offered 0, known 0, spooled 0
+from 1: offered 0, known 0, spooled 0
+to 1: offered 0, known 0, spooled 0
+trusted
+";
+
+/// Seven records are offered at terminal 0, which is then polled, and an eighth one while they are
+/// sent.
+const EIGHT_POLLED: &str = "offer-at 0 HI\noffer-at 0 HI\noffer-at 0 HI\noffer-at 0 HI
+offer-at 0 HI\noffer-at 0 HI\noffer-at 0 HI\nsilence\ncarry\noffer-at 0 HI\ncarry\ncarry
+carry\ncarry\ncarry\ncarry\ncarry\ncarry\ncarry\ncarry\ncarry\n";
+
+/// The output of these if the control station, after the eighth record, at first has no room for a
+/// further text.
+const NO_ROOM_FOR_ANOTHER: &str = "control CALL A
+terminal 0 TEXT ETX 7
+control ACK1
+terminal 0 EOT
+control CALL B
+terminal 1 EOT
+control CALL A
+terminal 0 TEXT ETX 1
+control WACK
+terminal 0 ENQ
+control ACK1
+terminal 0 EOT
+control CALL B
+from 0: offered 8, known 8, spooled 8
+  4849\n  4849\n  4849\n  4849\n  4849\n  4849\n  4849\n  4849
+to 0: offered 0, known 0, spooled 0
+from 1: offered 0, known 0, spooled 0
+to 1: offered 0, known 0, spooled 0
+trusted
+";
+
+/// How often this is printed for the script if each growth is refused in turn.
+fn count_printed(alloc: Global, script: &str, printed: &str) -> Result<usize, Fail> {
+    let case = Case::read(alloc, TWO_TERMINALS, script)?;
+    let refusing = Refusing::new(alloc);
+    let watch = RunWatch::new(NO_TROUBLE);
+    let mut count = 0usize;
+    for number in refusing.in_turn(Refusal::Nth, 1..99_999) {
+        number?;
+        let mut written = Written::new(alloc, &watch);
+        let _ = case.run(alloc, &refusing, &watch, false, &mut written)?;
+        count = count.saturating_add(usize::from(written.is(printed)));
     }
+    Ok(count)
+}
+
+#[test]
+fn a_text_is_put_off_until_there_is_room(rt: HostRuntime) -> Result<(), Fail> {
+    assert_eq!(rt; count_printed(rt.alloc(), POLLED.script, NO_ROOM_FOR_IT)?, 2);
+    assert!(rt; count_printed(rt.alloc(), EIGHT_POLLED, NO_ROOM_FOR_ANOTHER)? > 0);
     Ok(())
 }

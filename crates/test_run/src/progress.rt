@@ -1,7 +1,8 @@
 //! What a run tells of its progress, and when the line that shows it is written.
 
-use crate::loopback::run_metered;
-use crate::runs::COUNTED_TWICE;
+use crate::watched::{NO_TROUBLE, RunWatch};
+use crate::worked::{COUNTED_TWICE, POLLED};
+use crate::written::{Case, Written};
 use bsc_progress::{Counts, Meter, ProgressLine, Timer, Work};
 use std::alloc::Global;
 use std::test::Fail;
@@ -11,7 +12,7 @@ use test_fixtures::configurations::TWO_TERMINALS;
 #[derive(Drop)]
 pub(crate) struct Kept {
     /// Whether it is time.
-    pub(crate) due: bool,
+    due: bool,
 
     /// How often it was shown something.
     pub(crate) times: u64,
@@ -46,47 +47,35 @@ impl Meter for Kept {
     }
 }
 
-/// A record that arrives at the control station.
-const SCRIPT: &str = "offer-at 0 HI
-silence
-carry
-carry
-carry
-carry
-";
-
-#[test]
-fn each_event_is_told_while_it_is_time(rt: HostRuntime) -> Result<(), Fail> {
-    let mut kept = Kept::new();
-    assert!(rt; run_metered(&rt, TWO_TERMINALS, SCRIPT, &mut kept)?.is_ok());
-    assert!(rt; kept.times == 6 && kept.in_order);
-    let counts = Counts {
-        done: 6,
-        known: 1,
-        arrived: 1,
-        doubts: 0,
-    };
-    assert!(rt; kept.last == Some(counts));
-    kept.due = false;
-    assert!(rt; run_metered(&rt, TWO_TERMINALS, SCRIPT, &mut kept)?.is_ok());
-    assert_eq!(rt; kept.times, 6);
-    Ok(())
+/// How far a run has come that performed this many events.
+pub(crate) fn counts_of(done: u64, known: u64, arrived: u64, doubts: u64) -> Counts {
+    Counts {
+        done,
+        known,
+        arrived,
+        doubts,
+    }
 }
 
-/// Of two records that arrived none is known to have arrived, and a channel is in doubt. The last
-/// event is refused, and is not told.
+/// The last event of the second script is refused, and is not told.
 #[test]
-fn a_doubt_and_unknown_records_are_told(rt: HostRuntime) -> Result<(), Fail> {
-    let mut kept = Kept::new();
-    assert!(rt; run_metered(&rt, TWO_TERMINALS, COUNTED_TWICE, &mut kept)?.is_err());
-    assert!(rt; kept.times == 13 && kept.in_order);
-    let counts = Counts {
-        done: 13,
-        known: 0,
-        arrived: 2,
-        doubts: 1,
-    };
-    assert!(rt; kept.last == Some(counts));
+fn each_event_is_told_while_it_is_time(rt: HostRuntime) -> Result<(), Fail> {
+    for (worked, counts) in [
+        (&POLLED, counts_of(8, 1, 1, 0)),
+        (&COUNTED_TWICE, counts_of(13, 0, 2, 1)),
+    ] {
+        for due in [true, false] {
+            let case = Case::read(rt.alloc(), TWO_TERMINALS, worked.script)?;
+            let watch = RunWatch::new(NO_TROUBLE);
+            let mut written = Written::new(rt.alloc(), &watch);
+            written.kept.due = due;
+            let answer = case.run(rt.alloc(), rt.alloc(), &watch, false, &mut written)?;
+            let kept = &written.kept;
+            assert!(rt; answer == worked.answer && kept.in_order);
+            let told = if due { Some(counts) } else { None };
+            assert!(rt; kept.last == told && (kept.times == counts.done || !due));
+        }
+    }
     Ok(())
 }
 
@@ -103,33 +92,19 @@ impl Timer for Quarters {
     }
 }
 
-/// Counts of this many digits each, and of at most 20.
-fn counts_of(digits: u32) -> Counts {
-    let count = 10u64.saturating_pow(digits);
-    Counts {
-        done: count,
-        known: count,
-        arrived: count,
-        doubts: count,
-    }
-}
-
-/// The number of lines in a text of them.
-fn count_lines(text: &[u8]) -> usize {
-    text.iter().filter(|octet| **octet == b'\r').count()
-}
-
-/// Shows the progress from this time on as often as this. Returns how many lines were written.
+/// Shows the progress, with counts of 1 to 20 digits, from this time on as often as this. Returns
+/// how many lines were written.
 fn count_shown(alloc: Global, work: Work, time: u64, times: u32) -> usize {
     let mut text = Vec::<u8>::new(alloc);
     let mut line = ProgressLine::new(true, work, Quarters { time }, &mut text);
     for number in 0..times {
+        let count = 10u64.saturating_pow(number % 22);
         if line.is_due() {
-            line.show(counts_of(number % 22));
+            line.show(counts_of(count, count, count, count));
         }
     }
     drop(line);
-    count_lines(&text)
+    text.iter().filter(|octet| **octet == b'\r').count()
 }
 
 /// The line is written each time that it is due, whatever the counts and the time are. It is first

@@ -11,12 +11,14 @@ use std::collections::VecDeque;
 use std::io;
 use std::io::{Error, ErrorKind, Read, Write};
 
-/// The maker of calls: an end of the connection of a terminal, or the writer.
+/// The maker of calls: an end of the connection of a terminal, or the writer of the output or of
+/// the trace.
 #[derive(Clone, Copy, PartialEq, Eq)]
 pub(crate) enum Part {
     ControlEnd { terminal: usize },
     TerminalEnd { terminal: usize },
     Writer,
+    Tracer,
 }
 
 /// How a call goes wrong.
@@ -212,12 +214,6 @@ impl Connections {
         }
     }
 
-    /// Adds octets to those that both terminals will read.
-    pub(crate) fn put_down(&self, octets: &[u8]) -> io::Result<()> {
-        self.first.down.try_borrow_mut()?.write_all(octets)?;
-        self.second.down.try_borrow_mut()?.write_all(octets)
-    }
-
     /// A cable of both connections, whose calls are watched.
     pub(crate) fn cable<'a>(
         &'a self,
@@ -269,10 +265,11 @@ impl Write for End<'_> {
 }
 
 /// A writer into memory whose calls are watched.
-pub(crate) fn watched_writer<'a>(alloc: Global, watch: &'a RunWatch) -> Watched<'a, Vec<u8>> {
-    Watched {
-        inner: Vec::new(alloc),
-        part: Part::Writer,
-        watch,
-    }
+pub(crate) fn watched_writer<'a>(
+    alloc: Global,
+    watch: &'a RunWatch,
+    part: Part,
+) -> Watched<'a, Vec<u8>> {
+    let inner = Vec::new(alloc);
+    Watched { inner, part, watch }
 }
