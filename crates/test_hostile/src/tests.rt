@@ -1,11 +1,9 @@
-//! Exchanges in which one transmission is heard as something else, and the messages of [`Broken`].
+//! Exchanges in which one transmission is heard as something else, what a watch reports of a line
+//! on which something happened without it, and the messages of the rules.
 
 mod exchanges;
 mod fixtures;
 mod hearings;
-mod memory;
-mod named;
-mod others;
 mod restarts;
-mod texts;
-mod unseen;
+mod starved;
+mod told;

@@ -7,11 +7,10 @@ use bsc_line::{Event, Speaker};
 use std::alloc::Global;
 use std::test::Fail;
 
-/// An exchange: the events before the first silence, and the number of transmissions after it.
+/// An exchange: the events before the first silence, each with the number of times that it is
+/// played, and the number of transmissions after it.
 pub(crate) struct Exchange {
-    /// The events, each with the number of times that it is played.
     pub(crate) offers: &'static [(usize, Event<'static>)],
-
     transmissions: usize,
 }
 
@@ -27,9 +26,6 @@ const HI_AT: Event<'static> = Event::OfferAt {
     terminal: 0,
     codes: b"HI",
 };
-
-/// Terminal 0 asks for the line.
-const URGENT_AT: Event<'static> = Event::UrgentAt { terminal: 0 };
 
 /// Terminal 0 sends HI in a poll: the call of A, the text, ACK1, EOT, the call of B, EOT, and the
 /// call of A.
@@ -54,14 +50,17 @@ pub(crate) const SELECTED_TWICE: Exchange = Exchange {
 /// Terminal 0 asks for the line and then sends HI: the call of a, ACK0, the text, a reverse
 /// interrupt, the call of A, the text of HI, ACK1, EOT, the call of B, EOT, and the call of a.
 pub(crate) const INTERRUPTED: Exchange = Exchange {
-    offers: &[(8, EMPTY_FOR), (1, HI_AT), (1, URGENT_AT)],
+    offers: &[
+        (8, EMPTY_FOR),
+        (1, HI_AT),
+        (1, Event::UrgentAt { terminal: 0 }),
+    ],
     transmissions: 11,
 };
 
-/// A transmission of an exchange.
+/// A transmission of an exchange, with the number of those before it.
 #[derive(Drop)]
 pub(crate) struct Sent {
-    /// The number of transmissions before it.
     pub(crate) place: usize,
     pub(crate) by_control: bool,
     pub(crate) octets: Wire,
@@ -80,17 +79,12 @@ fn sent_on(watched: &mut Watched, exchange: &Exchange, place: usize) -> Result<S
     })
 }
 
-/// The transmission of this number.
-fn sent_at(alloc: Global, exchange: &Exchange, place: usize) -> Result<Sent, Fail> {
-    let mut watched = Watched::new(alloc)?;
-    sent_on(&mut watched, exchange, place)
-}
-
 /// The transmissions of the exchange, in order.
 pub(crate) fn transmissions(alloc: Global, exchange: &Exchange) -> Result<Vec<Sent>, Fail> {
     let mut all = Vec::new(alloc);
     for place in 0..exchange.transmissions {
-        all.push(sent_at(alloc, exchange, place)?)?;
+        let mut watched = Watched::new(alloc)?;
+        all.push(sent_on(&mut watched, exchange, place)?)?;
     }
     Ok(all)
 }

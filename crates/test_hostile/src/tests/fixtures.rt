@@ -1,7 +1,8 @@
 //! The line of these tests, and the player that watches it.
 
+use crate::broken::Broken;
 use crate::tests::exchanges::Exchange;
-use crate::{Broken, LineWatch};
+use crate::watch::LineWatch;
 use bsc_bid::Terminal;
 use bsc_line::{Event, Line, LineError};
 use std::alloc::Global;
@@ -9,9 +10,6 @@ use std::test::Fail;
 use test_alloc::Refusing;
 use test_fixtures::lines::{setup, two_terminals};
 use test_fixtures::on_heap;
-
-/// The number of channels of the line.
-const CHANNELS: usize = 4;
 
 /// A line with a watch on it. Short functions own it and lend it to the functions that play on it.
 /// No memory is refused to the line, so that no offer may fail with `Memory`.
@@ -59,6 +57,14 @@ impl Watched {
         Ok(())
     }
 
+    /// Plays each of these events once.
+    pub(crate) fn play_each(&mut self, events: &[Event<'_>]) -> Result<(), Broken> {
+        for event in events {
+            self.repeat(1, event)?;
+        }
+        Ok(())
+    }
+
     /// Plays the exchange until its transmission of this number, counted from 0, is pending.
     pub(crate) fn begin(&mut self, exchange: &Exchange, place: usize) -> Result<(), Broken> {
         for (count, event) in exchange.offers {
@@ -68,9 +74,9 @@ impl Watched {
         self.repeat(place, &Event::CarrySent)
     }
 
-    /// Ends each doubt.
+    /// Ends the doubt of each of the four channels.
     pub(crate) fn release_each(&mut self) -> Result<(), Broken> {
-        for _ in 0..CHANNELS {
+        for _ in 0..4u8 {
             if let Some((terminal, way)) = self.watch.doubtful() {
                 let _ = self.play(&Event::Release { terminal, way })?;
             }
@@ -78,10 +84,10 @@ impl Watched {
         Ok(())
     }
 
-    /// Plays this many events: what is pending is heard as it was sent, or a silence passes if
-    /// nothing is pending. Then compares all records.
-    pub(crate) fn go_on(&mut self, count: usize) -> Result<(), Broken> {
-        for _ in 0..count {
+    /// Plays 40 events: what is pending is heard as it was sent, or a silence passes if nothing is
+    /// pending. Then compares all records.
+    pub(crate) fn go_on(&mut self) -> Result<(), Broken> {
+        for _ in 0..40u8 {
             let event = match self.line.pending() {
                 Some(_) => Event::CarrySent,
                 None => Event::Silence,

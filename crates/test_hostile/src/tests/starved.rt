@@ -1,7 +1,9 @@
 //! An offer may fail with `Memory`, and a station may put the sender of records off, only if memory
 //! was refused during the event.
 
-use crate::{Broken, LineWatch};
+use crate::broken::Broken;
+use crate::watch::LineWatch;
+use bsc_line::Event::{CarrySent, Silence};
 use bsc_line::{Event, Line, LineError};
 use std::alloc::{Allocator, Global};
 use std::test::Fail;
@@ -28,25 +30,12 @@ type Seen = Result<Result<(), LineError>, Broken>;
 /// Events that are played before memory is refused and after, on a new line.
 type Played = (&'static [Event<'static>], &'static [Event<'static>]);
 
-/// An offer.
-const OFFERED: Played = (&[], &[HI_AT]);
-
-/// A selection for which the terminal has no room, and the answer again.
-const SELECTED: Played = (
-    &[HI_FOR],
-    &[
-        Event::Silence,
-        Event::CarrySent,
-        Event::CarrySent,
-        Event::CarrySent,
-    ],
-);
-
-/// A text for which the control station has no room.
-const POLLED: Played = (
-    &[HI_AT],
-    &[Event::Silence, Event::CarrySent, Event::CarrySent],
-);
+/// A selection for which the terminal has no room, and the answer again; and a text for which the
+/// control station has none.
+const PUT_OFF: [Played; 2] = [
+    (&[HI_FOR], &[Silence, CarrySent, CarrySent, CarrySent]),
+    (&[HI_AT], &[Silence, CarrySent, CarrySent]),
+];
 
 /// Plays these events, and returns what the watch reports of the last one, or of the first that
 /// breaks a rule.
@@ -87,16 +76,14 @@ fn seen(
 fn an_offer_fails_only_if_memory_was_refused_during_it(rt: HostRuntime) -> Result<(), Fail> {
     let alloc = rt.alloc();
     let (starved, other) = (Refusing::new(alloc), Refusing::new(alloc));
-    let granted = seen(alloc, &starved, &starved, OFFERED)?;
+    let offered: Played = (&[], &[HI_AT]);
+    let granted = seen(alloc, &starved, &starved, offered)?;
     assert_eq!(rt; granted, Ok(Err(LineError::Memory)));
-    let told = seen(alloc, &starved, &other, OFFERED)?;
-    assert_eq!(rt; told, Err(Broken::Answer));
 
     // A refusal before the offer is no cause.
     other.refuse_from(1);
     assert!(rt; Vec::<u8, &Refusing>::with_capacity(&other, 1).is_err());
-    let told = seen(alloc, &starved, &other, OFFERED)?;
-    assert_eq!(rt; told, Err(Broken::Answer));
+    assert_eq!(rt; seen(alloc, &starved, &other, offered)?, Err(Broken::Answer));
     Ok(())
 }
 
@@ -104,11 +91,9 @@ fn an_offer_fails_only_if_memory_was_refused_during_it(rt: HostRuntime) -> Resul
 fn a_station_puts_off_only_if_memory_was_refused_to_it(rt: HostRuntime) -> Result<(), Fail> {
     let alloc = rt.alloc();
     let (starved, other) = (Refusing::new(alloc), Refusing::new(alloc));
-    for played in [SELECTED, POLLED] {
-        let granted = seen(alloc, &starved, &starved, played)?;
-        assert_eq!(rt; granted, Ok(Ok(())));
-        let told = seen(alloc, &starved, &other, played)?;
-        assert_eq!(rt; told, Err(Broken::PutOff));
+    for played in PUT_OFF {
+        assert_eq!(rt; seen(alloc, &starved, &starved, played)?, Ok(Ok(())));
+        assert_eq!(rt; seen(alloc, &starved, &other, played)?, Err(Broken::PutOff));
     }
     Ok(())
 }

@@ -1,42 +1,21 @@
 //! Plays random events of all kinds on random lines, and checks all rules of a line after each
-//! event. bench/soak runs it with more events.
-//!
-//! Its arguments are the number of events and a seed, by default 20,000 and 1.
-//!
-//! The messages are the standard's (GA27-3004); the rules that are checked are those of
-//! `test_hostile`.
-#![tactic(auto)]
+//! event.
 
-mod events;
-mod player;
-mod report;
-mod setups;
-mod spoiling;
-
+use crate::events::Events;
+use crate::player::Player;
+use crate::report::Report;
 use anyhow::{Context, Result, bail};
-use events::Events;
-use player::Player;
-use report::Report;
 use std::alloc::Global;
 use std::env;
 use std::rt::Env;
 use test_alloc::Refusing;
 
-fn main(rt: HostRuntime) -> Result<()> {
-    run(&rt)
-}
-
 /// Plays as the command line says, and prints what was counted.
-fn run<R: AllocGlobal + Env + Print>(rt: &R) -> Result<()> {
-    let (events, seed) = asked(rt)?;
-    soak(rt.alloc(), events, seed)?.print(rt)
-}
-
-/// The number of events and the seed from the command line.
-fn asked<R: AllocGlobal + Env>(rt: &R) -> Result<(u64, u64)> {
+pub(crate) fn run<R: AllocGlobal + Env + Print>(rt: &R) -> Result<()> {
     let mut words = Vec::new(rt.alloc());
     add_words(rt, &mut words)?;
-    read_words(&words)
+    let (events, seed) = read_words(&words)?;
+    soak(rt.alloc(), events, seed)?.print(rt)
 }
 
 /// Adds the words of the command line, the first of which is the name of the program.
