@@ -1,10 +1,9 @@
-//! Why a line cannot be made, each growth of a new line refused, and the messages of the errors.
+//! Why a line cannot be made, and each growth of a new line refused.
 
 use bsc_bid::Terminal;
-use bsc_block::RecordError;
 use bsc_control::SetupError;
 use bsc_frame::Address;
-use bsc_line::{Line, LineError};
+use bsc_line::Line;
 use std::alloc::Global;
 use std::test::Fail;
 use test_alloc::{Refusal, Refusing};
@@ -105,36 +104,6 @@ fn a_new_line_is_refused_by_name_and_without_memory(rt: HostRuntime) -> Result<(
         for which in [Refusal::Nth, Refusal::From, Refusal::Above { octets: 64 }] {
             assert!(rt; is_answered(rt.alloc(), which, setting)?, "{:?}", setting.2);
         }
-    }
-    Ok(())
-}
-
-/// Each error and its message.
-const TEXTS: &[(LineError, &str)] = &[
-    (LineError::NothingSent, "nothing sent"),
-    (LineError::NotControl, "control is not sending"),
-    (LineError::WrongCount, "wrong number of hearings"),
-    (LineError::Pending, "a transmission is pending"),
-    (LineError::NoSuchTerminal, "no such terminal"),
-    (LineError::NoSuchAddress, "no such address"),
-    (
-        LineError::BadRecord(RecordError::TooLong),
-        "record too long",
-    ),
-    (
-        LineError::BadRecord(RecordError::NotText(7)),
-        "wrong character at 7",
-    ),
-    (LineError::Memory, "out of memory"),
-    (LineError::NotInDoubt, "not in doubt"),
-    (LineError::CountMismatch, "count mismatch"),
-];
-
-#[test]
-fn each_refusal_is_printed(rt: HostRuntime) -> Result<(), Fail> {
-    for (error, text) in TEXTS {
-        let printed = format!(in rt.alloc(); "{error}")?;
-        assert_eq!(rt; printed.as_str(), *text);
     }
     Ok(())
 }

@@ -108,46 +108,13 @@ fn texts_of<R: Net>(
 /// The paths of the two files.
 const PATHS: &str = "line.toml script.txt";
 
-/// The events of `examples/lossy_line`. One bit of the first text is turned on its way; an
-/// acknowledgement and an ENQ are lost, and the terminal is in doubt; a call of terminal 1 is not
-/// heard, and a text only by it; and the doubt is ended.
-const LOSSY_LINE: &str = "# A record waits in each direction.
-offer-at 0 HI
-offer-for 1 BYE
-
-# The control station polls A.
-
-silence
-carry
-heard 16 16 02 C8 48 19 83 9B FF
-carry
-carry
-
-# The acknowledgement is lost.
-#
-lose
-silence
-lose
-silence
-carry
-
-#
-#
-heard-each - 161610
-silence
-carry
-carry
-
-#
-heard-each - 161602C2D9451983C4FF
-carry
-carry
-carry
-carry
-
-#
-release 0 from
-";
+/// The events of `examples/lossy_line`, with as many empty lines between them. One bit of the first
+/// text is turned on its way; an acknowledgement and an ENQ are lost, and the terminal is in doubt;
+/// a call of terminal 1 is not heard, and a text only by it; and the doubt is ended.
+const LOSSY_LINE: &str = "#\noffer-at 0 HI\noffer-for 1 BYE\n\n\n\nsilence\ncarry
+heard 16 16 02 C8 48 19 83 9B FF\ncarry\ncarry\n\n\n\nlose\nsilence\nlose\nsilence\ncarry
+\n\n\nheard-each - 161610\nsilence\ncarry\ncarry\n\n\nheard-each - 161602C2D9451983C4FF
+carry\ncarry\ncarry\ncarry\n\n\nrelease 0 from\n";
 
 /// Its trace as a ladder.
 const LADDER: &str = "    time control

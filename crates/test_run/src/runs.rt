@@ -3,6 +3,7 @@
 use crate::watched::{NO_TROUBLE, RunWatch};
 use crate::worked::WORKED;
 use crate::written::{Written, run_over_sockets};
+use bsc_line::LineError;
 use bsc_run::RunError;
 use std::alloc::Global;
 use std::test::Fail;
@@ -97,14 +98,16 @@ fn each_refusal_has_its_text_after_the_report(rt: HostRuntime) -> Result<(), Fai
 #[test]
 fn each_error_has_a_text(rt: HostRuntime) -> Result<(), Fail> {
     let texts = format!(in rt.alloc();
-        "{}\n{}\n{}\n",
+        "{}\n{}\n{}\n{}\n",
         RunError::Output,
         RunError::Memory,
         RunError::Socket { line: 3 },
+        RunError::Refused { line: 1, why: LineError::Memory },
     )?;
     assert_eq!(rt;
         texts.as_str(),
-        "output fault\nout of memory\nscript line 3: socket fault\n"
+        "output fault\nout of memory\nscript line 3: socket fault\n\
+        script line 1: refused: out of memory\n"
     );
     Ok(())
 }
