@@ -34,7 +34,10 @@ fn refusals_by_a_number(rt: HostRuntime) {
     for (refusal, number, granted) in GRANTED {
         alloc.refuse(*refusal, *number);
         for (place, expected) in granted.iter().enumerate() {
-            assert!(rt; is_granted(&alloc, place.saturating_add(1)) == *expected, "{refusal:?}");
+            assert!(rt;
+                is_granted(&alloc, place.saturating_add(1)) == *expected,
+                "{refusal:?}"
+            );
         }
         let refused = granted.iter().filter(|granted| !**granted).count();
         assert!(rt; alloc.requests() == 5 && alloc.refused() == refused);
@@ -54,7 +57,11 @@ fn runs_of(alloc: &Refusing, refusal: Refusal, least: usize, end: usize) -> (usi
             is_granted(alloc, octets);
         }
     }
-    (count, is_wrong, is_granted(alloc, 9) && alloc.refused() == 0)
+    (
+        count,
+        is_wrong,
+        is_granted(alloc, 9) && alloc.refused() == 0,
+    )
 }
 
 #[test]

@@ -23,7 +23,9 @@ fn delivers(
     let memory = Refusing::new(alloc);
     let mut line = line_of(alloc, &memory, setup, terminals, poll_list)?;
     let record = [b'M'; 144];
-    let record = record.get(..usize::from(setup.format().full())).ok_or("too long")?;
+    let record = record
+        .get(..usize::from(setup.format().full()))
+        .ok_or("too long")?;
     let last = line.terminals().saturating_sub(1);
     line.offer_at(last, record)?;
     line.offer_for(last, 0, record)?;
@@ -39,7 +41,10 @@ fn a_line_is_made_with_each_length_of_a_record_and_of_a_block(rt: HostRuntime) -
     for full in 1..=144u8 {
         for block_chars in 146..=400u16 {
             let setup = Setup::new(full, block_chars, 3, 10)?;
-            assert!(rt; delivers(rt.alloc(), setup, &terminals, &[0])?, "{full} {block_chars}");
+            assert!(rt;
+                delivers(rt.alloc(), setup, &terminals, &[0])?,
+                "{full} {block_chars}"
+            );
         }
     }
     Ok(())
@@ -51,7 +56,10 @@ fn a_line_is_made_with_each_number_of_tries_and_of_waits(rt: HostRuntime) -> Res
     for tries in 1..=15u8 {
         for waits in 1..=255u8 {
             let setup = Setup::new(80, 400, tries, waits)?;
-            assert!(rt; delivers(rt.alloc(), setup, &terminals, &[0])?, "{tries} {waits}");
+            assert!(rt;
+                delivers(rt.alloc(), setup, &terminals, &[0])?,
+                "{tries} {waits}"
+            );
         }
     }
     Ok(())
@@ -63,7 +71,10 @@ fn a_line_is_made_with_each_number_of_terminals_and_addresses(rt: HostRuntime) -
         let terminals = most_terminals(count)?;
         for last in 0..64u8 {
             let first = terminals.get(..=usize::from(last)).ok_or("too few")?;
-            assert!(rt; delivers(rt.alloc(), setup(3)?, first, &[last])?, "{count} {last}");
+            assert!(rt;
+                delivers(rt.alloc(), setup(3)?, first, &[last])?,
+                "{count} {last}"
+            );
         }
     }
     Ok(())
@@ -83,7 +94,10 @@ fn mixed(number: usize) -> Result<[Terminal; 5], Fail> {
 #[test]
 fn a_line_is_made_with_each_combination_of_addresses(rt: HostRuntime) -> Result<(), Fail> {
     for number in 0..1_024usize {
-        assert!(rt; delivers(rt.alloc(), setup(3)?, &mixed(number)?, &[4])?, "{number}");
+        assert!(rt;
+            delivers(rt.alloc(), setup(3)?, &mixed(number)?, &[4])?,
+            "{number}"
+        );
     }
     Ok(())
 }
@@ -105,7 +119,10 @@ fn a_line_is_made_with_each_length_of_the_poll_list(rt: HostRuntime) -> Result<(
         let poll_list = entries(last);
         for length in 1..=255usize {
             let poll_list = poll_list.get(..length).ok_or("too few entries")?;
-            assert!(rt; delivers(rt.alloc(), setup(3)?, first, poll_list)?, "{last} {length}");
+            assert!(rt;
+                delivers(rt.alloc(), setup(3)?, first, poll_list)?,
+                "{last} {length}"
+            );
         }
     }
     Ok(())
@@ -114,7 +131,9 @@ fn a_line_is_made_with_each_length_of_the_poll_list(rt: HostRuntime) -> Result<(
 /// The first codes of the longest address of this number.
 fn front(number: usize, length: usize) -> Result<Address, Fail> {
     let longest: [&[u8]; 5] = [b"POLLING", b"abcdefg", b"bcdefga", b"cdefgab", b"defgabc"];
-    Ok(Address::read(longest[number % 5].get(..length).ok_or("too short")?)?)
+    Ok(Address::read(
+        longest[number % 5].get(..length).ok_or("too short")?,
+    )?)
 }
 
 #[test]
@@ -128,7 +147,10 @@ fn a_line_is_made_with_each_length_of_an_address(rt: HostRuntime) -> Result<(), 
                 front(4, length)?,
             ];
             let terminals = [Terminal::new(front(0, poll)?, &selects)?];
-            assert!(rt; delivers(rt.alloc(), setup(3)?, &terminals, &[0])?, "{poll} {length}");
+            assert!(rt;
+                delivers(rt.alloc(), setup(3)?, &terminals, &[0])?,
+                "{poll} {length}"
+            );
         }
     }
     Ok(())

@@ -195,7 +195,11 @@ fn write_channel<A: Allocator>(
 {
     let offered = line.offered(terminal, way).len();
     let known = line.known(terminal, way);
-    let doubt = if line.in_doubt(terminal, way) { "?" } else { "" };
+    let doubt = if line.in_doubt(terminal, way) {
+        "?"
+    } else {
+        ""
+    };
     let spooled = line.spooled(terminal, way);
     if offered == 0 && spooled.len() == 0 {
         return Ok(());

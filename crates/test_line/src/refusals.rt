@@ -71,7 +71,10 @@ fn a_wrong_number_of_terminals_is_told_without_memory(rt: HostRuntime) -> Result
     memory.refuse_from(1);
     let [first, _] = two_terminals();
     let many = [first; 65];
-    assert_eq!(rt; refusal(&memory, &many[..0], &[])?, Some(SetupError::NoTerminal));
+    assert_eq!(rt;
+        refusal(&memory, &many[..0], &[])?,
+        Some(SetupError::NoTerminal)
+    );
     assert_eq!(rt; refusal(&memory, &many, &[])?, Some(SetupError::TooMany));
     assert_eq!(rt; memory.requests(), 0);
     Ok(())

@@ -149,7 +149,6 @@ const LADDER: &str = "    time control
       36 |                  ^ the doubt from 0 is ended
 ";
 
-
 #[test]
 fn the_trace_of_an_example_is_drawn(rt: HostRuntime) -> Result<(), Fail> {
     let config = format!(in rt.alloc(); "tries = 2\n{TWO_TERMINALS}")?;
@@ -166,7 +165,13 @@ fn the_trace_of_an_example_is_drawn(rt: HostRuntime) -> Result<(), Fail> {
         to: None,
     };
     let mut drawn = Vec::<u8>::new(rt.alloc());
-    draw(rt.alloc(), &words, None, &mut texts.trace.as_slice(), &mut drawn)?;
+    draw(
+        rt.alloc(),
+        &words,
+        None,
+        &mut texts.trace.as_slice(),
+        &mut drawn,
+    )?;
     assert!(rt; drawn.as_slice() == LADDER.as_bytes());
     Ok(())
 }
@@ -188,7 +193,10 @@ fn a_line_of_each_number_of_terminals_is_run(rt: HostRuntime) -> Result<(), Fail
         let traced = texts_of(&rt, rt.alloc(), files, (false, true))?;
         let untraced = texts_of(&rt, rt.alloc(), files, (false, false))?;
         let checked = texts_of(&rt, rt.alloc(), files, (true, true))?;
-        assert!(rt; untraced.out.ends_with(b"trusted\n") && untraced.trace.is_empty(), "{count}");
+        assert!(rt;
+            untraced.out.ends_with(b"trusted\n") && untraced.trace.is_empty(),
+            "{count}"
+        );
         assert!(rt; traced.out.as_slice() == untraced.out.as_slice() && !traced.trace.is_empty());
         assert!(rt; checked.out.is_empty() && checked.trace.is_empty());
         assert!(rt; count < 64 || count_delivered(&untraced.out) == 224);
@@ -196,58 +204,29 @@ fn a_line_of_each_number_of_terminals_is_run(rt: HostRuntime) -> Result<(), Fail
     Ok(())
 }
 
-/// The contents of the two files, the paths of a run, its standard input, the output before the
-/// report if there is one, and the error.
-type Fault = (
-    &'static str,
-    &'static str,
-    &'static str,
-    &'static str,
-    Option<&'static str>,
-    &'static str,
-);
-
-/// The configuration is read first, then the script; then they are checked in this order, and only
-/// then is the line made. If an event is refused, what was printed before it stays, and the report
-/// follows. Standard input is read only if a path asks for it.
-const FAULTS: &[Fault] = &[
-    ("?", "?", "none.toml none.txt", "in", None, "cannot read none.toml: no such file"),
-    ("?", "?", "long.txt none.txt", "in", None, "long.txt is too long"),
-    ("?", "?", "line.toml none.txt", "in", None, "cannot read none.txt: no such file"),
-    ("?", "?", "line.toml long.txt", "in", None, "long.txt is too long"),
-    ("?", "?", PATHS, "in", None, "config: not toml: line 1"),
-    ("version = 1", "?", PATHS, "in", None, "config: missing key poll_list"),
-    (TWO_TERMINALS, "?", PATHS, "in", None, "script line 1: not an event"),
-    (
-        TWO_TERMINALS,
-        "\n#\ncarry\n",
-        PATHS,
-        "in",
-        Some(""),
-        "script line 3: refused: nothing sent",
-    ),
-    (
-        TWO_TERMINALS,
-        "?",
-        "line.toml -",
-        "silence\nsilence\n",
-        Some("control CALL A\n"),
-        "script line 2: refused: a transmission is pending",
-    ),
-    (
-        "?",
-        "silence\nlose\nready 9",
-        "- script.txt",
-        TWO_TERMINALS,
-        Some("control CALL A\nquiet\n"),
-        "script line 3: refused: no such terminal",
-    ),
-    ("", "", "- -", "in", None, "CONFIG and SCRIPT cannot both be standard input"),
+/// The contents of the configuration, or `@` for two terminals, the paths of a run, and its error,
+/// with a bar between them. The script is `?`. The configuration is read first, then the script;
+/// then they are checked in this order.
+const FAULTS: &[&str] = &[
+    "?|none.toml none.txt|cannot read none.toml: no such file",
+    "?|long.txt none.txt|long.txt is too long",
+    "?|line.toml none.txt|cannot read none.txt: no such file",
+    "?|line.toml long.txt|long.txt is too long",
+    "?|line.toml script.txt|config: not toml: line 1",
+    "version = 1|line.toml script.txt|config: missing key poll_list",
+    "@|line.toml script.txt|script line 1: not an event",
+    "@|- -|CONFIG and SCRIPT cannot both be standard input",
 ];
 
-/// Whether a run tells this fault.
-fn is_told<R: Net>(runtime: &R, alloc: Global, fault: Fault) -> Result<bool, Fail> {
-    let (line, script, paths, given, before, error) = fault;
+/// What is printed by a run that fails with this error; None if it does not. Standard input stays
+/// unread if no path asks for it.
+fn printed_at<R: Net>(
+    runtime: &R,
+    alloc: Global,
+    (line, script): (&str, &str),
+    (paths, given): (&str, &str),
+    error: &str,
+) -> Result<Option<Vec<u8>>, Fail> {
     let mut machine = Machine {
         runtime,
         alloc,
@@ -261,22 +240,45 @@ fn is_told<R: Net>(runtime: &R, alloc: Global, fault: Fault) -> Result<bool, Fai
     let mut input = given.as_bytes();
     let answer = run_at(&mut machine, paths, (false, false), &mut input, &mut texts)?;
     let Err(why) = answer else {
-        return Ok(false);
+        return Ok(None);
     };
-    let printed = match before {
-        Some(before) => format!(in alloc; "{before}{REPORT}")?,
-        None => String::new(alloc),
-    };
-    Ok(why.to_string(alloc)?.as_str() == error
-        && texts.out.as_slice() == printed.as_bytes()
-        && texts.trace.is_empty()
-        && (given != "in" || input.len() == 2))
+    let is_told = why.to_string(alloc)?.as_str() == error;
+    let is_read = input.len() < given.len();
+    Ok(if is_told && is_read != (given == "unread") {
+        Some(texts.out)
+    } else {
+        None
+    })
 }
 
 #[test]
 fn a_run_names_the_first_fault(rt: HostRuntime) -> Result<(), Fail> {
-    for fault in FAULTS {
-        assert!(rt; is_told(&rt, rt.alloc(), *fault)?, "{}", fault.5);
+    for row in FAULTS {
+        let (line, told) = row.split_once('|').ok_or("no paths")?;
+        let (paths, error) = told.split_once('|').ok_or("no error")?;
+        let line = if line == "@" { TWO_TERMINALS } else { line };
+        let input = (paths, "unread");
+        let printed = printed_at(&rt, rt.alloc(), (line, "?"), input, error)?;
+        assert!(rt; printed.ok_or("another error")?.is_empty(), "{error}");
+    }
+    Ok(())
+}
+
+/// If an event is refused, what was printed before it stays, and the report follows; also if the
+/// configuration or the script is standard input.
+#[test]
+fn a_refused_event_has_its_line_and_the_report(rt: HostRuntime) -> Result<(), Fail> {
+    let error = "script line 2: refused: a transmission is pending";
+    let script = "silence\nsilence\n";
+    let expected = format!(in rt.alloc(); "control CALL A\n{REPORT}")?;
+    for (line, text, input) in [
+        (TWO_TERMINALS, script, (PATHS, "unread")),
+        (TWO_TERMINALS, "?", ("line.toml -", script)),
+        ("?", script, ("- script.txt", TWO_TERMINALS)),
+    ] {
+        let printed = printed_at(&rt, rt.alloc(), (line, text), input, error)?;
+        let printed = printed.ok_or("another error")?;
+        assert!(rt; printed.as_slice() == expected.as_bytes(), "{}", input.0);
     }
     Ok(())
 }

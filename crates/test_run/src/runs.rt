@@ -15,7 +15,11 @@ fn each_worked_run_prints_its_trace_and_its_report(rt: HostRuntime) -> Result<()
         let watch = RunWatch::new(NO_TROUBLE);
         let mut written = Written::new(rt.alloc(), &watch);
         let answer = run_over_sockets(&rt, TWO_TERMINALS, worked.script, &mut written)?;
-        assert!(rt; worked.is_whole(&written.out.inner, answer), "{}", worked.script);
+        assert!(rt;
+            worked.is_whole(&written.out.inner, answer),
+            "{}",
+            worked.script
+        );
         assert!(rt; written.trace.inner.as_slice() == worked.traced.as_bytes());
     }
     Ok(())
@@ -29,50 +33,27 @@ to 1: offered 0, known 0, spooled 0
 trusted
 ";
 
-/// An offer of 81 characters; a record has at most 80.
-const TOO_LONG: &str =
-    "offer-at 0 .................................................................................";
-
 /// Scripts whose last event is refused, their output before the report, and the messages of the
-/// refusals. The transmissions of a terminal are not heard by other terminals.
-const REFUSED: &[(&str, &str, &str)] = &[
-    ("carry\n", "", "script line 1: refused: nothing sent"),
-    ("\n# lost\nlose", "", "script line 3: refused: nothing sent"),
-    ("heard 1604", "", "script line 1: refused: nothing sent"),
-    ("heard-each - -", "", "script line 1: refused: nothing sent"),
-    (
-        "silence\nsilence\nsilence\n",
-        "control CALL A\n",
-        "script line 2: refused: a transmission is pending",
-    ),
-    ("unready 2", "", "script line 1: refused: no such terminal"),
-    (
-        "offer-for 999 HI",
-        "",
-        "script line 1: refused: no such terminal",
-    ),
-    (TOO_LONG, "", "script line 1: refused: record too long"),
-    (
-        "offer-at 1 HI\u{3}",
-        "",
-        "script line 1: refused: wrong character at 2",
-    ),
-    ("release 1 to", "", "script line 1: refused: not in doubt"),
-    (
-        "silence\nheard-each 16 16 16",
-        "control CALL A\n",
-        "script line 2: refused: wrong number of hearings",
-    ),
-    (
-        "offer-to 0 1 HI",
-        "",
-        "script line 1: refused: no such address",
-    ),
-    (
-        "silence\ncarry\nheard-each - -\n",
-        "control CALL A\nterminal 0 EOT\n",
-        "script line 3: refused: control is not sending",
-    ),
+/// refusals, with a bar between them. The transmissions of a terminal are not heard by other
+/// terminals.
+const REFUSED: &[&str] = &[
+    "carry\n||script line 1: refused: nothing sent",
+    "\n# lost\nlose||script line 3: refused: nothing sent",
+    "heard 1604||script line 1: refused: nothing sent",
+    "heard-each - -||script line 1: refused: nothing sent",
+    "silence\nsilence\nlose\n|control CALL A\n|script line 2: refused: a transmission is pending",
+    "unready 2||script line 1: refused: no such terminal",
+    "offer-for 999 HI||script line 1: refused: no such terminal",
+    "offer-at 0 \
+    .................................................................................\
+    ||script line 1: refused: record too long",
+    "offer-at 1 HI\u{3}||script line 1: refused: wrong character at 2",
+    "release 1 to||script line 1: refused: not in doubt",
+    "silence\nheard-each 16 16 16|control CALL A\n|\
+    script line 2: refused: wrong number of hearings",
+    "offer-to 0 1 HI||script line 1: refused: no such address",
+    "silence\ncarry\nheard-each - -|control CALL A\nterminal 0 EOT\n|\
+    script line 3: refused: control is not sending",
 ];
 
 /// Whether this is the error.
@@ -85,12 +66,17 @@ fn has_text(alloc: Global, answer: Result<(), RunError>, text: &str) -> Result<b
 
 #[test]
 fn each_refusal_has_its_text_after_the_report(rt: HostRuntime) -> Result<(), Fail> {
-    for (script, before, error) in REFUSED {
+    for row in REFUSED {
+        let (script, told) = row.split_once('|').ok_or("no output")?;
+        let (before, error) = told.split_once('|').ok_or("no error")?;
         let watch = RunWatch::new(NO_TROUBLE);
         let mut written = Written::new(rt.alloc(), &watch);
         let answer = run_over_sockets(&rt, TWO_TERMINALS, script, &mut written)?;
         let printed = format!(in rt.alloc(); "{before}{REPORT}")?;
-        assert!(rt; written.is(&printed) && has_text(rt.alloc(), answer, error)?, "{script}");
+        assert!(rt;
+            written.is(&printed) && has_text(rt.alloc(), answer, error)?,
+            "{script}"
+        );
     }
     Ok(())
 }
@@ -102,7 +88,10 @@ fn each_error_has_a_text(rt: HostRuntime) -> Result<(), Fail> {
         RunError::Output,
         RunError::Memory,
         RunError::Socket { line: 3 },
-        RunError::Refused { line: 1, why: LineError::Memory },
+        RunError::Refused {
+            line: 1,
+            why: LineError::Memory,
+        }
     )?;
     assert_eq!(rt;
         texts.as_str(),

@@ -42,7 +42,9 @@ fn count_known(alloc: Global, config: &str, script: &str) -> Result<u64, Fail> {
     let counts = counts_at_end(alloc, config, script, false)?;
     let traced = counts_at_end(alloc, config, script, true)?;
     match counts {
-        Some(counts) if counts.arrived == counts.known && traced == Some(counts) => Ok(counts.known),
+        Some(counts) if counts.arrived == counts.known && traced == Some(counts) => {
+            Ok(counts.known)
+        }
         None if traced.is_none() => Ok(0),
         _ => Err(Fail::new("other counts")),
     }
@@ -159,7 +161,11 @@ fn hearings(alloc: Global, least: usize, most: usize) -> Result<String, Fail> {
 fn hearings_of_each_length_cross_the_cable(rt: HostRuntime) -> Result<(), Fail> {
     for part in 0..16usize {
         let script = hearings(rt.alloc(), part * 128 + 1, part * 128 + 128)?;
-        assert_eq!(rt; count_known(rt.alloc(), TWO_TERMINALS, &script)?, 0, "{part}");
+        assert_eq!(rt;
+            count_known(rt.alloc(), TWO_TERMINALS, &script)?,
+            0,
+            "{part}"
+        );
     }
     Ok(())
 }

@@ -4,7 +4,9 @@
 
 use crate::broken::Broken;
 use crate::channel::look;
-use crate::tests::exchanges::{Exchange, INTERRUPTED, POLLED, SELECTED, SELECTED_TWICE, transmissions};
+use crate::tests::exchanges::{
+    Exchange, INTERRUPTED, POLLED, SELECTED, SELECTED_TWICE, transmissions,
+};
 use crate::tests::fixtures::Watched;
 use bsc_control::Way;
 use bsc_line::Speaker::{Control, Terminal};
