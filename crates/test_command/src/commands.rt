@@ -1,289 +1,147 @@
-//! Words and standard input of the command, and its results.
+//! Words and standard input of the command, and its texts and statuses.
 
-use crate::cases::{Case, Due, first_wrong};
+use crate::cases::answer_to;
 use crate::machine::SILENT;
-use crate::words::NAME_HELP;
+use crate::record::Record;
+use crate::session::play;
+use bsc_command::Fault;
 use std::test::Fail;
 
-const CASES: &[Case] = &[
-    Case {
-        words: Some(&["name", "161610B0FF"]),
-        input: Some(""),
-        takes: true,
-        scene: SILENT,
-        due: Due {
-            out: "ACK0\n",
-            errors: "",
-            status: 0,
-            asking: None,
-        },
-    },
-    Case {
-        words: Some(&["name", "xx"]),
-        input: Some(""),
-        takes: true,
-        scene: SILENT,
-        due: Due {
-            out: "",
-            errors: "bscline: not hexadecimal\n",
-            status: 1,
-            asking: None,
-        },
-    },
-    Case {
-        words: Some(&[]),
-        input: Some("16 04\nxx\n16 04\n"),
-        takes: true,
-        scene: SILENT,
-        due: Due {
-            out: "EOT\n",
-            errors: "bscline: line 2: not hexadecimal\n",
-            status: 1,
-            asking: None,
-        },
-    },
-    Case {
-        words: Some(&["chart", "--ascii"]),
-        input: Some("+5 control sent EOT 1604\n+6 gone\n7 silence\n+8 silence\n"),
-        takes: true,
-        scene: SILENT,
-        due: Due {
-            out: "    time control            0\n       5 *- EOT ------------)\n       6 = gone\n",
-            errors: "bscline: line 3: not a line of a trace\n",
-            status: 1,
-            asking: None,
-        },
-    },
-    Case {
-        words: Some(&["chart"]),
-        input: Some(""),
-        takes: true,
-        scene: SILENT,
-        due: Due {
-            out: "",
-            errors: "",
-            status: 0,
-            asking: None,
-        },
-    },
-    Case {
-        words: Some(&["chart", "--width", "39"]),
-        input: Some("+5 silence\n"),
-        takes: true,
-        scene: SILENT,
-        due: Due {
-            out: "",
-            errors: "error: --width is not from 40 to 1000\n\n\
-            Usage: bscline chart [OPTIONS] [FILE]\n\n\
-            For more information, try '--help'.\n",
-            status: 2,
-            asking: None,
-        },
-    },
-    Case {
-        words: Some(&["chart", "--svg", "--text"]),
-        input: Some("+5 silence\n"),
-        takes: true,
-        scene: SILENT,
-        due: Due {
-            out: "",
-            errors: "error: --text, --svg and --html exclude one another\n\n\
-            Usage: bscline chart [OPTIONS] [FILE]\n\n\
-            For more information, try '--help'.\n",
-            status: 2,
-            asking: None,
-        },
-    },
-    Case {
-        words: Some(&["--version"]),
-        input: Some(""),
-        takes: true,
-        scene: SILENT,
-        due: Due {
-            out: "bscline 0.2.0\n",
-            errors: "",
-            status: 0,
-            asking: None,
-        },
-    },
-    Case {
-        words: Some(&["name", "--help"]),
-        input: Some(""),
-        takes: true,
-        scene: SILENT,
-        due: Due {
-            out: NAME_HELP,
-            errors: "",
-            status: 0,
-            asking: None,
-        },
-    },
-    Case {
-        words: Some(&["help", "name"]),
-        input: Some(""),
-        takes: true,
-        scene: SILENT,
-        due: Due {
-            out: NAME_HELP,
-            errors: "",
-            status: 0,
-            asking: None,
-        },
-    },
-    // Standard output does not accept the help.
-    Case {
-        words: Some(&["--help"]),
-        input: Some(""),
-        takes: false,
-        scene: SILENT,
-        due: Due {
-            out: "",
-            errors: "bscline: output fault\n",
-            status: 1,
-            asking: None,
-        },
-    },
-    Case {
-        words: Some(&["name"]),
-        input: Some(""),
-        takes: true,
-        scene: SILENT,
-        due: Due {
-            out: "",
-            errors: "error: the following required arguments were not provided:\n  <HEX>\n\n\
-            Usage: bscline name <HEX>\n\nFor more information, try '--help'.\n",
-            status: 2,
-            asking: None,
-        },
-    },
-    Case {
-        words: Some(&["run", "none.toml", "script.txt"]),
-        input: Some(""),
-        takes: true,
-        scene: SILENT,
-        due: Due {
-            out: "",
-            errors: "bscline: cannot read none.toml: no such file\n",
-            status: 1,
-            asking: None,
-        },
-    },
-    Case {
-        words: Some(&["run", "-", "-"]),
-        input: Some(""),
-        takes: true,
-        scene: SILENT,
-        due: Due {
-            out: "",
-            errors: "error: CONFIG and SCRIPT cannot both be standard input\n\n\
-            Usage: bscline run [OPTIONS] <CONFIG> <SCRIPT>\n\n\
-            For more information, try '--help'.\n",
-            status: 2,
-            asking: None,
-        },
-    },
-    Case {
-        words: Some(&[
-            "station",
-            "c",
-            "--terminal",
-            "0",
-            "--connect",
-            "h:1",
-            "--gap",
-            "9",
-        ]),
-        input: Some(""),
-        takes: true,
-        scene: SILENT,
-        due: Due {
-            out: "",
-            errors: "error: --gap needs --raw\n\nUsage: bscline station [OPTIONS] <CONFIG>\n\n\
-            For more information, try '--help'.\n",
-            status: 2,
-            asking: None,
-        },
-    },
-    Case {
-        words: Some(&[
-            "station",
-            "-",
-            "--terminal",
-            "0",
-            "--connect",
-            "h:1",
-            "--offer",
-            "-",
-        ]),
-        input: Some(""),
-        takes: true,
-        scene: SILENT,
-        due: Due {
-            out: "",
-            errors: "error: CONFIG, --offer and --until-input-ends cannot use standard input more \
-            than once\n\nUsage: bscline station [OPTIONS] <CONFIG>\n\n\
-            For more information, try '--help'.\n",
-            status: 2,
-            asking: None,
-        },
-    },
-    // The words could not be read.
-    Case {
-        words: None,
-        input: Some(""),
-        takes: true,
-        scene: SILENT,
-        due: Due {
-            out: "",
-            errors: "bscline: out of memory\n",
-            status: 1,
-            asking: None,
-        },
-    },
-    // Standard output accepts nothing.
-    Case {
-        words: Some(&[]),
-        input: Some("16 04"),
-        takes: false,
-        scene: SILENT,
-        due: Due {
-            out: "",
-            errors: "bscline: output fault\n",
-            status: 1,
-            asking: None,
-        },
-    },
-    // The same, and a line after the first is wrong.
-    Case {
-        words: Some(&[]),
-        input: Some("16 04\nxx\n"),
-        takes: false,
-        scene: SILENT,
-        due: Due {
-            out: "",
-            errors: "bscline: output fault\n",
-            status: 1,
-            asking: None,
-        },
-    },
-    // Standard input fails.
-    Case {
-        words: Some(&["show"]),
-        input: None,
-        takes: true,
-        scene: SILENT,
-        due: Due {
-            out: "",
-            errors: "bscline: input fault\n",
-            status: 1,
-            asking: None,
-        },
-    },
-];
+/// Names, ladders, and faults of files and streams.
+const COMMANDS: &str = "\
+$ name 161610B0FF
+> ACK0
+$ name xx
+! bscline: not hexadecimal
+$
+< 16 04|xx|16 04
+> EOT
+! bscline: line 2: not hexadecimal
+$ show
+< 16 16 02 C8 49 19 83 9B FF
+> TEXT ETX 1|unit 4849 EM
+$ show
+input-fails
+! bscline: input fault
+$ --help
+output-fails
+! bscline: output fault
+$
+< 16 04
+output-fails
+! bscline: output fault
+$
+< 16 04|xx
+output-fails
+! bscline: output fault
+$ chart --ascii
+< +5 control sent EOT 1604|+6 gone|7 silence|+8 silence
+>     time control            0|       5 *- EOT ------------)|       6 = gone
+! bscline: line 3: not a line of a trace
+$ chart
+$ run none.toml script.txt
+! bscline: cannot read none.toml: no such file
+$ station none.toml --terminal 0 --connect h:1
+! bscline: cannot read none.toml: no such file
+asks nothing
+";
 
-/// Tests the exit status, standard output and standard error of each case.
 #[test]
 fn words_give_texts_and_a_status(rt: HostRuntime) -> Result<(), Fail> {
-    assert_eq!(rt; first_wrong(rt.alloc(), CASES), None);
+    play(rt.alloc(), COMMANDS)
+}
+
+/// The words could not be read.
+#[test]
+fn words_without_memory_are_no_usage(rt: HostRuntime) -> Result<(), Fail> {
+    let (alloc, mut input) = (rt.alloc(), b"16 04".as_slice());
+    let words = Err(Fault::OutOfMemory);
+    let answer = answer_to(alloc, words, &mut input, SILENT, &Record::new(alloc))?;
+    assert!(rt; answer.is("", "bscline: out of memory\n", 1));
     Ok(())
+}
+
+/// The names of traces, what is drawn of them in the width of the terminal, and the faults.
+const TRACES: &str = "\
+$ chart --ascii -
+< +5 silence
+>     time control            0|       5 :. silence ........:
+$ chart trace.txt --ascii
+>     time control            0|       5 *- EOT ------------)
+>        6 = one that is longer than a lin
+$ chart trace.txt --ascii --width 44 --from 2
+>     time control            0|       6 = one that is longer than a line ha
+$ chart trace.txt
+>     time control            0|       5 ├─ EOT ────────────→
+>        6 ● one that is longer than a lin
+$ chart
+< +6 one that is longer than a line has room
+>     time control            0|       6 ● one that is longer than a lin
+$ chart nowhere
+! bscline: cannot read nowhere: no such file
+$ chart --svg secret
+! bscline: cannot read secret: permission denied
+$ chart directory
+! bscline: cannot read directory: is a directory
+$ chart --ascii broken
+>     time control            0|       5 :. silence ........:
+! bscline: cannot read broken: read fault
+";
+
+#[test]
+fn named_traces(rt: HostRuntime) -> Result<(), Fail> {
+    play(rt.alloc(), TRACES)
+}
+
+/// Options that contradict one another or do not fit the configuration.
+const OPTIONS: &str = "\
+$ run - -
+usage CONFIG and SCRIPT cannot both be standard input
+$ store k status --control
+usage --control and --terminal need init
+$ chart nowhere --width 39
+usage --width is not from 40 to 1000
+$ chart nowhere --svg --text
+usage --text, --svg and --html exclude one another
+$ chart --from 0
+usage --from or --to is not the number of a line
+$ station c --terminal 0 --connect h:1 --gap 9
+usage --gap needs --raw
+$ station line.toml --control --listen h:1 --peer x --allow 10.0.0.0/
+usage --allow takes ADDRESS/BITS
+$ station - --terminal 0 --connect h:1 --offer -
+usage CONFIG, --offer and --until-input-ends cannot use standard input more than once
+$ station line.toml --terminal 2 --connect h:1
+usage --terminal names a terminal that is not in CONFIG
+$ station line.toml --control --listen h:1 --peer 2=10.0.0.1
+usage --peer names a terminal that is not in CONFIG
+$ station line.toml --control --listen h:1 --offer 0.0
+usage --offer takes T.S=PATH at the control station
+$ station line.toml --control --listen h:1 --offer 2=-
+usage --offer names a channel that is not in CONFIG
+$ store k arrived x
+usage CHANNEL takes T or T.S
+$ store k release 0 4294967296
+usage COUNT takes a number, 0 to 4294967295
+";
+
+#[test]
+fn contradicting_options_are_refused(rt: HostRuntime) -> Result<(), Fail> {
+    play(rt.alloc(), OPTIONS)
+}
+
+/// What is wrong with a text or a record is found before connections are made.
+const EARLY: &str = "\
+$ station line.toml --terminal 0 --connect h:1 --offer none.txt
+! bscline: cannot read none.txt: no such file
+asks nothing
+$ station line.toml --terminal 0 --connect h:1 --offer -
+< HI|HHHHHHHHHHHHHHHHHHHHHHHHHHHHHHHHHHHHHHHHHHHHHHHHHHHHHHHHHHHHHHHHHHHHHHHHHHHHHHHHH
+! bscline: - line 2: record too long
+asks nothing
+";
+
+#[test]
+fn all_is_read_and_checked_before_connections_are_made(rt: HostRuntime) -> Result<(), Fail> {
+    play(rt.alloc(), EARLY)
 }

@@ -1,6 +1,7 @@
 //! The arguments with which the program was started: many, long ones, and those that are not text.
 
-use bsc_command::{Fault, fail, given_words};
+use crate::faults::are_told;
+use bsc_command::given_words;
 use std::alloc::Global;
 use std::env::FillError;
 use std::rt::{Env, HostRuntime};
@@ -17,6 +18,28 @@ struct Started<'a> {
     octet: u8,
 }
 
+impl Started<'_> {
+    /// The length of the argument at this place, and the octet in it.
+    fn word(&self, place: usize) -> (usize, u8) {
+        match place == self.place {
+            true => (self.length, self.octet),
+            false => (1, b'w'),
+        }
+    }
+
+    /// Whether the arguments are given.
+    fn are_given(&self) -> bool {
+        let Ok(words) = given_words(self) else {
+            return false;
+        };
+        words.len() == self.count
+            && words.iter().enumerate().all(|(place, word)| {
+                let (length, octet) = self.word(place);
+                word.len() == length && word.as_bytes().iter().all(|&it| it == octet)
+            })
+    }
+}
+
 impl Alloc for Started<'_> {
     type A = Global;
 
@@ -30,10 +53,7 @@ impl Env for Started<'_> {
         if self.count <= place {
             return Err(FillError::NotPresent);
         }
-        let (length, octet) = match place == self.place {
-            true => (self.length, self.octet),
-            false => (1, b'w'),
-        };
+        let (length, octet) = self.word(place);
         if buffer.len() < length {
             return Err(FillError::TooLong);
         }
@@ -50,33 +70,9 @@ impl Env for Started<'_> {
     }
 }
 
-/// Whether the arguments are those with which the program was started.
-fn are_given(started: &Started<'_>) -> bool {
-    let Ok(words) = given_words(started) else {
-        return false;
-    };
-    words.len() == started.count
-        && words.iter().enumerate().all(|(place, word)| {
-            let (length, octet) = match place == started.place {
-                true => (started.length, started.octet),
-                false => (1, b'w'),
-            };
-            word.len() == length && word.as_bytes().iter().all(|&it| it == octet)
-        })
-}
-
-/// How many arguments there are, the place of the long one, and its length.
-const GIVEN: &[(usize, usize, usize)] = &[
-    (0, 0, 0),
-    (1, 0, 9),
-    (4, 2, 0),
-    (40, 39, 4_096),
-    (2_000, 1_999, 131_071),
-];
-
 #[test]
 fn each_argument_is_given(rt: HostRuntime) -> Result<(), Fail> {
-    for &(count, place, length) in GIVEN {
+    for (count, place, length) in [(0, 0, 0), (4, 2, 0), (2_000, 1_999, 131_071)] {
         let started = Started {
             host: &rt,
             count,
@@ -84,22 +80,16 @@ fn each_argument_is_given(rt: HostRuntime) -> Result<(), Fail> {
             length,
             octet: b'x',
         };
-        assert!(rt; are_given(&started), "{count}");
+        assert!(rt; started.are_given(), "{count}");
     }
     Ok(())
 }
 
-/// What is told of such an argument.
-const NOT_TEXT: &str = "error: a word is not UTF-8
-
-Usage: bscline [COMMAND]
-
-For more information, try '--help'.
-";
-
 /// An argument that is not UTF-8 is wrong usage, wherever it is.
 #[test]
 fn an_argument_that_is_not_text_is_wrong_usage(rt: HostRuntime) -> Result<(), Fail> {
+    let told = "error: a word is not UTF-8\n\nUsage: bscline [COMMAND]\n\n\
+        For more information, try '--help'.\n";
     for place in [0, 1, 9] {
         let started = Started {
             host: &rt,
@@ -111,10 +101,7 @@ fn an_argument_that_is_not_text_is_wrong_usage(rt: HostRuntime) -> Result<(), Fa
         let Err(fault) = given_words(&started) else {
             return Err("it is text".into());
         };
-        assert!(rt; matches!(&fault, Fault::Usage(_)), "{place}");
-        let mut errors = Vec::new(rt.alloc());
-        assert_eq!(rt; fail(rt.alloc(), &fault, &mut errors), 2);
-        assert!(rt; errors.as_slice() == NOT_TEXT.as_bytes(), "{place}");
+        assert!(rt; are_told(rt.alloc(), &[fault], 2, told), "{place}");
     }
     Ok(())
 }

@@ -4,13 +4,11 @@
 use crate::pieces::Pieces;
 use crate::programs::Feeders;
 use crate::record::{Metered, Record, Sending, Tracer};
-use crate::run_files::run_file_at;
 use crate::wires::End;
 use bsc_attending::{Network, Opened, Reachable, Readiness, Wanted};
 use bsc_carrier::Cable;
 use bsc_clients::{ClientsError, ServedAt};
 use bsc_connections::{Awaited, Handled, LiveError, Pace, Waiter};
-use bsc_input::{Files, InputError, Unreadable};
 use bsc_loopback::LoopbackError;
 use bsc_options::Place;
 use bsc_progress::Work;
@@ -19,7 +17,7 @@ use bsc_sockets::SocketsError;
 use std::alloc::Global;
 use std::net::{IpAddr, Ipv4Addr, SocketAddr};
 use std::os::fd::RawFd;
-use test_fixtures::configurations::{THREE_ADDRESSES, TWO_TERMINALS};
+use std::test::Fail;
 
 /// Returns the address of the peer with this number; `None` for 0.
 fn peer_by(number: u8) -> Option<IpAddr> {
@@ -38,8 +36,8 @@ fn peer_by(number: u8) -> Option<IpAddr> {
 pub(crate) struct Scripted<'a> {
     steps: &'static [u8],
 
-    /// What another peer sends.
-    later: &'static [&'static [u8]],
+    /// The transmissions of another peer.
+    later: &'static str,
 
     /// The number of the peer, if there is one connection. If there are more, that of each is its
     /// place.
@@ -96,25 +94,15 @@ impl<'a> Waiter<Pieces, Sending<'a>> for Scripted<'a> {
             return Ok(Awaited::Octets { connection });
         };
         self.steps = &self.steps[1..];
-        if step == b't' {
-            return Ok(Awaited::TimeOut);
+        match step {
+            b't' => Ok(Awaited::TimeOut),
+            b'g' => Ok(Awaited::Gap { connection: 0 }),
+            b'j' => Ok(Awaited::Newcomer),
+            b'c' => Ok(Awaited::Client),
+            b's' => Ok(Awaited::Stopped),
+            b'f' => Err(LiveError::Wait),
+            _ => Ok(Awaited::Octets { connection: 0 }),
         }
-        if step == b'g' {
-            return Ok(Awaited::Gap { connection: 0 });
-        }
-        if step == b'j' {
-            return Ok(Awaited::Newcomer);
-        }
-        if step == b'c' {
-            return Ok(Awaited::Client);
-        }
-        if step == b's' {
-            return Ok(Awaited::Stopped);
-        }
-        if step == b'f' {
-            return Err(LiveError::Wait);
-        }
-        Ok(Awaited::Octets { connection: 0 })
     }
 
     fn handled(&mut self, _what: Handled, _pace: Pace) {}
@@ -144,11 +132,7 @@ impl<'a> Waiter<Pieces, Sending<'a>> for Scripted<'a> {
     fn nothing_left(&mut self, _connection: usize) {}
 
     fn join(&mut self, _connection: usize) -> Option<(Pieces, Sending<'a>)> {
-        let reader = Pieces {
-            left: self.later,
-            piece: b"",
-            fails: false,
-        };
+        let reader = Pieces::new(self.later, 1);
         let record = self.record;
         Some((reader, Sending { record }))
     }
@@ -156,81 +140,65 @@ impl<'a> Waiter<Pieces, Sending<'a>> for Scripted<'a> {
     fn turn_away(&mut self) {}
 }
 
-/// What a station requested of its machine.
-#[derive(Clone, Copy, Debug, PartialEq, Eq)]
-pub(crate) struct Asking {
-    /// Whether the address is `h:1`.
-    pub(crate) at_h: bool,
-    pub(crate) listens: bool,
-    pub(crate) connections: usize,
-    pub(crate) raw: bool,
-    pub(crate) stays: bool,
-    pub(crate) begins: bool,
-    pub(crate) time_out: u64,
-    pub(crate) gap: u64,
-    pub(crate) patience: u64,
-    pub(crate) replace_after: u64,
-    pub(crate) pause: u64,
-    pub(crate) line_time_out: u64,
-    pub(crate) trace: bool,
-
-    /// Whether peer 1 may connect, whose address is 10.0.0.1.
-    pub(crate) allows_one: bool,
-
-    /// Whether peer 2 may connect, whose address is 10.0.0.2.
-    pub(crate) allows_two: bool,
-    pub(crate) stops: bool,
-
-    /// Whether programs may feed the station.
-    pub(crate) serves: bool,
-
-    /// Whether it is told in a line of the trace where programs can reach it.
-    pub(crate) serves_traced: bool,
-}
-
-/// The octets of connections and of that of another peer, at most one piece in each read, and the
-/// waits before them.
+/// What a command hears, and what fails or waits on its machine.
 #[derive(Clone, Copy)]
 pub(crate) struct Scene {
-    /// The octets of the last connection.
-    pub(crate) pieces: &'static [&'static [u8]],
+    /// The names of the transmissions on the last connection.
+    pub(crate) hears: &'static str,
 
-    /// The octets of each other connection; `None` if there is one connection only, whatever is
-    /// asked for.
-    pub(crate) others: Option<&'static [&'static [u8]]>,
-    pub(crate) later: &'static [&'static [u8]],
-    pub(crate) steps: &'static [u8],
+    /// How often all of them come.
+    pub(crate) times: usize,
+
+    /// Those on each other connection; `None` if there is one connection only, whatever is asked
+    /// for.
+    pub(crate) others: Option<&'static str>,
+
+    /// Those of another peer.
+    pub(crate) later: &'static str,
+
+    /// The waits before them.
+    pub(crate) steps: &'static str,
+
+    /// What a program sends that feeds the station, or what a station says that is fed; a bar
+    /// stands for a line feed.
+    pub(crate) says: &'static str,
 
     /// The number of the peer; 0 if its address is not known.
     pub(crate) peer: u8,
 
-    /// Whether the disk of standard output fails.
-    pub(crate) disk_fails: bool,
-
     /// How often standard output takes nothing when it is asked whether it does.
     pub(crate) unready: u32,
 
+    /// Whether reading standard input fails after its text.
+    pub(crate) input_fails: bool,
+
+    /// Whether standard output accepts nothing.
+    pub(crate) output_fails: bool,
+
+    /// Whether the disk of standard output fails.
+    pub(crate) disk_fails: bool,
+
     /// Whether the trace cannot be written.
     pub(crate) trace_fails: bool,
-
-    /// What a program sends that feeds the station.
-    pub(crate) fed: &'static [u8],
 
     /// Why no connections can be made, if they cannot.
     pub(crate) refusal: Option<SocketsError>,
 }
 
-/// A connection on which nothing arrives.
+/// A machine on which nothing is heard and nothing fails.
 pub(crate) const SILENT: Scene = Scene {
-    pieces: &[],
+    hears: "",
+    times: 1,
     others: None,
-    later: &[],
-    steps: b"",
+    later: "",
+    steps: "",
+    says: "",
     peer: 0,
-    disk_fails: false,
     unready: 0,
+    input_fails: false,
+    output_fails: false,
+    disk_fails: false,
     trace_fails: false,
-    fed: b"",
     refusal: None,
 };
 
@@ -270,65 +238,13 @@ impl Readiness for Rooms<'_> {
 pub(crate) struct Machine<'a> {
     pub(crate) alloc: Global,
     pub(crate) scene: Scene,
+
+    /// Whether it is told in a line of the trace where programs can reach the station.
     pub(crate) serves_traced: bool,
-    pub(crate) asking: Option<Asking>,
+
+    /// What a station requested of it.
+    pub(crate) asked: Option<String>,
     pub(crate) record: &'a Record,
-}
-
-/// A line on which as much is tried as may be.
-const MOST_TRIES: &str = r#"version = 1
-tries = 15
-poll_list = [0]
-
-[[terminals]]
-poll = "A"
-select = "a"
-"#;
-
-/// A line of three terminals.
-const THREE_TERMINALS: &str = r#"version = 1
-poll_list = [0, 1, 2]
-terminals = [
-  { poll = "A", select = "a" },
-  { poll = "B", select = "b" },
-  { poll = "C", select = "c" },
-]
-"#;
-
-/// Returns the text of the file at this path.
-fn file_at(path: &str) -> Option<&'static str> {
-    match path {
-        "line.toml" => Some(TWO_TERMINALS),
-        "three.toml" => Some(THREE_ADDRESSES),
-        "tries.toml" => Some(MOST_TRIES),
-        "three_terminals.toml" => Some(THREE_TERMINALS),
-        _ => run_file_at(path),
-    }
-}
-
-impl Files for Machine<'_> {
-    fn read_file(&mut self, path: &str) -> Result<Vec<u8>, InputError> {
-        let Some(text) = file_at(path) else {
-            let why = match path {
-                "secret" => Unreadable::PermissionDenied,
-                _ => Unreadable::NoSuchFile,
-            };
-            return Err(InputError::Device { why });
-        };
-        match Vec::from_slice(self.alloc, text.as_bytes()) {
-            Ok(text) => Ok(text),
-            Err(_) => Err(InputError::Memory),
-        }
-    }
-}
-
-/// Returns a connection on which these pieces arrive.
-fn reader_of(left: &'static [&'static [u8]]) -> Pieces {
-    Pieces {
-        left,
-        piece: b"",
-        fails: false,
-    }
 }
 
 /// Whether the peer with this number may connect.
@@ -336,6 +252,45 @@ fn allows(wanted: &Wanted<'_>, number: u8) -> bool {
     match peer_by(number) {
         Some(peer) => wanted.allowed.allows(peer),
         None => false,
+    }
+}
+
+impl Machine<'_> {
+    /// Returns what a station requests of this machine.
+    fn asked(&self, wanted: &Wanted<'_>) -> Result<String, Fail> {
+        let mut text = String::new(self.alloc);
+        match wanted.place {
+            Place::Listen { address } => write!(text, "listen {address}")?,
+            Place::Connect { address } => write!(text, "connect {address}")?,
+        }
+        write!(
+            text,
+            " by {}, {}/{}, gap {}, patience {}, replace {}, pause {}",
+            wanted.connections,
+            wanted.time_out,
+            wanted.line_time_out,
+            wanted.gap,
+            wanted.patience,
+            wanted.replace_after,
+            wanted.pause
+        )?;
+        let flags = [
+            (wanted.raw, ", raw"),
+            (wanted.stays, ", stays"),
+            (wanted.begins, ", begins"),
+            (wanted.stops, ", stops"),
+            (wanted.trace, ", traced"),
+            (wanted.serves.is_some(), ", called"),
+            (self.serves_traced, ", told in the trace"),
+            (!allows(wanted, 1), ", without 1"),
+            (!allows(wanted, 2), ", without 2"),
+        ];
+        for (is_set, flag) in &flags {
+            if *is_set {
+                text.push_str(flag)?;
+            }
+        }
+        Ok(text)
     }
 }
 
@@ -349,11 +304,8 @@ impl<'a> Cables for Machine<'a> {
         Metered { work, record }
     }
 
-    /// Makes connections of two terminals only. There is no memory for those of three.
+    /// Makes connections of two terminals only.
     fn connect(&mut self, count: usize) -> Result<Cable<End<'a>>, LoopbackError> {
-        if count == 3 {
-            return Err(LoopbackError::Memory);
-        }
         if count != 2 {
             return Err(LoopbackError::Sockets);
         }
@@ -386,30 +338,10 @@ impl<'a> Network for Machine<'a> {
         &mut self,
         wanted: &Wanted<'_>,
     ) -> Result<Opened<Pieces, Sending<'a>, Scripted<'a>>, SocketsError> {
-        let (listens, address) = match wanted.place {
-            Place::Listen { address } => (true, address),
-            Place::Connect { address } => (false, address),
+        self.asked = match self.asked(wanted) {
+            Ok(text) => Some(text),
+            Err(_) => return Err(SocketsError::Memory),
         };
-        self.asking = Some(Asking {
-            at_h: address == "h:1",
-            listens,
-            connections: wanted.connections,
-            raw: wanted.raw,
-            stays: wanted.stays,
-            begins: wanted.begins,
-            time_out: wanted.time_out,
-            gap: wanted.gap,
-            patience: wanted.patience,
-            replace_after: wanted.replace_after,
-            pause: wanted.pause,
-            line_time_out: wanted.line_time_out,
-            trace: wanted.trace,
-            allows_one: allows(wanted, 1),
-            allows_two: allows(wanted, 2),
-            stops: wanted.stops,
-            serves: wanted.serves.is_some(),
-            serves_traced: self.serves_traced,
-        });
         if let Some(refusal) = self.scene.refusal {
             return Err(refusal);
         }
@@ -420,13 +352,14 @@ impl<'a> Network for Machine<'a> {
         };
         let mut connections = Vec::new(self.alloc);
         for _ in 0..last {
-            let reader = reader_of(self.scene.others.unwrap_or(&[]));
+            let reader = Pieces::new(self.scene.others.unwrap_or(""), 1);
             connections.push((reader, Sending { record }))?;
         }
-        connections.push((reader_of(self.scene.pieces), Sending { record }))?;
+        let reader = Pieces::new(self.scene.hears, self.scene.times);
+        connections.push((reader, Sending { record }))?;
         Ok(Opened {
             waiter: Scripted {
-                steps: self.scene.steps,
+                steps: self.scene.steps.as_bytes(),
                 later: self.scene.later,
                 peer: self.scene.peer,
                 last,
@@ -449,7 +382,7 @@ impl<'a> Network for Machine<'a> {
                 address: "p:1",
                 anyone: false,
             } => Ok(Reachable {
-                programs: self.feeders(self.scene.fed),
+                programs: self.feeders(self.scene.says),
                 descriptor: 9,
             }),
             _ => Err(ClientsError::InUse),

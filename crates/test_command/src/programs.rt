@@ -1,7 +1,6 @@
 //! A program that feeds a station on a machine made for tests, and a station that is fed.
 
 use crate::machine::Machine;
-use crate::pieces::Pieces;
 use crate::record::Record;
 use bsc_feeding::{FeedError, Reached, Stations};
 use bsc_serving::{Called, Programs};
@@ -12,7 +11,7 @@ use std::io::{Error, ErrorKind, Read, Write};
 #[derive(Drop)]
 pub(crate) struct Feeders<'a> {
     /// What it sends, if it has not connected yet.
-    waiting: Option<&'static [u8]>,
+    waiting: Option<&'static str>,
 
     /// Whether it is still to be told that it has connected.
     is_new: bool,
@@ -20,18 +19,23 @@ pub(crate) struct Feeders<'a> {
     record: &'a Record,
 }
 
-/// The connection of the program.
+/// A connection between a station and a program. It reads a text in which a bar stands for a line
+/// feed.
 #[derive(Drop)]
 pub(crate) struct Feeding<'a> {
     left: &'static [u8],
+
+    /// Whether it is closed after the text.
+    is_closed: bool,
+
     record: &'a Record,
 }
 
 impl<'a> Machine<'a> {
-    /// Returns the programs that reach a station: one that sends these octets.
-    pub(crate) fn feeders(&self, octets: &'static [u8]) -> Feeders<'a> {
+    /// Returns the programs that reach a station: one that sends this.
+    pub(crate) fn feeders(&self, says: &'static str) -> Feeders<'a> {
         Feeders {
-            waiting: Some(octets),
+            waiting: Some(says),
             is_new: true,
             record: self.record,
         }
@@ -52,9 +56,12 @@ impl<'a> Programs for Feeders<'a> {
     }
 
     fn accept(&mut self, _place: usize) -> Option<Feeding<'a>> {
-        let left = self.waiting.take()?;
-        let record = self.record;
-        Some(Feeding { left, record })
+        let says = self.waiting.take()?;
+        Some(Feeding {
+            left: says.as_bytes(),
+            is_closed: false,
+            record: self.record,
+        })
     }
 
     fn turn_away(&mut self) -> bool {
@@ -66,11 +73,16 @@ impl<'a> Programs for Feeders<'a> {
 
 impl Read for Feeding<'_> {
     fn read(&mut self, buffer: &mut [u8]) -> io::Result<usize> {
-        if self.left.is_empty() {
+        if self.left.is_empty() && !self.is_closed {
             return Err(Error::from(ErrorKind::WouldBlock));
         }
         let count = self.left.len().min(buffer.len());
         buffer[..count].copy_from_slice(&self.left[..count]);
+        for octet in buffer.iter_mut() {
+            if *octet == b'|' {
+                *octet = b'\n';
+            }
+        }
         self.left = &self.left[count..];
         Ok(count)
     }
@@ -87,22 +99,26 @@ impl Write for Feeding<'_> {
 }
 
 impl<'a> Stations for Machine<'a> {
-    type Heard = Pieces;
+    type Heard = Feeding<'a>;
 
     type Said = Feeding<'a>;
 
-    /// A station that answers by the pieces of the scene serves at `p:1` only.
-    fn reach(&mut self, address: &str) -> Result<Reached<Pieces, Feeding<'a>>, FeedError> {
+    /// A station that answers by the text of the scene serves at `p:1` only.
+    fn reach(&mut self, address: &str) -> Result<Reached<Feeding<'a>, Feeding<'a>>, FeedError> {
         if address != "p:1" {
             return Err(FeedError::NobodyThere);
         }
-        let heard = Pieces {
-            left: self.scene.pieces,
-            piece: b"",
-            fails: false,
-        };
         let record = self.record;
-        let said = Feeding { left: b"", record };
+        let heard = Feeding {
+            left: self.scene.says.as_bytes(),
+            is_closed: true,
+            record,
+        };
+        let said = Feeding {
+            left: b"",
+            is_closed: true,
+            record,
+        };
         Ok(Reached { heard, said })
     }
 }

@@ -1,499 +1,185 @@
-//! Whole stations run by their words, over a scripted connection. The octets are those of
-//! docs/PROTOCOL.md.
+//! Whole stations by their words, over a scripted connection: terminals.
 
-use crate::cases::{Case, Due, first_wrong};
-use crate::machine::{Asking, SILENT, Scene};
-use bsc_sockets::SocketsError;
+use crate::session::play;
 use std::test::Fail;
 
-/// What terminal 0 hears: a poll, which it answers with a text; ACK1; a selection; a text; EOT.
-pub(crate) const HEARD: &[&[u8]] = &[
-    b"\x16\x16\x04\xFF\x16\x16\xC1\x85\xFF",
-    b"\x16\x16\x10\x31\xFF",
-    b"\x16\x16\x04\xFF\x16\x16\x61\x85\xFF",
-    b"\x16\x16\x02\xC8\x49\x19\x83\x9B\xFF",
-    b"\x16\x16\x04\xFF",
-];
+/// A terminal sends a record and receives one; its connection is closed, also by a fault, while a
+/// record waits or is in doubt.
+const ENDS: &str = "\
+$ station line.toml --terminal 0 --connect h:1 --offer - --text
+< HI
+hears call-A ack1 call-a text eot
+asks connect h:1 by 1, 3000/3000, gap 50, patience 3000, replace 9000, pause 20
+> to 0: HI|from 0: offered 1, known 1|to 0: spooled 1
+$ station line.toml --terminal 0 --listen h:1 --raw --gap 7 --time-out 9 --offer - --text
+< HI
+hears raw-call-A raw-ack1 raw-call-a raw-text raw-eot
+steps rgrgrgrgrg
+asks listen h:1 by 1, 9/9, gap 7, patience 9, replace 27, pause 2, raw
+> to 0: HI|from 0: offered 1, known 1|to 0: spooled 1
+$ station line.toml --terminal 1 --connect h:1
+hears eot cut
+> from 1: offered 0, known 0|to 1: spooled 0
+! bscline: connection closed: the input ended within a record
+$ station line.toml --terminal 1 --connect h:1
+hears length rest rest
+> from 1: offered 0, known 0|to 1: spooled 0
+! bscline: connection closed: the length of a record is wrong
+$ station line.toml --terminal 0 --connect h:1 --until-input-ends
+hears call-A ack1 call-a text eot
+steps s
+asks connect h:1 by 1, 3000/3000, gap 50, patience 3000, replace 9000, pause 20, stops
+> from 0: offered 0, known 0|to 0: spooled 0
+sent 0
+";
 
-/// The same transmissions as socket records.
-pub(crate) const RECORDS: &[&[u8]] = &[
-    b"\x00\x09\x16\x16\x04\xFF\x16\x16\xC1\x85\xFF",
-    b"\x00\x05\x16\x16\x10\x31\xFF",
-    b"\x00\x09\x16\x16\x04\xFF\x16\x16\x61\x85\xFF",
-    b"\x00\x09\x16\x16\x02\xC8\x49\x19\x83\x9B\xFF",
-    b"\x00\x04\x16\x16\x04\xFF",
-];
-
-/// EOT as a socket record, and part of the next record.
-const CUT: &[&[u8]] = &[b"\x00\x04\x16\x16\x04\xFF", b"\x00\x05\x16\x16"];
-
-/// A length that a socket record cannot have.
-const WRONG: &[&[u8]] = &[b"\xFF\xFF", &[0x55; 2048], &[0x55; 2048]];
-
-/// What a control station with a record for terminal 0 hears: ACK0, ACK1, and EOT to each poll of
-/// two rounds.
-pub(crate) const ANSWERS: &[&[u8]] = &[
-    b"\x00\x05\x16\x16\x10\xB0\xFF",
-    b"\x00\x05\x16\x16\x10\x31\xFF",
-    b"\x00\x04\x16\x16\x04\xFF",
-    b"\x00\x04\x16\x16\x04\xFF",
-    b"\x00\x04\x16\x16\x04\xFF",
-    b"\x00\x04\x16\x16\x04\xFF",
-];
-
-/// A poll of terminal 0 as a socket record, and nothing after it.
-pub(crate) const POLLED: &[&[u8]] = &[b"\x00\x09\x16\x16\x04\xFF\x16\x16\xC1\x85\xFF"];
-
-/// The output of terminal 0 with a record to send, if it hears this.
-const TERMINAL: &str = "to 0: HI\nfrom 0: offered 1, known 1\nto 0: spooled 1\n";
-
-/// The output of a control station with a record for terminal 0, if it hears the answers.
-const CONTROL: &str = "from 0: spooled 0\nto 0: offered 1, known 1\nfrom 1: spooled 0\n\
-to 1: offered 0, known 0\nslowest answer: 0% of the time-out\ntrusted\n";
-
-/// What a terminal that connects requests, without further options.
-pub(crate) const CONNECTING: Asking = Asking {
-    at_h: true,
-    listens: false,
-    connections: 1,
-    raw: false,
-    stays: false,
-    begins: false,
-    time_out: 3_000,
-    gap: 50,
-    patience: 3_000,
-    replace_after: 9_000,
-    pause: 20,
-    line_time_out: 3_000,
-    trace: false,
-    allows_one: true,
-    allows_two: true,
-    stops: false,
-    serves: false,
-    serves_traced: false,
-};
-
-/// What a control station that listens requests, without further options.
-pub(crate) const CONTROLLING: Asking = Asking {
-    at_h: true,
-    listens: true,
-    connections: 2,
-    raw: false,
-    stays: true,
-    begins: true,
-    time_out: 15_000,
-    gap: 50,
-    patience: 3_000,
-    replace_after: 9_000,
-    pause: 20,
-    line_time_out: 3_000,
-    trace: false,
-    allows_one: true,
-    allows_two: true,
-    stops: false,
-    serves: false,
-    serves_traced: false,
-};
-
-/// The connections of a control station that reaches all terminals by one connection.
-pub(crate) const SHARING: Asking = Asking {
-    connections: 1,
-    ..CONTROLLING
-};
-
-const CASES: &[Case] = &[
-    Case {
-        words: Some(&[
-            "station",
-            "line.toml",
-            "--terminal",
-            "0",
-            "--connect",
-            "h:1",
-            "--offer",
-            "-",
-            "--text",
-        ]),
-        input: Some("HI\n"),
-        takes: true,
-        scene: Scene {
-            pieces: RECORDS,
-            steps: b"",
-            ..SILENT
-        },
-        due: Due {
-            asking: Some(CONNECTING),
-            out: TERMINAL,
-            errors: "",
-            status: 0,
-        },
-    },
-    Case {
-        words: Some(&[
-            "station",
-            "line.toml",
-            "--terminal",
-            "0",
-            "--listen",
-            "h:1",
-            "--raw",
-            "--gap",
-            "7",
-            "--time-out",
-            "9",
-            "--offer",
-            "-",
-            "--text",
-        ]),
-        input: Some("HI\n"),
-        takes: true,
-        scene: Scene {
-            pieces: HEARD,
-            steps: b"rgrgrgrgrg",
-            ..SILENT
-        },
-        due: Due {
-            asking: Some(Asking {
-                listens: true,
-                raw: true,
-                time_out: 9,
-                pause: 2,
-                gap: 7,
-                patience: 9,
-                replace_after: 27,
-                line_time_out: 9,
-                ..CONNECTING
-            }),
-            out: TERMINAL,
-            errors: "",
-            status: 0,
-        },
-    },
-    Case {
-        words: Some(&[
-            "station",
-            "line.toml",
-            "--terminal",
-            "1",
-            "--connect",
-            "h:1",
-        ]),
-        input: Some("HI\n"),
-        takes: true,
-        scene: Scene {
-            pieces: CUT,
-            steps: b"",
-            ..SILENT
-        },
-        due: Due {
-            asking: Some(CONNECTING),
-            out: "from 1: offered 0, known 0\nto 1: spooled 0\n",
-            errors: "bscline: connection closed: the input ended within a record\n",
-            status: 1,
-        },
-    },
-    Case {
-        words: Some(&[
-            "station",
-            "line.toml",
-            "--terminal",
-            "1",
-            "--connect",
-            "h:1",
-        ]),
-        input: Some("HI\n"),
-        takes: true,
-        scene: Scene {
-            pieces: WRONG,
-            steps: b"",
-            ..SILENT
-        },
-        due: Due {
-            asking: Some(CONNECTING),
-            out: "from 1: offered 0, known 0\nto 1: spooled 0\n",
-            errors: "bscline: connection closed: the length of a record is wrong\n",
-            status: 1,
-        },
-    },
-    Case {
-        words: Some(&[
-            "station",
-            "line.toml",
-            "--control",
-            "--listen",
-            "h:1",
-            "--shared",
-            "--offer",
-            "0=-",
-            "--idle-rounds",
-            "1",
-            "--replace-after",
-            "70",
-            "--pause",
-            "0",
-        ]),
-        input: Some("HI\n"),
-        takes: true,
-        scene: Scene {
-            pieces: ANSWERS,
-            steps: b"trrrrrr",
-            ..SILENT
-        },
-        due: Due {
-            asking: Some(Asking {
-                connections: 1,
-                replace_after: 70,
-                pause: 0,
-                ..CONTROLLING
-            }),
-            out: CONTROL,
-            errors: "",
-            status: 0,
-        },
-    },
-    Case {
-        words: Some(&[
-            "station",
-            "line.toml",
-            "--control",
-            "--connect",
-            "h:1",
-            "--shared",
-            "--offer",
-            "0=-",
-            "--time-out",
-            "40",
-            "--raw",
-            "--gap",
-            "9",
-        ]),
-        input: Some("HI\n"),
-        takes: true,
-        scene: Scene {
-            steps: b"t",
-            ..SILENT
-        },
-        due: Due {
-            asking: Some(Asking {
-                begins: true,
-                raw: true,
-                time_out: 200,
-                gap: 9,
-                patience: 40,
-                replace_after: 120,
-                pause: 10,
-                line_time_out: 40,
-                ..CONNECTING
-            }),
-            out: "from 0: spooled 0\nto 0: offered 1, known 0\nfrom 1: spooled 0\n\
-            to 1: offered 0, known 0\nslowest answer: none\ntrusted\n",
-            errors: "bscline: records not delivered\n",
-            status: 4,
-        },
-    },
-    // No answer to the text comes before the terminal gives up.
-    Case {
-        words: Some(&[
-            "station",
-            "line.toml",
-            "--terminal",
-            "0",
-            "--connect",
-            "h:1",
-            "--offer",
-            "-",
-        ]),
-        input: Some("HI\n"),
-        takes: true,
-        scene: Scene {
-            pieces: POLLED,
-            steps: b"rrtttttttt",
-            ..SILENT
-        },
-        due: Due {
-            asking: Some(CONNECTING),
-            out: "from 0: offered 1, known 0, in doubt\nto 0: spooled 0\n",
-            errors: "bscline: records in doubt\n",
-            status: 3,
-        },
-    },
-    // The time-out of a control station is longer than that of a terminal, 17 times here: it does
-    // not act before a terminal has given up.
-    Case {
-        words: Some(&[
-            "station",
-            "tries.toml",
-            "--control",
-            "--connect",
-            "h:1",
-            "--shared",
-            "--time-out",
-            "100",
-            "--patience",
-            "70",
-        ]),
-        input: None,
-        takes: true,
-        scene: Scene {
-            steps: b"t",
-            ..SILENT
-        },
-        due: Due {
-            asking: Some(Asking {
-                begins: true,
-                time_out: 1_700,
-                patience: 70,
-                replace_after: 300,
-                line_time_out: 100,
-                ..CONNECTING
-            }),
-            out: "from 0: spooled 0\nto 0: offered 0, known 0\nslowest answer: none\ntrusted\n",
-            errors: "",
-            status: 0,
-        },
-    },
-];
-
-/// Tests what each station requests of its machine, its output, its standard error and its exit
-/// status.
 #[test]
 fn stations_end_as_their_connections_do(rt: HostRuntime) -> Result<(), Fail> {
-    assert_eq!(rt; first_wrong(rt.alloc(), CASES), None);
-    Ok(())
+    play(rt.alloc(), ENDS)
 }
 
-/// The peer closes its connection, and another one takes its place.
-const LISTENING: &[Case] = &[Case {
-    words: Some(&[
-        "station",
-        "line.toml",
-        "--control",
-        "--listen",
-        "h:1",
-        "--shared",
-        "--offer",
-        "0=-",
-        "--idle-rounds",
-        "1",
-    ]),
-    input: Some("HI\n"),
-    takes: true,
-    scene: Scene {
-        later: ANSWERS,
-        steps: b"trjtrrrrrr",
-        ..SILENT
-    },
-    due: Due {
-        asking: Some(Asking {
-            connections: 1,
-            ..CONTROLLING
-        }),
-        out: CONTROL,
-        errors: "",
-        status: 0,
-    },
-}];
+/// A record was sent and not answered; then also the terminal has given up.
+const CLOSED: &str = "\
+$ station line.toml --terminal 0 --connect h:1 --offer -
+< HI
+hears call-A cut
+> from 0: offered 1, known 0|to 0: spooled 0
+! bscline: records not delivered
+status 4
+$ station line.toml --terminal 0 --connect h:1 --offer -
+< HI
+hears call-A cut
+steps rrtttttttt
+> from 0: offered 1, known 0, in doubt|to 0: spooled 0
+! bscline: records in doubt
+status 3
+";
 
 #[test]
-fn a_control_station_that_listens_goes_on_when_its_peer_closes(
-    rt: HostRuntime,
-) -> Result<(), Fail> {
-    assert_eq!(rt; first_wrong(rt.alloc(), LISTENING), None);
-    Ok(())
+fn what_is_not_delivered_is_told_before_a_closed_connection(rt: HostRuntime) -> Result<(), Fail> {
+    play(rt.alloc(), CLOSED)
 }
 
-/// No connections can be made, or waiting for them fails after a record has arrived.
-const CUT_SHORT: &[Case] = &[
-    Case {
-        words: Some(&["station", "line.toml", "--control", "--listen", "h:1"]),
-        input: Some(""),
-        takes: true,
-        scene: Scene {
-            refusal: Some(SocketsError::AddressInUse),
-            ..SILENT
-        },
-        due: Due {
-            asking: Some(CONTROLLING),
-            out: "",
-            errors: "bscline: address in use\n",
-            status: 1,
-        },
-    },
-    Case {
-        words: Some(&[
-            "station",
-            "line.toml",
-            "--terminal",
-            "0",
-            "--connect",
-            "h:1",
-        ]),
-        input: Some(""),
-        takes: true,
-        scene: Scene {
-            refusal: Some(SocketsError::NobodyThere),
-            ..SILENT
-        },
-        due: Due {
-            asking: Some(CONNECTING),
-            out: "",
-            errors: "bscline: nobody is there\n",
-            status: 1,
-        },
-    },
-    Case {
-        words: Some(&[
-            "station",
-            "line.toml",
-            "--terminal",
-            "0",
-            "--connect",
-            "h:1",
-        ]),
-        input: Some(""),
-        takes: true,
-        scene: Scene {
-            pieces: RECORDS,
-            steps: b"rrrrrrrrf",
-            ..SILENT
-        },
-        due: Due {
-            asking: Some(CONNECTING),
-            out: "to 0: 4849\n",
-            errors: "bscline: cannot make the sockets\n",
-            status: 1,
-        },
-    },
-    Case {
-        words: Some(&[
-            "station",
-            "line.toml",
-            "--control",
-            "--listen",
-            "h:1",
-            "--shared",
-            "--offer",
-            "0=-",
-        ]),
-        input: Some("HI\n"),
-        takes: true,
-        scene: Scene {
-            pieces: ANSWERS,
-            steps: b"trrf",
-            ..SILENT
-        },
-        due: Due {
-            asking: Some(SHARING),
-            out: "",
-            errors: "bscline: cannot make the sockets\n",
-            status: 1,
-        },
-    },
-];
+/// No connections can be made, or waiting for them fails after a record has arrived: no report is
+/// printed.
+const CUT_SHORT: &str = "\
+$ station line.toml --control --listen h:1
+address-in-use
+asks listen h:1 by 2, 15000/3000, gap 50, patience 3000, replace 9000, pause 20, stays, begins
+! bscline: address in use
+$ station line.toml --terminal 0 --connect h:1
+nobody-there
+! bscline: nobody is there
+$ station line.toml --terminal 0 --connect h:1
+hears call-A ack1 call-a text eot
+steps rrrrrrrrf
+> to 0: 4849
+! bscline: cannot make the sockets
+$ station line.toml --control --listen h:1 --shared --offer 0=-
+< HI
+hears ack0 ack1 eot eot eot eot
+steps trrf
+! bscline: cannot make the sockets
+";
 
-/// The fault of the connections is told, and no report is printed.
 #[test]
 fn a_station_without_connections_tells_why(rt: HostRuntime) -> Result<(), Fail> {
-    assert_eq!(rt; first_wrong(rt.alloc(), CUT_SHORT), None);
-    Ok(())
+    play(rt.alloc(), CUT_SHORT)
+}
+
+/// Without `--trace` only the close of the connection is told, and the progress is shown.
+const TRACES: &str = "\
+$ station line.toml --terminal 0 --connect h:1
+hears call-A ack1 call-a text eot
+> to 0: 4849|from 0: offered 0, known 0|to 0: spooled 1
+shows Events 9 0 1 0
+sent 20
+# connection 0 closed
+$ station line.toml --terminal 0 --connect h:1 --trace
+hears call-A ack1 call-a text eot
+asks connect h:1 by 1, 3000/3000, gap 50, patience 3000, replace 9000, pause 20, traced
+> to 0: 4849|from 0: offered 0, known 0|to 0: spooled 1
+shows nothing
+# +0 control heard ACK1 16161031ff|+0 control heard CALL a 161604ff16166185ff
+# +0 terminal 0 sent ACK0 161610b0ff|+0 control heard TEXT ETX 1 161602c84919839bff
+# +0 terminal 0 sent ACK1 16161031ff|+0 control heard EOT 161604ff|+0 connection 0 closed
+$ station line.toml --terminal 0 --connect h:1 --trace --trace
+hears call-A ack1 call-a text eot
+> to 0: 4849|from 0: offered 0, known 0|to 0: spooled 1
+sent 20
+# +0 control heard CALL A 161604ff1616c185ff|+0 terminal 0 sent EOT 161604ff
+# +0 control heard ACK1 16161031ff|+0 control heard CALL a 161604ff16166185ff
+# +0 terminal 0 sent ACK0 161610b0ff|+0 control heard TEXT ETX 1 161602c84919839bff
+# +0 terminal 0 sent ACK1 16161031ff|+0 control heard EOT 161604ff|+0 connection 0 closed
+";
+
+#[test]
+fn a_trace_has_idle_polls_if_it_is_asked_for_twice(rt: HostRuntime) -> Result<(), Fail> {
+    play(rt.alloc(), TRACES)
+}
+
+/// If the disk fails, the text that arrived is not acknowledged, and the report is tried; without
+/// `--sync` the disk is not used.
+const DISKS: &str = "\
+$ station line.toml --terminal 0 --connect h:1 --quiet
+hears call-A ack1 call-a text eot
+disk-fails
+> to 0: 4849|from 0: offered 0, known 0|to 0: spooled 1
+shows nothing
+sent 20
+# connection 0 closed
+$ station line.toml --terminal 0 --connect h:1 --sync --text --report-records
+hears call-A ack1 call-a text eot
+disk-fails
+> to 0: HI|from 0: offered 0, known 0|to 0: spooled 1|  HI
+! bscline: records that arrived could not be printed
+sent 13
+status 6
+$ station line.toml --terminal 0 --connect h:1 --sync --bytes --report-records
+hears call-A ack1 call-a text eot
+> to 0: HI|from 0: offered 0, known 0|to 0: spooled 1|  HI
+sent 20
+# connection 0 closed
+";
+
+#[test]
+fn records_are_acknowledged_after_the_output_is_synced(rt: HostRuntime) -> Result<(), Fail> {
+    play(rt.alloc(), DISKS)
+}
+
+/// The trace of a terminal fails with what it hears first, and that of a control station with the
+/// first silence. Neither sends anything, and no report is printed. Without a trace its lines may
+/// be lost.
+const TRACE_FAULTS: &str = "\
+$ station line.toml --terminal 0 --connect h:1 --trace --trace
+hears call-A ack1 call-a text eot
+trace-fails
+! bscline: output fault
+sent 0
+$ station line.toml --control --listen h:1 --shared --trace
+steps t
+trace-fails
+! bscline: output fault
+sent 0
+$ station line.toml --terminal 0 --connect h:1
+hears call-A ack1 call-a text eot
+trace-fails
+> to 0: 4849|from 0: offered 0, known 0|to 0: spooled 1
+";
+
+#[test]
+fn a_trace_that_cannot_be_written_ends_a_station(rt: HostRuntime) -> Result<(), Fail> {
+    play(rt.alloc(), TRACE_FAULTS)
+}
+
+/// Of the addresses 10.0.0.1 and 10.0.0.2 only the first one is allowed.
+const NETWORKS: &str = "\
+$ station line.toml --terminal 0 --listen h:1 --allow ::1 --allow 10.0.0.1/32
+asks listen h:1 by 1, 3000/3000, gap 50, patience 3000, replace 9000, pause 20, without 2
+> from 0: offered 0, known 0|to 0: spooled 0
+";
+
+#[test]
+fn peers_are_admitted_by_their_networks(rt: HostRuntime) -> Result<(), Fail> {
+    play(rt.alloc(), NETWORKS)
 }

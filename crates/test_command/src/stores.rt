@@ -68,36 +68,27 @@ impl Store for Lent<'_> {
     }
 }
 
-/// The text of the line of the store at `kept`, which is that of terminal 0.
-const KEPT_LINE: &str = "terminal 0\nfull length 80\npolled 41 selected 61\n\
-    polled 42 selected 62\n";
-
-/// The text of the line of the store at `other`, which is that of terminal 1.
-const OTHER_LINE: &str = "terminal 1\nfull length 80\npolled 41 selected 61\n\
-    polled 42 selected 62\n";
-
-/// The text of the line of the store at `control`, which is that of the control station.
-const CONTROL_LINE: &str = "control station\nfull length 80\npolled 41 selected 61\n\
-    polled 42 selected 62\n";
-
-/// The text of the line of the store at `three`, which is that of terminal 0 of a line in which
-/// this has two selection addresses.
-const THREE_LINE: &str = "terminal 0\nfull length 80\npolled 41 selected 61 63\n\
-    polled 42 selected 62\n";
-
-/// The text of the line of the store at `threes`, which is that of the control station of this
-/// line.
-const THREES_LINE: &str = "control station\nfull length 80\npolled 41 selected 61 63\n\
-    polled 42 selected 62\n";
+/// The text of a line of two terminals, for this station and these selection addresses of terminal
+/// 0.
+macro_rules! line_of {
+    ($station:literal, $selected:literal) => {
+        concat!(
+            $station,
+            "\nfull length 80\npolled 41 selected ",
+            $selected,
+            "\npolled 42 selected 62\n"
+        )
+    };
+}
 
 /// Returns the text of the line of the store at this path, if it can be opened.
 fn line_at(path: &str) -> Result<&'static str, StoreFault> {
     match path {
-        "three" => Ok(THREE_LINE),
-        "threes" => Ok(THREES_LINE),
-        "kept" => Ok(KEPT_LINE),
-        "control" => Ok(CONTROL_LINE),
-        "other" => Ok(OTHER_LINE),
+        "kept" => Ok(line_of!("terminal 0", "61")),
+        "other" => Ok(line_of!("terminal 1", "61")),
+        "control" => Ok(line_of!("control station", "61")),
+        "three" => Ok(line_of!("terminal 0", "61 63")),
+        "threes" => Ok(line_of!("control station", "61 63")),
         "busy" => Err(StoreFault::InUse),
         _ => Err(StoreFault::Missing),
     }

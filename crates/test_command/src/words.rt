@@ -1,144 +1,9 @@
-//! How words are read, and what `clap` prints for them.
+//! What the command prints for words that ask for help, and tells for wrong ones.
 
-use bsc_words::read_words;
-use std::alloc::Global;
-use std::io::Write;
+use crate::cases::{answer_of, answer_to, words_of};
+use crate::machine::SILENT;
+use crate::record::Record;
 use std::test::Fail;
-
-/// Words, and what is read from them or printed for them.
-pub(crate) type Row = (&'static [&'static str], &'static str);
-
-/// Whether this is what the words request, or what `clap` prints for them.
-fn is_answered(alloc: Global, words: &[&str], text: &str) -> bool {
-    let mut out = Vec::new(alloc);
-    let answer = read_words(alloc, words);
-    let written = match &answer {
-        Ok(asked) => write!(out, "{asked:?}"),
-        Err(error) => write!(out, "{error}"),
-    };
-    written.is_ok() && out.as_slice() == text.as_bytes()
-}
-
-/// The place of the first row with another result.
-fn first_wrong(alloc: Global, rows: &[Row]) -> Option<usize> {
-    for (place, (words, text)) in rows.iter().enumerate() {
-        if !is_answered(alloc, words, text) {
-            return Some(place);
-        }
-    }
-    None
-}
-
-/// Words that are read, and what they request.
-const ASKED: &[Row] = &[
-    (
-        &[
-            "bscline",
-            "station",
-            "c",
-            "--control",
-            "--listen",
-            "h:1",
-            "--trace",
-        ],
-        "Station(StationWords { config: \"c\", control: true, terminal: None, \
-listen: Some(\"h:1\"), allowed: [], peers: [], connect: None, serve: None, \
-serve_anyone: false, shared: false, raw: false, \
-gap: None, time_out: None, patience: None, replace_after: None, pause: None, rounds: None, \
-idle_rounds: None, until_input_ends: false, offers: [], store: None, text: false, bytes: false, \
-numbers: false, report_records: false, sync: false, trace: 1, quiet: false })",
-    ),
-    (
-        &[
-            "bscline",
-            "station",
-            "--terminal=1",
-            "--connect",
-            "h:1",
-            "--raw",
-            "--gap=9",
-            "--time-out=8",
-            "--offer",
-            "a",
-            "--text",
-            "c",
-            "--offer",
-            "b",
-            "--shared",
-            "--rounds=7",
-            "--idle-rounds",
-            "6",
-            "--patience=5",
-            "--replace-after=4",
-            "--pause=3",
-            "--bytes",
-            "--numbers",
-            "--report-records",
-            "--allow=d",
-            "--allow",
-            "e",
-            "--peer=f",
-            "--until-input-ends",
-            "--store",
-            "k",
-            "--sync",
-            "--serve-anyone",
-            "--serve=h:2",
-            "--trace",
-            "--trace",
-            "--trace",
-            "--quiet",
-        ],
-        "Station(StationWords { config: \"c\", control: false, terminal: Some(\"1\"), \
-listen: None, allowed: [\"d\", \"e\"], peers: [\"f\"], connect: Some(\"h:1\"), \
-serve: Some(\"h:2\"), serve_anyone: true, shared: true, raw: true, gap: Some(\"9\"), \
-time_out: Some(\"8\"), patience: Some(\"5\"), \
-replace_after: Some(\"4\"), pause: Some(\"3\"), rounds: Some(\"7\"), idle_rounds: Some(\"6\"), \
-until_input_ends: true, offers: [\"a\", \"b\"], store: Some(\"k\"), text: true, \
-bytes: true, numbers: true, report_records: true, \
-sync: true, trace: 3, quiet: true })",
-    ),
-    (&["bscline"], "Names"),
-    (&["bscline", "show"], "Show"),
-    (
-        &["bscline", "chart"],
-        "Chart(ChartWords { file: None, text: false, svg: false, html: false, ascii: false, \
-width: None, from: None, to: None })",
-    ),
-    (
-        &[
-            "bscline", "chart", "--width", "100", "--ascii", "--text", "--svg", "--html", "t",
-            "--from", "2", "--to", "9",
-        ],
-        "Chart(ChartWords { file: Some(\"t\"), text: true, svg: true, html: true, ascii: true, \
-width: Some(\"100\"), from: Some(\"2\"), to: Some(\"9\") })",
-    ),
-    (&["bscline", "name", "161610B0FF"], "Name(\"161610B0FF\")"),
-    (&["bscline", "name", "16 04"], "Name(\"16 04\")"),
-    (&["bscline", "name", ""], "Name(\"\")"),
-    (&["bscline", "name", "--", "-1"], "Name(\"-1\")"),
-    (
-        &["bscline", "run", "c", "s"],
-        "Run { config: \"c\", script: \"s\", check: false, trace: false, quiet: false }",
-    ),
-    (
-        &["bscline", "run", "--check", "-", "s"],
-        "Run { config: \"-\", script: \"s\", check: true, trace: false, quiet: false }",
-    ),
-    (
-        &["bscline", "run", "c", "--trace", "s"],
-        "Run { config: \"c\", script: \"s\", check: false, trace: true, quiet: false }",
-    ),
-    (
-        &["bscline", "feed", "unix:s"],
-        "Feed { address: \"unix:s\", command: [] }",
-    ),
-    (
-        &["bscline", "feed", "h:1", "offer", "to", "0", "-5", "--help"],
-        "Feed { address: \"h:1\", command: [\"offer\", \"to\", \"0\", \"-5\", \"--help\"] }",
-    ),
-    (&["bscline", "--version"], "bscline 0.2.0\n"),
-];
 
 /// The help of the program.
 const HELP: &str = "Print the names of the transmissions on standard input, one a line
@@ -163,7 +28,7 @@ Example: echo 16 16 10 B0 FF | bscline
 ";
 
 /// The help of `name`.
-pub(crate) const NAME_HELP: &str = "Print the name of one transmission
+const NAME_HELP: &str = "Print the name of one transmission
 
 Usage: bscline name <HEX>
 
@@ -310,102 +175,46 @@ Options:
 Example: bscline store deck.db init examples/lossy_line/line.toml --terminal 0
 ";
 
-pub(crate) const HELPED: &[Row] = &[
-    (&["bscline", "--help"], HELP),
-    (&["bscline", "help"], HELP),
-    (&["bscline", "name", "-h"], NAME_HELP),
-    (&["bscline", "help", "show"], SHOW_HELP),
-    (&["bscline", "chart", "--help"], CHART_HELP),
-    (&["bscline", "run", "--help"], RUN_HELP),
-    (&["bscline", "station", "--help"], STATION_HELP),
-    (&["bscline", "feed", "--help"], FEED_HELP),
-    (&["bscline", "store", "--help"], STORE_HELP),
-    (&["bscline", "-h"], HELP),
-    (&["bscline", "help", "name"], NAME_HELP),
-    (&["bscline", "show", "--help"], SHOW_HELP),
-    (&["bscline", "help", "chart"], CHART_HELP),
-    (&["bscline", "help", "run"], RUN_HELP),
-    (&["bscline", "help", "station"], STATION_HELP),
-    (&["bscline", "help", "feed"], FEED_HELP),
-    (&["bscline", "help", "store"], STORE_HELP),
-    (&["bscline", "-V"], "bscline 0.2.0\n"),
+/// Words, and what is printed for them.
+const HELPED: &[(&str, &str)] = &[
+    ("--help", HELP),
+    ("help", HELP),
+    ("-h", HELP),
+    ("name -h", NAME_HELP),
+    ("help name", NAME_HELP),
+    ("help show", SHOW_HELP),
+    ("chart --help", CHART_HELP),
+    ("run --help", RUN_HELP),
+    ("station --help", STATION_HELP),
+    ("help station", STATION_HELP),
+    ("feed --help", FEED_HELP),
+    ("store --help", STORE_HELP),
+    ("--version", "bscline 0.2.0\n"),
+    ("-V", "bscline 0.2.0\n"),
 ];
 
-/// A word that is not a command, one word too many, and words too few.
-pub(crate) const WRONG: &[Row] = &[
-    (
-        &["bscline", "poll", "c", "s"],
-        "error: unrecognized subcommand 'poll'
-
-Usage: bscline [COMMAND]
-
-For more information, try '--help'.
-",
-    ),
-    (
-        &["bscline", "run", "c"],
-        "error: the following required arguments were not provided:
-  <SCRIPT>
-
-Usage: bscline run <CONFIG> <SCRIPT>
-
-For more information, try '--help'.
-",
-    ),
-    (
-        &["bscline", "name"],
-        "error: the following required arguments were not provided:
-  <HEX>
-
-Usage: bscline name <HEX>
-
-For more information, try '--help'.
-",
-    ),
-    (
-        &["bscline", "feed"],
-        "error: the following required arguments were not provided:
-  <ADDRESS>
-
-Usage: bscline feed <ADDRESS> [COMMAND]...
-
-For more information, try '--help'.
-",
-    ),
-    (
-        &["bscline", "name", "16", "04"],
-        "error: unexpected argument '04' found
-
-Usage: bscline name <HEX>
-
-For more information, try '--help'.
-",
-    ),
-    (
-        &["bscline", "--units"],
-        "error: unexpected argument '--units' found
-
-Usage: bscline [COMMAND]
-
-For more information, try '--help'.
-",
-    ),
-];
-
-#[test]
-fn words_ask_for_their_work(rt: HostRuntime) -> Result<(), Fail> {
-    assert_eq!(rt; first_wrong(rt.alloc(), ASKED), None);
-    Ok(())
-}
-
+/// Nothing is read, and nothing is asked of the machine.
 #[test]
 fn help_is_printed(rt: HostRuntime) -> Result<(), Fail> {
-    assert_eq!(rt; first_wrong(rt.alloc(), HELPED), None);
+    let alloc = rt.alloc();
+    for (words, text) in HELPED {
+        let words = Ok(words_of(alloc, words)?);
+        let (record, mut input) = (Record::new(alloc), b"16 04".as_slice());
+        let answer = answer_to(alloc, words, &mut input, SILENT, &record)?;
+        assert!(rt; answer.is(text, "", 0) && answer.asked.is_none(), "{text}");
+        assert_eq!(rt; input.len(), 5);
+    }
     Ok(())
 }
 
+/// A command of `feed` is one line.
 #[test]
-fn wrong_usage_is_told(rt: HostRuntime) -> Result<(), Fail> {
-    assert_eq!(rt; first_wrong(rt.alloc(), WRONG), None);
+fn wrong_words_of_feed_have_their_reason(rt: HostRuntime) -> Result<(), Fail> {
+    let (alloc, mut words) = (rt.alloc(), words_of(rt.alloc(), "feed p:1")?);
+    words.push(String::from_str(alloc, "status\nstop")?)?;
+    let answer = answer_of(alloc, words, "", SILENT, &Record::new(alloc))?;
+    let told = "error: COMMAND is more than one line\n\n\
+        Usage: bscline feed <ADDRESS> [COMMAND]...\n\nFor more information, try '--help'.\n";
+    assert!(rt; answer.is("", told, 2));
     Ok(())
 }
