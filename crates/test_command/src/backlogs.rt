@@ -266,7 +266,8 @@ fn printed(alloc: Global, count: usize, repeated: &str) -> Result<String, AllocE
 /// forgets none.
 #[test]
 fn a_terminal_counts_or_repeats_all_records(rt: HostRuntime) -> Result<(), Fail> {
-    let (alloc, on) = (rt.alloc(), (SCENE, &Record::new(rt.alloc())));
+    let (alloc, record) = (rt.alloc(), Record::new(rt.alloc()));
+    let on = (SCENE, &record);
     let words = "station line.toml --terminal 0 --connect h:1 --text --quiet";
     let out = printed(alloc, TEXTS, "")?;
     assert!(rt; prints(alloc, words, "", on, (&out, 0))?);

@@ -201,7 +201,7 @@ fn a_station_may_have_16_networks_and_64_peers(rt: HostRuntime) -> Result<(), Fa
     let Some(asked) = &most.asked else {
         return Err("nothing is asked".into());
     };
-    assert!(rt; asked.as_str().starts_with("listen h:1 by 64, "));
+    assert!(rt; asked.starts_with(b"listen h:1 by 64, "));
     let more = peered(rt.alloc(), 17)?;
     let told = b"error: --allow cannot be given more than 16 times\n";
     assert!(rt; more.asked.is_none() && more.status == 2 && more.errors.starts_with(told));

@@ -18,7 +18,7 @@ pub(crate) struct Answer {
     pub(crate) errors: Vec<u8>,
 
     /// What it requested of the machine for a station.
-    pub(crate) asked: Option<String>,
+    pub(crate) asked: Option<Vec<u8>>,
 }
 
 impl Answer {
@@ -70,7 +70,7 @@ pub(crate) fn answer_to<R: Read>(
         status,
         out: Vec::from_slice(alloc, &out.get_ref().octets)?,
         errors,
-        asked: machine.asked,
+        asked: machine.asked.take(),
     })
 }
 

@@ -55,8 +55,8 @@ fn words_give_texts_and_a_status(rt: HostRuntime) -> Result<(), Fail> {
 #[test]
 fn words_without_memory_are_no_usage(rt: HostRuntime) -> Result<(), Fail> {
     let (alloc, mut input) = (rt.alloc(), b"16 04".as_slice());
-    let words = Err(Fault::OutOfMemory);
-    let answer = answer_to(alloc, words, &mut input, SILENT, &Record::new(alloc))?;
+    let (fault, record) = (Fault::OutOfMemory, Record::new(alloc));
+    let answer = answer_to(alloc, Err(fault), &mut input, SILENT, &record)?;
     assert!(rt; answer.is("", "bscline: out of memory\n", 1));
     Ok(())
 }

@@ -53,16 +53,16 @@ fn a_control_station_that_listens_goes_on_when_its_peer_closes(
     play(rt.alloc(), ENDS)
 }
 
-/// Options of a control station whose terminals answer EOT to each call, and the number of its
-/// calls. Without limits there are two idle rounds.
+/// Options of a control station whose terminals answer EOT to each call, and how many octets it
+/// sends. Without limits there are two idle rounds.
 const ROUNDS: &[(&str, usize)] = &[
-    ("", 5),
-    ("--rounds 1", 3),
-    ("--idle-rounds 1", 3),
-    ("--rounds 2 --idle-rounds 3", 5),
-    ("--rounds 9 --idle-rounds 3", 7),
-    ("--rounds 300 --idle-rounds 18446744073709551615", 601),
-    ("--rounds 18446744073709551615 --idle-rounds 300", 601),
+    ("", 55),
+    ("--rounds 1", 33),
+    ("--idle-rounds 1", 33),
+    ("--rounds 2 --idle-rounds 3", 55),
+    ("--rounds 9 --idle-rounds 3", 77),
+    ("--rounds 300 --idle-rounds 18446744073709551615", 6611),
+    ("--rounds 18446744073709551615 --idle-rounds 300", 6611),
 ];
 
 /// What it prints.
@@ -78,14 +78,14 @@ fn a_control_station_ends_after_exactly_its_rounds(rt: HostRuntime) -> Result<()
         steps: "t",
         ..SILENT
     };
-    for (options, calls) in ROUNDS {
+    for (options, sent) in ROUNDS {
         let (alloc, record) = (rt.alloc(), Record::new(rt.alloc()));
         let words = format!(in alloc;
             "station line.toml --control --listen h:1 --shared {options}"
         )?;
         let answer = answer(alloc, &words, "", scene, &record)?;
         assert!(rt; answer.is(IDLE_PRINTED, "", 0), "{options}");
-        assert!(rt; record.sent.get() == 11 * *calls, "{options}");
+        assert!(rt; record.sent.get() == *sent, "{options}");
     }
     Ok(())
 }
@@ -130,7 +130,7 @@ hears eot text eot eot eot eot
 steps t
 > from 1: 4849|from 0: spooled 0|to 0: offered 0, known 0|from 1: spooled 1|to 1: offered 0, known 0
 > slowest answer: 0% of the time-out|trusted
-shows Rounds 2 0 1 0
+shows Rounds 1 0 0 2
 sent 62
 $ station line.toml --control --listen h:1 --shared --idle-rounds 1 --raw --bytes \
 --report-records --quiet

@@ -71,8 +71,7 @@ bscline: out of memory
 ";
     assert!(rt; are_told(rt.alloc(), &faults, 1, lines));
     let unkept = [attending(AttendingError::from(LiveError::Unkept))];
-    let line =
-        "bscline: what happened could not be kept: the store cannot be read or written\n";
+    let line = "bscline: what happened could not be kept: the store cannot be read or written\n";
     assert!(rt; are_told(rt.alloc(), &unkept, 7, line));
     Ok(())
 }

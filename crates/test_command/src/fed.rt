@@ -54,7 +54,6 @@ steps tcrr
 says stop|
 > from 0: spooled 0|to 0: offered 0, known 0|from 1: spooled 0|to 1: offered 0, known 0
 > slowest answer: 0% of the time-out|trusted
-sent 22
 @ ok
 $ station line.toml --control --connect h:1 --shared --serve p:1
 hears ack0 ack1 eot eot eot eot

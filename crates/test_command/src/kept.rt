@@ -182,7 +182,7 @@ $ station line.toml --terminal 0 --connect h:1 --store kept
 hears call-A ack1 call-a text eot
 disk-fails
 > to 0: 4849|from 0: offered 0, known 0|to 0: spooled 1
-shows Events 9 0 1 0
+shows Events 1
 ";
 
 #[test]

@@ -15,9 +15,10 @@ use bsc_progress::Work;
 use bsc_running::Cables;
 use bsc_sockets::SocketsError;
 use std::alloc::Global;
+use std::io;
+use std::io::Write;
 use std::net::{IpAddr, Ipv4Addr, SocketAddr};
 use std::os::fd::RawFd;
-use std::test::Fail;
 
 /// Returns the address of the peer with this number; `None` for 0.
 fn peer_by(number: u8) -> Option<IpAddr> {
@@ -243,7 +244,7 @@ pub(crate) struct Machine<'a> {
     pub(crate) serves_traced: bool,
 
     /// What a station requested of it.
-    pub(crate) asked: Option<String>,
+    pub(crate) asked: Option<Vec<u8>>,
     pub(crate) record: &'a Record,
 }
 
@@ -257,8 +258,8 @@ fn allows(wanted: &Wanted<'_>, number: u8) -> bool {
 
 impl Machine<'_> {
     /// Returns what a station requests of this machine.
-    fn asked(&self, wanted: &Wanted<'_>) -> Result<String, Fail> {
-        let mut text = String::new(self.alloc);
+    fn request(&self, wanted: &Wanted<'_>) -> io::Result<Vec<u8>> {
+        let mut text = Vec::new(self.alloc);
         match wanted.place {
             Place::Listen { address } => write!(text, "listen {address}")?,
             Place::Connect { address } => write!(text, "connect {address}")?,
@@ -287,7 +288,7 @@ impl Machine<'_> {
         ];
         for (is_set, flag) in &flags {
             if *is_set {
-                text.push_str(flag)?;
+                text.write_all(flag.as_bytes())?;
             }
         }
         Ok(text)
@@ -338,7 +339,7 @@ impl<'a> Network for Machine<'a> {
         &mut self,
         wanted: &Wanted<'_>,
     ) -> Result<Opened<Pieces, Sending<'a>, Scripted<'a>>, SocketsError> {
-        self.asked = match self.asked(wanted) {
+        self.asked = match self.request(wanted) {
             Ok(text) => Some(text),
             Err(_) => return Err(SocketsError::Memory),
         };

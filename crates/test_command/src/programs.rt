@@ -4,12 +4,16 @@ use crate::machine::Machine;
 use crate::record::Record;
 use bsc_feeding::{FeedError, Reached, Stations};
 use bsc_serving::{Called, Programs};
+use std::alloc::Global;
+use std::collections::VecDeque;
 use std::io;
 use std::io::{Error, ErrorKind, Read, Write};
 
 /// The programs that reach a station: one, which connects at once.
 #[derive(Drop)]
 pub(crate) struct Feeders<'a> {
+    alloc: Global,
+
     /// What it sends, if it has not connected yet.
     waiting: Option<&'static str>,
 
@@ -19,22 +23,36 @@ pub(crate) struct Feeders<'a> {
     record: &'a Record,
 }
 
-/// A connection between a station and a program. It reads a text in which a bar stands for a line
-/// feed.
+/// A connection between a station and a program.
 #[derive(Drop)]
 pub(crate) struct Feeding<'a> {
-    left: &'static [u8],
+    left: VecDeque<u8>,
 
-    /// Whether it is closed after the text.
+    /// Whether it is closed after these octets.
     is_closed: bool,
 
     record: &'a Record,
+}
+
+/// Returns the octets of this text, in which a bar stands for a line feed.
+fn octets_of(alloc: Global, text: &str) -> io::Result<VecDeque<u8>> {
+    let mut octets = VecDeque::new(alloc);
+    let mut is_first = true;
+    for line in text.split('|') {
+        if !is_first {
+            octets.write_all(b"\n")?;
+        }
+        octets.write_all(line.as_bytes())?;
+        is_first = false;
+    }
+    Ok(octets)
 }
 
 impl<'a> Machine<'a> {
     /// Returns the programs that reach a station: one that sends this.
     pub(crate) fn feeders(&self, says: &'static str) -> Feeders<'a> {
         Feeders {
+            alloc: self.alloc,
             waiting: Some(says),
             is_new: true,
             record: self.record,
@@ -57,8 +75,9 @@ impl<'a> Programs for Feeders<'a> {
 
     fn accept(&mut self, _place: usize) -> Option<Feeding<'a>> {
         let says = self.waiting.take()?;
+        let left = octets_of(self.alloc, says).ok()?;
         Some(Feeding {
-            left: says.as_bytes(),
+            left,
             is_closed: false,
             record: self.record,
         })
@@ -76,15 +95,7 @@ impl Read for Feeding<'_> {
         if self.left.is_empty() && !self.is_closed {
             return Err(Error::from(ErrorKind::WouldBlock));
         }
-        let count = self.left.len().min(buffer.len());
-        buffer[..count].copy_from_slice(&self.left[..count]);
-        for octet in buffer.iter_mut() {
-            if *octet == b'|' {
-                *octet = b'\n';
-            }
-        }
-        self.left = &self.left[count..];
-        Ok(count)
+        self.left.read(buffer)
     }
 }
 
@@ -109,13 +120,16 @@ impl<'a> Stations for Machine<'a> {
             return Err(FeedError::NobodyThere);
         }
         let record = self.record;
+        let Ok(left) = octets_of(self.alloc, self.scene.says) else {
+            return Err(FeedError::Memory);
+        };
         let heard = Feeding {
-            left: self.scene.says.as_bytes(),
+            left,
             is_closed: true,
             record,
         };
         let said = Feeding {
-            left: b"",
+            left: VecDeque::new(self.alloc),
             is_closed: true,
             record,
         };

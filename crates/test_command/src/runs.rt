@@ -2,9 +2,9 @@
 //! status, and what is told of the progress.
 
 use crate::cases::answer;
+use crate::files::{POLLED, POLLED_PRINTED, POLLED_TRACED};
 use crate::machine::SILENT;
 use crate::record::Record;
-use crate::files::{POLLED, POLLED_PRINTED, POLLED_TRACED};
 use crate::session::play;
 use bsc_input::MAX_INPUT;
 use std::test::Fail;
@@ -64,7 +64,7 @@ $ run line.toml -
 < offer-at 0 HI|silence
 > control CALL A|from 0: offered 1, known 0, spooled 0|to 0: offered 0, known 0, spooled 0
 > from 1: offered 0, known 0, spooled 0|to 1: offered 0, known 0, spooled 0|trusted
-shows Events 2 0 0 0
+shows Events 0 0 0 2
 ";
 
 #[test]

@@ -6,9 +6,9 @@
 //! `#` of the trace, and `@` for one that a program is told that feeds the station, or a station
 //! that is fed; a bar divides several of them. `status` is the exit status, unless it is 0 or, with
 //! a line of standard error, 1; `usage` the reason of wrong usage, `asks` what a station requests
-//! of the machine, `sent` how many octets it sends, `shows` what is shown last of the progress, and
-//! `keeps` how many steps more the stores keep. All other marks set the scene. The trace is
-//! compared if one of its lines or `sent` is given.
+//! of the machine, `sent` how many octets it sends, `shows` how what is shown last of the progress
+//! begins, and `keeps` how many steps more the stores keep. All other marks set the scene. The
+//! trace is compared if one of its lines or `sent` is given.
 
 use crate::cases::{Answer, answer};
 use crate::machine::{SILENT, Scene};
@@ -86,14 +86,14 @@ fn fill(record: &Record, steps: usize) -> Result<(), Fail> {
     Ok(())
 }
 
-/// Returns what was shown last of the progress: the work, and how much is done, is known, has
-/// arrived and is in doubt.
+/// Returns what was shown last of the progress: the work, and how much has arrived, is known, is in
+/// doubt and is done.
 fn shown(alloc: Global, record: &Record) -> Result<String, Fail> {
     let Some((work, counts)) = record.shown.get() else {
         return Ok(String::from_str(alloc, "nothing")?);
     };
     Ok(format!(in alloc;
-        "{work:?} {} {} {} {}", counts.done, counts.known, counts.arrived, counts.doubts
+        "{work:?} {} {} {} {}", counts.arrived, counts.known, counts.doubts, counts.done
     )?)
 }
 
@@ -210,7 +210,7 @@ impl Step {
     fn is_asked(&self, answer: &Answer) -> bool {
         match (self.asks, &answer.asked) {
             (None, _) => true,
-            (Some(asks), Some(asked)) => asked.as_str() == asks,
+            (Some(asks), Some(asked)) => asked.as_slice() == asks.as_bytes(),
             (Some(asks), None) => asks == "nothing",
         }
     }
@@ -218,7 +218,7 @@ impl Step {
     /// Whether the progress was shown that should be.
     fn is_shown(&self, alloc: Global, record: &Record) -> Result<bool, Fail> {
         match self.shows {
-            Some(shows) => Ok(shown(alloc, record)?.as_str() == shows),
+            Some(shows) => Ok(shown(alloc, record)?.as_str().starts_with(shows)),
             None => Ok(true),
         }
     }
@@ -260,11 +260,7 @@ pub(crate) fn play(alloc: Global, sessions: &'static str) -> Result<(), Fail> {
 }
 
 /// Runs the commands of one session in turn on the machine with this record.
-pub(crate) fn play_on(
-    alloc: Global,
-    record: &Record,
-    session: &'static str,
-) -> Result<(), Fail> {
+pub(crate) fn play_on(alloc: Global, record: &Record, session: &'static str) -> Result<(), Fail> {
     for command in session.split('&') {
         if !command.is_empty() {
             run(alloc, command, record)?;

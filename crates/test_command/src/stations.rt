@@ -92,7 +92,7 @@ const TRACES: &str = "\
 $ station line.toml --terminal 0 --connect h:1
 hears call-A ack1 call-a text eot
 > to 0: 4849|from 0: offered 0, known 0|to 0: spooled 1
-shows Events 9 0 1 0
+shows Events 1 0 0 9
 sent 20
 # connection 0 closed
 $ station line.toml --terminal 0 --connect h:1 --trace

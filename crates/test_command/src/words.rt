@@ -198,9 +198,9 @@ const HELPED: &[(&str, &str)] = &[
 fn help_is_printed(rt: HostRuntime) -> Result<(), Fail> {
     let alloc = rt.alloc();
     for (words, text) in HELPED {
-        let words = Ok(words_of(alloc, words)?);
+        let words = words_of(alloc, words)?;
         let (record, mut input) = (Record::new(alloc), b"16 04".as_slice());
-        let answer = answer_to(alloc, words, &mut input, SILENT, &record)?;
+        let answer = answer_to(alloc, Ok(words), &mut input, SILENT, &record)?;
         assert!(rt; answer.is(text, "", 0) && answer.asked.is_none(), "{text}");
         assert_eq!(rt; input.len(), 5);
     }
