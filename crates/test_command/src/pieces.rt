@@ -25,15 +25,21 @@ fn octets_of(name: &str) -> &'static [u8] {
     }
 }
 
+/// What may follow a length that no socket record can have.
+const REST: &[u8] = &[0x55; 2048];
+
+/// The characters of a longest record.
+const LONGEST: &[u8] = &[0xC1; 144];
+
 /// Returns the octets of a part of a socket record: one that ends too early, a length that none can
 /// have, what follows it, and the parts of a text of seven records of 144 characters.
 fn part_of(name: &str) -> &'static [u8] {
     match name {
         "cut" => b"\x00\x05\x16\x16",
         "length" => b"\xFF\xFF",
-        "rest" => &[0x55; 2048],
+        "rest" => REST,
         "seven" => b"\x04\x02\x16\x16\x02",
-        "record" => &[0xC1; 144],
+        "record" => LONGEST,
         "us" => b"\x1F\x1F",
         "etb" => b"\x97\x97\xFF",
         "etx" => b"\x83\x83\xFF",
