@@ -66,7 +66,7 @@ hears call-a text
 sent 14
 status 7
 & station line.toml --terminal 0 --connect h:1 --store kept
-keeps 9
+keeps 99
 hears call-a text
 > to 0: 4849|to 0: 4849|from 0: offered 0, known 0|to 0: spooled 2
 ";
