@@ -83,6 +83,9 @@ $ chart --svg secret
 ! bscline: cannot read secret: permission denied
 $ chart directory
 ! bscline: cannot read directory: is a directory
+$ chart
+input-fails
+! bscline: input fault
 $ chart --ascii broken
 >     time control            0|       5 :. silence ........:
 ! bscline: cannot read broken: read fault
