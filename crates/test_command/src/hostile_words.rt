@@ -32,7 +32,7 @@ fn path_faults(alloc: Global) -> Result<[Fault; 4], AllocError> {
             error: RunningError::from(TextError::CannotRead { path: path()?, why }),
         },
         Fault::Running {
-            error: RunningError::from(TextError::TooLong { path: path()? }),
+            error: RunningError::from(TextError::FileTooLong { path: path()? }),
         },
         Fault::Attending {
             error: AttendingError::Offer {
