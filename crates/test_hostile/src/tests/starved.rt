@@ -72,18 +72,20 @@ fn seen(
     Ok(play_each(&mut watch, memory, &mut line, played.1))
 }
 
+/// A record is offered, and memory is refused at once.
+const OFFERED: Played = (&[], &[HI_AT]);
+
 #[test]
 fn an_offer_fails_only_if_memory_was_refused_during_it(rt: HostRuntime) -> Result<(), Fail> {
     let alloc = rt.alloc();
     let (starved, other) = (Refusing::new(alloc), Refusing::new(alloc));
-    let offered: Played = (&[], &[HI_AT]);
-    let granted = seen(alloc, &starved, &starved, offered)?;
+    let granted = seen(alloc, &starved, &starved, OFFERED)?;
     assert_eq!(rt; granted, Ok(Err(LineError::Memory)));
 
     // A refusal before the offer is no cause.
     other.refuse_from(1);
     assert!(rt; Vec::<u8, &Refusing>::with_capacity(&other, 1).is_err());
-    assert_eq!(rt; seen(alloc, &starved, &other, offered)?, Err(Broken::Answer));
+    assert_eq!(rt; seen(alloc, &starved, &other, OFFERED)?, Err(Broken::Answer));
     Ok(())
 }
 
