@@ -75,11 +75,11 @@ fn hears<F: Framing + Drop>(
 /// Noise is not answered, and EOT is. Of a transmission without a length 2,049 octets are heard.
 #[test]
 fn what_a_peer_sent_before_it_ended_is_heard(rt: HostRuntime) -> Result<(), Fail> {
-    let answered = "heard 0 4; sent 5; closed 0; ";
+    let (end, answered) = (Shutdown::Write, "heard 0 4; sent 5; closed 0; ");
     hears::<Gaps>(&rt, &[0x16, 0x16], Shutdown::Both, "heard 0 2; closed 0; ")?;
-    hears::<Gaps>(&rt, &[0x16, 0x16, 0x04, 0xff], Shutdown::Write, answered)?;
-    hears::<Gaps>(&rt, &[0x55; 3_000], Shutdown::Write, "heard 0 2049; closed 0; ")?;
-    hears::<SocketRecords>(&rt, &[0, 4, 0x16, 0x16, 0x04, 0xff], Shutdown::Write, answered)
+    hears::<Gaps>(&rt, &[0x16, 0x16, 0x04, 0xff], end, answered)?;
+    hears::<Gaps>(&rt, &[0x55; 3_000], end, "heard 0 2049; closed 0; ")?;
+    hears::<SocketRecords>(&rt, &[0, 4, 0x16, 0x16, 0x04, 0xff], end, answered)
 }
 
 /// The longest record and the shortest are heard, a longer one closes the connection, and so does

@@ -197,7 +197,8 @@ fn goes(rt: &HostRuntime, case: &Case) -> Result<bool, Fail> {
         settings.stops_with = Some(input.as_raw_fd());
     }
     let start = Instant::now(rt)?;
-    let begun = begin(&machine, rt.alloc(), listening, wanted, settings, &mut reports);
+    let alloc = rt.alloc();
+    let begun = begin(&machine, alloc, listening, wanted, settings, &mut reports);
     has_passed(rt, start, least)?;
     let is_told = reports.told.as_str().starts_with(told);
     Ok(begun.err() == Some(why) && is_told && !reports.told.as_str().contains("refused 39; "))

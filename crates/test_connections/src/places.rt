@@ -89,8 +89,9 @@ fn newcomers_take_each_of_64_places(rt: HostRuntime) -> Result<(), Fail> {
     let set = Times { gap: 2, ..QUIET }.settings();
     let mut begun = begin(&rt, rt.alloc(), listening, peers(MOST), set, &mut reports)?;
     assert!(rt; reports.told.as_str() == due_of(rt.alloc(), MOST)?.as_str());
-    let (begun, far) = (&mut *begun, reports.far.as_mut_slice());
-    let taken = taken(&rt, (address, far), &mut begun.sockets, &mut begun.connections)?;
+    let begun = &mut *begun;
+    let peers = (address, reports.far.as_mut_slice());
+    let taken = taken(&rt, peers, &mut begun.sockets, &mut begun.connections)?;
     assert!(rt; taken == MOST);
     Ok(())
 }

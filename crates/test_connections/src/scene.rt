@@ -7,46 +7,44 @@ use crate::meeting::{Untold, begin, bound, peer, peers};
 use crate::waits::wait_goes;
 use bsc_connections::{Awaited, Handled, Pace, Waiter};
 use bsc_sockets::{ConnectionSettings, Listening, SocketsError};
-use std::alloc::Global;
 use std::io::{ErrorKind, Read, Write};
 use std::net::{Net, Shutdown, SocketAddr, TcpStream};
 use std::os::fd::AsRawFd;
 use std::test::Fail;
 use std::time::{Clock, Duration, Instant};
 
-/// A word of a script.
+/// A word of a script: what happens, and after colons at which place and with what.
 #[derive(Clone, Copy)]
 pub(crate) struct Word<'a> {
     /// What happens.
     pub(crate) verb: &'a str,
 
-    /// What stands after the first colon.
-    pub(crate) first: &'a str,
-
-    /// The number that this is; 0 if it is none.
+    /// The number after the first colon; 0 if there is none.
     pub(crate) number: usize,
 
     /// What stands after the second colon.
     pub(crate) second: &'a str,
+
+    /// What stands after the last colon.
+    pub(crate) last: &'a str,
 }
 
 impl<'a> Word<'a> {
     /// Reads a word.
-    pub(crate) fn read(text: &'a str) -> Word<'a> {
+    fn read(text: &'a str) -> Word<'a> {
         let (verb, rest) = divided(text);
         let (first, second) = divided(rest);
         Word {
             verb,
-            first,
             number: number_in(first),
             second,
+            last: if second.is_empty() { first } else { second },
         }
     }
 
     /// What a wait has to return, by the last part of the word.
     pub(crate) fn awaited(&self) -> Option<Awaited> {
-        let last = if self.second.is_empty() { self.first } else { self.second };
-        match last {
+        match self.last {
             "octets" => Some(Awaited::Octets { connection: 0 }),
             "octets1" => Some(Awaited::Octets { connection: 1 }),
             "gap" => Some(Awaited::Gap { connection: 0 }),
@@ -348,13 +346,13 @@ fn first_wrong<'s, R: Read + Drop, W: Write + Drop, S: Waiter<R, W>>(
 
 /// The same at a station with these settings on this machine, that waits for this many peers first.
 fn first_wrong_at<'s, N: Net + Clock>(
-    (machine, alloc): (&N, Global),
+    machine: &N,
     listening: Listening,
     (count, settings): (usize, ConnectionSettings),
     scene: &mut Scene<'_>,
     script: &'s str,
 ) -> Result<Option<&'s str>, SocketsError> {
-    let wanted = peers(count);
+    let (alloc, wanted) = (scene.rt.alloc(), peers(count));
     let mut begun = begin(machine, alloc, listening, wanted, settings, &mut Untold)?;
     let begun = &mut *begun;
     Ok(first_wrong(scene, &mut begun.sockets, &mut begun.connections, script))
@@ -399,8 +397,8 @@ pub(crate) fn play(
     for _ in 1..count {
         scene.comes();
     }
-    let alloc = rt.alloc();
-    match first_wrong_at((&machine, alloc), listening, (count, settings), &mut scene, script)? {
+    let wanted = (count, settings);
+    match first_wrong_at(&machine, listening, wanted, &mut scene, script)? {
         Some(word) => Err(Fail::new(format_args!("{word} of {script}"))),
         None => Ok(()),
     }

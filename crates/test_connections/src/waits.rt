@@ -141,8 +141,8 @@ pub(crate) fn wait_goes<R, W, S: Waiter<R, W>>(
             Some(passes(rt, sockets, (100, octets), Pace::AfterPause))
         }
         "replaceable" => {
-            let place = if word.first == "none" { None } else { Some(least) };
-            Some(sockets.replaceable() == place)
+            let is_any = word.last != "none";
+            Some(sockets.replaceable() == is_any.then_some(least))
         }
         _ => many_go(scene, sockets, word),
     }

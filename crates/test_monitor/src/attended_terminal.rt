@@ -117,7 +117,8 @@ fn attend_terminal<W: Write>(
 ) -> Result<Option<CarrierError>, LiveError> {
     let (printing, _, steps, _, _, _) = *attended;
     let mut watch = terminal_watch(alloc, terminal, printing, out, trace)?;
-    attend_station(terminal, connections, &mut Scripted { steps }, &mut watch)?;
+    let mut waiter = Scripted { steps };
+    attend_station(terminal, connections, &mut waiter, &mut watch)?;
     Ok(watch.closed())
 }
 

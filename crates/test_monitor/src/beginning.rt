@@ -21,6 +21,9 @@ connection 3 from 127.0.0.1:2780 closed
 refused 127.0.0.1:2780: its address is not allowed
 ";
 
+/// The octets of the same lines with their times, `+0 `.
+const TRACED: usize = LINES.len() + 7 * 3;
+
 /// Writes each of the lines.
 fn tell<W: Write>(lines: Beginning, out: &mut W) -> Result<(), PrintError> {
     lines.write_listening(address(), out)?;
@@ -32,13 +35,13 @@ fn tell<W: Write>(lines: Beginning, out: &mut W) -> Result<(), PrintError> {
     lines.write_refused(address(), out)
 }
 
-/// In a trace each line has a time, `+0 `.
+/// In a trace each line has a time.
 #[test]
 fn a_station_says_where_it_is_and_for_what_it_waits(rt: HostRuntime) -> Result<(), Fail> {
     let (mut out, mut traced) = (Vec::new(rt.alloc()), Vec::new(rt.alloc()));
     tell(Beginning { trace: false }, &mut out)?;
     tell(Beginning { trace: true }, &mut traced)?;
-    assert!(rt; out.as_slice() == LINES && traced.len() == LINES.len() + 3 * 7);
+    assert!(rt; out.as_slice() == LINES && traced.len() == TRACED);
     assert!(rt; !Unmetered.is_due());
     Ok(())
 }

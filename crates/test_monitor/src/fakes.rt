@@ -211,8 +211,9 @@ pub(crate) fn control_watch<'a, W: Write, D: Write>(
     out: &'a mut W,
     errors: &'a mut D,
 ) -> Result<ControlWatch<'a, Global, Counting, W, D>, LiveError> {
-    match Watch::new(alloc, control, printing, Counting { asked }, out, errors) {
-        Ok(watch) => Ok(ControlWatch::new(control, watch, limits, false, trust_of(time_out))),
+    let (timer, trust) = (Counting { asked }, trust_of(time_out));
+    match Watch::new(alloc, control, printing, timer, out, errors) {
+        Ok(watch) => Ok(ControlWatch::new(control, watch, limits, false, trust)),
         Err(_) => Err(LiveError::Memory),
     }
 }
@@ -225,14 +226,8 @@ pub(crate) fn terminal_watch<'a, W: Write, D: Write>(
     out: &'a mut W,
     errors: &'a mut D,
 ) -> Result<TerminalWatch<'a, Global, Counting, W, D>, LiveError> {
-    match Watch::new(
-        alloc,
-        terminal,
-        printing,
-        Counting { asked: 0 },
-        out,
-        errors,
-    ) {
+    let timer = Counting { asked: 0 };
+    match Watch::new(alloc, terminal, printing, timer, out, errors) {
         Ok(watch) => Ok(TerminalWatch::new(watch)),
         Err(_) => Err(LiveError::Memory),
     }

@@ -103,7 +103,7 @@ fn a_control_station_forgets_what_is_known(rt: HostRuntime) -> Result<(), Fail> 
         }
         control.forget_known();
         for channel in CHANNELS {
-            assert!(rt; forgotten_on(&control, *channel) == Some(*forgotten), "{count}");
+            assert!(rt; forgotten_on(&control, *channel) == Some(*forgotten));
         }
     }
     Ok(())

@@ -55,7 +55,7 @@ fn records_are_printed_in_turns(rt: HostRuntime) -> Result<(), Fail> {
     for (most, left, text) in TURNS {
         let mut out = Vec::new(rt.alloc());
         let told = print_turn(rt.alloc(), &control, &mut printed, *most, &mut out);
-        assert!(rt; told == Some(*left) && out.as_slice() == text.as_bytes(), "{text}");
+        assert!(rt; told == Some(*left) && out.as_slice() == text.as_bytes());
     }
     assert!(rt; is_refused(rt.alloc(), &control));
     Ok(())
