@@ -118,7 +118,7 @@ fn a_trace_has_a_line_for_each_note(rt: HostRuntime) -> Result<(), Fail> {
     let control = control_of(rt.alloc(), TWO_TERMINALS)?;
     let mut trace = Vec::new(rt.alloc());
     let (strangers, peers) = (notes_of_peer(None), notes_of_peer(Some(address())));
-    let notes: &[&[Note<'_>]] = &[NOTES, &strangers, &peers];
+    let notes: &[&[Note<'static>]] = &[NOTES, &strangers, &peers];
     tell(rt.alloc(), &control, ALL, notes, &mut trace)?;
     assert!(rt; trace.as_slice() == TRACE);
     Ok(())
