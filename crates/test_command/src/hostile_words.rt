@@ -110,9 +110,7 @@ fn is_told(alloc: Global, name: &str, words: &[&str], text: &str) -> Result<bool
     for word in words {
         given.push(String::from_str(alloc, word)?)?;
     }
-    let told = format!(in alloc;
-        "error: {text}\n\nFor more information, try '--help'.\n"
-    )?;
+    let told = format!(in alloc; "error: {text}\n\nFor more information, try '--help'.\n")?;
     let answer = answer_of(alloc, given, "", SILENT, &Record::new(alloc))?;
     Ok(answer.is("", &told, 2))
 }

@@ -45,7 +45,10 @@ fn the_longest_paths_are_named(rt: HostRuntime) -> Result<(), Fail> {
     let long = "x".repeat(alloc, LENGTH)?;
     let unread = format!(in alloc; "bscline: cannot read {long}: no such file\n")?;
     for words in PATHS {
-        assert!(rt; is_answered(alloc, words, &long, ("", &unread, 1))?, "{words}");
+        assert!(rt;
+            is_answered(alloc, words, &long, ("", &unread, 1))?,
+            "{words}"
+        );
     }
     Ok(())
 }
@@ -77,7 +80,10 @@ fn the_longest_words_have_their_meaning(rt: HostRuntime) -> Result<(), Fail> {
     let long = "7".repeat(alloc, LENGTH)?;
     for (words, told) in DIGITS {
         let told = format!(in alloc; "bscline: {told}\n")?;
-        assert!(rt; is_answered(alloc, words, &long, ("", &told, 1))?, "{words}");
+        assert!(rt;
+            is_answered(alloc, words, &long, ("", &told, 1))?,
+            "{words}"
+        );
     }
     let even = "7".repeat(alloc, LENGTH - 1)?;
     assert!(rt; is_answered(alloc, "name @", &even, ("NOISE\n", "", 0))?);

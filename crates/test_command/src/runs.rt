@@ -94,7 +94,13 @@ fn a_fault_of_the_cable_is_told_at_its_event(rt: HostRuntime) -> Result<(), Fail
     let record = Record::new(rt.alloc());
     record.wires.reads.set(0);
     let answer = answer(rt.alloc(), "run line.toml polled.txt", "", SILENT, &record)?;
-    assert!(rt; answer.is("control CALL A\n", "bscline: script line 3: socket fault\n", 1));
+    assert!(rt;
+        answer.is(
+            "control CALL A\n",
+            "bscline: script line 3: socket fault\n",
+            1
+        )
+    );
     Ok(())
 }
 

@@ -93,7 +93,8 @@ fn shown(alloc: Global, record: &Record) -> Result<String, Fail> {
         return Ok(String::from_str(alloc, "nothing")?);
     };
     Ok(format!(in alloc;
-        "{work:?} {} {} {} {}", counts.arrived, counts.known, counts.doubts, counts.done
+        "{work:?} {} {} {} {}",
+        counts.arrived, counts.known, counts.doubts, counts.done
     )?)
 }
 

@@ -110,7 +110,8 @@ impl Scene<'_> {
 
     /// Lets an hour but for a tenth of a second pass in the next wait, once its pause has begun.
     pub(crate) fn lets_an_hour_pass(&self) {
-        self.machine.happens_later(Duration::from_millis(3_599_900), b"");
+        self.machine
+            .happens_later(Duration::from_millis(3_599_900), b"");
     }
 
     /// The peer with this number.

@@ -99,8 +99,8 @@ fn refused_in<A: Allocator>(
     memory.refuse_none();
     let is_whole = offers_all(memory, line, exchange) && goes(memory, line)?;
     let (from, to, _) = exchange;
-    let is_delivered =
-        has_count(line, 0, FromTerminal, from.len()) && has_count(line, 0, ToTerminal(0), to.len());
+    let is_delivered = has_count(line, 0, FromTerminal, from.len())
+        && has_count(line, 0, ToTerminal(0), to.len());
     if is_offered && is_gone && is_whole && is_delivered {
         Ok(refused)
     } else {

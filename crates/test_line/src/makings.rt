@@ -131,9 +131,7 @@ fn a_line_is_made_with_each_length_of_the_poll_list(rt: HostRuntime) -> Result<(
 /// The first codes of the longest address of this number.
 fn front(number: usize, length: usize) -> Result<Address, Fail> {
     let longest: [&[u8]; 5] = [b"POLLING", b"abcdefg", b"bcdefga", b"cdefgab", b"defgabc"];
-    Ok(Address::read(
-        longest[number % 5].get(..length).ok_or("too short")?,
-    )?)
+    Ok(Address::read(longest[number % 5].get(..length).ok_or("too short")?)?)
 }
 
 #[test]

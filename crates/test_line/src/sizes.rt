@@ -14,6 +14,7 @@ use test_fixtures::lines::setup;
 
 /// The number of records offered each way, and of those that are offered before the first arrives.
 const COUNT: usize = 300_000;
+
 const WAITING: usize = 100_000;
 
 /// The characters of the longest record.

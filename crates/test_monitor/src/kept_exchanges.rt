@@ -124,7 +124,11 @@ fn fault_of(
     select: usize,
 ) -> Result<Option<StoreFault>, Fail> {
     let fault = station.offer(0, select, record(9)?).err();
-    Ok(if station.fault() == fault { fault } else { None })
+    Ok(if station.fault() == fault {
+        fault
+    } else {
+        None
+    })
 }
 
 /// A store that is full, and an address that is not there.

@@ -139,7 +139,10 @@ fn a_line_of_a_trace_that_is_not_taken_is_told(rt: HostRuntime) -> Result<(), Fa
 const TIMES: &[(u64, &str)] = &[
     (65_535, "+65536 silence\n"),
     (4_294_967_295, "+4294967296 silence\n"),
-    (18_446_744_073_709_551_614, "+18446744073709551615 silence\n"),
+    (
+        18_446_744_073_709_551_614,
+        "+18446744073709551615 silence\n",
+    ),
 ];
 
 #[test]
@@ -148,7 +151,13 @@ fn a_line_of_a_trace_has_its_time_after_years(rt: HostRuntime) -> Result<(), Fai
     for (asked, line) in TIMES {
         let mut trace = Vec::new(rt.alloc());
         let settings = (Tracing::All, *asked, 1_000);
-        tell(rt.alloc(), &control, settings, &[&[Note::Silence]], &mut trace)?;
+        tell(
+            rt.alloc(),
+            &control,
+            settings,
+            &[&[Note::Silence]],
+            &mut trace,
+        )?;
         assert!(rt; trace.as_slice() == line.as_bytes(), "{line}");
     }
     Ok(())
@@ -197,10 +206,22 @@ const WITHHELD_REPLY: &[Note<'static>] = &[
 /// without a trace.
 const TIMED: &[(&[Note<'static>], u64, &str)] = &[
     (LATE_ANSWER, 3, ""),
-    (LATE_ANSWER, 2, "not trusted: an answer took longer than the time-out\n"),
+    (
+        LATE_ANSWER,
+        2,
+        "not trusted: an answer took longer than the time-out\n",
+    ),
     (LATE_REPLY, 3, ""),
-    (LATE_REPLY, 2, "not trusted: a reply was sent later than the time-out\n"),
-    (WITHHELD_REPLY, 2, "a transmission was withheld: it would have been late\n"),
+    (
+        LATE_REPLY,
+        2,
+        "not trusted: a reply was sent later than the time-out\n",
+    ),
+    (
+        WITHHELD_REPLY,
+        2,
+        "a transmission was withheld: it would have been late\n",
+    ),
 ];
 
 /// The times are those of the clock.

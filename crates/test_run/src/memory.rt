@@ -163,7 +163,10 @@ fn count_printed(alloc: Global, script: &str, printed: &str) -> Result<usize, Fa
 
 #[test]
 fn a_text_is_put_off_until_there_is_room(rt: HostRuntime) -> Result<(), Fail> {
-    assert_eq!(rt; count_printed(rt.alloc(), POLLED.script, NO_ROOM_FOR_IT)?, 2);
+    assert_eq!(rt;
+        count_printed(rt.alloc(), POLLED.script, NO_ROOM_FOR_IT)?,
+        2
+    );
     assert!(rt; count_printed(rt.alloc(), EIGHT_POLLED, NO_ROOM_FOR_ANOTHER)? > 0);
     Ok(())
 }

@@ -207,9 +207,7 @@ fn longest_text(alloc: Global) -> Result<String, Fail> {
     let chars = "C1".repeat(alloc, 144)?;
     let unit = format!(in alloc; "{chars}191F86")?;
     let units = unit.repeat(alloc, 6)?;
-    Ok(format!(in alloc;
-        "offer-at 0 HI\nsilence\ncarry\nheard 161602{units}{chars}19831AFF\n"
-    )?)
+    Ok(format!(in alloc; "offer-at 0 HI\nsilence\ncarry\nheard 161602{units}{chars}19831AFF\n")?)
 }
 
 #[test]

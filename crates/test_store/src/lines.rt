@@ -72,8 +72,9 @@ fn config_of(alloc: Global, (full, poll, selects): Line) -> Result<String, Fail>
 }
 
 /// The refusal of two lines.
-const OF_TWO_LINES: &[Row] =
-    &["control reconcile terminal => refused: the stores are not of two ends of one line"];
+const OF_TWO_LINES: &[Row] = &[
+    "control reconcile terminal => refused: the stores are not of two ends of one line",
+];
 
 #[test]
 fn stores_of_two_lines_are_not_reconciled(rt: HostRuntime) -> Result<(), Fail> {

@@ -92,8 +92,10 @@ fn is_longest_due(alloc: Global) -> Result<bool, AllocError> {
     let line = format!(in alloc; "unit {chars} EM\n")?;
     let units = line.as_str().repeat(alloc, 7)?;
     let shown = format!(in alloc; "TEXT ETX 7\n{units}")?;
-    Ok(is_due(alloc, Call::Name, &input, "TEXT ETX 7\n", None)
-        && is_due(alloc, Call::Show, &input, &shown, None))
+    Ok(
+        is_due(alloc, Call::Name, &input, "TEXT ETX 7\n", None)
+            && is_due(alloc, Call::Show, &input, &shown, None),
+    )
 }
 
 #[test]

@@ -37,12 +37,7 @@ fn play_on(
 /// Plays the exchange on a new line, with the event at the place of the transmission.
 fn play(stage: Stage<'_>, event: &Event<'_>) -> Result<(), Fail> {
     let mut watched = Watched::new(stage.alloc)?;
-    Ok(play_on(
-        &mut watched,
-        stage.exchange,
-        stage.sent.place,
-        event,
-    )?)
+    Ok(play_on(&mut watched, stage.exchange, stage.sent.place, event)?)
 }
 
 /// Terminal 0 hears the first item in place of the transmission, and terminal 1 the second.

@@ -85,7 +85,10 @@ fn an_offer_fails_only_if_memory_was_refused_during_it(rt: HostRuntime) -> Resul
     // A refusal before the offer is no cause.
     other.refuse_from(1);
     assert!(rt; Vec::<u8, &Refusing>::with_capacity(&other, 1).is_err());
-    assert_eq!(rt; seen(alloc, &starved, &other, OFFERED)?, Err(Broken::Answer));
+    assert_eq!(rt;
+        seen(alloc, &starved, &other, OFFERED)?,
+        Err(Broken::Answer)
+    );
     Ok(())
 }
 

@@ -21,14 +21,17 @@ const HI_AT_FIRST: Event<'static> = Event::OfferAt {
     terminal: 0,
     codes: b"HI",
 };
+
 const HI_AT_SECOND: Event<'static> = Event::OfferAt {
     terminal: 1,
     codes: b"HI",
 };
+
 const HI_AT_LAST: Event<'static> = Event::OfferAt {
     terminal: 63,
     codes: b"HI",
 };
+
 const HI_FOR: Event<'static> = Event::OfferFor {
     terminal: 0,
     select: 1,
@@ -40,7 +43,9 @@ const URGENT: Event<'static> = Event::UrgentAt { terminal: 1 };
 
 /// What is pending is lost, or heard as EOT or as a text.
 const LOST: Event<'static> = Event::Carry { heard: None };
+
 const AS_EOT: Event<'static> = Event::Carry { heard: Some(EOT) };
+
 const AS_TEXT: Event<'static> = Event::Carry {
     heard: Some(TEXT_HI),
 };
@@ -49,6 +54,7 @@ const AS_TEXT: Event<'static> = Event::Carry {
 const RESTART_FIRST: Event<'static> = Event::Restart {
     party: Speaker::Terminal(0),
 };
+
 const RESTART_CONTROL: Event<'static> = Event::Restart {
     party: Speaker::Control,
 };
@@ -105,6 +111,7 @@ fn other_addresses_are_told(rt: HostRuntime) -> Result<(), Fail> {
 /// HI is offered at both terminals, the first is called, and its text is lost; the same on a line
 /// that is not trusted, since the first call was heard as a text.
 const TRUSTED: &[Event<'static>] = &[HI_AT_FIRST, HI_AT_SECOND, Silence, CarrySent, LOST];
+
 const DISTRUSTED: &[Event<'static>] = &[
     HI_AT_FIRST,
     HI_AT_SECOND,
