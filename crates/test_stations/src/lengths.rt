@@ -118,7 +118,7 @@ fn thousands_of_records_of_one_length_are_taken(rt: HostRuntime) -> Result<(), F
     let alloc = Refusing::new(rt.alloc());
     let format = Format::new(144, 400)?;
     for length in 0..=144usize {
-        let count = if length % 72 == 0 { 100_000 } else { 1_500 };
+        let count = if length % 72 == 0 { 40_000 } else { 1_500 };
         assert!(rt; take_each(&alloc, format, length, count), "{length}");
     }
     Ok(())

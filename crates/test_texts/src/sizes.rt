@@ -75,6 +75,11 @@ fn keeps_longest_line(alloc: Global) -> Result<bool, AllocError> {
 #[test]
 fn an_input_of_five_mebibytes_has_each_name(rt: HostRuntime) -> Result<(), Fail> {
     assert!(rt; has_each_name(rt.alloc())?);
+    Ok(())
+}
+
+#[test]
+fn a_line_after_millions_and_the_longest_one_are_printed(rt: HostRuntime) -> Result<(), Fail> {
     assert!(rt; has_name_after_blanks(rt.alloc())?);
     assert!(rt; keeps_longest_line(rt.alloc())?);
     Ok(())
