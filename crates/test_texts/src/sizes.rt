@@ -10,12 +10,6 @@ use std::test::Fail;
 /// The error of a second line that is too long.
 const TOO_LONG: Option<NamingError> = Some(NamingError::TooLongAt { line: 2 });
 
-/// The error after millions of lines.
-const WRONG: Option<NamingError> = Some(NamingError::NotHexadecimalAt { line: 3_000_002 });
-
-/// Half of the greatest length.
-const HALF: usize = MAX_INPUT / 2;
-
 /// What follows half of the greatest length in pairs of digits, the output, and the error.
 const LENGTHS: &[(&str, &str, Option<NamingError>)] = &[
     ("", "EOT\nNOISE\n", None),
@@ -27,16 +21,16 @@ const LENGTHS: &[(&str, &str, Option<NamingError>)] = &[
 
 /// Calls, what comes before pairs of digits, the number of the pairs, and the output.
 const WORDS: &[(Call, &str, usize, &str)] = &[
-    (Call::Name, "", HALF, "NOISE\n"),
-    (Call::Names, "+0 ", HALF - 2, "NOISE\n"),
-    (Call::Show, "+0 ", HALF - 2, "+0\n"),
+    (Call::Name, "", MAX_INPUT / 2, "NOISE\n"),
+    (Call::Names, "+0 ", MAX_INPUT / 2 - 2, "NOISE\n"),
+    (Call::Show, "+0 ", MAX_INPUT / 2 - 2, "+0\n"),
 ];
 
 /// A line of the greatest length is named, and a longer one is refused after the line before it.
 #[test]
 fn a_line_may_have_a_mebibyte(rt: HostRuntime) -> Result<(), Fail> {
     let alloc = rt.alloc();
-    let pairs = "16".repeat(alloc, HALF)?;
+    let pairs = "16".repeat(alloc, MAX_INPUT / 2)?;
     for (after, printed, error) in LENGTHS {
         let input = format!(in alloc; "16 04\n{pairs}{after}")?;
         assert!(rt; is_due(alloc, Call::Names, &input, printed, *error));
@@ -53,7 +47,8 @@ fn a_line_may_have_a_mebibyte(rt: HostRuntime) -> Result<(), Fail> {
 fn has_name_after_blanks(alloc: Global) -> Result<bool, AllocError> {
     let blanks = "\n".repeat(alloc, 3_000_000)?;
     let input = format!(in alloc; "{blanks}16 04\nx")?;
-    Ok(is_due(alloc, Call::Names, &input, "EOT\n", WRONG))
+    let error = NamingError::NotHexadecimalAt { line: 3_000_002 };
+    Ok(is_due(alloc, Call::Names, &input, "EOT\n", Some(error)))
 }
 
 /// Whether each line of an input of 5,500,000 octets has its name printed.
