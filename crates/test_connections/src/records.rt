@@ -146,6 +146,49 @@ fn pieces_are_taken_up_to_the_end_of_a_record(rt: HostRuntime) {
     }
 }
 
+/// The record of ACK0 three times.
+const THREE_RECORDS: &[u8] = &[
+    0x00, 0x05, 0x16, 0x16, 0x10, 0xb0, 0xff, 0x00, 0x05, 0x16, 0x16, 0x10, 0xb0, 0xff, 0x00, 0x05,
+    0x16, 0x16, 0x10, 0xb0, 0xff,
+];
+
+/// Feeds all of a piece that ends at most three records. Returns how many records of ACK0 it
+/// completes.
+fn completed(assembler: &mut Assembler, piece: &[u8]) -> u32 {
+    let mut rest = piece;
+    let mut count = 0u32;
+    for _ in 0..4u8 {
+        let Ok((taken, is_complete)) = assembler.feed(rest) else {
+            return 0;
+        };
+        if is_complete && assembler.octets() == ACK0 {
+            count = count.saturating_add(1);
+        }
+        rest = rest.get(taken..).unwrap_or(&[]);
+    }
+    count
+}
+
+/// How many records of ACK0 the three pieces make into which a stream is cut at these places.
+fn completed_of(stream: &[u8], first: usize, second: usize) -> Option<u32> {
+    let mut assembler = Assembler::new();
+    let mut count = completed(&mut assembler, stream.get(..first)?);
+    for piece in [stream.get(first..second)?, stream.get(second..)?] {
+        count = count.saturating_add(completed(&mut assembler, piece));
+    }
+    assembler.between().then_some(count)
+}
+
+#[test]
+fn three_records_are_the_same_wherever_the_stream_is_cut(rt: HostRuntime) {
+    for second in 0..=THREE_RECORDS.len() {
+        for first in 0..=second {
+            let count = completed_of(THREE_RECORDS, first, second);
+            assert!(rt; count == Some(3), "{first}, {second}");
+        }
+    }
+}
+
 /// Whether a record of this many SYN is written and read by these numbers of writes and reads, if
 /// each moves this many octets at most.
 fn is_moved(length: usize, step: usize, writes: usize, reads: usize) -> bool
