@@ -50,6 +50,7 @@ hears call-a text
 > to 0: 4849
 ! bscline: what happened could not be kept: the disk is full
 sent 14
+# connection 0 closed
 status 7
 $ station line.toml --terminal 0 --connect h:1 --serve p:1 --store kept
 keeps 0
@@ -64,6 +65,7 @@ hears call-a text
 > to 0: 4849
 ! bscline: what happened could not be kept: the disk is full
 sent 14
+# connection 0 closed
 status 7
 & station line.toml --terminal 0 --connect h:1 --store kept
 keeps 99
