@@ -1,7 +1,7 @@
 //! Stations at the bounds of a line: the most terminals, addresses, options and connections, the
 //! longest records, and the most records of an input. The octets are those of docs/PROTOCOL.md.
 
-use crate::cases::{Answer, answer, prints};
+use crate::cases::{Answer, ask, prints};
 use crate::machine::{SILENT, Scene};
 use crate::record::Record;
 use bsc_input::MAX_INPUT;
@@ -191,7 +191,7 @@ fn peered(alloc: Global, networks: usize) -> Result<Box<Answer>, Fail> {
         ..SILENT
     };
     let record = Record::new(alloc);
-    answer(alloc, &words, &config(alloc, 63)?, scene, &record)
+    ask(alloc, &words, &config(alloc, 63)?, scene, &record)
 }
 
 #[test]
@@ -246,7 +246,7 @@ fn each_of_64_terminals_has_its_connection(rt: HostRuntime) -> Result<(), Fail> 
         slowest answer: 0% of the time-out\ntrusted\n";
     let mut out = String::from_str(alloc, "from 63: 4849\n")?;
     out.push_str(&report(alloc, (0, 0), last)?)?;
-    let answer = answer(alloc, words, &config(alloc, 0)?, scene, &record)?;
+    let answer = ask(alloc, words, &config(alloc, 0)?, scene, &record)?;
     assert!(rt; answer.is(&out, "", 0));
     assert!(rt; record.sent.get() == SENT * 64);
     Ok(())

@@ -96,7 +96,7 @@ pub(crate) fn answer_of(
 }
 
 /// What a command with the words of this text answers to this standard input.
-pub(crate) fn answer(
+pub(crate) fn ask(
     alloc: Global,
     words: &str,
     input: &str,
@@ -114,6 +114,6 @@ pub(crate) fn prints(
     (scene, record): (Scene, &Record),
     (out, status): (&str, u8),
 ) -> Result<bool, Fail> {
-    let answer = answer(alloc, words, input, scene, record)?;
+    let answer = ask(alloc, words, input, scene, record)?;
     Ok(answer.out.as_slice() == out.as_bytes() && answer.status == status)
 }

@@ -1,6 +1,6 @@
 //! Control stations by their words, over scripted connections.
 
-use crate::cases::answer;
+use crate::cases::ask;
 use crate::machine::{SILENT, Scene};
 use crate::record::Record;
 use crate::session::play;
@@ -83,7 +83,7 @@ fn a_control_station_ends_after_exactly_its_rounds(rt: HostRuntime) -> Result<()
         let words = format!(in alloc;
             "station line.toml --control --listen h:1 --shared {options}"
         )?;
-        let answer = answer(alloc, &words, "", scene, &record)?;
+        let answer = ask(alloc, &words, "", scene, &record)?;
         assert!(rt; answer.is(IDLE_PRINTED, "", 0), "{options}");
         assert!(rt; record.sent.get() == *sent, "{options}");
     }

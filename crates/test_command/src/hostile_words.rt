@@ -1,7 +1,7 @@
 //! Words, paths and keys with line feeds and with codes that a terminal obeys: each fault is one
 //! line, and the text of wrong usage has its own lines only.
 
-use crate::cases::{answer, answer_of};
+use crate::cases::{answer_of, ask};
 use crate::faults::are_told;
 use crate::machine::SILENT;
 use crate::record::Record;
@@ -131,7 +131,7 @@ fn a_key_is_within_its_line(rt: HostRuntime) -> Result<(), Fail> {
     let alloc = rt.alloc();
     let words = "station - --terminal 0 --connect h:1";
     let input = "\"evil\\u001b[31m\\nbscline: forged\" = 1\n";
-    let answer = answer(alloc, words, input, SILENT, &Record::new(alloc))?;
+    let answer = ask(alloc, words, input, SILENT, &Record::new(alloc))?;
     let told = "bscline: config: unknown key evil\\x1b[31m\\nbscline: forged\n";
     assert!(rt; answer.is("", told, 1) && answer.asked.is_none());
     Ok(())

@@ -1,6 +1,6 @@
 //! Words as long as a system passes them, and what the command does with them.
 
-use crate::cases::answer;
+use crate::cases::ask;
 use crate::machine::SILENT;
 use crate::record::Record;
 use std::alloc::Global;
@@ -21,7 +21,7 @@ fn is_answered(
         return Err("no long word".into());
     };
     let words = format!(in alloc; "{before}{long}{after}")?;
-    let answer = answer(alloc, &words, "", SILENT, &Record::new(alloc))?;
+    let answer = ask(alloc, &words, "", SILENT, &Record::new(alloc))?;
     Ok(answer.is(out, errors, status))
 }
 

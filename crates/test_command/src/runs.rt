@@ -1,7 +1,7 @@
 //! Whole runs by their words: what is printed and traced, what is told on standard error, the exit
 //! status, and what is told of the progress.
 
-use crate::cases::answer;
+use crate::cases::ask;
 use crate::files::{POLLED, POLLED_PRINTED, POLLED_TRACED};
 use crate::machine::SILENT;
 use crate::record::Record;
@@ -25,7 +25,7 @@ const POLLING: &[(&str, &str, bool, bool)] = &[
 fn a_run_is_printed_traced_and_shown_as_its_words_say(rt: HostRuntime) -> Result<(), Fail> {
     for (words, input, is_traced, is_shown) in POLLING {
         let record = Record::new(rt.alloc());
-        let answer = answer(rt.alloc(), words, input, SILENT, &record)?;
+        let answer = ask(rt.alloc(), words, input, SILENT, &record)?;
         assert!(rt; answer.is(POLLED_PRINTED, "", 0), "{words}");
         let trace = if *is_traced { POLLED_TRACED } else { "" };
         assert_eq!(rt; record.difference(0, trace), None);
@@ -80,7 +80,7 @@ fn a_refused_event_has_status_three(rt: HostRuntime) -> Result<(), Fail> {
         ("run line.toml refused.txt --trace", POLLED_TRACED),
     ] {
         let record = Record::new(rt.alloc());
-        let answer = answer(rt.alloc(), words, "", SILENT, &record)?;
+        let answer = ask(rt.alloc(), words, "", SILENT, &record)?;
         let told = "bscline: script line 9: refused: no such terminal\n";
         assert!(rt; answer.is(POLLED_PRINTED, told, 3), "{words}");
         assert_eq!(rt; record.difference(0, trace), None);
@@ -120,12 +120,12 @@ fn a_script_may_be_as_long_as_an_input(rt: HostRuntime) -> Result<(), Fail> {
     for _ in script.len()..MAX_INPUT {
         script.push('\n')?;
     }
-    let most = answer(alloc, words, &script, SILENT, &Record::new(alloc))?;
+    let most = ask(alloc, words, &script, SILENT, &Record::new(alloc))?;
     assert!(rt; most.status == 0 && most.out.ends_with(NOTHING_DELIVERED));
     let lines = most.out.iter().filter(|octet| **octet == b'\n').count();
     assert_eq!(rt; lines, 160_005);
     script.push('\n')?;
-    let more = answer(alloc, words, &script, SILENT, &Record::new(alloc))?;
+    let more = ask(alloc, words, &script, SILENT, &Record::new(alloc))?;
     assert!(rt; more.is("", "bscline: input too long\n", 1));
     Ok(())
 }

@@ -10,7 +10,7 @@
 //! begins, and `keeps` how many steps more the stores keep. All other marks set the scene. The
 //! trace is compared if one of its lines or `sent` is given.
 
-use crate::cases::{Answer, answer};
+use crate::cases::{Answer, ask};
 use crate::machine::{SILENT, Scene};
 use crate::record::Record;
 use bsc_sockets::SocketsError;
@@ -245,7 +245,7 @@ fn run(alloc: Global, command: &'static str, record: &Record) -> Result<(), Fail
         Some(words) => words,
         None => head,
     };
-    let answer = answer(alloc, words, &step.input, step.scene, record)?;
+    let answer = ask(alloc, words, &step.input, step.scene, record)?;
     match step.difference(alloc, words, &answer, record)? {
         None => Ok(()),
         Some(what) => Err(Fail::new(format_args!("{words}: {what}"))),
