@@ -12,6 +12,8 @@ mod fates;
 #[cfg(test)]
 mod files;
 #[cfg(test)]
+mod largest;
+#[cfg(test)]
 mod memory;
 #[cfg(test)]
 mod progress;
