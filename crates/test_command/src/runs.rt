@@ -93,7 +93,7 @@ fn a_refused_event_has_status_three(rt: HostRuntime) -> Result<(), Fail> {
 fn a_fault_of_the_cable_is_told_at_its_event(rt: HostRuntime) -> Result<(), Fail> {
     let record = Record::new(rt.alloc());
     record.wires.reads.set(0);
-    let answer = answer(rt.alloc(), "run line.toml polled.txt", "", SILENT, &record)?;
+    let answer = ask(rt.alloc(), "run line.toml polled.txt", "", SILENT, &record)?;
     assert!(rt;
         answer.is(
             "control CALL A\n",
