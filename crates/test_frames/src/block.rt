@@ -1,11 +1,12 @@
 //! Records as they are sent, and what texts carry.
-ghost use Rattle.std.specs.Prelude.{◌-◌, ◌<◌, ◌≤◌, length};
+ghost use Rattle.std.specs.Prelude.{◌≡◌, ◌-◌, ◌<◌, ◌≤◌, length};
 ghost use Rattle.bsc_block.specs.Blocks.{AreShort};
 
 use bsc_block::{Block, Format, Record, Records, build, pack, unpack};
 use bsc_frame::limits::MAX_UNITS;
 use bsc_frame::{End, Heard, Message, MessageBuffer, Text, TextBuffer, Wire, decode, encode};
 use std::alloc::Allocator;
+use std::test::Fail;
 
 /// The text of HI with EM, and of a unit with only EM.
 const TWO_UNITS: &[u8] = b"\x16\x16\x02\xc8\x49\x19\x1f\x07\x19\x83\x1a\xff";
@@ -100,10 +101,28 @@ fn carries(octets: &[u8], records: &[&[u8]]) -> bool {
     }
 }
 
+/// Numbers of characters A of a unit without EM, and the check of the unit.
+const LONG: &[(usize, u8)] = &[(81, 0xc2), (144, 0x83)];
+
+// Whether the text of such a unit carries one record of its characters.
+fn carries_long(count: usize, check: u8) -> bool
+    requires { count ≤ 144 }
+{
+    let mut octets = [0xc1; 150];
+    octets[..3].copy_from_slice(&[0x16, 0x16, 0x02]);
+    octets[count + 3] = 0x83;
+    octets[count + 4] = check;
+    octets[count + 5] = 0xff;
+    carries(&octets[..count + 6], &[&[b'A'; 144][..count]])
+}
+
 #[test]
 fn texts_carry_records(rt: HostRuntime) {
     for (octets, records) in CARRIED {
         assert!(rt; carries(octets, records), "{octets:?}");
+    }
+    for (count, check) in LONG {
+        assert!(rt; *count <= 144 && carries_long(*count, *check), "{count}");
     }
 }
 
@@ -127,4 +146,62 @@ fn begins_with(octets: &[u8], chars: &[u8]) -> bool {
 #[test]
 fn characters_outlive_the_block_that_lends_them(rt: HostRuntime) {
     assert!(rt; begins_with(TWO_UNITS, b"HI"));
+}
+
+/// The number of characters of the last of five records, of which the others have 80; the number of
+/// characters that a block may count; and how many records the first block and the second take.
+const BLOCKS: &[(usize, u16, usize, usize)] = &[
+    // Four records of 80 characters count 324, and a fifth 81 more.
+    (80, 400, 4, 1),
+    (80, 324, 4, 1),
+    (80, 323, 3, 2),
+    // A shorter one counts its EM too: these five count 400.
+    (74, 400, 5, 0),
+    (74, 399, 4, 1),
+    (75, 400, 4, 1),
+];
+
+// Whether blocks of the records take these numbers of them, and then none are left.
+fn packs<A: Allocator>(records: &Records<A>, format: Format, first: usize, second: usize) -> bool
+    requires { AreShort format.full records.now.items }
+{
+    pack(records, 0, format) == first
+        && first <= records.len()
+        && pack(records, first, format) == second
+        && records.len() - first == second
+}
+
+// Whether four records of 80 characters and one of fewer are cut into these blocks.
+fn are_cut<A: Allocator + Copy>(
+    alloc: A,
+    last: &[u8],
+    format: Format,
+    first: usize,
+    second: usize,
+) -> bool
+    requires { format.full ≡ 80 }
+{
+    let (Ok(full), Ok(last)) = (Record::read(&[b'A'; 80], 80), Record::read(last, 80)) else {
+        return false;
+    };
+    let mut records = Records::new(alloc);
+    records.push(&full).is_ok()
+        && records.push(&full).is_ok()
+        && records.push(&full).is_ok()
+        && records.push(&full).is_ok()
+        && records.push(&last).is_ok()
+        && packs(&records, format, first, second)
+}
+
+#[test]
+fn a_block_takes_as_many_records_as_it_may_count(rt: HostRuntime) -> Result<(), Fail> {
+    for (length, block_chars, first, second) in BLOCKS {
+        let format = Format::new(80, *block_chars)?;
+        let last = [b'A'; 80].as_slice().get(..*length).ok_or("too long")?;
+        assert!(rt;
+            are_cut(rt.alloc(), last, format, *first, *second),
+            "{length}, {block_chars}"
+        );
+    }
+    Ok(())
 }

@@ -57,6 +57,17 @@ const HEARD: &[&str] = &[
     "16 16 02 C8 49 19 83 16 9B FF: FAILED\n",
     // A wrong check.
     "16 16 02 C8 49 19 83 9A FF: FAILED\n",
+    "16 16 02 49 49 19 83 9B FF: FAILED\n",
+    // Two inverted bits in each of two octets, a NUL that was SYN, and a check that is US or TAB.
+    "16 16 02 49 C8 19 83 9B FF: TEXT ETX 1\nunit 4948 EM\n",
+    "16 16 02 C1 80 19 83 5B FF: TEXT ETX 1\nunit 4100 EM\n",
+    "16 16 02 C1 16 19 83 5B FF: TEXT ETX 1\nunit 41 EM\n",
+    "16 16 02 89 1F 16 C1 83 C2 FF: TEXT ETX 2\nunit 09\nunit 41\n",
+    "16 16 02 1F 1F 16 C1 83 C2 FF: TEXT ETX 2\nunit -\nunit 41\n",
+    "16 16 02 89 89 16 C1 83 C2 FF: TEXT ETX 1\nunit 090941\n",
+    // A call with one leading pad, and one whose pad has an inverted bit.
+    "16 04 FF C1 85: CALL A\n",
+    "16 04 FE C1 85: CALL ~A\n",
     // An STX after a check is included in the next sum.
     "16 16 02 C8 49 19 1F 07 02 19 83 98 FF: TEXT ETX 2\nunit 4849 EM\nunit - EM\n",
     // Eight units.

@@ -44,6 +44,8 @@ const EXCHANGES: &[&str] = &[
     "Two|e0 e0 e0 e0 e0 e0 e0 starve . > > > > > >|a 0:WACK ENQ 0:ACK0 7ETX 0:ACK1 A; to 0.0: \
     7/7 - - - - - - -",
     "Two|at0 starve . > > > > >|A 0:HI NAK 0:HI ACK1 0:EOT; from 0: 1/1 HI",
+    // An offer for which there is no memory changes nothing.
+    "Two|starve at0 . at0|!out of memory A; from 0: 0/1",
     // Each terminal hears its own item; two that hear different calls lose a record.
     "Two|to0 . noise1 . > > broken0 > text0|a - a 0:ACK0 HI 0:NAK HI 0:ACK1; to 0.0: 0/1 HI",
     "Two|at0 at1 . calls > > >|A 0:HI* ACK1* 0:EOT* B*; from 0: 1/1 HI; from 1: 1/1",

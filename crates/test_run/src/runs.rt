@@ -1,7 +1,7 @@
 //! Runs over sockets with their complete output and trace, and the texts of errors.
 
 use crate::watched::{NO_TROUBLE, RunWatch};
-use crate::worked::WORKED;
+use crate::worked::{POLLED, WORKED};
 use crate::written::{Written, run_over_sockets};
 use bsc_line::LineError;
 use bsc_run::RunError;
@@ -22,6 +22,20 @@ fn each_worked_run_prints_its_trace_and_its_report(rt: HostRuntime) -> Result<()
         );
         assert!(rt; written.trace.inner.as_slice() == worked.traced.as_bytes());
     }
+    Ok(())
+}
+
+#[test]
+fn an_event_is_refused_after_those_of_a_run(rt: HostRuntime) -> Result<(), Fail> {
+    let script = format!(in rt.alloc(); "{}ready 2\n", POLLED.script)?;
+    let watch = RunWatch::new(NO_TROUBLE);
+    let mut written = Written::new(rt.alloc(), &watch);
+    let answer = run_over_sockets(&rt, TWO_TERMINALS, script.as_str(), &mut written)?;
+    let refused = RunError::Refused {
+        line: 9,
+        why: LineError::NoSuchTerminal,
+    };
+    assert!(rt; written.is(POLLED.printed) && answer == Err(refused));
     Ok(())
 }
 

@@ -29,15 +29,6 @@ const DOCUMENTS: &[&str] = &[
     "version = 2\npoll_list = []\nterminals = [{x = 1}, 1] => wrong value of terminals",
     // Refusals of the line.
     "version = 2\npoll_list = []\nterminals = [] => no terminal",
-    // Version 2, with its keys in another order.
-    "terminals = [\n  { select = ['a', 'c'], poll = 'A' }, # the first\n\
-    { poll = 'B', select = ['b'] },\n]\npoll_list = [0, 1]\nversion = 2\n => read",
-    // Each number is given, in lines that end with a carriage return.
-    "version = 1\r\npoll_list = [0]\r\nfull = 0x51\r\nblock_chars = 3_00\r\ntries = +7\r\n\
-    waits = 255\r\n[[terminals]]\r\npoll = \"A\"\r\nselect = \"a\"\r\n => read",
-    // Four selection addresses of up to seven characters.
-    "version = 2\npoll_list = [0, 0]\n\
-    terminals = [{ poll = 'A', select = ['!', 'c', 'abcdefg', '~'] }]\n => read",
 ];
 
 /// A line before the two terminals of the examples, and the result.
