@@ -2,7 +2,8 @@
 
 use crate::facts::{arrive, from_terminal, know};
 use crate::machine::{Fails, LONGEST, Machine, is_unprinted, keep, no_stores, told};
-use bsc_kept::StoreFault;
+use bsc_frame::Address;
+use bsc_kept::{Channel, StoreFault};
 use std::alloc::Global;
 use std::rt::HostRuntime;
 use std::test::Fail;
@@ -168,6 +169,58 @@ fn a_doubt_is_released_by_what_both_have(rt: HostRuntime) -> Result<(), Fail> {
     assert_eq!(rt; first_wrong(alloc, &mut machine, BOTH_ARRIVED), None);
     keep(&mut machine, "terminal", &[know(&from_terminal()?, 3, 0)])?;
     assert_eq!(rt; first_wrong(alloc, &mut machine, OLDER), None);
+    Ok(())
+}
+
+/// Returns the channel to the second selection address of terminal 0.
+fn channel_back() -> Result<Channel, StoreFault> {
+    match Address::read(b"c") {
+        Ok(selection) => Ok(Channel::To { selection }),
+        Err(_) => Err(StoreFault::Refused),
+    }
+}
+
+/// The doubt of the control station fits, that of the terminal does not, and both stay; then both
+/// fit; then the store of the control station is an older copy, on a channel in each direction.
+const HELD_BOTH_WAYS: &[Row] = &[
+    "control reconcile terminal => from 0: arrived but not known: 1\n\
+    refused: the stores do not fit together: one of them is an older copy",
+    "control status => from 0: arrived 1, printed 0\nto 0.0: offered 0, known 0, in doubt 0\n\
+    to 0.1: offered 3, known 0, in doubt 2\nfrom 1: arrived 0, printed 0\n\
+    to 1: offered 0, known 0, in doubt 0\n",
+];
+
+const RELEASED_BOTH_WAYS: &[Row] = &[
+    "terminal reconcile control => from 0: released at 2\nto 0.1: released at 2\n",
+    "terminal status => from 0: offered 3, known 2, in doubt 0\nto 0.0: arrived 0, printed 0\n\
+    to 0.1: arrived 2, printed 0\n",
+    "control status => from 0: arrived 2, printed 0\nto 0.0: offered 0, known 0, in doubt 0\n\
+    to 0.1: offered 3, known 2, in doubt 0\nfrom 1: arrived 0, printed 0\n\
+    to 1: offered 0, known 0, in doubt 0\n",
+];
+
+const OLDER_BOTH_WAYS: &[Row] = &[
+    "terminal reconcile control => from 0: known but not arrived: 1\n\
+    to 0.1: arrived but not known: 1\n\
+    refused: the stores do not fit together: one of them is an older copy",
+];
+
+#[test]
+fn each_channel_of_two_stores_is_compared(rt: HostRuntime) -> Result<(), Fail> {
+    let alloc = rt.alloc();
+    let mut machine = in_doubt(alloc)?;
+    told(alloc, &mut machine, "control offer 0.1 cards.txt", "")?;
+    let back = channel_back()?;
+    keep(&mut machine, "control", &[know(&back, 0, 2)])?;
+    keep(&mut machine, "terminal", &[arrive(&back, "BACK")?])?;
+    keep(&mut machine, "terminal", &[arrive(&back, "BACK")?])?;
+    hear(&mut machine, "ONE")?;
+    assert_eq!(rt; first_wrong(alloc, &mut machine, HELD_BOTH_WAYS), None);
+    hear(&mut machine, "TWO")?;
+    assert_eq!(rt; first_wrong(alloc, &mut machine, RELEASED_BOTH_WAYS), None);
+    keep(&mut machine, "terminal", &[know(&from_terminal()?, 3, 0)])?;
+    keep(&mut machine, "terminal", &[arrive(&back, "BACK")?])?;
+    assert_eq!(rt; first_wrong(alloc, &mut machine, OLDER_BOTH_WAYS), None);
     Ok(())
 }
 
