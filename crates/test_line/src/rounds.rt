@@ -1,7 +1,7 @@
 //! The number of transmissions of a visit and of a round, which deliver all waiting records.
 
 use crate::channels::{has_count, offer};
-use crate::fixtures::{carry_on, line_of};
+use crate::fixtures::{carry_on, go_on, line_of};
 use crate::play::pending_name;
 use bsc_control::Way::{FromTerminal, ToTerminal};
 use bsc_line::{Line, LineError};
@@ -57,6 +57,35 @@ fn a_round_delivers_what_waits(rt: HostRuntime) -> Result<(), Fail> {
         assert!(rt; line.round() == *round);
         carry_on(&mut line, *round)?;
         assert!(rt; pending_name(&line) == "A" && has_each(&line, *counts));
+    }
+    Ok(())
+}
+
+/// Plays 999 transmissions and silences, and loses each transmission whose number is a multiple of
+/// `period`.
+fn lose_each<A: Allocator>(line: &mut Line<A>, period: usize) -> Result<(), LineError> {
+    for number in 1..1000usize {
+        if number.checked_rem(period) == Some(0) && line.pending().is_some() {
+            line.carry(None)?;
+        } else {
+            go_on(line)?;
+        }
+    }
+    Ok(())
+}
+
+#[test]
+fn records_arrive_over_a_line_that_loses_each_fifth(rt: HostRuntime) -> Result<(), Fail> {
+    let memory = Refusing::new(rt.alloc());
+    for period in [5usize, 7, 11] {
+        let terminals = two_terminals_by_three();
+        let mut line = line_of(rt.alloc(), &memory, setup(3)?, &terminals, &[0, 1])?;
+        offer_each(&mut line, [100, 100, 0])?;
+        lose_each(&mut line, period)?;
+        assert!(rt;
+            line.trusted() && has_each(&line, [100, 100, 0]),
+            "{period}"
+        );
     }
     Ok(())
 }
