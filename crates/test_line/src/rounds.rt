@@ -9,6 +9,7 @@ use std::alloc::Allocator;
 use std::test::Fail;
 use test_alloc::Refusing;
 use test_fixtures::lines::{setup, two_terminals_by_three};
+use test_fixtures::octets::{CALL_POLL_A, TEXT_HI};
 
 /// The poll list, the numbers of empty records from terminal 0 and to its two addresses, the
 /// numbers of transmissions of a visit of it, and of a round after which it is polled. A visit of
@@ -86,6 +87,38 @@ fn records_arrive_over_a_line_that_loses_each_fifth(rt: HostRuntime) -> Result<(
             line.trusted() && has_each(&line, [100, 100, 0]),
             "{period}"
         );
+    }
+    Ok(())
+}
+
+/// Whether the line is trusted after the transmission of this number of a poll, counted from 0, was
+/// heard as these octets.
+fn is_trusted_after<A: Allocator>(
+    line: &mut Line<A>,
+    place: u64,
+    octets: &[u8],
+) -> Result<bool, LineError> {
+    line.offer_at(0, b"HI")?;
+    line.silence()?;
+    carry_on(line, place)?;
+    line.carry(Some(octets))?;
+    Ok(line.trusted())
+}
+
+#[test]
+fn one_inverted_bit_that_all_hear_never_ends_trust(rt: HostRuntime) -> Result<(), Fail> {
+    let memory = Refusing::new(rt.alloc());
+    for (place, sent) in [(0u64, CALL_POLL_A), (1, TEXT_HI)] {
+        for bit in 0..72usize {
+            let mut heard = Vec::from_slice(rt.alloc(), sent)?;
+            if let Some(octet) = heard.get_mut(bit / 8) {
+                *octet ^= 1u8 << (bit % 8);
+            }
+            let terminals = two_terminals_by_three();
+            let mut line = line_of(rt.alloc(), &memory, setup(3)?, &terminals, &[0, 1])?;
+            let trusted = is_trusted_after(&mut line, place, heard.as_slice())?;
+            assert!(rt; trusted, "bit {bit} of transmission {place}");
+        }
     }
     Ok(())
 }

@@ -158,21 +158,6 @@ fn outcome(alloc: Global, place: usize, octets: &[u8]) -> Result<(bool, bool), F
     Ok((watched.line.pending().is_some(), watched.line.trusted()))
 }
 
-#[test]
-fn one_inverted_bit_never_ends_trust(rt: HostRuntime) -> Result<(), Fail> {
-    for (place, octets) in [(0, CALL_POLL_A), (1, TEXT_HI)] {
-        for bit in 0..72usize {
-            let mut heard = Vec::from_slice(rt.alloc(), octets)?;
-            if let Some(octet) = heard.get_mut(bit / 8) {
-                *octet ^= 1u8 << (bit % 8);
-            }
-            let (_, trusted) = outcome(rt.alloc(), place, heard.as_slice())?;
-            assert!(rt; trusted, "bit {bit} of transmission {place}");
-        }
-    }
-    Ok(())
-}
-
 /// The transmission is the EOT of terminal 0 that ends its bid; the control station then calls B.
 #[test]
 fn eot_is_heard_without_pad_and_after_2047_syn(rt: HostRuntime) -> Result<(), Fail> {
