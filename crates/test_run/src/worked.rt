@@ -4,6 +4,7 @@ use bsc_line::LineError;
 use bsc_run::RunError;
 
 /// A script on the line of two terminals, and what it does if nothing goes wrong.
+#[derive(Clone, Copy)]
 pub(crate) struct Worked {
     pub(crate) script: &'static str,
 

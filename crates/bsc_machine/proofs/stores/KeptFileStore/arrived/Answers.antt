@@ -9,5 +9,5 @@ returns-clause-finds c =
     subst
     (λ m. IfOk c.arrived.result
     (λ it. ghosts.finds_arrived c.args.channel.now m c.args.more it c.args.self.now
-    (record { table = c.arrived.new.self })))
+    (record { paths = c.args.self.now.paths; table = c.arrived.new.self })))
     back c.arrived.ensures.finds
