@@ -82,21 +82,35 @@ const CASES: &[Case] = &[
     ),
 ];
 
+/// Returns the channel to terminal 0 at its second address.
+fn second() -> Result<Channel, Fail> {
+    let selection = Address::read(b"c")?;
+    Ok(Channel::To { selection })
+}
+
+/// Returns the change by which a record is offered there.
+fn offered() -> Result<Change, Fail> {
+    let (channel, record) = (second()?, Record::read(b"ONE", 80)?);
+    Ok(Change::Offered { channel, record })
+}
+
+/// Returns the change by which it is in doubt.
+fn doubted() -> Result<Change, Fail> {
+    let (channel, known, in_doubt) = (second()?, 0, 1);
+    Ok(Change::Known {
+        channel,
+        known,
+        in_doubt,
+    })
+}
+
 /// Returns a store, with a record in doubt on the second channel or not, of which this many commits
 /// succeed.
 fn store_of(alloc: Global, is_doubtful: bool, left: u32) -> Result<Memory, Fail> {
     let mut store = Memory::new(alloc);
     if is_doubtful {
-        let selection = Address::read(b"c")?;
-        let channel = Channel::To { selection };
-        let record = Record::read(b"ONE", 80)?;
-        store.commit(&[Change::Offered { channel, record }])?;
-        let (known, in_doubt) = (0, 1);
-        store.commit(&[Change::Known {
-            channel,
-            known,
-            in_doubt,
-        }])?;
+        store.commit(&[offered()?])?;
+        store.commit(&[doubted()?])?;
     }
     store.left = left;
     Ok(store)

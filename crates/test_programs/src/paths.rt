@@ -46,10 +46,10 @@ fn a_path_is_in_use_while_somebody_listens(rt: HostRuntime) -> Result<(), Fail> 
 /// Whether a station listens at this path, and nothing of how its socket was made is left there.
 fn has_only(rt: &HostRuntime, folder: &str, path: &str) -> Result<bool, Fail> {
     let _clients = Clients::listen(rt, rt.alloc(), ServedAt::Path { path })?;
-    let mut names = 0;
+    let mut names = 0usize;
     for entry in fs::read_dir(rt, folder)? {
         let _ = entry?;
-        names += 1;
+        names = names.saturating_add(1);
     }
     Ok(is_reached(rt, path) && names == 1)
 }
