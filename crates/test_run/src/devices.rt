@@ -1,7 +1,9 @@
 //! Each call of each stream and of the writers goes wrong in turn: it fails, is interrupted, or
 //! moves no octet. The same is tried with calls that move at most one octet each.
 
-use crate::watched::{Connections, NO_TROUBLE, Part, Plan, RunWatch, Seen, Trouble, When};
+use crate::watched::{
+    Connections, NO_TROUBLE, Part, Plan, RunWatch, Seen, Trouble, When, watched_writer,
+};
 use crate::worked::{WORKED, Worked};
 use crate::written::{Case, Written};
 use bsc_control::Way;
@@ -209,17 +211,17 @@ fn try_line(alloc: Global, worked: &Worked, plan: Plan) -> Result<usize, Fail> {
     let (terminals, poll_list) = (config.terminal_list(), config.poll_list());
     let made = Line::new(alloc, config.setup(), terminals, poll_list);
     let mut line = on_heap(alloc, made)?;
-    let mut written = Written::new(alloc, &watch);
-    let (out, trace) = (&mut written.out, &mut written.trace);
+    let mut out = watched_writer(alloc, &watch, Part::Writer);
+    let mut trace = watched_writer(alloc, &watch, Part::Tracer);
     let steps = case.script.steps();
     let _ = run_on(
         alloc,
         &mut line,
         steps,
         &mut cable,
-        out,
+        &mut out,
         true,
-        trace,
+        &mut trace,
         &mut Unmetered,
     );
     if line.terminals() != 2 || line.addresses(0) != 1 {
@@ -227,7 +229,7 @@ fn try_line(alloc: Global, worked: &Worked, plan: Plan) -> Result<usize, Fail> {
     }
     let up = line.spooled(0, Way::FromTerminal).len();
     let down = line.spooled(0, Way::ToTerminal(0)).len();
-    if up.saturating_add(down) != count_arrived(&written.trace.inner) {
+    if up.saturating_add(down) != count_arrived(&trace.inner) {
         return Err(Fail::new("other records"));
     }
     Ok(watch.seen().troubles)
