@@ -29,22 +29,41 @@ fn record(text: &str) -> Result<Record, StoreFault> {
     }
 }
 
+/// Returns the change by which a record is offered.
+fn offered(text: &str) -> Result<Change, StoreFault> {
+    let (channel, record) = (channel()?, record(text)?);
+    Ok(Change::Offered { channel, record })
+}
+
+/// Returns the change by which a record arrives.
+fn arrived(text: &str) -> Result<Change, StoreFault> {
+    let (channel, record) = (channel()?, record(text)?);
+    Ok(Change::Arrived { channel, record })
+}
+
+/// Returns the change by which a record is known, and another one is in doubt.
+fn known() -> Result<Change, StoreFault> {
+    let (channel, known, in_doubt) = (channel()?, 1, 1);
+    Ok(Change::Known {
+        channel,
+        known,
+        in_doubt,
+    })
+}
+
+/// Returns the change by which a record is printed.
+fn printed() -> Result<Change, StoreFault> {
+    let (channel, count) = (channel()?, 1);
+    Ok(Change::Printed { channel, count })
+}
+
 /// Keeps that two records were offered, of which one is known and one in doubt, and that one
 /// arrived and was printed.
 fn keep<S: Store>(store: &mut S, text: &str) -> Result<(), StoreFault> {
-    let channel = channel()?;
-    for text in ["SENT FIRST", text] {
-        let record = record(text)?;
-        store.commit(&[Change::Offered { channel, record }])?;
-    }
-    let record = record(text)?;
-    store.commit(&[Change::Arrived { channel, record }])?;
-    let known = Change::Known {
-        channel,
-        known: 1,
-        in_doubt: 1,
-    };
-    store.commit(&[known, Change::Printed { channel, count: 1 }])
+    store.commit(&[offered("SENT FIRST")?])?;
+    store.commit(&[offered(text)?])?;
+    store.commit(&[arrived(text)?])?;
+    store.commit(&[known()?, printed()?])
 }
 
 /// What is kept, in numbers.
