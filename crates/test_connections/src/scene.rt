@@ -330,29 +330,31 @@ fn goes<R: Read + Drop, W: Write + Drop, S: Waiter<R, W>>(
     }
 }
 
-/// The first word of a script that does not happen, if there is one.
-fn first_wrong<'s, R: Read + Drop, W: Write + Drop, S: Waiter<R, W>>(
+/// The place of the first word of a script that does not happen, if there is one.
+fn first_wrong<R: Read + Drop, W: Write + Drop, S: Waiter<R, W>>(
     scene: &mut Scene<'_>,
     sockets: &mut S,
     connections: &mut Vec<(R, W)>,
-    script: &'s str,
-) -> Option<&'s str> {
+    script: &str,
+) -> Option<usize> {
+    let mut place = 0usize;
     for word in script.split(' ') {
         if !goes(scene, sockets, connections, &Word::read(word)) {
-            return Some(word);
+            return Some(place);
         }
+        place = place.saturating_add(1);
     }
     None
 }
 
 /// The same at a station with these settings on this machine, that waits for this many peers first.
-fn first_wrong_at<'s, N: Net + Clock>(
+fn first_wrong_at<N: Net + Clock>(
     machine: &N,
     listening: Listening,
     (count, settings): (usize, ConnectionSettings),
     scene: &mut Scene<'_>,
-    script: &'s str,
-) -> Result<Option<&'s str>, SocketsError> {
+    script: &str,
+) -> Result<Option<usize>, SocketsError> {
     let (alloc, wanted) = (scene.rt.alloc(), peers(count));
     let mut begun = begin(machine, alloc, listening, wanted, settings, &mut Untold)?;
     let begun = &mut *begun;
@@ -400,7 +402,7 @@ pub(crate) fn play(
     }
     let wanted = (count, settings);
     match first_wrong_at(&machine, listening, wanted, &mut scene, script)? {
-        Some(word) => Err(Fail::new(format_args!("{word} of {script}"))),
+        Some(place) => Err(Fail::new(format_args!("word {place} of {script}"))),
         None => Ok(()),
     }
 }
