@@ -7,6 +7,7 @@ use crate::meeting::{Untold, begin, bound, peer, peers};
 use crate::waits::wait_goes;
 use bsc_connections::{Awaited, Handled, Pace, Waiter};
 use bsc_sockets::{ConnectionSettings, Listening, SocketsError};
+use std::alloc::Allocator;
 use std::io::{ErrorKind, Read, Write};
 use std::net::{Net, Shutdown, SocketAddr, TcpStream};
 use std::os::fd::AsRawFd;
@@ -255,7 +256,7 @@ fn connection_goes<R: Read, W: Write>(
 }
 
 /// Closes the connection at this place, if there is one.
-fn drops<R: Drop, W: Drop>(connections: &mut Vec<(R, W)>, place: usize) -> bool {
+fn drops<R: Drop, W: Drop, A: Allocator>(connections: &mut Vec<(R, W), A>, place: usize) -> bool {
     let is_there = place < connections.len();
     if is_there {
         drop(connections.remove(place));
@@ -264,9 +265,9 @@ fn drops<R: Drop, W: Drop>(connections: &mut Vec<(R, W)>, place: usize) -> bool 
 }
 
 /// Whether the peer that connected takes this place.
-fn joins_at<R: Drop, W: Drop, S: Waiter<R, W>>(
+fn joins_at<R: Drop, W: Drop, A: Allocator, S: Waiter<R, W>>(
     sockets: &mut S,
-    connections: &mut Vec<(R, W)>,
+    connections: &mut Vec<(R, W), A>,
     place: usize,
 ) -> bool {
     match sockets.join(place) {
@@ -296,9 +297,9 @@ fn is_told<R, W, S: Waiter<R, W>>(sockets: &mut S, word: &Word<'_>) -> bool {
 /// Whether what a word says of the station happens: `drops:PLACE` closes a connection;
 /// `joins:PLACE`, the peer that connected takes this place; `lacks:PLACE`, there is none that may;
 /// `may` and `late`, what is sent now is in time or not.
-fn station_goes<R: Drop, W: Drop, S: Waiter<R, W>>(
+fn station_goes<R: Drop, W: Drop, A: Allocator, S: Waiter<R, W>>(
     sockets: &mut S,
-    connections: &mut Vec<(R, W)>,
+    connections: &mut Vec<(R, W), A>,
     word: &Word<'_>,
 ) -> bool {
     match word.verb {
@@ -312,10 +313,10 @@ fn station_goes<R: Drop, W: Drop, S: Waiter<R, W>>(
 }
 
 /// Whether what a word says happens.
-fn goes<R: Read + Drop, W: Write + Drop, S: Waiter<R, W>>(
+fn goes<R: Read + Drop, W: Write + Drop, A: Allocator, S: Waiter<R, W>>(
     scene: &mut Scene<'_>,
     sockets: &mut S,
-    connections: &mut Vec<(R, W)>,
+    connections: &mut Vec<(R, W), A>,
     word: &Word<'_>,
 ) -> bool {
     if let Some(goes) = connection_goes(scene.rt, connections, word) {
@@ -331,10 +332,10 @@ fn goes<R: Read + Drop, W: Write + Drop, S: Waiter<R, W>>(
 }
 
 /// The place of the first word of a script that does not happen, if there is one.
-fn first_wrong<R: Read + Drop, W: Write + Drop, S: Waiter<R, W>>(
+fn first_wrong<R: Read + Drop, W: Write + Drop, A: Allocator, S: Waiter<R, W>>(
     scene: &mut Scene<'_>,
     sockets: &mut S,
-    connections: &mut Vec<(R, W)>,
+    connections: &mut Vec<(R, W), A>,
     script: &str,
 ) -> Option<usize> {
     let mut place = 0usize;
