@@ -36,12 +36,17 @@ const SENT: &[(&str, &[u8])] = &[
     ("7ETB", TEXT_FIRST_SEVEN),
 ];
 
+/// Whether a transmission has these octets.
+fn has_octets(wire: &Wire, octets: &[u8]) -> bool {
+    wire.as_slice() == octets
+}
+
 /// The name of a transmission.
 fn name_of(sent: &Transmission<'_>) -> &'static str {
     let mut wire = Wire::new();
     encode(&sent.message, &mut wire);
     for (name, octets) in SENT {
-        if wire.as_slice() == *octets {
+        if has_octets(&wire, octets) {
             return *name;
         }
     }
