@@ -8,8 +8,8 @@ use std::net::{Net, SocketAddr, TcpListener, TcpStream};
 use std::time::{Clock, Duration};
 
 /// What happens in a later reading of the clock: the number of that reading, 1 for the next one;
-/// how far the clock moves on before it; and what the peer sends.
-type Due = (u32, Duration, &'static [u8]);
+/// how far the clock moves on before it; and the octet that the peer sends, if it sends one.
+type Due = (u32, Duration, Option<u8>);
 
 /// What the far end of a connection has read: the number of readings of the clock meanwhile, the
 /// number of octets, and whether they are those that it has to read.
@@ -74,9 +74,9 @@ impl<'a> Machine<'a> {
         self.ahead.set(self.ahead.get().saturating_add(time));
     }
 
-    /// Moves the clock on and has the peer send these octets when it is read after the next time.
-    pub(crate) fn happens_later(&self, time: Duration, octets: &'static [u8]) {
-        self.due.set(Some((2, time, octets)));
+    /// Moves the clock on and has the peer send this octet when it is read after the next time.
+    pub(crate) fn happens_later(&self, time: Duration, octet: Option<u8>) {
+        self.due.set(Some((2, time, octet)));
     }
 
     /// What the far end has read by now.
@@ -86,17 +86,17 @@ impl<'a> Machine<'a> {
 
     /// Counts a reading, and lets happen what is due.
     fn happens(&self) {
-        let Some((readings, time, octets)) = self.due.get() else {
+        let Some((readings, time, octet)) = self.due.get() else {
             return;
         };
         if readings > 1 {
-            self.due.set(Some((readings - 1, time, octets)));
+            self.due.set(Some((readings - 1, time, octet)));
             return;
         }
         self.due.set(None);
         self.passes(time);
-        if let Some(mut far) = self.far {
-            let _ = far.write_all(octets);
+        if let (Some(mut far), Some(octet)) = (self.far, octet) {
+            let _ = far.write_all(&[octet]);
         }
     }
 

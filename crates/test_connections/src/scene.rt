@@ -112,7 +112,7 @@ impl Scene<'_> {
     /// Lets an hour but for a tenth of a second pass in the next wait, once its pause has begun.
     pub(crate) fn lets_an_hour_pass(&self) {
         self.machine
-            .happens_later(Duration::from_millis(3_599_900), b"");
+            .happens_later(Duration::from_millis(3_599_900), None);
     }
 
     /// The peer with this number.
@@ -145,7 +145,7 @@ impl Scene<'_> {
         match word.verb {
             "comes" => Some(self.comes()),
             "later" => {
-                self.machine.happens_later(Duration::ZERO, b"x");
+                self.machine.happens_later(Duration::ZERO, Some(b'x'));
                 Some(true)
             }
             "minutes" => {
