@@ -113,6 +113,11 @@ to 1: offered 0, known 0, spooled 0
 trusted
 ";
 
+/// The number of line feeds in a text.
+fn count_lines(text: &[u8]) -> usize {
+    text.iter().filter(|octet| **octet == b'\n').count()
+}
+
 #[test]
 fn a_script_may_be_as_long_as_an_input(rt: HostRuntime) -> Result<(), Fail> {
     let (alloc, words) = (rt.alloc(), "run line.toml -");
@@ -122,8 +127,7 @@ fn a_script_may_be_as_long_as_an_input(rt: HostRuntime) -> Result<(), Fail> {
     }
     let most = ask(alloc, words, &script, SILENT, &Record::new(alloc))?;
     assert!(rt; most.status == 0 && most.out.ends_with(NOTHING_DELIVERED));
-    let lines = most.out.iter().filter(|octet| **octet == b'\n').count();
-    assert_eq!(rt; lines, 160_005);
+    assert_eq!(rt; count_lines(&most.out), 160_005);
     script.push('\n')?;
     let more = ask(alloc, words, &script, SILENT, &Record::new(alloc))?;
     assert!(rt; more.is("", "bscline: input too long\n", 1));
