@@ -5,9 +5,8 @@ ghost use Rattle.bsc_feed.specs.Channels.{channel_at, channel_in, split_value, t
 ghost use Rattle.bsc_feed.specs.Channels.{select_in as select};
 
 use crate::number::{select_of, terminal_of};
-use crate::words::{spells, split_word};
 use bsc_directory::Way;
-use bsc_input::split_at_first;
+use bsc_input::{spells, split_at_first, split_word};
 
 /// A channel, by its name: a terminal, by its number on the line, and the direction. Whether the
 /// line has it is not said.

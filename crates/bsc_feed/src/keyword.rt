@@ -3,7 +3,7 @@
 ghost use Rattle.std.specs.Prelude.{◌≡◌};
 ghost use Rattle.bsc_feed.specs.Commands.{keyword_of};
 
-use crate::words::spells;
+use bsc_input::spells;
 
 /// The first word of a command.
 #[derive(Clone, Copy)]

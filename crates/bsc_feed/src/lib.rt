@@ -43,7 +43,6 @@ mod served;
 mod states;
 mod text;
 mod told;
-mod words;
 
 pub use channel::Channel;
 pub use client::Client;

@@ -11,9 +11,8 @@ ghost use Rattle.bsc_feed.specs.Channels.{channel_at};
 use crate::channel::{Split, split_channel};
 use crate::keyword::{Keyword, read_keyword};
 use crate::number::count_of;
-use crate::words::{spells, split_word};
 use crate::{Channel, Command, Fault};
-use bsc_input::read_octets;
+use bsc_input::{read_octets, spells, split_word};
 use std::alloc::Allocator;
 
 /// Returns the command of a line, of which the line feed and one carriage return before it are

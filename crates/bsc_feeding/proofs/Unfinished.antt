@@ -1,7 +1,7 @@
 -- A command with more than three words.
 use Rattle.std.proofs.Common.{◌≡◌, ◌<◌, ◌==◌, ℕ, List, [], ◌∷◌, false, length, refl, arith}
 use Rattle.std.proofs.lemmas.List.Splits.{length-slice_split}
-use Rattle.bsc_input.specs.Parts.{parts_at}
+use Rattle.bsc_input.specs.Words.{words_of}
 use Rattle.bsc_feeding.specs.Commands.{is_unfinished}
 
 unfinished_four : (a b c : List ℕ) (parts : List (List ℕ)) → 0 < length parts
@@ -11,7 +11,7 @@ unfinished_four a b c (d ∷ parts) h = refl
 
 -- A text has at least one word, so that three words before it are not all.
 pub unfinished_more : (a b c text : List ℕ)
-    → is_unfinished (a ∷ b ∷ c ∷ parts_at 32 text) ≡ false
+    → is_unfinished (a ∷ b ∷ c ∷ words_of text) ≡ false
 unfinished_more a b c text =
-    unfinished_four a b c (parts_at 32 text)
+    unfinished_four a b c (words_of text)
     (omega (arith, length-slice_split (λ octet. octet == 32) text))

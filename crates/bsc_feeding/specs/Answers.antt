@@ -6,9 +6,9 @@ use Rattle.std.specs.Str.{bytes_eq}
 use Rattle.std.specs.Io.KnownBytes.{Appends}
 use Rattle.bsc_input.specs.Lines.{parts_of}
 use Rattle.bsc_input.specs.Reading.{ReadsLine}
+use Rattle.bsc_input.specs.Words.{first_word}
 use Rattle.bsc_input.specs.declared.reading.LineEnd.TheVariants.{LineFeed, InputEnd}
 use Rattle.bsc_print.specs.Lines.{in_lines}
-use Rattle.bsc_feeding.specs.Commands.{first_word}
 use Rattle.bsc_feeding.specs.declared.answers.Kind.{Kind}
 use Rattle.bsc_feeding.specs.declared.answers.Kind.TheVariants.{Done, Refused, News}
 

@@ -6,7 +6,7 @@ use Rattle.std.specs.List.{flat_map, list_any}
 use Rattle.std.specs.Str.{bytes_eq}
 use Rattle.std.specs.Str.Lines.{strip_carriage_return}
 use Rattle.bsc_input.specs.Lines.{parts_of}
-use Rattle.bsc_input.specs.Parts.{before_octet, parts_at}
+use Rattle.bsc_input.specs.Words.{first_word, words_of}
 
 -- The words, with one space between any two.
 abbrev pub joined : List (List ℕ) → List ℕ
@@ -17,10 +17,6 @@ joined (word ∷ words) = word ++ flat_map (λ next. 32 ∷ next) words
 abbrev pub has_feed : List ℕ → Bool
 has_feed text = list_any (λ octet. octet == 10) text
 
--- The first word of a line.
-abbrev pub first_word : List ℕ → List ℕ
-first_word line = before_octet 32 line
-
 -- Whether these words of a command offer a record on a channel, and there is no text after them.
 abbrev pub is_unfinished : List (List ℕ) → Bool
 is_unfinished (word ∷ way ∷ place ∷ []) =
@@ -29,7 +25,7 @@ is_unfinished _ = false
 
 -- Whether the command offers a record on a channel, and has no text after the channel.
 abbrev pub takes_texts : List ℕ → Bool
-takes_texts command = is_unfinished (parts_at 32 command)
+takes_texts command = is_unfinished (words_of command)
 
 -- Whether the lines of the input are sent, each after the text, and the text. With no words each
 -- line is a command; after an offer without a text each line is one.

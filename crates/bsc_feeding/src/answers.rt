@@ -3,7 +3,7 @@
 ghost use Rattle.std.specs.Prelude.{◌≡◌};
 ghost use Rattle.bsc_feeding.specs.Answers.{is_fault, kind_of as kind_shown};
 
-use crate::words::begins_with;
+use bsc_input::{spells, split_word};
 
 /// What a line of a station is.
 #[derive(Clone, Copy)]
@@ -34,9 +34,10 @@ impl Kind {
 pub(crate) fn kind_of(line: &[u8]) -> Kind
     ensures { result ≡ kind_shown line.now }
 {
-    if begins_with(line, "ok") {
+    let (word, _) = split_word(line);
+    if spells(word, "ok") {
         Kind::Done
-    } else if begins_with(line, "fault") {
+    } else if spells(word, "fault") {
         Kind::Refused
     } else {
         Kind::News

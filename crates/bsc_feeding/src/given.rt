@@ -8,8 +8,7 @@ ghost use Rattle.bsc_feeding.specs.Commands.{has_feed as feed_in, is_skipped as 
 ghost use Rattle.bsc_feeding.specs.Commands.{takes_texts as texts_after};
 
 use crate::FeedError;
-use crate::words::begins_with;
-use bsc_input::{split_at_first, without_return};
+use bsc_input::{spells, split_word, without_return};
 use std::alloc::{AllocError, Allocator};
 
 /// What the words of the command ask for.
@@ -84,19 +83,19 @@ fn has_feed(text: &[u8]) -> bool
 fn takes_texts(command: &[u8]) -> bool
     ensures { result ≡ texts_after command.now }
 {
-    let (_, rest) = split_at_first(command, b' ');
+    let (word, rest) = split_word(command);
     let Some(rest) = rest else {
         return false;
     };
-    let (_, rest) = split_at_first(rest, b' ');
+    let (_, rest) = split_word(rest);
     let Some(rest) = rest else {
         return false;
     };
-    let (_, rest) = split_at_first(rest, b' ');
+    let (_, rest) = split_word(rest);
     if let Some(_) = rest {
         return false;
     }
-    begins_with(command, "offer") || begins_with(command, "offer-hex")
+    spells(word, "offer") || spells(word, "offer-hex")
 }
 
 /// Whether a line is not sent: a station skips it, and gives no answer.
@@ -111,5 +110,5 @@ pub(crate) fn is_skipped(line: &[u8]) -> bool
 pub(crate) fn is_follow(line: &[u8]) -> bool
     ensures { result ≡ follows_channel line.now }
 {
-    begins_with(line, "follow")
+    spells(split_word(line).0, "follow")
 }

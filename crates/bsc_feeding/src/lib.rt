@@ -21,7 +21,6 @@ mod feeding;
 mod given;
 mod sending;
 mod stations;
-mod words;
 
 pub use error::FeedError;
 pub use feeding::feed;

@@ -1,5 +1,6 @@
 pub mod Hexadecimal
 pub mod Parts
+pub mod Words
 pub mod Lines
 pub mod Reading
 pub mod Texts

@@ -11,6 +11,7 @@ mod parts;
 mod reading;
 mod texts;
 mod unreadable;
+mod words;
 
 pub use hexadecimal::read_octets;
 pub use input::{InputError, MAX_INPUT, read_input};
@@ -19,3 +20,4 @@ pub use parts::split_at_first;
 pub use reading::{LineEnd, read_line};
 pub use texts::{Files, STANDARD_INPUT, TextError, read_text};
 pub use unreadable::Unreadable;
+pub use words::{spells, split_word};

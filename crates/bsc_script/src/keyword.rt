@@ -1,7 +1,8 @@
 //! The first words of the lines of a script.
 ghost use Rattle.std.specs.Prelude.{◌≡◌};
-ghost use Rattle.std.specs.Str.{bytes_eq};
 ghost use Rattle.bsc_script.specs.Events.{keyword_of};
+
+use bsc_input::spells;
 
 /// The first word of a line with an event.
 #[derive(Clone, Copy)]
@@ -19,13 +20,6 @@ pub(crate) enum Keyword {
     UrgentAt,
     UrgentFor,
     Release,
-}
-
-/// Whether the word consists of these characters.
-fn spells(word: &[u8], text: &str) -> bool
-    ensures { result ≡ bytes_eq word.now text.now }
-{
-    word == text.as_bytes()
 }
 
 /// Returns the keyword that the word spells, or `None` if it is not a keyword.

@@ -30,7 +30,6 @@ mod keyword;
 mod number;
 mod reading;
 mod script;
-mod words;
 
 pub use action::{Action, Step};
 pub use heard_octets::HeardOctets;

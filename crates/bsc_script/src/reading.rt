@@ -1,5 +1,6 @@
 //! Reads one line of a script.
 ghost use Rattle.std.specs.Prelude.{◌≡◌, [], IfOk, option_map, unwrap_or, true, false};
+ghost use Rattle.bsc_input.specs.Words.{words_of};
 ghost use Rattle.bsc_script.specs.Actions.{event_in};
 ghost use Rattle.bsc_script.specs.Events as events;
 ghost use Rattle.bsc_script.specs.Events.{event_alone, event_by, event_of, event_with, offer_at_of};
@@ -7,14 +8,13 @@ ghost use Rattle.bsc_script.specs.Events.{offer_for_of, offer_select_of, offer_t
 ghost use Rattle.bsc_script.specs.Events.{way_of};
 ghost use Rattle.bsc_script.specs.Numbers.{terminal_of};
 ghost use Rattle.bsc_script.specs.Transmissions.{item_of, items_of, transmission_of};
-ghost use Rattle.bsc_script.specs.Words.{words_of};
 
 use crate::heard_octets::read_transmission;
 use crate::keyword::{Keyword, read_keyword};
 use crate::number::{select, terminal};
-use crate::words::split_word;
 use crate::{Action, HeardOctets};
 use bsc_directory::Way;
+use bsc_input::split_word;
 use std::alloc::{AllocError, Allocator};
 
 /// Returns the event of the line, or `None` if the line is not an event.

@@ -3,20 +3,13 @@ use Rattle.std.specs.Prelude.{ℕ, ◌||◌, List, codes, Option, Some, None, op
 use Rattle.std.specs.Prelude.{if◌then◌else◌}
 use Rattle.std.specs.Option.{option_and_then}
 use Rattle.std.specs.Str.{bytes_eq}
-use Rattle.bsc_input.specs.Parts.{after_octet, before_octet}
+use Rattle.bsc_input.specs.Words.{after_word, first_word}
 use Rattle.bsc_ladder.specs.declared.row.Course.{Course}
 use Rattle.bsc_ladder.specs.declared.row.Course.TheVariants.{ToAll, ToOne, From}
 use Rattle.bsc_ladder.specs.declared.row.Fate.{Fate}
 use Rattle.bsc_trace.specs.Words.{column_in, fate_in}
 use Rattle.bsc_trace.specs.declared.speaking.Head.{Head}
 use Rattle.bsc_trace.specs.declared.speaking.Spoken.{Spoken}
-
--- The first word of a text, and the text after it and one space.
-abbrev pub first_word : List ℕ → List ℕ
-first_word text = before_octet 32 text
-
-abbrev pub after_word : List ℕ → Option (List ℕ)
-after_word text = after_octet 32 text
 
 -- The sender of a transmission, and the text after it.
 pub record HeadValue : Type 0 where

@@ -6,8 +6,8 @@ ghost use Rattle.bsc_trace.specs.Marks.{doubt_to, line_mark, mark_at as mark_wit
 ghost use Rattle.bsc_trace.specs.Marks.{marked_in, marked_of, named_at, numbered_in, numbered_of};
 ghost use Rattle.bsc_trace.specs.Marks.{selects_in, sign_in, terminal_mark, trust_mark};
 
-use crate::words::{read_column, spells, split_word};
-use bsc_input::split_at_first;
+use crate::words::read_column;
+use bsc_input::{spells, split_at_first, split_word};
 use bsc_ladder::{Mark, Place, Sign};
 
 /// A mark, and its text.

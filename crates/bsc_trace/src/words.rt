@@ -1,29 +1,11 @@
 //! The words of a line.
-ghost use Rattle.std.specs.Prelude.{◌≡◌, option_map};
+ghost use Rattle.std.specs.Prelude.{◌≡◌};
 ghost use Rattle.std.specs.Char.{is_ascii_digit};
 ghost use Rattle.std.specs.List.{list_all};
-ghost use Rattle.std.specs.Str.{bytes_eq};
-ghost use Rattle.bsc_input.specs.Parts.{after_octet, before_octet};
 ghost use Rattle.bsc_trace.specs.Words.{column_in, fate_in, is_time as is_time_text};
 
-use bsc_input::split_at_first;
+use bsc_input::spells;
 use bsc_ladder::Fate;
-
-/// Whether the word consists of these characters.
-pub(crate) fn spells(word: &[u8], text: &str) -> bool
-    ensures { result ≡ bytes_eq word.now text.now }
-{
-    word == text.as_bytes()
-}
-
-/// Returns the first word, and the text after the space that follows it; `None` if there is no
-/// space.
-pub(crate) fn split_word(text: &[u8]) -> (&[u8], Option<&[u8]>)
-    ensures word { result.0.now ≡ before_octet 32 text.now }
-    ensures rest { option_map (λ rest. rest.now) result.1 ≡ after_octet 32 text.now }
-{
-    split_at_first(text, b' ')
-}
 
 /// Whether all characters are decimal digits.
 fn are_digits(word: &[u8]) -> bool

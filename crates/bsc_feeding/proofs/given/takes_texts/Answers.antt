@@ -6,11 +6,11 @@ use Rattle.bsc_feeding.proofs.given.takes_texts.Goals as goal
 
 pub returns-in-Some-rest-2 : goal.returns-in-Some-rest-2
 returns-in-Some-rest-2 c =
-    let word = c.split_at_first.result.0.now in
-    let way = c.split_at_first-2.result.0.now in
-    let place = c.split_at_first-3.result.0.now in
-    let first = rw c.in-Some.is at c.split_at_first.ensures.more in
-    let second = rw c.in-Some-rest.is at c.split_at_first-2.ensures.more in
-    let third = rw c.in-Some-rest-2.is at c.split_at_first-3.ensures.more in
+    let word = c.split_word.result.0.now in
+    let way = c.split_word-2.result.0.now in
+    let place = c.split_word-3.result.0.now in
+    let first = rw c.in-Some.is at c.split_word.ensures.more in
+    let second = rw c.in-Some-rest.is at c.split_word-2.ensures.more in
+    let third = rw c.in-Some-rest-2.is at c.split_word-3.ensures.more in
     sym (ap is_unfinished (first ∙ ap (λ l. word ∷ l) second ∙ ap (λ l. word ∷ way ∷ l) third)
     ∙ unfinished_more word way place c.in-Some-rest-2.field-0.now)

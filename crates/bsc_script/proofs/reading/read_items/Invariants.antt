@@ -1,7 +1,7 @@
 -- The items of the text are those read so far and those of the rest, which becomes shorter.
 use Rattle.std.proofs.Common.{◌≡◌, length}
 use Rattle.bsc_script.specs.Transmissions.{items_of}
-use Rattle.bsc_script.specs.Words.{words_of}
+use Rattle.bsc_input.specs.Words.{words_of}
 use Rattle.bsc_script.proofs.Items.{after_items}
 use Rattle.bsc_script.proofs.reading.read_items.Given as goal
 
