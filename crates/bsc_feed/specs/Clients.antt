@@ -2,8 +2,8 @@
 use Rattle.std.specs.Prelude.{◌≡◌, ℕ, ◌+◌, Bool, true, false, not, ◌&&◌, List, [], Option, Some}
 use Rattle.std.specs.Prelude.{None}
 use Rattle.std.specs.Prelude.{replicate}
+use Rattle.bsc_input.specs.Lines.{is_skipped}
 use Rattle.bsc_monitor.specs.declared.party.Party as party_of
-use Rattle.bsc_script.specs.Script as script
 use Rattle.bsc_feed.specs.declared.client.Client.{Client}
 use Rattle.bsc_feed.specs.declared.limits.TheConstants.{MAX_PLACES}
 use Rattle.bsc_feed.specs.declared.told.Told.{Told}
@@ -13,11 +13,11 @@ use Rattle.bsc_feed.specs.Following.{FollowsValue, TellsNext}
 use Rattle.bsc_feed.specs.Lines.{Fed, line_of}
 use Rattle.bsc_feed.specs.States.{IsNextPlace}
 
--- Whether a line is skipped: it is empty, or its first character is `#`. A line that is too long is
--- not.
-abbrev pub is_skipped : Option (List ℕ) → Bool
-is_skipped None = false
-is_skipped (Some line) = script.is_skipped line
+-- Whether a line of which this is read waits for its answer: one that is skipped does not, and one
+-- that is too long does.
+abbrev pub is_answered : Option (List ℕ) → Bool
+is_answered None = true
+is_answered (Some line) = not (is_skipped line)
 
 -- Nothing has arrived from the client, and it follows nothing.
 pub record IsNew (client : Client) : Type 0 where
@@ -33,7 +33,7 @@ TakesLine old octets taken ended new =
     Fed old.lines octets (taken, ended) new.lines
     × (new ≡ record old {
       lines = new.lines;
-      waits = ended && not (is_skipped (line_of new.lines.ended));
+      waits = ended && is_answered (line_of new.lines.ended);
     })
 
 -- The same, and none while a line waits, as the flag says.

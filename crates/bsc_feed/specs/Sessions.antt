@@ -1,5 +1,5 @@
 -- Whole sessions of a client: what it says, what it is told, and what becomes of the station.
-use Rattle.std.specs.Prelude.{◌≡◌, ℕ, ◌+◌, nat_eq, Bool, true, false, not, List, [], ◌∷◌, ◌++◌}
+use Rattle.std.specs.Prelude.{◌≡◌, ℕ, ◌+◌, nat_eq, Bool, true, false, List, [], ◌∷◌, ◌++◌}
 use Rattle.std.specs.Prelude.{length}
 use Rattle.std.specs.Prelude.{take, drop, filter, map, Option, Some, None, Result, Ok}
 use Rattle.std.specs.Prelude.{slice_get, if◌then◌else◌}
@@ -10,7 +10,7 @@ use Rattle.bsc_feed.specs.declared.fault.Fault.{Fault}
 use Rattle.bsc_feed.specs.declared.told.Told.{Told}
 use Rattle.bsc_feed.specs.declared.told.Told.TheVariants.{Arrived}
 use Rattle.bsc_feed.specs.Answering.{Serving, asked_of}
-use Rattle.bsc_feed.specs.Clients.{IsNew, Nexts, TakesOctets, is_skipped}
+use Rattle.bsc_feed.specs.Clients.{IsNew, Nexts, TakesOctets, is_answered}
 use Rattle.bsc_feed.specs.Commands.{Asked, follow}
 use Rattle.bsc_feed.specs.Lines.{AreLines, kept_of, line_of}
 use Rattle.bsc_feed.specs.Places.{end_at}
@@ -78,7 +78,7 @@ lines_in (event ∷ more) = line_of_event event ++ lines_in more
 
 -- Whether a line is heeded: it is not skipped.
 abbrev pub is_heeded : List ℕ → Bool
-is_heeded line = not (is_skipped (line_of line))
+is_heeded line = is_answered (line_of line)
 
 -- The line that waits for its answer, if one does.
 abbrev pub waiting_of : Client → List (List ℕ)

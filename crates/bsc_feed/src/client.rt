@@ -4,7 +4,7 @@ ghost use Rattle.std.specs.Prelude.{◌≡◌, Option, option_map};
 ghost use Rattle.bsc_feed.specs.Answering.{serving};
 ghost use Rattle.bsc_feed.specs.Offering.{OffersBy};
 ghost use Rattle.bsc_feed.specs.Clients.{IsNew, Nexts, TakesOctets, TellsState};
-ghost use Rattle.bsc_feed.specs.Clients.{is_skipped as skipped};
+ghost use Rattle.bsc_feed.specs.Clients.{is_answered as answered};
 ghost use Rattle.bsc_feed.specs.Texts.{IsWritten};
 ghost use Rattle.bsc_feed.specs.declared.told.Told.{Told as ToldValue};
 
@@ -14,6 +14,7 @@ use crate::states::next_place;
 use crate::text::write_told;
 use crate::told::Told;
 use crate::{ClientLines, Served};
+use bsc_input::is_skipped;
 use bsc_monitor::Party;
 use bsc_print::PrintError;
 use std::alloc::Allocator;
@@ -35,13 +36,13 @@ pub struct Client {
     follows: Follows,
 }
 
-/// Whether a line is skipped: it is empty, or begins with `#`. A line that is too long is not.
-fn is_skipped(line: Option<&[u8]>) -> bool
-    ensures { result ≡ skipped (option_map (λ l. l.now) line.entry) }
+/// Whether a line is answered: one that is skipped is not, and one that is too long is.
+fn is_answered(line: Option<&[u8]>) -> bool
+    ensures { result ≡ answered (option_map (λ l. l.now) line.entry) }
 {
     match line {
-        Some(line) => line.is_empty() || line[0] == b'#',
-        None => false,
+        Some(line) => !is_skipped(line),
+        None => true,
     }
 }
 
@@ -68,7 +69,7 @@ impl Client {
         }
         let (taken, ended) = self.lines.feed(octets);
         if ended {
-            self.waits = !is_skipped(self.lines.line());
+            self.waits = is_answered(self.lines.line());
         }
         taken
     }

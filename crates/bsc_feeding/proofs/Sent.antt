@@ -14,7 +14,7 @@ use Rattle.bsc_input.specs.Reading.{ReadsLine}
 use Rattle.bsc_input.specs.declared.reading.LineEnd.TheVariants.{LineFeed, InputEnd}
 use Rattle.bsc_feeding.specs.Answers.{EndsInFault, IsAnswer, TellsNoFault, count_done, is_done}
 use Rattle.bsc_feeding.specs.Answers.{is_fault, kind_of, line_shown, with_feed}
-use Rattle.bsc_feeding.specs.Commands.{commands_after, commands_of, is_follow, is_skipped}
+use Rattle.bsc_feeding.specs.Commands.{commands_after, commands_of, is_follow, is_unsent}
 use Rattle.bsc_feeding.specs.Commands.{unless_empty, without_last_empty}
 use Rattle.bsc_feeding.specs.Feeding.{Feeds, SendsEach, SendsSome, turned}
 use Rattle.bsc_feeding.specs.declared.answers.Kind.TheVariants.{Done, News, Refused}
@@ -87,22 +87,22 @@ pub some_nil : (a b : Option (List ℕ)) → SendsSome (Some []) false (turned a
 some_nil a b = record { sent = []; asked = refl; follow = refl; sends = sends_nil a b }
 
 -- A command that is skipped is not sent.
-pub some_skipped : (command : List ℕ) (a b : Option (List ℕ)) → is_skipped command ≡ true
+pub some_skipped : (command : List ℕ) (a b : Option (List ℕ)) → is_unsent command ≡ true
     → SendsSome (Some (commands_of false command [])) false (turned a a b b)
 some_skipped command a b skipped = record {
   sent = [];
-  asked = sym (filter_false (λ c. not (is_skipped c)) command [] (ap not skipped));
+  asked = sym (filter_false (λ c. not (is_unsent c)) command [] (ap not skipped));
   follow = refl;
   sends = sends_nil a b;
 }
 
 pub some_sent : (command : List ℕ) (follows : Bool) (a b c d : Option (List ℕ))
-    → is_skipped command ≡ false → follows ≡ is_follow command → Appends a b (with_feed command)
+    → is_unsent command ≡ false → follows ≡ is_follow command → Appends a b (with_feed command)
     → IsAnswer Done c d
     → SendsSome (Some (commands_of false command [])) follows (turned a b c d)
 some_sent command follows a b c d unskipped is said answer = record {
   sent = command ∷ [];
-  asked = sym (filter_true (λ c. not (is_skipped c)) command [] (ap not unskipped));
+  asked = sym (filter_true (λ c. not (is_unsent c)) command [] (ap not unskipped));
   follow = is ∙ one_any (is_follow command);
   sends = sends_one command a b c d said answer;
 }
@@ -163,7 +163,7 @@ commands_append : (text : List ℕ) (xs ys : List (List ℕ))
     ++ commands_after text (map strip_carriage_return ys)
 commands_append text xs ys =
     let after = (λ (line : List ℕ). text ++ line) in
-    let test = (λ (command : List ℕ). not (is_skipped command)) in
+    let test = (λ (command : List ℕ). not (is_unsent command)) in
     ap (λ l. filter test (map after l)) (map-append strip_carriage_return xs ys)
     ∙ ap (filter test)
     (map-append after (map strip_carriage_return xs) (map strip_carriage_return ys))

@@ -5,7 +5,7 @@ use Rattle.std.specs.Prelude.{List, [], ◌∷◌, ◌++◌, map, filter, codes}
 use Rattle.std.specs.List.{flat_map, list_any}
 use Rattle.std.specs.Str.{bytes_eq}
 use Rattle.std.specs.Str.Lines.{strip_carriage_return}
-use Rattle.bsc_input.specs.Lines.{parts_of}
+use Rattle.bsc_input.specs.Lines.{is_skipped, parts_of}
 use Rattle.bsc_input.specs.Words.{first_word, words_of}
 
 -- The words, with one space between any two.
@@ -36,14 +36,10 @@ IsGiven (word ∷ words) text takes_lines =
     × (text ≡ (if takes_texts (joined (word ∷ words)) then joined (word ∷ words) ++ 32 ∷ []
     else joined (word ∷ words)))
 
--- Whether nothing follows, or a `#`.
-abbrev pub is_comment : List ℕ → Bool
-is_comment [] = true
-is_comment (code ∷ rest) = code == 35
-
--- Whether a station skips the line, and gives no answer. It drops one carriage return at the end.
-abbrev pub is_skipped : List ℕ → Bool
-is_skipped line = is_comment (strip_carriage_return line)
+-- Whether a command is not sent: a station, which drops one carriage return at the end of a line,
+-- skips the line and gives no answer.
+abbrev pub is_unsent : List ℕ → Bool
+is_unsent command = is_skipped (strip_carriage_return command)
 
 -- Whether a line asks to be told what happens on a channel.
 abbrev pub is_follow : List ℕ → Bool
@@ -65,12 +61,12 @@ without_last_empty (part ∷ next ∷ parts) = part ∷ without_last_empty (next
 abbrev pub input_lines : List ℕ → List (List ℕ)
 input_lines octets = map strip_carriage_return (without_last_empty (parts_of octets))
 
--- The commands of these lines: this text and the line after it, for each that is not skipped.
+-- The commands of these lines: this text and the line after it, for each that is sent.
 abbrev pub commands_after : List ℕ → List (List ℕ) → List (List ℕ)
 commands_after text lines =
-    filter (λ command. not (is_skipped command)) (map (λ line. text ++ line) lines)
+    filter (λ command. not (is_unsent command)) (map (λ line. text ++ line) lines)
 
 -- The commands of a text, which is one command or stands before each line of the input.
 abbrev pub commands_of : Bool → List ℕ → List ℕ → List (List ℕ)
 commands_of true text octets = commands_after text (input_lines octets)
-commands_of false text octets = filter (λ command. not (is_skipped command)) (text ∷ [])
+commands_of false text octets = filter (λ command. not (is_unsent command)) (text ∷ [])

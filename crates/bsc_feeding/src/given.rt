@@ -4,11 +4,11 @@ ghost use Rattle.std.specs.Prelude.{◌≡◌, ◌∷◌, ◌++◌, IfErr, IfOk,
 ghost use Rattle.std.specs.List.{flat_map};
 ghost use Rattle.bsc_feeding.specs.Errors.{IsGivenError};
 ghost use Rattle.bsc_feeding.specs.Commands.{IsGiven, is_follow as follows_channel};
-ghost use Rattle.bsc_feeding.specs.Commands.{has_feed as feed_in, is_skipped as skipped, joined};
+ghost use Rattle.bsc_feeding.specs.Commands.{has_feed as feed_in, is_unsent as unsent, joined};
 ghost use Rattle.bsc_feeding.specs.Commands.{takes_texts as texts_after};
 
 use crate::FeedError;
-use bsc_input::{spells, split_word, without_return};
+use bsc_input::{is_skipped, spells, split_word, without_return};
 use std::alloc::{AllocError, Allocator};
 
 /// What the words of the command ask for.
@@ -99,11 +99,10 @@ fn takes_texts(command: &[u8]) -> bool
 }
 
 /// Whether a line is not sent: a station skips it, and gives no answer.
-pub(crate) fn is_skipped(line: &[u8]) -> bool
-    ensures { result ≡ skipped line.now }
+pub(crate) fn is_unsent(line: &[u8]) -> bool
+    ensures { result ≡ unsent line.now }
 {
-    let line = without_return(line);
-    line.is_empty() || line[0] == b'#'
+    is_skipped(without_return(line))
 }
 
 /// Whether a line asks to be told what happens on a channel.

@@ -11,7 +11,7 @@ ghost use Rattle.bsc_feeding.specs.Feeding.{SendsSome, turned};
 
 use crate::FeedError;
 use crate::exchange::exchange;
-use crate::given::{is_follow, is_skipped};
+use crate::given::{is_follow, is_unsent};
 use bsc_input::{InputError, LineEnd, read_line, without_return};
 use std::alloc::Allocator;
 use std::io::{BufRead, Write};
@@ -35,7 +35,7 @@ pub(crate) fn send_command<A: Allocator, B: BufRead, O: Write, W: Write>(
         EndsInFault (W.contents out.old) (W.contents out.new) }
     ensures failed { IfErr result IsAnswerError }
 {
-    if is_skipped(command) {
+    if is_unsent(command) {
         return Ok(false);
     }
     match exchange(alloc, command, heard, said, out) {

@@ -1,5 +1,5 @@
 -- The lines of a text.
-use Rattle.std.specs.Prelude.{ℕ, Bool, List, map}
+use Rattle.std.specs.Prelude.{ℕ, ◌==◌, Bool, true, List, [], ◌∷◌, map}
 use Rattle.std.specs.List.{list_all}
 use Rattle.std.specs.Str.Lines.{strip_carriage_return}
 use Rattle.bsc_input.specs.Hexadecimal.{is_space}
@@ -16,3 +16,8 @@ lines_of text = map strip_carriage_return (parts_of text)
 -- Whether the line is empty or has only spaces.
 abbrev pub is_blank : List ℕ → Bool
 is_blank line = list_all is_space line
+
+-- Whether the line is skipped: it is empty, or its first character is `#`.
+abbrev pub is_skipped : List ℕ → Bool
+is_skipped [] = true
+is_skipped (octet ∷ more) = octet == 35

@@ -15,7 +15,7 @@ mod words;
 
 pub use hexadecimal::read_octets;
 pub use input::{InputError, MAX_INPUT, read_input};
-pub use lines::{is_blank, split_line, without_return};
+pub use lines::{is_blank, is_skipped, split_line, without_return};
 pub use parts::split_at_first;
 pub use reading::{LineEnd, read_line};
 pub use texts::{Files, STANDARD_INPUT, TextError, read_text};

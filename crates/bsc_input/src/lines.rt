@@ -1,7 +1,7 @@
 //! The lines of the command's input.
 ghost use Rattle.std.specs.Prelude.{◌≡◌, ◌∷◌, ◌+◌, ◌≤◌, [], length, None, IfSome};
 ghost use Rattle.std.specs.Str.Lines.{strip_carriage_return};
-ghost use Rattle.bsc_input.specs.Lines.{is_blank as blank, parts_of};
+ghost use Rattle.bsc_input.specs.Lines.{is_blank as blank, is_skipped as skipped, parts_of};
 
 use crate::split_at_first;
 
@@ -33,4 +33,11 @@ pub fn is_blank(line: &[u8]) -> bool
     ensures { result ≡ blank line.now }
 {
     line.iter().all(|&octet| octet == b' ')
+}
+
+/// Whether the line is one that scripts and commands skip: it is empty, or begins with `#`.
+pub fn is_skipped(line: &[u8]) -> bool
+    ensures { result ≡ skipped line.now }
+{
+    line.is_empty() || line[0] == b'#'
 }

@@ -2,10 +2,11 @@
 use Rattle.std.proofs.Common.{◌≡◌, ◌+◌, ℕ, map, List, [], ◌∷◌, ◌++◌, Some, Ok, Err, true, false}
 use Rattle.std.proofs.Common.{refl, ap, sym, ◌∙◌, append_assoc, append-nil}
 use Rattle.std.proofs.lemmas.List.{map-append}
+use Rattle.bsc_input.specs.Lines.{is_skipped}
 use Rattle.bsc_script.specs.Actions.{NumberedEvent, event_in, numbered}
 use Rattle.bsc_script.specs.declared.action.Step.{Step}
 use Rattle.bsc_script.specs.Events.{event_of}
-use Rattle.bsc_script.specs.Script.{Reading, after_these, events_from, is_skipped}
+use Rattle.bsc_script.specs.Script.{Reading, after_these, events_from}
 
 pub after_these_more : (done : List NumberedEvent) (next : NumberedEvent) (rest : Reading)
     → after_these done (after_these (next ∷ []) rest) ≡ after_these (done ++ next ∷ []) rest

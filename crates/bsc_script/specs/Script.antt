@@ -1,14 +1,9 @@
 -- A whole script.
-use Rattle.std.specs.Prelude.{ℕ, ◌+◌, ◌==◌, Bool, true, List, [], ◌∷◌, ◌++◌, Option, Some, None}
+use Rattle.std.specs.Prelude.{ℕ, ◌+◌, List, [], ◌∷◌, ◌++◌, Option, Some, None}
 use Rattle.std.specs.Prelude.{Result, Ok, Err, if◌then◌else◌}
-use Rattle.bsc_input.specs.Lines.{lines_of}
+use Rattle.bsc_input.specs.Lines.{is_skipped, lines_of}
 use Rattle.bsc_script.specs.Events.{Event, event_of}
 use Rattle.bsc_script.specs.Actions.{NumberedEvent}
-
--- Whether a line is skipped: it is empty, or its first character is `#`.
-abbrev pub is_skipped : List ℕ → Bool
-is_skipped [] = true
-is_skipped (octet ∷ more) = octet == 35
 
 -- The result of reading lines: their events in order, each with the number of its line; or the
 -- number of the first line that is neither skipped nor an event.

@@ -2,11 +2,11 @@
 ghost use Rattle.std.specs.Prelude.{◌≡◌, ◌+◌, ◌<◌, ◌≤◌, ◌^◌, ℕ, IfOk, length, map};
 ghost use Rattle.bsc_script.specs.Actions.{event_in, numbered};
 ghost use Rattle.bsc_script.specs.Events.{event_of};
-ghost use Rattle.bsc_script.specs.Script.{events_of, is_skipped as skipped};
+ghost use Rattle.bsc_script.specs.Script.{events_of};
 
 use crate::reading::read_action;
 use crate::{Action, Step};
-use bsc_input::{split_line, without_return};
+use bsc_input::{is_skipped, split_line, without_return};
 use std::alloc::{AllocError, AllocFailed, Allocator};
 use std::marker::Model;
 use thiserror::Error;
@@ -68,13 +68,6 @@ impl<'a, A: Allocator> Script<'a, A> {
     {
         self.steps.as_slice()
     }
-}
-
-/// Whether the line is skipped: it is empty, or begins with `#`.
-fn is_skipped(line: &[u8]) -> bool
-    ensures { result ≡ skipped line.now }
-{
-    line.is_empty() || line[0] == b'#'
 }
 
 /// Reads the events of a text. Returns `NotAnEvent` with the number of the first wrong line, if

@@ -5,17 +5,17 @@ use Rattle.bsc_feeding.proofs.Errors.{error_moved}
 use Rattle.bsc_feeding.proofs.Sent.{answer_fault, some_sent, some_skipped}
 use Rattle.bsc_feeding.proofs.sending.send_command.Goals as goal
 
-pub returns-then-is_skipped-clause-sent : goal.returns-then-is_skipped-clause-sent
-returns-then-is_skipped-clause-sent g c =
+pub returns-then-is_unsent-clause-sent : goal.returns-then-is_unsent-clause-sent
+returns-then-is_unsent-clause-sent g c =
     some_skipped c.args.command.now (g.O.Write.contents c.args.said.now)
-    (g.W.Write.contents c.args.out.now) (sym c.is_skipped.ensures ∙ c.if-is_skipped.true)
+    (g.W.Write.contents c.args.out.now) (sym c.is_unsent.ensures ∙ c.if-is_unsent.true)
 
 pub returns-in-Ok-clause-sent : goal.returns-in-Ok-clause-sent
 returns-in-Ok-clause-sent g c =
     some_sent c.args.command.now c.is_follow.result
     (g.O.Write.contents c.args.said.now) (g.O.Write.contents c.exchange.new.said)
     (g.W.Write.contents c.args.out.now) (g.W.Write.contents c.exchange.new.out)
-    (sym c.is_skipped.ensures ∙ c.if-is_skipped.false) c.is_follow.ensures
+    (sym c.is_unsent.ensures ∙ c.if-is_unsent.false) c.is_follow.ensures
     c.in-Ok.ensures.said c.in-Ok.ensures.done
 
 pub returns-in-Err-clause-refused : goal.returns-in-Err-clause-refused
