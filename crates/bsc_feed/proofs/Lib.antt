@@ -1,6 +1,5 @@
 pub mod Kept
 pub mod Dividing
-pub mod Digits
 pub mod Quiet
 pub mod Steps
 pub mod Obeying

@@ -4,9 +4,8 @@ ghost use Rattle.std.specs.Prelude.{◌≡◌, option_map};
 ghost use Rattle.bsc_feed.specs.Channels.{channel_at, channel_in, split_value, to_in};
 ghost use Rattle.bsc_feed.specs.Channels.{select_in as select};
 
-use crate::number::{select_of, terminal_of};
 use bsc_directory::Way;
-use bsc_input::{spells, split_at_first, split_word};
+use bsc_input::{select_number, spells, split_at_first, split_word, terminal_number};
 
 /// A channel, by its name: a terminal, by its number on the line, and the direction. Whether the
 /// line has it is not said.
@@ -29,7 +28,7 @@ fn read_to(place: &[u8]) -> Option<Channel>
     ensures { result ≡ to_in place.now }
 {
     let (terminal, select) = split_at_first(place, b'.');
-    let terminal = terminal_of(terminal)?;
+    let terminal = terminal_number(terminal)?;
     let select = read_select(select)?;
     Some(Channel {
         terminal,
@@ -42,7 +41,7 @@ fn read_select(digit: Option<&[u8]>) -> Option<usize>
     ensures { result ≡ select (option_map (λ digit. digit.now) digit.entry) }
 {
     match digit {
-        Some(digit) => select_of(digit),
+        Some(digit) => select_number(digit),
         None => Some(0),
     }
 }
@@ -52,7 +51,7 @@ fn read_channel(direction: &[u8], place: &[u8]) -> Option<Channel>
     ensures { result ≡ channel_in direction.now place.now }
 {
     if spells(direction, "from") {
-        let terminal = terminal_of(place)?;
+        let terminal = terminal_number(place)?;
         Some(Channel {
             terminal,
             way: Way::FromTerminal,

@@ -1,2 +1,3 @@
 pub mod LineParts
 pub mod Splitting
+pub mod Digits

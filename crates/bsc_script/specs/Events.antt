@@ -5,13 +5,13 @@ use Rattle.std.specs.Option.{option_and_then}
 use Rattle.std.specs.Str.{bytes_eq}
 use Rattle.bsc_directory.specs.declared.way.Way.{Way}
 use Rattle.bsc_directory.specs.declared.way.Way.TheVariants.{FromTerminal, ToTerminal}
+use Rattle.bsc_input.specs.Numbers.{terminal_of, select_of}
 use Rattle.bsc_input.specs.Words.{first_word, after_word, words_of}
 use Rattle.bsc_script.specs.declared.keyword.Keyword.{Keyword}
 use Rattle.bsc_script.specs.declared.keyword.Keyword.TheVariants.{OfferAt, OfferFor, OfferTo, Carry}
 use Rattle.bsc_script.specs.declared.keyword.Keyword.TheVariants.{Lose, Heard, HeardEach, Silence}
 use Rattle.bsc_script.specs.declared.keyword.Keyword.TheVariants.{Ready, Unready, UrgentAt}
 use Rattle.bsc_script.specs.declared.keyword.Keyword.TheVariants.{UrgentFor, Release}
-use Rattle.bsc_script.specs.Numbers.{terminal_of, select_of}
 use Rattle.bsc_script.specs.Transmissions.{transmission_of, items_of}
 
 -- What happens on a line. Terminals and selection addresses are numbers, whether or not the line

@@ -1,4 +1,3 @@
-pub mod Numbers
 pub mod Transmissions
 pub mod Events
 pub mod Actions

@@ -27,7 +27,6 @@
 mod action;
 mod heard_octets;
 mod keyword;
-mod number;
 mod reading;
 mod script;
 

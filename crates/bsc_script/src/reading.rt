@@ -1,20 +1,19 @@
 //! Reads one line of a script.
 ghost use Rattle.std.specs.Prelude.{◌≡◌, [], IfOk, option_map, unwrap_or, true, false};
+ghost use Rattle.bsc_input.specs.Numbers.{terminal_of};
 ghost use Rattle.bsc_input.specs.Words.{words_of};
 ghost use Rattle.bsc_script.specs.Actions.{event_in};
 ghost use Rattle.bsc_script.specs.Events as events;
 ghost use Rattle.bsc_script.specs.Events.{event_alone, event_by, event_of, event_with, offer_at_of};
 ghost use Rattle.bsc_script.specs.Events.{offer_for_of, offer_select_of, offer_to_of, release_of};
 ghost use Rattle.bsc_script.specs.Events.{way_of};
-ghost use Rattle.bsc_script.specs.Numbers.{terminal_of};
 ghost use Rattle.bsc_script.specs.Transmissions.{item_of, items_of, transmission_of};
 
 use crate::heard_octets::read_transmission;
 use crate::keyword::{Keyword, read_keyword};
-use crate::number::{select, terminal};
 use crate::{Action, HeardOctets};
 use bsc_directory::Way;
-use bsc_input::split_word;
+use bsc_input::{select_number, split_word, terminal_number};
 use std::alloc::{AllocError, Allocator};
 
 /// Returns the event of the line, or `None` if the line is not an event.
@@ -94,7 +93,7 @@ fn offer_at<'a, A: Allocator>(rest: &'a [u8]) -> Option<Action<'a, A>>
     ensures { option_map event_in result ≡ offer_at_of rest.now }
 {
     let (word, rest) = split_word(rest);
-    let terminal = terminal(word)?;
+    let terminal = terminal_number(word)?;
     let codes = codes_after(rest);
     Some(Action::OfferAt { terminal, codes })
 }
@@ -104,7 +103,7 @@ fn offer_for<'a, A: Allocator>(rest: &'a [u8]) -> Option<Action<'a, A>>
     ensures { option_map event_in result ≡ offer_for_of rest.now }
 {
     let (word, rest) = split_word(rest);
-    let terminal = terminal(word)?;
+    let terminal = terminal_number(word)?;
     let codes = codes_after(rest);
     Some(Action::OfferFor {
         terminal,
@@ -118,7 +117,7 @@ fn offer_to<'a, A: Allocator>(rest: &'a [u8]) -> Option<Action<'a, A>>
     ensures { option_map event_in result ≡ offer_to_of rest.now }
 {
     let (word, rest) = split_word(rest);
-    let terminal = terminal(word)?;
+    let terminal = terminal_number(word)?;
     offer_select(terminal, rest?)
 }
 
@@ -127,7 +126,7 @@ fn offer_select<'a, A: Allocator>(terminal: usize, rest: &'a [u8]) -> Option<Act
     ensures { option_map event_in result ≡ offer_select_of terminal rest.now }
 {
     let (word, rest) = split_word(rest);
-    let select = select(word)?;
+    let select = select_number(word)?;
     let codes = codes_after(rest);
     Some(Action::OfferFor {
         terminal,
@@ -209,7 +208,7 @@ fn ready<'a, A: Allocator>(rest: &[u8], ready: bool) -> Option<Action<'a, A>>
     ensures { option_map event_in result ≡
         option_map (λ t. events.ready t ready) (terminal_of rest.now) }
 {
-    let terminal = terminal(rest)?;
+    let terminal = terminal_number(rest)?;
     Some(Action::Ready { terminal, ready })
 }
 
@@ -217,7 +216,7 @@ fn ready<'a, A: Allocator>(rest: &[u8], ready: bool) -> Option<Action<'a, A>>
 fn urgent_at<'a, A: Allocator>(rest: &[u8]) -> Option<Action<'a, A>>
     ensures { option_map event_in result ≡ option_map events.urgent_at (terminal_of rest.now) }
 {
-    let terminal = terminal(rest)?;
+    let terminal = terminal_number(rest)?;
     Some(Action::UrgentAt { terminal })
 }
 
@@ -225,7 +224,7 @@ fn urgent_at<'a, A: Allocator>(rest: &[u8]) -> Option<Action<'a, A>>
 fn urgent_for<'a, A: Allocator>(rest: &[u8]) -> Option<Action<'a, A>>
     ensures { option_map event_in result ≡ option_map events.urgent_for (terminal_of rest.now) }
 {
-    let terminal = terminal(rest)?;
+    let terminal = terminal_number(rest)?;
     Some(Action::UrgentFor { terminal })
 }
 
@@ -234,7 +233,7 @@ fn release<'a, A: Allocator>(rest: &[u8]) -> Option<Action<'a, A>>
     ensures { option_map event_in result ≡ release_of rest.now }
 {
     let (word, rest) = split_word(rest);
-    let terminal = terminal(word)?;
+    let terminal = terminal_number(word)?;
     let way = way(rest?)?;
     Some(Action::Release { terminal, way })
 }
@@ -253,6 +252,6 @@ fn way(words: &[u8]) -> Option<Way>
     if word != b"to".as_slice() {
         return None;
     }
-    let select = select(rest?)?;
+    let select = select_number(rest?)?;
     Some(Way::ToTerminal(select))
 }

@@ -1,17 +1,16 @@
 -- The words of a line of a trace.
-use Rattle.std.specs.Prelude.{ℕ, ◌+◌, ◌-◌, ◌*◌, ◌==◌, ◌&&◌, not, nat_le, Bool, List, [], ◌∷◌}
-use Rattle.std.specs.Prelude.{length, codes, Option, Some, None, if◌then◌else◌}
-use Rattle.std.specs.List.{list_all}
+use Rattle.std.specs.Prelude.{ℕ, ◌+◌, ◌-◌, ◌*◌, ◌==◌, ◌&&◌, not, Bool, List, [], ◌∷◌, codes}
+use Rattle.std.specs.Prelude.{Option, Some, None, if◌then◌else◌}
 use Rattle.std.specs.Char.{is_ascii_digit}
 use Rattle.std.specs.Str.{bytes_eq}
+use Rattle.bsc_input.specs.Numbers.{has_digits}
 use Rattle.bsc_ladder.specs.declared.row.Fate.{Fate}
 use Rattle.bsc_ladder.specs.declared.row.Fate.TheVariants.{Sent, Heard, Turned, Ignored, Lost}
 use Rattle.bsc_ladder.specs.declared.row.Fate.TheVariants.{Withheld}
 
 -- Whether a word is a time: 1 to 20 decimal digits.
 abbrev pub is_time : List ℕ → Bool
-is_time word =
-    not (length word == 0) && nat_le (length word) 20 && list_all is_ascii_digit word
+is_time word = has_digits 20 word
 
 -- The number of a station beside the control station: one or two decimal digits, without a zero
 -- before another digit.

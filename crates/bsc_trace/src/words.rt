@@ -1,27 +1,15 @@
 //! The words of a line.
 ghost use Rattle.std.specs.Prelude.{◌≡◌};
-ghost use Rattle.std.specs.Char.{is_ascii_digit};
-ghost use Rattle.std.specs.List.{list_all};
 ghost use Rattle.bsc_trace.specs.Words.{column_in, fate_in, is_time as is_time_text};
 
-use bsc_input::spells;
+use bsc_input::{has_digits, spells};
 use bsc_ladder::Fate;
-
-/// Whether all characters are decimal digits.
-fn are_digits(word: &[u8]) -> bool
-    ensures { result ≡ list_all is_ascii_digit word.now }
-{
-    word.iter().all(|&octet| octet.is_ascii_digit())
-}
 
 /// Whether the word is a time: 1 to 20 decimal digits.
 pub(crate) fn is_time(word: &[u8]) -> bool
     ensures { result ≡ is_time_text word.now }
 {
-    if word.is_empty() || 20 < word.len() {
-        return false;
-    }
-    are_digits(word)
+    has_digits(word, 20)
 }
 
 /// Returns the number of a station beside the control station: one or two decimal digits, without a

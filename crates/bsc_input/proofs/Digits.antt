@@ -1,28 +1,46 @@
 -- The values of numbers with at most ten digits.
-use Rattle.std.proofs.Common.{◌≡◌, ◌<◌, ◌≤◌, ◌^◌, ◌==◌, ◌&&◌, ℕ, List, [], ◌∷◌, Bool, true, false}
-use Rattle.std.proofs.Common.{not, length, take, arith, refl}
+use Rattle.std.proofs.Common.{◌≡◌, ◌<◌, ◌≤◌, ◌^◌, ◌+◌, ◌==◌, ◌&&◌, ℕ, List, [], ◌∷◌, Bool, true}
+use Rattle.std.proofs.Common.{false, not, length, take, get_or, arith, refl}
 use Rattle.std.specs.Prelude.{nat_le}
-use Rattle.std.specs.Char.{is_ascii_digit}
+use Rattle.std.specs.Char.{is_ascii_digit, digit_value}
+use Rattle.std.specs.Int.{IsInRange}
 use Rattle.std.specs.List.{list_all}
 use Rattle.std.specs.Str.Parse.{AllDigits, digits_value}
 use Rattle.std.proofs.Math.Nat.{pow-le-pow_right}
 use Rattle.std.proofs.lemmas.Bool.{leb-true}
 use Rattle.std.proofs.lemmas.Int.Digits.{digits_value-lt}
+use Rattle.std.proofs.lemmas.List.Sums.{AllPass-from_list_all}
 use Rattle.std.proofs.lemmas.Str.{digit_value_digit}
 use Rattle.std.proofs.lemmas.Str.Parse.{digits_value-take-le}
-use Rattle.bsc_script.specs.Numbers.{has_digits}
+use Rattle.bsc_input.specs.Numbers.{has_digits}
 
 both_of_and : (a b : Bool) → (a && b) ≡ true → (a ≡ true) × (b ≡ true)
 both_of_and true b e = (refl, e)
 both_of_and false b e = cc
 
+digit_range : (c : ℕ) → is_ascii_digit c ≡ true → IsInRange 48 57 c
+digit_range c e = let p = both_of_and _ _ e in (leb-true 48 c p.0, leb-true c 57 p.1)
+
 all_digits : (word : List ℕ) → list_all is_ascii_digit word ≡ true → AllDigits 10 word
 all_digits [] e = tt
 all_digits (c ∷ word) e =
     let p = both_of_and (is_ascii_digit c) (list_all is_ascii_digit word) e in
-    let range = both_of_and (nat_le 48 c) (nat_le c 57) p.0 in
-    let value = digit_value_digit c (leb-true 48 c range.0, leb-true c 57 range.1) in
-    (omega (arith, leb-true 48 c range.0, leb-true c 57 range.1), all_digits word p.1)
+    let range = digit_range c p.0 in
+    let value = digit_value_digit c range in
+    (omega arith, all_digits word p.1)
+
+-- the character at each index is a digit, with its value
+pub digit_at : (most : ℕ) (word : List ℕ) (i : ℕ) → has_digits most word ≡ true → i < length word
+    → (48 ≤ get_or word i 0) × (get_or word i 0 ≤ 57)
+    × (digit_value (get_or word i 0) + 48 ≡ get_or word i 0)
+digit_at most word i e below =
+    let tests =
+    both_of_and (not (length word == 0) && nat_le (length word) most) (list_all is_ascii_digit word)
+    e in
+    let range =
+    digit_range (get_or word i 0) (AllPass-from_list_all is_ascii_digit word tests.1 i 0
+    below) in
+    (range.0, range.1, digit_value_digit (get_or word i 0) range)
 
 -- at most ten digits, and every prefix of them, are below 10 ^ 10
 pub below_ten_digits : (most : ℕ) (word : List ℕ) (i : ℕ) → most ≤ 10

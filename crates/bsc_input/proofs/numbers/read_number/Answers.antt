@@ -3,9 +3,9 @@ use Rattle.std.proofs.Common.{◌≡◌, Bool, true, Some, None, take, arith, sy
 use Rattle.std.specs.Prelude.{if◌then◌else◌}
 use Rattle.std.specs.Str.Parse.{digits_value}
 use Rattle.std.proofs.lemmas.Int.Digits.{digits_value_more}
-use Rattle.bsc_script.specs.Numbers.{has_digits}
-use Rattle.bsc_script.proofs.Digits.{below_thousand, digit_at}
-use Rattle.bsc_script.proofs.number.number.Goals as goal
+use Rattle.bsc_input.specs.Numbers.{has_digits}
+use Rattle.bsc_input.proofs.Digits.{below_ten_digits, digit_at}
+use Rattle.bsc_input.proofs.numbers.read_number.Goals as goal
 
 pub returns-then-not-has_digits : goal.returns-then-not-has_digits
 returns-then-not-has_digits c =
@@ -18,7 +18,7 @@ overflow_mul-number c =
     let front : c.loop-digit.number ≡ digits_value 10
     (take c.loop-digit.digit-index c.args.word.now) = c.loop-digit.invariant in
     let small =
-    below_thousand c.args.most c.args.word.now c.loop-digit.digit-index c.requires digits in
+    below_ten_digits c.args.most c.args.word.now c.loop-digit.digit-index c.requires digits in
     omega arith
 
 pub overflow_sub-digit : goal.overflow_sub-digit
@@ -35,7 +35,7 @@ overflow_add-number c =
     let front : c.loop-digit.number ≡ digits_value 10
     (take c.loop-digit.digit-index c.args.word.now) = c.loop-digit.invariant in
     let small =
-    below_thousand c.args.most c.args.word.now c.loop-digit.digit-index c.requires digits in
+    below_ten_digits c.args.most c.args.word.now c.loop-digit.digit-index c.requires digits in
     let digit =
     digit_at c.args.most c.args.word.now c.loop-digit.digit-index digits
     c.loop-digit-test.true in

@@ -2,7 +2,7 @@
 ghost use Rattle.std.specs.Prelude.{◌≡◌, ◌≤◌};
 ghost use Rattle.std.specs.Char.{is_ascii_digit};
 ghost use Rattle.std.specs.List.{list_all};
-ghost use Rattle.bsc_script.specs.Numbers.{has_digits as digits, number_of, select_of, terminal_of};
+ghost use Rattle.bsc_input.specs.Numbers.{has_digits as digits, number_of, select_of, terminal_of};
 
 /// Whether all characters are decimal digits.
 fn are_digits(word: &[u8]) -> bool
@@ -12,7 +12,7 @@ fn are_digits(word: &[u8]) -> bool
 }
 
 /// Whether the word has at least one digit, at most `most` digits, and nothing else.
-fn has_digits(word: &[u8], most: usize) -> bool
+pub fn has_digits(word: &[u8], most: usize) -> bool
     ensures { result ≡ digits most word.now }
 {
     if word.is_empty() || most < word.len() {
@@ -21,9 +21,10 @@ fn has_digits(word: &[u8], most: usize) -> bool
     are_digits(word)
 }
 
-/// Returns the number of at most `most` digits, or `None` if the word is not such a number.
-fn number(word: &[u8], most: usize) -> Option<usize>
-    requires { most ≤ 3 }
+/// Returns the number of at most `most` digits, of which there may be 10, or `None` if the word is
+/// not such a number.
+pub fn read_number(word: &[u8], most: usize) -> Option<usize>
+    requires { most ≤ 10 }
     ensures { result ≡ number_of most word.now }
 {
     if !has_digits(word, most) {
@@ -36,16 +37,16 @@ fn number(word: &[u8], most: usize) -> Option<usize>
     Some(number)
 }
 
-/// Returns the number of a terminal: one to three digits.
-pub(crate) fn terminal(word: &[u8]) -> Option<usize>
+/// Returns the number by which a text names a terminal: one to three digits.
+pub fn terminal_number(word: &[u8]) -> Option<usize>
     ensures { result ≡ terminal_of word.now }
 {
-    number(word, 3)
+    read_number(word, 3)
 }
 
-/// Returns the number of a selection address: one digit.
-pub(crate) fn select(word: &[u8]) -> Option<usize>
+/// Returns the number by which a text names a selection address: one digit.
+pub fn select_number(word: &[u8]) -> Option<usize>
     ensures { result ≡ select_of word.now }
 {
-    number(word, 1)
+    read_number(word, 1)
 }
