@@ -45,9 +45,9 @@ asked_by asks.Urgent = urgent
 asked_by (asks.Follow channel from) = follow channel from
 asked_by asks.Stop = stop
 
--- The keyword that a word spells.
-abbrev pub keyword_of : List ℕ → Option Keyword
-keyword_of word =
+-- The keyword of a command that a word spells.
+abbrev pub command_keyword : List ℕ → Option Keyword
+command_keyword word =
     if bytes_eq word (codes "offer") then Some Offer else
     if bytes_eq word (codes "offer-hex") then Some OfferHex else
     if bytes_eq word (codes "status") then Some Status else
@@ -125,7 +125,7 @@ asked_if rest (Some keyword) = asked_after rest keyword
 
 -- What a line asks for, or why it asks for nothing.
 abbrev pub asked_in : List ℕ → Result Asked Fault
-asked_in line = asked_if (after_word line) (keyword_of (first_word line))
+asked_in line = asked_if (after_word line) (command_keyword (first_word line))
 
 -- Whether what was read takes memory: a record in hexadecimal text may be long.
 abbrev pub takes_memory : Result Asked Fault → Bool

@@ -1,7 +1,7 @@
 //! The first words of commands.
 
 ghost use Rattle.std.specs.Prelude.{◌≡◌};
-ghost use Rattle.bsc_feed.specs.Commands.{keyword_of};
+ghost use Rattle.bsc_feed.specs.Commands.{command_keyword};
 
 use bsc_input::spells;
 
@@ -20,7 +20,7 @@ pub(crate) enum Keyword {
 
 /// Returns the keyword that the word spells, or `None` if it is not a keyword.
 pub(crate) fn read_keyword(word: &[u8]) -> Option<Keyword>
-    ensures { result ≡ keyword_of word.now }
+    ensures { result ≡ command_keyword word.now }
 {
     if spells(word, "offer") {
         Some(Keyword::Offer)

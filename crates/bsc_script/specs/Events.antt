@@ -40,9 +40,9 @@ pub data Event : Type 0 where
   -- a doubt about the records sent in this direction is released
   release : ℕ → Way → Event
 
--- The keyword that a word spells.
-abbrev pub keyword_of : List ℕ → Option Keyword
-keyword_of word =
+-- The keyword of an event that a word spells.
+abbrev pub event_keyword : List ℕ → Option Keyword
+event_keyword word =
     if bytes_eq word (codes "offer-at") then Some OfferAt else
     if bytes_eq word (codes "offer-for") then Some OfferFor else
     if bytes_eq word (codes "offer-to") then Some OfferTo else
@@ -136,4 +136,4 @@ event_by (Some rest) keyword = event_with keyword rest
 
 -- The event of a line, or none if the line is not an event.
 abbrev pub event_of : List ℕ → Option Event
-event_of line = option_and_then (event_by (after_word line)) (keyword_of (first_word line))
+event_of line = option_and_then (event_by (after_word line)) (event_keyword (first_word line))

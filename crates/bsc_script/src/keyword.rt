@@ -1,6 +1,6 @@
 //! The first words of the lines of a script.
 ghost use Rattle.std.specs.Prelude.{◌≡◌};
-ghost use Rattle.bsc_script.specs.Events.{keyword_of};
+ghost use Rattle.bsc_script.specs.Events.{event_keyword};
 
 use bsc_input::spells;
 
@@ -24,7 +24,7 @@ pub(crate) enum Keyword {
 
 /// Returns the keyword that the word spells, or `None` if it is not a keyword.
 pub(crate) fn read_keyword(word: &[u8]) -> Option<Keyword>
-    ensures { result ≡ keyword_of word.now }
+    ensures { result ≡ event_keyword word.now }
 {
     if spells(word, "offer-at") {
         Some(Keyword::OfferAt)
