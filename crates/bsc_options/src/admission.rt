@@ -1,9 +1,10 @@
 //! The peers that may connect, and those that answer for terminals.
 
-ghost use Rattle.std.specs.Prelude.{◌≡◌, map, string_bytes};
+ghost use Rattle.std.specs.Prelude.{◌≡◌, ℕ, List, Result, map, string_bytes};
 ghost use Rattle.bsc_asked.specs.StationWords.{asked_words};
-ghost use Rattle.bsc_options.specs.Admission.{AddsNetwork, AddsPeer, IsAdmission, ReadsNetworks};
-ghost use Rattle.bsc_options.specs.Admission.{ReadsPeer, ReadsPeers};
+ghost use Rattle.bsc_options.specs.Admission.{AddsNetwork, AddsPeer, IsAdmission, ReadsEach};
+ghost use Rattle.bsc_options.specs.Admission.{ReadsNetworks, ReadsPeer, ReadsPeers};
+ghost use Rattle.bsc_options.specs.declared.error.OptionError.{OptionError as OptionErrorValue};
 
 use crate::OptionError;
 use crate::numbers::octet_in;
@@ -33,16 +34,40 @@ pub struct Admission {
     pub peers: GivenPeers,
 }
 
-/// Adds the network in a text of `--allow`.
-fn with_network(networks: Networks, text: &str) -> Result<Networks, OptionError>
-    ensures { AddsNetwork text.now networks result }
+/// What the texts of an option that may be given more than once come to.
+trait Given: Copy {
+    /// What one more text changes: the text, the value before it, the value after it or why the
+    /// text is refused.
+    ghost adds: { List ℕ → Self → Result Self OptionErrorValue → Type 0 };
+
+    /// Adds what one more text gives.
+    fn with_text(self, text: &str) -> Result<Self, OptionError>
+        ensures { adds text.now self result };
+}
+
+/// Reads the texts of an option in order, after this value.
+fn read_each<V: Given>(first: V, texts: &[String]) -> Result<V, OptionError>
+    ensures { ReadsEach V.adds (map string_bytes texts.now) first result }
 {
-    let Ok(network) = Network::read(text) else {
-        return Err(OptionError::AllowForm);
-    };
-    match networks.with(network) {
-        Some(networks) => Ok(networks),
-        None => Err(OptionError::TooManyNetworks),
+    let mut value = first;
+    'texts: for text in texts {
+        value = value.with_text(text.as_str())?;
+    }
+    Ok(value)
+}
+
+impl Given for Networks {
+    ghost adds = { AddsNetwork };
+
+    /// Adds the network in a text of `--allow`.
+    fn with_text(self, text: &str) -> Result<Networks, OptionError> {
+        let Ok(network) = Network::read(text) else {
+            return Err(OptionError::AllowForm);
+        };
+        match self.with(network) {
+            Some(networks) => Ok(networks),
+            None => Err(OptionError::TooManyNetworks),
+        }
     }
 }
 
@@ -50,11 +75,7 @@ fn with_network(networks: Networks, text: &str) -> Result<Networks, OptionError>
 fn read_networks(texts: &[String]) -> Result<Networks, OptionError>
     ensures { ReadsNetworks (map string_bytes texts.now) result }
 {
-    let mut networks = Networks::new();
-    'texts: for text in texts {
-        networks = with_network(networks, text.as_str())?;
-    }
-    Ok(networks)
+    read_each(Networks::new(), texts)
 }
 
 /// Returns the terminal and the address in `T=ADDRESS`.
@@ -69,19 +90,21 @@ fn peer_of(text: &str) -> Option<(usize, IpAddr)>
     }
 }
 
-/// Adds the address in a text of `--peer`.
-fn with_peer(given: GivenPeers, text: &str) -> Result<GivenPeers, OptionError>
-    ensures { AddsPeer text.now given result }
-{
-    let Some((terminal, address)) = peer_of(text) else {
-        return Err(OptionError::PeerForm);
-    };
-    match given.addresses.address_of(terminal) {
-        Some(_) => Err(OptionError::RepeatedPeer),
-        None => Ok(GivenPeers {
-            addresses: given.addresses.with(terminal, address),
-            terminals: given.terminals.max(terminal + 1),
-        }),
+impl Given for GivenPeers {
+    ghost adds = { AddsPeer };
+
+    /// Adds the address in a text of `--peer`.
+    fn with_text(self, text: &str) -> Result<GivenPeers, OptionError> {
+        let Some((terminal, address)) = peer_of(text) else {
+            return Err(OptionError::PeerForm);
+        };
+        match self.addresses.address_of(terminal) {
+            Some(_) => Err(OptionError::RepeatedPeer),
+            None => Ok(GivenPeers {
+                addresses: self.addresses.with(terminal, address),
+                terminals: self.terminals.max(terminal + 1),
+            }),
+        }
     }
 }
 
@@ -89,14 +112,11 @@ fn with_peer(given: GivenPeers, text: &str) -> Result<GivenPeers, OptionError>
 fn read_peers(texts: &[String]) -> Result<GivenPeers, OptionError>
     ensures { ReadsPeers (map string_bytes texts.now) result }
 {
-    let mut given = GivenPeers {
+    let nobody = GivenPeers {
         addresses: TerminalPeers::new(),
         terminals: 0,
     };
-    'texts: for text in texts {
-        given = with_peer(given, text.as_str())?;
-    }
-    Ok(given)
+    read_each(nobody, texts)
 }
 
 /// Reads the peers in the options, or returns the first reason for refusing them: those of
