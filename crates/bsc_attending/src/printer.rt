@@ -145,10 +145,8 @@ impl<'a, W: Write, D: Write + Drop, R: Readiness + Drop> Printer<'a, W, D, R> {
             most,
             self.out,
         )?;
-        match self.out.flush() {
-            Ok(()) => Ok(left),
-            Err(_) => Err(PrintError::Output),
-        }
+        self.out.flush()?;
+        Ok(left)
     }
 
     /// Returns whether records have arrived that are not printed and still can be.

@@ -44,10 +44,7 @@ pub(crate) fn write_told<A: Allocator, P: Party, W: Write>(
 fn write_kept<W: Write>(number: usize, out: &mut W) -> Result<(), PrintError>
     ensures { OnOk result (Appends (W.contents out.old) (W.contents out.new) (kept_text number)) }
 {
-    match write!(out, "ok {number}\n") {
-        Ok(()) => Ok(()),
-        Err(_) => Err(PrintError::Output),
-    }
+    Ok(write!(out, "ok {number}\n")?)
 }
 
 /// Writes the answer that a command was refused, with the text of its fault.
@@ -78,10 +75,7 @@ fn write_name<P: Party, W: Write>(station: &P, place: usize, out: &mut W) -> Res
 fn write_number<W: Write>(number: usize, out: &mut W) -> Result<(), PrintError>
     ensures { OnOk result (Appends (W.contents out.old) (W.contents out.new) (decimal number)) }
 {
-    match write!(out, "{number}") {
-        Ok(()) => Ok(()),
-        Err(_) => Err(PrintError::Output),
-    }
+    Ok(write!(out, "{number}")?)
 }
 
 /// Writes a word, the name of the channel at a place and a number.

@@ -29,10 +29,7 @@ fn write_owner<W: Write>(owner: Owner, out: &mut W) -> Result<(), PrintError>
 {
     match owner {
         Owner::Control => put(b"control station\n", out),
-        Owner::Terminal { number } => match write!(out, "terminal {number}\n") {
-            Ok(()) => Ok(()),
-            Err(_) => Err(PrintError::Output),
-        },
+        Owner::Terminal { number } => Ok(write!(out, "terminal {number}\n")?),
     }
 }
 
@@ -47,10 +44,7 @@ fn full_of(config: &Config) -> u8
 fn write_full<W: Write>(full: u8, out: &mut W) -> Result<(), PrintError>
     ensures { OnOk result (Appends (W.contents out.old) (W.contents out.new) (full_line full)) }
 {
-    match write!(out, "full length {full}\n") {
-        Ok(()) => Ok(()),
-        Err(_) => Err(PrintError::Output),
-    }
+    Ok(write!(out, "full length {full}\n")?)
 }
 
 /// Writes a selection address.

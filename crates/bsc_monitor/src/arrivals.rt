@@ -142,8 +142,5 @@ fn write_number<W: Write>(numbers: bool, place: usize, out: &mut W) -> Result<()
     if !numbers {
         return Ok(());
     }
-    match write!(out, " {place}") {
-        Ok(()) => Ok(()),
-        Err(_) => Err(PrintError::Output),
-    }
+    Ok(write!(out, " {place}")?)
 }

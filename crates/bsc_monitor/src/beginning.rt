@@ -135,10 +135,7 @@ fn write_address<W: Write>(address: SocketAddr, out: &mut W) -> Result<(), Print
         (listening_line address)) }
     ensures err { IfErr result (λ error. error ≡ PrintError.Output) }
 {
-    match write!(out, "listening at {address}\n") {
-        Ok(()) => Ok(()),
-        Err(_) => Err(PrintError::Output),
-    }
+    Ok(write!(out, "listening at {address}\n")?)
 }
 
 /// Writes the address at which programs can reach the station.
@@ -147,10 +144,7 @@ fn write_served<W: Write>(address: SocketAddr, out: &mut W) -> Result<(), PrintE
         (serving_line address)) }
     ensures err { IfErr result (λ error. error ≡ PrintError.Output) }
 {
-    match write!(out, "serving programs at {address}\n") {
-        Ok(()) => Ok(()),
-        Err(_) => Err(PrintError::Output),
-    }
+    Ok(write!(out, "serving programs at {address}\n")?)
 }
 
 /// Writes that a peer was turned away, since its address is not allowed.
@@ -159,10 +153,7 @@ fn write_not_allowed<W: Write>(peer: SocketAddr, out: &mut W) -> Result<(), Prin
         (not_allowed_line peer)) }
     ensures err { IfErr result (λ error. error ≡ PrintError.Output) }
 {
-    match write!(out, "refused {peer}: its address is not allowed\n") {
-        Ok(()) => Ok(()),
-        Err(_) => Err(PrintError::Output),
-    }
+    Ok(write!(out, "refused {peer}: its address is not allowed\n")?)
 }
 
 /// Writes how many terminals have connected, and how many are wanted.
@@ -182,10 +173,7 @@ fn write_connected<W: Write>(connected: usize, out: &mut W) -> Result<(), PrintE
         (connected_shown connected)) }
     ensures err { IfErr result (λ error. error ≡ PrintError.Output) }
 {
-    match write!(out, "waiting for terminals: {connected}") {
-        Ok(()) => Ok(()),
-        Err(_) => Err(PrintError::Output),
-    }
+    Ok(write!(out, "waiting for terminals: {connected}")?)
 }
 
 /// Writes how many terminals are wanted, and the end of the line.
@@ -194,8 +182,5 @@ fn write_wanted<W: Write>(wanted: usize, out: &mut W) -> Result<(), PrintError>
         (wanted_shown wanted)) }
     ensures err { IfErr result (λ error. error ≡ PrintError.Output) }
 {
-    match write!(out, " of {wanted} connected\n") {
-        Ok(()) => Ok(()),
-        Err(_) => Err(PrintError::Output),
-    }
+    Ok(write!(out, " of {wanted} connected\n")?)
 }

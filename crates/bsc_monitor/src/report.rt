@@ -131,10 +131,7 @@ fn write_counts<W: Write>(offered: usize, known: usize, out: &mut W) -> Result<(
         (Appends (W.contents out.old) (W.contents out.new)
         (codes ": offered " ++ decimal offered ++ codes ", known " ++ decimal known)) }
 {
-    match write!(out, ": offered {offered}, known {known}") {
-        Ok(()) => Ok(()),
-        Err(_) => Err(PrintError::Output),
-    }
+    Ok(write!(out, ": offered {offered}, known {known}")?)
 }
 
 /// Writes the number of records that arrived on a channel, and the records if they are repeated.
@@ -176,8 +173,5 @@ fn write_count<W: Write>(spooled: usize, out: &mut W) -> Result<(), PrintError>
         (Appends (W.contents out.old) (W.contents out.new)
         (codes ": spooled " ++ decimal spooled ++ codes "\n")) }
 {
-    match write!(out, ": spooled {spooled}\n") {
-        Ok(()) => Ok(()),
-        Err(_) => Err(PrintError::Output),
-    }
+    Ok(write!(out, ": spooled {spooled}\n")?)
 }

@@ -55,10 +55,7 @@ fn write_share<W: Write>(share: u64, out: &mut W) -> Result<(), PrintError>
         (share_shown share)) }
     ensures err { IfErr result (λ error. error ≡ PrintError.Output) }
 {
-    match write!(out, "slowest answer: {share}% of the time-out") {
-        Ok(()) => Ok(()),
-        Err(_) => Err(PrintError::Output),
-    }
+    Ok(write!(out, "slowest answer: {share}% of the time-out")?)
 }
 
 /// Writes the end of the line for the slowest answer.

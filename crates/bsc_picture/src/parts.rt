@@ -18,20 +18,14 @@ use std::io::Write;
 pub fn put_number<W: Write>(number: usize, out: &mut W) -> Result<(), PrintError>
     ensures { OnOk result (Appends (W.contents out.old) (W.contents out.new) (decimal number)) }
 {
-    match write!(out, "{number}") {
-        Ok(()) => Ok(()),
-        Err(_) => Err(PrintError::Output),
-    }
+    Ok(write!(out, "{number}")?)
 }
 
 /// Writes the number of a column in decimal digits.
 pub fn put_column_number<W: Write>(column: u8, out: &mut W) -> Result<(), PrintError>
     ensures { OnOk result (Appends (W.contents out.old) (W.contents out.new) (decimal column)) }
 {
-    match write!(out, "{column}") {
-        Ok(()) => Ok(()),
-        Err(_) => Err(PrintError::Output),
-    }
+    Ok(write!(out, "{column}")?)
 }
 
 /// Returns the name of what became of a transmission.

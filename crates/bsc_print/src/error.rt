@@ -2,6 +2,7 @@
 ghost use Rattle.std.specs.Prelude.{◌≡◌};
 
 use std::alloc::AllocError;
+use std::io;
 use thiserror::Error;
 
 /// The reason why the output for a transmission was not written.
@@ -23,5 +24,15 @@ impl From<AllocError> for PrintError {
 
     fn from(_error: AllocError) -> PrintError {
         PrintError::Memory
+    }
+}
+
+impl From<io::Error> for PrintError {
+    ghost use Rattle.bsc_print.specs.declared.error.PrintError.TheVariants.{Output};
+
+    ghost from_gives = { λ _ error. error ≡ Output };
+
+    fn from(_error: io::Error) -> PrintError {
+        PrintError::Output
     }
 }

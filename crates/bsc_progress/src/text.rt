@@ -24,10 +24,7 @@ fn work_text(work: Work) -> &'static [u8]
 fn write_number<D: Write>(number: u64, out: &mut D) -> Result<(), PrintError>
     ensures { OnOk result (Appends (D.contents out.old) (D.contents out.new) (decimal number)) }
 {
-    match write!(out, "{number}") {
-        Ok(()) => Ok(()),
-        Err(_) => Err(PrintError::Output),
-    }
+    Ok(write!(out, "{number}")?)
 }
 
 /// Returns how many are done in a second, by the milliseconds since the start.

@@ -29,10 +29,7 @@ fn write_terminal_number<W: Write>(number: usize, out: &mut W) -> Result<(), Pri
     ensures { OnOk result (Appends (W.contents out.old) (W.contents out.new)
         (codes "terminal " ++ decimal number ++ codes " is ")) }
 {
-    match write!(out, "terminal {number} is ") {
-        Ok(()) => Ok(()),
-        Err(_) => Err(PrintError::Output),
-    }
+    Ok(write!(out, "terminal {number} is ")?)
 }
 
 /// Writes the line for the terminal with this number.

@@ -25,10 +25,7 @@ fn write_end<W: Write>(terminal: usize, way: Way, out: &mut W) -> Result<(), Pri
         (Appends (W.contents out.old) (W.contents out.new) (end_shown terminal way)) }
 {
     match way {
-        Way::FromTerminal => match write!(out, "from {terminal}") {
-            Ok(()) => Ok(()),
-            Err(_) => Err(PrintError::Output),
-        },
+        Way::FromTerminal => Ok(write!(out, "from {terminal}")?),
         Way::ToTerminal(select) => {
             put(b"to ", out)?;
             write_place(terminal, select, out)

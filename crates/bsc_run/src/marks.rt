@@ -39,10 +39,8 @@ fn write_offer_at<A: Allocator, W: Write>(
     ensures { OnOk result (Appends (W.contents out.old) (W.contents out.new)
         (mark (offer_at terminal codes.now))) }
 {
-    match write!(out, "offered at terminal {terminal}: ") {
-        Ok(()) => write_record(alloc, codes, out),
-        Err(_) => Err(PrintError::Output),
-    }
+    write!(out, "offered at terminal {terminal}: ")?;
+    write_record(alloc, codes, out)
 }
 
 /// Writes a selection address of a terminal.
@@ -54,10 +52,7 @@ pub(crate) fn write_place<W: Write>(
     ensures { OnOk result
         (Appends (W.contents out.old) (W.contents out.new) (place_shown terminal select)) }
 {
-    match write!(out, "{terminal}.{select}") {
-        Ok(()) => Ok(()),
-        Err(_) => Err(PrintError::Output),
-    }
+    Ok(write!(out, "{terminal}.{select}")?)
 }
 
 /// Writes that a record is offered for a selection address of a terminal.
@@ -86,10 +81,7 @@ fn write_ready<W: Write>(terminal: usize, ready: bool, out: &mut W) -> Result<()
         true => write!(out, "terminal {terminal} is ready"),
         false => write!(out, "terminal {terminal} is not ready"),
     };
-    match written {
-        Ok(()) => Ok(()),
-        Err(_) => Err(PrintError::Output),
-    }
+    Ok(written?)
 }
 
 /// Writes that the doubt about the records from a terminal is meant.
@@ -97,10 +89,7 @@ fn write_doubt_from<W: Write>(terminal: usize, out: &mut W) -> Result<(), PrintE
     ensures { OnOk result (Appends (W.contents out.old) (W.contents out.new)
         (doubt_of terminal Way.FromTerminal)) }
 {
-    match write!(out, "the doubt from {terminal}") {
-        Ok(()) => Ok(()),
-        Err(_) => Err(PrintError::Output),
-    }
+    Ok(write!(out, "the doubt from {terminal}")?)
 }
 
 /// Writes that the doubt about the records to an address of a terminal is meant.
@@ -132,10 +121,7 @@ fn write_urgent_at<W: Write>(terminal: usize, out: &mut W) -> Result<(), PrintEr
     ensures { OnOk result (Appends (W.contents out.old) (W.contents out.new)
         (mark (urgent_at terminal))) }
 {
-    match write!(out, "terminal {terminal} asks for the line") {
-        Ok(()) => Ok(()),
-        Err(_) => Err(PrintError::Output),
-    }
+    Ok(write!(out, "terminal {terminal} asks for the line")?)
 }
 
 /// Writes that the control station asks a terminal for the line.
@@ -143,10 +129,7 @@ fn write_urgent_for<W: Write>(terminal: usize, out: &mut W) -> Result<(), PrintE
     ensures { OnOk result (Appends (W.contents out.old) (W.contents out.new)
         (mark (urgent_for terminal))) }
 {
-    match write!(out, "control asks terminal {terminal} for the line") {
-        Ok(()) => Ok(()),
-        Err(_) => Err(PrintError::Output),
-    }
+    Ok(write!(out, "control asks terminal {terminal} for the line")?)
 }
 
 /// Writes what is said of an event in which nothing is sent.
