@@ -1,7 +1,5 @@
 //! The work that is asked of the command `bscline`, as plain values. The code that does the work
 //! does not depend on how the arguments are read.
-//!
-//! The standard, GA27-3004, defines no command; all of this is this project's own.
 #![tactic(auto)]
 
 mod asked;

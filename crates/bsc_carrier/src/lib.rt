@@ -3,9 +3,6 @@
 //! A transmission crosses a stream as one socket record: a length of two octets, the most
 //! significant first, and then 1 to 2,048 octets. The records do not depend on the pieces in which
 //! the stream gives its octets. A cable is both ends of a set of connections in one process.
-//!
-//! GA27-3004 does not deal with byte streams: socket records, cables and their limits are this
-//! project's own.
 #![tactic(auto)]
 
 mod assembler;

@@ -5,8 +5,6 @@
 //! - `ServedAt` is where programs reach a station: a TCP address or the path of a Unix socket.
 //! - `Clients` listens there. Its descriptor tells that a program may have to be served.
 //! - `reach` connects a program to a station that serves.
-//!
-//! The standard, GA27-3004, defines none of this; all of it is this project's own.
 #![tactic(auto)]
 
 mod calls;

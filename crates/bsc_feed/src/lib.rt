@@ -2,8 +2,7 @@
 //! socket, file or clock.
 //!
 //! A client sends lines of at most 512 octets. Empty lines, and lines that begin with `#`, are
-//! skipped; each other line is a command, and is answered once, in order. The standard, GA27-3004,
-//! defines none of this; all of it is this project's own.
+//! skipped; each other line is a command, and is answered once, in order.
 //!
 //! | command | what it does | answer |
 //! |---|---|---|

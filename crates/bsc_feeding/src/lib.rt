@@ -10,8 +10,7 @@
 //!
 //! After each command that it sends it prints the lines of the station up to the answer, `ok`,
 //! `ok N` or `fault TEXT`, and ends at the first fault. If a `follow` was sent, it then prints what
-//! the station tells until the station closes the connection. The standard, GA27-3004, defines none
-//! of this; all of it is this project's own.
+//! the station tells until the station closes the connection.
 #![tactic(auto)]
 
 mod answers;

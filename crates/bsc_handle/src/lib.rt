@@ -3,8 +3,6 @@
 //! A [`Handle`] lies in the memory of the program, which passes it to each call. It begins as all
 //! zero, and is so again once what it has was freed. What was made lies on the heap of the program.
 //! To work on it a call takes the box out of the handle and puts it back at its end.
-//!
-//! All of this is this project's own.
 #![tactic(auto)]
 
 mod handle;

@@ -1,8 +1,6 @@
 //! Reads input for the command: whole texts of bounded length from files or standard input, an
 //! input of any length line by line, lines, words and numbers of texts, and octets in hexadecimal
 //! text.
-//!
-//! The standard, GA27-3004, defines none of these; all of this is this project's own.
 #![tactic(auto)]
 
 mod hexadecimal;

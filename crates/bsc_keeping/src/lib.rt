@@ -5,8 +5,6 @@
 //! answer is sent. `Keeping` wraps a monitor: it commits what the step has changed, and tells the
 //! inner monitor after that. If the store refuses the step, so does this monitor, and nothing is
 //! sent.
-//!
-//! This is the project's own; GA27-3004 has nothing of it.
 #![tactic(auto)]
 
 mod attending;

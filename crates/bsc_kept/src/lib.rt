@@ -6,7 +6,7 @@
 //! records that arrived, in order, and how many of them were printed. All changes of one step of a
 //! station are kept at once.
 //!
-//! A `Store` is any place that keeps them. This is the project's own; GA27-3004 has nothing of it.
+//! A `Store` is any place that keeps them.
 #![tactic(auto)]
 
 mod change;

@@ -1,6 +1,4 @@
 //! The ladder of a line: stations side by side, time downwards, an arrow for each transmission.
-//!
-//! The standard, GA27-3004, draws no ladder; the form is this project's own.
 #![tactic(auto)]
 
 mod arrows;

@@ -1,7 +1,5 @@
 //! A cable whose connections are TCP connections over the loopback address, with both ends in this
 //! process. It is a separate crate because everything else of the line works without sockets.
-//!
-//! GA27-3004 does not deal with sockets: all of this is this project's own.
 #![tactic(auto)]
 
 ghost use Rattle.std.specs.Prelude.{◌≡◌, ◌≤◌, length, IfOk, None};

@@ -4,8 +4,6 @@
 //! No contract can say what a file, a socket, a clock or a terminal does. So each device takes any
 //! runtime, but the stores, which take that of the system: tests can give it one that keeps what is
 //! printed and whose clock they set. That is why the devices are a library apart from the program.
-//!
-//! The standard, GA27-3004, speaks of no machine; all of this is this project's own.
 #![tactic(auto)]
 
 mod connecting;

@@ -1,7 +1,5 @@
 //! The options of `bscline station`: what their texts mean, which of them contradict one another,
 //! and the channels to which records are offered. And the words of `bscline store`.
-//!
-//! The standard, GA27-3004, defines no options; all of this is this project's own.
 #![tactic(auto)]
 
 mod admission;

@@ -5,7 +5,7 @@
 //! - `Networks` is a list of at most `MAX_NETWORKS`; an empty list allows everybody.
 //!
 //! An IPv4 address and the IPv6 address to which it is mapped, `::ffff:a.b.c.d`, count as the same
-//! address. The standard, GA27-3004, knows no networks; all of this is this project's own.
+//! address.
 #![tactic(auto)]
 
 mod network;

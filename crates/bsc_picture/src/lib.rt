@@ -1,6 +1,4 @@
 //! The ladder of a line as a picture, an SVG document.
-//!
-//! The standard, GA27-3004, draws no ladder; the picture is this project's own.
 #![tactic(auto)]
 
 mod arrows;

@@ -1,8 +1,6 @@
 //! The line on a terminal that tells how far long work has come: events or rounds, records known
 //! and arrived, doubts, and the rate. It is written again and again in its place, at most four
 //! times a second, and cleared before anything else is written there, and at the end.
-//!
-//! The standard, GA27-3004, defines no such line; all of this is this project's own.
 #![tactic(auto)]
 
 mod counts;

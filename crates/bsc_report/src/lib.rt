@@ -1,7 +1,5 @@
 //! The output for a channel in the reports of a run and of a station: its name, whether its sending
 //! end is in doubt, and its records.
-//!
-//! The standard, GA27-3004, defines no report; all of this is this project's own.
 #![tactic(auto)]
 
 mod channels;

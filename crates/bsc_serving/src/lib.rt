@@ -12,8 +12,7 @@
 //!
 //! A station attends its line and serves programs in turn, in one thread: [`Pausing`] ends the
 //! attending when a program may have something to say or to be told, and [`Serving`] serves the
-//! programs for a short while. The standard, GA27-3004, defines none of this; all of it is this
-//! project's own.
+//! programs for a short while.
 #![tactic(auto)]
 
 mod failing;

@@ -1,8 +1,7 @@
 //! The store of a station in a database: the `Store` of `bsc_kept` over tables, in a file or in
 //! memory. All changes of one step of a station are committed at once.
 //!
-//! The file is one of SQLite, whose tables `docs/STORE.md` describes. The store is this project's
-//! own; GA27-3004 has none.
+//! The file is one of SQLite, whose tables `docs/STORE.md` describes.
 #![tactic(auto)]
 
 mod channels;

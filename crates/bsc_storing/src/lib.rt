@@ -2,8 +2,7 @@
 //! arrived and how far each channel is, and ends doubts, while no station has the store.
 //!
 //! The channels of a store are named as in a report: by the numbers of terminals and of their
-//! selection addresses, which the text of its line gives. All of this is this project's own;
-//! GA27-3004 has nothing of it.
+//! selection addresses, which the text of its line gives.
 #![tactic(auto)]
 
 mod arrived;

@@ -1,7 +1,5 @@
 //! The command line of `bscline`: reads its arguments with `clap` and returns the work that they
 //! ask for.
-//!
-//! The standard, GA27-3004, defines no command; all of this is this project's own.
 #![tactic(auto)]
 
 mod entries;

@@ -1,7 +1,5 @@
 //! The command `bscline`. It passes the arguments, the streams and the machine to the library
 //! `bsc_command`, which does everything else.
-//!
-//! The standard, GA27-3004, defines no command; all of this is this project's own.
 #![tactic(auto)]
 
 use bsc_command::{Fault, command, fail, given_words};
