@@ -83,6 +83,11 @@ module _ {S : Type 0} where
         omega (arith, l_back, l, counts.2),
       )
 
+  -- Ends that were lent, did not change and were written back.
+  pub same_back : (n : ℕ) (old lent new rest : List S) → lent ≡ old → length new ≡ n → new ≡ lent
+      → take n (new ++ rest) ≡ old
+  same_back n old lent new rest same long stays = written_back n new rest long ∙ stays ∙ same
+
   -- A change at one place of ends that were lent and written back.
   pub changes_back : (P : S → S → Type 0) (t n : ℕ) (old lent new rest : List S) → lent ≡ old
       → length new ≡ n → ChangesAt t P lent new → ChangesAt t P old (take n (new ++ rest))

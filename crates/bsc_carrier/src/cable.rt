@@ -70,8 +70,10 @@ fn expect_record<S: Read>(end: &mut S, octets: &mut Octets) -> Result<(), Carrie
     }
 }
 
-/// Writes a record at the near end at this place, and reads one at the far end there.
+/// Writes a record at the near end at this place, and reads one at the far end there; returns the
+/// first error, if there was one, and uses no end.
 fn carry_at<S: Read + Write>(
+    fault: Option<CarrierError>,
     near: &mut [S],
     far: &mut [S],
     place: usize,
@@ -88,8 +90,11 @@ fn carry_at<S: Read + Write>(
     ensures carried { OnOk result (IsCarried heard.new.items) }
     ensures kept { OnErr result (heard.new.items ≡ heard.old.items) }
     ensures exact { (end : S) → slice_get far.old place ≡ Some end
-        → AnswersFor result (S.remaining end) }
+        → fault ≡ None → AnswersFor result (S.remaining end) }
+    ensures first_error { (e : CarrierError) → fault ≡ Some e
+        → (result ≡ Err e) × (near.new ≡ near.old) × (far.new ≡ far.old) }
 {
+    pass_error(fault)?;
     write_record(&mut near[place], octets)?;
     expect_record(&mut far[place], heard)
 }
@@ -216,10 +221,9 @@ impl<S: Read + Write + Drop, A: Allocator> Cable<S, A> {
             → (result ≡ Err e) × (self.new ≡ self.old) }
         ensures fault { self.new.fault ≡ result_err result }
     {
-        pass_error(self.fault)?;
         let near = self.terminal_ends.as_mut_slice();
         let far = self.control_ends.as_mut_slice();
-        let result = carry_at(near, far, terminal, octets, heard);
+        let result = carry_at(self.fault, near, far, terminal, octets, heard);
         self.fault = result.err();
         result
     }
@@ -252,10 +256,9 @@ impl<S: Read + Write + Drop, A: Allocator> Cable<S, A> {
             → (result ≡ Err e) × (self.new ≡ self.old) }
         ensures fault { self.new.fault ≡ result_err result }
     {
-        pass_error(self.fault)?;
         let near = self.control_ends.as_mut_slice();
         let far = self.terminal_ends.as_mut_slice();
-        let result = carry_at(near, far, terminal, octets, heard);
+        let result = carry_at(self.fault, near, far, terminal, octets, heard);
         self.fault = result.err();
         result
     }

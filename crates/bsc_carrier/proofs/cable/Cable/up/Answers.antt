@@ -1,61 +1,10 @@
 -- `up` changes one end on each side, and returns each result when it is due.
-use Rattle.std.proofs.Common.{◌<◌, length, refl, sym, ap, ◌∙◌, arith}
-use Rattle.std.proofs.lemmas.Result.{err_from_is_err_and}
+use Rattle.std.proofs.Common.{length, sym, ap, ◌∙◌}
 use Rattle.std.specs.Prelude.{OnOk, slice_get}
 use Rattle.bsc_carrier.specs.Cable.{Takes, Gives}
-use Rattle.bsc_carrier.proofs.Places.{stays_after_error, changes_back}
-use Rattle.bsc_carrier.proofs.Places.{written_back_length, counts_written_back}
+use Rattle.bsc_carrier.proofs.Places.{changes_back, counts_written_back, same_back}
+use Rattle.bsc_carrier.proofs.Places.{written_back_length}
 use Rattle.bsc_carrier.proofs.cable.Cable.up.Goals as goal
-
-pub returns-in_err-pass_error-clause-wrote : goal.returns-in_err-pass_error-clause-wrote
-returns-in_err-pass_error-clause-wrote g c =
-    let paired = c.self.invariant.0 in
-    let ends = c.args.self.now.terminal_ends in
-    let there : c.args.terminal < length ends =
-    omega (
-      arith,
-      paired,
-      c.requires.there,
-      ap (λ v. length v.control_ends) c.self.view_is,
-      ap (λ v. length v.terminal_ends) c.self.view_is,
-    ) in
-    stays_after_error c.from_residual.result (Takes g.S.Write.contents c.args.octets.now) ends
-    c.args.terminal there c.from_residual.ensures.0
-
-pub returns-in_err-pass_error-clause-read : goal.returns-in_err-pass_error-clause-read
-returns-in_err-pass_error-clause-read g c =
-    let paired = c.self.invariant.0 in
-    let ends = c.args.self.now.control_ends in
-    let there : c.args.terminal < length ends =
-    omega (
-      arith,
-      paired,
-      c.requires.there,
-      ap (λ v. length v.control_ends) c.self.view_is,
-      ap (λ v. length v.terminal_ends) c.self.view_is,
-    ) in
-    stays_after_error c.from_residual.result (Gives g.S.Read.remaining c.args.heard.now.items) ends
-    c.args.terminal there c.from_residual.ensures.0
-
-pub returns-in_err-pass_error-clause-exact : goal.returns-in_err-pass_error-clause-exact
-returns-in_err-pass_error-clause-exact g c =
-    let failed = c.in_err-pass_error.ensures in
-    let kept = ap (λ v. v.fault) c.self.view_is in
-    λ end here none. absurd (cc (failed, kept, none))
-
-pub returns-in_err-pass_error-clause-first_error : goal.returns-in_err-pass_error-clause-first_error
-returns-in_err-pass_error-clause-first_error g c =
-    let failed = c.in_err-pass_error.ensures in
-    let kept = ap (λ v. v.fault) c.self.view_is in
-    let p = err_from_is_err_and c.from_residual.result c.from_residual.ensures.1 in
-    λ e first. (cc (p.1, p.2, failed, kept, first), refl {a = c.args.self.now})
-
-pub returns-in_err-pass_error-clause-fault : goal.returns-in_err-pass_error-clause-fault
-returns-in_err-pass_error-clause-fault g c =
-    let failed = c.in_err-pass_error.ensures in
-    let kept = ap (λ v. v.fault) c.self.view_is in
-    let p = err_from_is_err_and c.from_residual.result c.from_residual.ensures.1 in
-    rw (p.1, p.2) (sym kept ∙ sym failed)
 
 pub invariant_of-self : goal.invariant_of-self
 invariant_of-self g c =
@@ -86,7 +35,7 @@ pub returns-clause-exact : goal.returns-clause-exact
 returns-clause-exact g c =
     let same = c.as_mut_slice-far.ensures.value ∙ ap (λ v. v.control_ends) c.self.view_is in
     λ end here none. c.carry_at-result.ensures.exact end
-    (ap (λ l. slice_get l c.args.terminal) same ∙ here)
+    (ap (λ l. slice_get l c.args.terminal) same ∙ here) (ap (λ v. v.fault) c.self.view_is ∙ none)
 
 pub returns-clause-count : goal.returns-clause-count
 returns-clause-count g c =
@@ -96,7 +45,14 @@ returns-clause-count g c =
     ∙ ap length (lent.value ∙ ap (λ v. v.terminal_ends) c.self.view_is)
 
 pub returns-clause-first_error : goal.returns-clause-first_error
-returns-clause-first_error g c =
-    let none = c.in_ok-pass_error.ensures in
-    let kept = ap (λ v. v.fault) c.self.view_is in
-    λ e first. absurd (cc (none, kept, first))
+returns-clause-first_error g c = λ e first.
+    let stays = c.carry_at-result.ensures.first_error e (ap (λ v. v.fault) c.self.view_is ∙ first) in
+    let near =
+    same_back _ c.args.self.now.terminal_ends _ c.carry_at-result.new.near _
+    (c.as_mut_slice-near.ensures.value ∙ ap (λ v. v.terminal_ends) c.self.view_is)
+    (c.carry_at-result.auto.near ∙ c.as_mut_slice-near.ensures.len) stays.1.0 in
+    let far =
+    same_back _ c.args.self.now.control_ends _ c.carry_at-result.new.far _
+    (c.as_mut_slice-far.ensures.value ∙ ap (λ v. v.control_ends) c.self.view_is)
+    (c.carry_at-result.auto.far ∙ c.as_mut_slice-far.ensures.len) stays.1.1 in
+    (stays.0, cc (near, far, stays.0, first, c.err.ensures))
