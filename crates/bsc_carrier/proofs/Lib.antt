@@ -7,3 +7,4 @@ pub mod Explained
 pub mod Splitting
 pub mod Reading
 pub mod Answered
+pub mod Kept

@@ -1,28 +1,15 @@
 -- What is kept of pieces that arrive without a gap, and how they are counted.
 use Rattle.std.proofs.Common.{◌≡◌, ℕ, ◌+◌, ◌<◌, ◌≤◌, Bool, true, false, List, [], ◌∷◌, ◌++◌, length}
-use Rattle.std.proofs.Common.{take, inl, inr, refl, sym, ◌∙◌, ap, append_assoc, append-nil}
+use Rattle.std.proofs.Common.{take, refl, sym, ◌∙◌, ap, append_assoc, append-nil}
 use Rattle.std.proofs.Common.{length-append, arith}
-use Rattle.std.proofs.lemmas.List.{take_all, take-append-le, length-take-le}
-use Rattle.std.proofs.lemmas.Bool.{cases_lt}
+use Rattle.std.proofs.lemmas.List.{take_all, length-take-le}
 use Rattle.std.specs.List.{concat}
 use Rattle.bsc_frame.specs.declared.limits.TheConstants.{MAX_HEARD}
 use Rattle.bsc_frame.specs.Spells.{IsNoise}
+use Rattle.bsc_carrier.proofs.Kept.{take_again}
 use Rattle.bsc_connections.specs.declared.limits.TheConstants.{KEPT, MOST_WITHOUT_GAP}
 use Rattle.bsc_connections.specs.Framings.{GapsValue, GathersAll, ArriveBetweenGaps, IsHeardOf}
 use Rattle.bsc_connections.specs.Framings.{EndsAll}
-
--- To take the first n elements of a list before appending to it does not change the first n
--- elements of the whole.
-pub take_of_front : (n : ℕ) (xs ys : List ℕ) → take n (take n xs ++ ys) ≡ take n (xs ++ ys)
-take_of_front n xs ys =
-    elim (cases_lt n (length xs)) [
-      | inr short ↦ ap (λ (front : List ℕ). take n (front ++ ys)) (take_all n xs short)
-      | inl longer ↦
-          let below : n ≤ length xs = omega (arith, longer) in
-          let front : length (take n xs) ≡ n = length-take-le n xs below in
-          take-append-le n (take n xs) ys (omega (arith, front))
-          ∙ take_all n (take n xs) (omega (arith, front)) ∙ sym (take-append-le n xs ys below)
-    ]
 
 begun_after_pieces : (all : List ℕ) (old new : GapsValue) (pieces : List (List ℕ)) → old.begun
     ≡ take KEPT all → GathersAll old pieces new → new.begun ≡ take KEPT (all ++ concat pieces)
@@ -32,7 +19,7 @@ begun_after_pieces all old new (piece ∷ pieces) begun (mid, gathers, rest) =
     let here : mid.begun ≡ take KEPT (all ++ piece) =
     ap (λ (v : GapsValue). v.begun) gathers.3
     ∙ ap (λ (front : List ℕ). take KEPT (front ++ piece)) begun
-    ∙ take_of_front KEPT all piece in
+    ∙ take_again KEPT all piece in
     begun_after_pieces (all ++ piece) mid new pieces here rest
     ∙ ap (take KEPT) (append_assoc all piece (concat pieces))
 

@@ -1,7 +1,6 @@
 mod Admissions
 mod Attendance
 mod Gathered
-mod Kept
 mod Places
 mod Sending
 mod OnePlace

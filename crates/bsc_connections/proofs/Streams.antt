@@ -24,7 +24,7 @@ use Rattle.bsc_connections.specs.Streams.{begun_of, GivesRecords, GivesByGaps, L
 use Rattle.bsc_connections.specs.declared.framing.Framing as framing_of
 use Rattle.std.specs.declared.io.Read as read
 use Rattle.std.specs.declared.io.Write as write
-use Rattle.bsc_connections.proofs.Gathered.{take_of_front}
+use Rattle.bsc_carrier.proofs.Kept.{take_again}
 use Rattle.bsc_connections.proofs.Sessions.{Fits}
 use Rattle.bsc_frame.proofs.Elements.{all_append}
 
@@ -136,7 +136,7 @@ gaps_part a b piece fed = λ sooner begun. record {
   some = tt;
   first = refl;
   kept_of = ap (λ (v : GapsValue). v.begun) fed.3
-      ∙ ap (λ (front : List ℕ). take KEPT (front ++ piece)) begun ∙ take_of_front KEPT sooner piece;
+      ∙ ap (λ (front : List ℕ). take KEPT (front ++ piece)) begun ∙ take_again KEPT sooner piece;
 }
 
 gaps_whole : (a b : GapsValue) (piece : List ℕ) → Gathers a piece (Ok (length piece, true)) b

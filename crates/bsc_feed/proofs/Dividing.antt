@@ -7,10 +7,10 @@ use Rattle.std.proofs.lemmas.List.Elements.{All-append, All-cons, All-head, All-
 use Rattle.std.specs.List.{concat, flat_map}
 use Rattle.bsc_input.specs.Parts.{after_octet, before_octet}
 use Rattle.bsc_input.specs.Reading.{HasNoFeed}
+use Rattle.bsc_carrier.proofs.Kept.{take_again}
 use Rattle.bsc_input.proofs.LineParts.{all_before, before_append, feed_at, no_feed_before}
 use Rattle.bsc_feed.specs.Lines.{AreLines, Divides, Fed, LinesValue, kept_of, with_feed}
 use Rattle.bsc_feed.specs.Lines.{ended, ends_line, goes_on}
-use Rattle.bsc_feed.proofs.Kept.{take_again}
 
 pub no_feed_append : (xs ys : List ℕ) → HasNoFeed xs → HasNoFeed ys → HasNoFeed (xs ++ ys)
 no_feed_append xs ys a b = All-append (λ octet. (octet == 10) ≡ false) xs ys a b

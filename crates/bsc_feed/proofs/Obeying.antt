@@ -6,6 +6,7 @@ use Rattle.std.proofs.Math.Seq.{take-length}
 use Rattle.std.proofs.lemmas.List.Elements.{All-nil}
 use Rattle.std.specs.List.{flat_map}
 use Rattle.std.specs.Prelude.{if◌then◌else◌}
+use Rattle.bsc_carrier.proofs.Kept.{take_again}
 use Rattle.bsc_input.specs.Reading.{HasNoFeed}
 use Rattle.bsc_monitor.specs.declared.party.Party as party_of
 use Rattle.bsc_feed.specs.declared.client.Client.{Client}
@@ -16,7 +17,6 @@ use Rattle.bsc_feed.specs.Sessions.{Event, Session, ended, is_heeded, lines_in, 
 use Rattle.bsc_feed.specs.Sessions.{takes, tells, step_of, waiting_of}
 use Rattle.bsc_feed.specs.Sessions.{line_of_event}
 use Rattle.bsc_feed.proofs.Dividing.{no_feed_append}
-use Rattle.bsc_feed.proofs.Kept.{take_again}
 use Rattle.bsc_feed.proofs.Steps.{steps_lines, waits_as}
 
 -- a filtered list, by its first element

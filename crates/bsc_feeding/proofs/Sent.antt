@@ -218,7 +218,7 @@ sent_all (Some all) (Some old) (Some new) text line f g a b c d e o h reads send
     (commands_after text (map strip_carriage_return (unless_empty line))) f g a b c d e o h.some
     sends)
 
-fault_after : (commands : Option (List (List ℕ))) (f : Bool) (a b d e o : Option (List ℕ))
+pub fault_after : (commands : Option (List (List ℕ))) (f : Bool) (a b d e o : Option (List ℕ))
     → SendsSome commands f (turned a b d e) → EndsInFault e o → EndsInFault d o
 fault_after commands f a b d e o p q = record {
   told = p.sends.told ++ q.told;
@@ -242,10 +242,6 @@ sent_fault (Some all) None text f a b d e o h fault = absurd h
 sent_fault (Some all) (Some old) text f a b d e o h fault =
     fault_after (Some (commands_after text (map strip_carriage_return h.done))) f a b d e o h.some
     fault
-
-pub some_fault : (commands : Option (List (List ℕ))) (f : Bool) (a b d e o : Option (List ℕ))
-    → SendsSome commands f (turned a b d e) → EndsInFault e o → EndsInFault d o
-some_fault commands f a b d e o p q = fault_after commands f a b d e o p q
 
 -- An answer that is a fault.
 pub answer_fault : (a b : Option (List ℕ)) → IsAnswer Refused a b → EndsInFault a b

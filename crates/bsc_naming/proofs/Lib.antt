@@ -1,6 +1,5 @@
 pub mod HeardNames
 pub mod Lines
 pub mod Lists
-pub mod Outcomes
 pub mod Parts
 pub mod Printed

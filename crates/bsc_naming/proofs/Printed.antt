@@ -3,6 +3,7 @@ use Rattle.std.proofs.Common.{◌≡◌, ◌<◌, ◌≤◌, ℕ, ◌+◌, ◌||
 use Rattle.std.proofs.Common.{true, false, Option, Some, None, Result, Ok, Err, length, refl, sym, ap}
 use Rattle.std.proofs.Common.{zero, suc, subst, ◌∙◌, append_assoc, append-nil, length-append, arith, get_or, take}
 use Rattle.std.proofs.Math.Seq.{take-append_seam}
+use Rattle.std.proofs.lemmas.Bool.{or_from, or_left}
 use Rattle.std.proofs.lemmas.Bool.Decides.{nat_tests}
 use Rattle.std.proofs.lemmas.List.{map-append, take-map}
 use Rattle.std.specs.Prelude.{IfErr, IfSome, OnOk, slice_index_or}
@@ -69,14 +70,6 @@ first_lines octets done left e =
     ∙ ap (map strip_carriage_return) (take-append_seam done left)
 
 -- lines by their length
-fits_by : (b : Bool) (wrong : Bool) → b ≡ false → wrong ≡ false → (b || wrong) ≡ false
-fits_by true wrong e f = cc
-fits_by false wrong e f = f
-
-long_by : (b : Bool) (wrong : Bool) → b ≡ true → (b || wrong) ≡ true
-long_by true wrong e = refl
-long_by false wrong e = cc
-
 wrong_by : (b : Bool) (wrong : Bool) → b ≡ false → wrong ≡ true
     → ((b || wrong) ≡ true) × ((not b && wrong) ≡ true)
 wrong_by true wrong e f = cc
@@ -104,7 +97,7 @@ module _ {detail : Detail} {n : ℕ} {a b : Option (List ℕ)} where
     count = omega (arith, length-append h.done (part ∷ []), h.count);
     right =
         NonePasses-more is_refused h.done part h.right
-        (fits_by (is_too_long part) (is_wrong (strip_carriage_return part)) (not_long part fits)
+        (or_from (is_too_long part) (is_wrong (strip_carriage_return part)) (not_long part fits)
         (rw same at right));
     printed =
         subst (λ lines. PrintsLines detail lines a c)
@@ -256,7 +249,7 @@ module _ (detail : Detail) (n : ℕ) (a b c : Option (List ℕ)) where
       let part = before_octet 10 old in
       has_printed_stop is_too_long all part found.0
       (subst (λ parts. HasPrinted detail (parts_of all) parts n a b) found.1 h)
-      (long_by (is_too_long part) (is_wrong (strip_carriage_return part)) (long part more))
+      (or_left (is_too_long part) (is_wrong (strip_carriage_return part)) (long part more))
       (long part more)
 
   -- the next line was not read

@@ -1,19 +1,16 @@
 -- The results of `parse` for a number in decimal digits.
-use Rattle.std.proofs.Common.{◌≡◌, ◌<◌, ◌^◌, ◌==◌, ◌&&◌, ℕ, List, Bool, true, false, not}
+use Rattle.std.proofs.Common.{◌≡◌, ◌<◌, ◌^◌, ◌==◌, ℕ, List, Bool, true, false, not}
 use Rattle.std.proofs.Common.{length, None, refl, ap, sym, ◌∙◌, arith}
 use Rattle.std.specs.Prelude.{if◌then◌else◌}
 use Rattle.std.specs.Str.{all_ascii_digits}
 use Rattle.std.specs.Str.Parse.{IsNumeral, digits_value}
 use Rattle.std.proofs.lemmas.Str.Parse.{IsNumeralModel, numerals_by_value, tells_all_ascii_digits}
+use Rattle.std.proofs.lemmas.Bool.{and_parts}
 use Rattle.std.proofs.lemmas.Bool.Decides.{nat_tests}
 use Rattle.bsc_options.specs.Numbers.{digits_within, if_within, is_numeral}
 
 own : IsNumeralModel (λ ds. all_ascii_digits ds ≡ true) (digits_value 10)
 own = numerals_by_value _ tells_all_ascii_digits
-
-both_of_and : (a b : Bool) → (a && b) ≡ true → (a ≡ true) × (b ≡ true)
-both_of_and true b e = (refl, e)
-both_of_and false b e = cc
 
 -- a numeral, by the test of this crate and by that of `parse`
 numeral_is : (ds : List ℕ) → IsNumeral 10 ds → is_numeral ds ≡ true
@@ -21,7 +18,7 @@ numeral_is ds h = let all = own.from ds h.1 in let some = h.0 in grind (arith, n
 
 numeral_from : (ds : List ℕ) → is_numeral ds ≡ true → IsNumeral 10 ds
 numeral_from ds e =
-    let tests = both_of_and (not (length ds == 0)) (all_ascii_digits ds) e in
+    let tests = and_parts (not (length ds == 0)) (all_ascii_digits ds) e in
     let some : 0 < length ds = grind (arith, nat_tests) in
     (some, own.to ds tests.1)
 

@@ -1,14 +1,11 @@
 -- The text of characters in a document has nothing that has a meaning there.
-use Rattle.std.proofs.Common.{◌≡◌, ◌==◌, ◌&&◌, ◌||◌, ℕ, Bool, true, false, List, [], ◌∷◌, ◌++◌, refl, sym}
+use Rattle.std.proofs.Common.{◌≡◌, ◌==◌, ◌&&◌, ◌||◌, ℕ, true, false, List, [], ◌∷◌, ◌++◌, refl, sym}
 use Rattle.std.proofs.Common.{ap, ◌∙◌}
 use Rattle.std.specs.List.{flat_map, list_all}
 use Rattle.std.proofs.lemmas.List.Folds.{list_all-append}
 use Rattle.bsc_print.specs.Forms.{is_printable}
+use Rattle.bsc_print.proofs.Escapes.{split}
 use Rattle.bsc_picture.specs.Escapes.{IsNamed, IsPlain, escaped, escaped_code, is_piece, is_plain}
-
-split : {P : Type 0} (b : Bool) → (b ≡ true → P) → (b ≡ false → P) → P
-split true passes fails = passes refl
-split false passes fails = fails refl
 
 plain_code : (x : ℕ) → list_all is_plain (escaped_code x) ≡ true
 plain_code x =

@@ -11,7 +11,7 @@ use Rattle.std.proofs.lemmas.Str.{digit_value-digit_char}
 use Rattle.bsc_print.specs.Forms.{AreOctets, HasOneReading, IsOneLine, escape_of, escaped}
 use Rattle.bsc_print.specs.Forms.{hex_escape, is_printable}
 
-split : {P : Type 0} (b : Bool) → (b ≡ true → P) → (b ≡ false → P) → P
+pub split : {P : Type 0} (b : Bool) → (b ≡ true → P) → (b ≡ false → P) → P
 split true passes fails = passes refl
 split false passes fails = fails refl
 
@@ -57,7 +57,7 @@ head_escape x rest h =
     (λ e. rw e (rw not_slash refl))
     (λ e. rw e (head_hex x rest h))))))))))
 
-tail_octets : (x : ℕ) (xs : List ℕ) → AreOctets (x ∷ xs) → AreOctets xs
+pub tail_octets : (x : ℕ) (xs : List ℕ) → AreOctets (x ∷ xs) → AreOctets xs
 tail_octets x xs h = λ k d below. h (suc k) d (omega arith)
 
 pub has_one_reading : HasOneReading
@@ -107,7 +107,7 @@ hex_printable x h =
     all_cons 92 (120 ∷ digit_char (x / 16) ∷ digit_char (x % 16) ∷ []) refl
     (all_cons 120 (digit_char (x / 16) ∷ digit_char (x % 16) ∷ []) refl digits)
 
-escape_printable : (x : ℕ) → x < 256 → AllPass is_printable (escape_of x)
+pub escape_printable : (x : ℕ) → x < 256 → AllPass is_printable (escape_of x)
 escape_printable x h =
     split (x == 92) (λ e. rw e (all_two 92 92 refl refl))
     (λ e. rw e (split (x == 9) (λ e. rw e (all_two 92 116 refl refl))

@@ -4,6 +4,7 @@ use Rattle.std.proofs.Common.{append_assoc, append-nil}
 use Rattle.std.specs.Prelude.{OnOk, OnErr}
 use Rattle.std.specs.Io.KnownBytes.{Appends}
 use Rattle.std.proofs.KnownBytes.{Appends-nil, Appends-trans}
+use Rattle.std.proofs.lemmas.Result.{on_err_weaker}
 use Rattle.bsc_print.specs.Fronts.{AppendsFront, Extends}
 
 pub front_none : (a : Option (List ℕ)) (x : List ℕ) → AppendsFront a a x
@@ -32,14 +33,10 @@ front_after a b c x y p q = record {
   appended = Appends-trans a b c x q.front p q.appended;
 }
 
-pub on_err : {T E P Q : Type 0} (r : Result T E) → (P → Q) → OnErr r P → OnErr r Q
-on_err (Ok x) f p = p
-on_err (Err e) f p = f p
-
 -- the same, if the second failed
 pub front_after_on_err : {T E : Type 0} (a b c : Option (List ℕ)) (x y : List ℕ) (r : Result T E)
     → Appends a b x → OnErr r (AppendsFront b c y) → OnErr r (AppendsFront a c (x ++ y))
-front_after_on_err a b c x y r p q = on_err r (front_after a b c x y p) q
+front_after_on_err a b c x y r p q = on_err_weaker r (front_after a b c x y p) q
 
 -- an error says it, whichever it is
 pub for_err : {T E P : Type 0} (r : Result T E) → P → OnErr r P
@@ -54,7 +51,7 @@ front_within_err a b x y r p = for_err r (front_within a b x y p)
 -- the second of three texts is written with the third
 pub front_joined : {T E : Type 0} (a b : Option (List ℕ)) (x y z : List ℕ) (r : Result T E)
     → OnErr r (AppendsFront a b (x ++ (y ++ z))) → OnErr r (AppendsFront a b (x ++ y ++ z))
-front_joined a b x y z r p = on_err r (subst (AppendsFront a b) (sym (append_assoc x y z))) p
+front_joined a b x y z r p = on_err_weaker r (subst (AppendsFront a b) (sym (append_assoc x y z))) p
 
 pub extends_same : (a : Option (List ℕ)) → Extends a a
 extends_same a = record { text = []; appended = Appends-nil a }

@@ -1,17 +1,13 @@
 -- What is printed of a text from elsewhere is printable, and what is printable is as it was.
-use Rattle.std.proofs.Common.{◌≡◌, ◌<◌, ◌==◌, ◌&&◌, ◌||◌, ℕ, Bool, true, false, List, [], ◌∷◌}
-use Rattle.std.proofs.Common.{◌++◌, zero, suc, refl, ap, arith, subst, append-nil, get_or}
+use Rattle.std.proofs.Common.{◌≡◌, ◌<◌, ◌==◌, ◌&&◌, ◌||◌, ℕ, Bool, true, List, [], ◌∷◌}
+use Rattle.std.proofs.Common.{◌++◌, zero, suc, refl, ap, arith, get_or}
 use Rattle.std.specs.Prelude.{not, if◌then◌else◌, nat_le}
 use Rattle.std.specs.List.{AllPass, flat_map}
 use Rattle.std.proofs.lemmas.Bool.Decides.{nat_tests}
 use Rattle.std.proofs.lemmas.List.Elements.{All-append}
 use Rattle.bsc_print.specs.Forms.{AreOctets, escape_of, escaped, is_printable}
-use Rattle.bsc_print.proofs.Escapes.{is_one_line}
+use Rattle.bsc_print.proofs.Escapes.{escape_printable, split, tail_octets}
 use Rattle.bsc_print.specs.Lines.{AreLines, IsAsItIs, in_lines, is_of_lines, is_plain, line_code}
-
-split : {P : Type 0} (b : Bool) → (b ≡ true → P) → (b ≡ false → P) → P
-split true passes fails = passes refl
-split false passes fails = fails refl
 
 one_passes : (p : ℕ → Bool) (x : ℕ) → p x ≡ true → AllPass p (x ∷ [])
 one_passes p x e zero d below = e
@@ -19,13 +15,6 @@ one_passes p x e (suc k) d below = absurd (omega arith)
 
 tail_passes : (p : ℕ → Bool) (x : ℕ) (xs : List ℕ) → AllPass p (x ∷ xs) → AllPass p xs
 tail_passes p x xs h = λ k d below. h (suc k) d (omega arith)
-
-tail_octets : (x : ℕ) (xs : List ℕ) → AreOctets (x ∷ xs) → AreOctets xs
-tail_octets x xs h = λ k d below. h (suc k) d (omega arith)
-
-one_octet : (x : ℕ) → x < 256 → AreOctets (x ∷ [])
-one_octet x h zero d below = h
-one_octet x h (suc k) d below = absurd (omega arith)
 
 -- a character that is printed as it is
 plain_escape : (x : ℕ) → is_plain x ≡ true → escape_of x ≡ x ∷ []
@@ -36,11 +25,6 @@ is_as_it_is [] h = refl
 is_as_it_is (x ∷ xs) h =
     rw (plain_escape x (h 0 x (omega arith)))
     (ap (λ l. x ∷ l) (is_as_it_is xs (tail_passes is_plain x xs h)))
-
--- the text of a code
-escape_printable : (x : ℕ) → x < 256 → AllPass is_printable (escape_of x)
-escape_printable x h =
-    subst (AllPass is_printable) (append-nil (escape_of x)) (is_one_line (x ∷ []) (one_octet x h))
 
 -- the text of a code of lines is of lines
 printable_of_lines : (x : ℕ) → is_printable x ≡ true → is_of_lines x ≡ true

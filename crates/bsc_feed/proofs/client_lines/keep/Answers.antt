@@ -1,6 +1,6 @@
 -- Shows that as much is kept as of the whole line.
 use Rattle.std.proofs.Common.{◌++◌, ◌-◌, ◌∙◌, ap, length, min, sym, take}
-use Rattle.bsc_feed.proofs.Kept.{take_of_appended}
+use Rattle.bsc_carrier.proofs.Kept.{take_of_appended}
 use Rattle.bsc_feed.proofs.client_lines.keep.Goals as goal
 
 pub returns-clause-begun : goal.returns-clause-begun

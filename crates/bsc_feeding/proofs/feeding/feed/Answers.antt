@@ -1,16 +1,16 @@
 -- Shows that what is told after the last command is printed after its answer.
 use Rattle.std.proofs.Common.{arith, subst, sym, ◌∙◌}
 use Rattle.std.proofs.lemmas.Grind.{common_steps}
+use Rattle.std.proofs.lemmas.Result.{on_ok_weaker}
 use Rattle.bsc_feeding.specs.Answers.{HearsTo}
 use Rattle.bsc_feeding.specs.Feeding.{commands_known}
-use Rattle.bsc_feeding.proofs.Errors.{ok_moved}
-use Rattle.bsc_feeding.proofs.Sent.{feeds_followed, feeds_plain, some_fault}
+use Rattle.bsc_feeding.proofs.Sent.{fault_after, feeds_followed, feeds_plain}
 use Rattle.bsc_feeding.proofs.Told.{hears_ended, hears_left}
 use Rattle.bsc_feeding.proofs.feeding.feed.Goals as goal
 
 pub returns-then-follows-clause-fed : goal.returns-then-follows-clause-fed
 returns-then-follows-clause-fed g c =
-    ok_moved c.follow.result
+    on_ok_weaker c.follow.result
     (λ told. record {
       text = c.in_ok-given.given.text.items;
       takes_lines = c.in_ok-given.given.takes_lines;
@@ -27,7 +27,7 @@ returns-then-follows-clause-fed g c =
 
 pub returns-then-follows-clause-refused : goal.returns-then-follows-clause-refused
 returns-then-follows-clause-refused g c =
-    λ e. some_fault
+    λ e. fault_after
     (commands_known c.in_ok-given.given.takes_lines c.in_ok-given.given.text.items
     (g.R.Read.remaining c.args.input.now)) c.in_ok-follows.follows
     (g.O.Write.contents c.args.said.now) (g.O.Write.contents c.send_given.new.said)
@@ -51,7 +51,7 @@ returns-clause-fed g c = record {
 
 pub returns-then-follows-clause-heard : goal.returns-then-follows-clause-heard
 returns-then-follows-clause-heard g c =
-    ok_moved c.follow.result
+    on_ok_weaker c.follow.result
     (λ hears. record {
       text = c.in_ok-given.given.text.items;
       takes_lines = c.in_ok-given.given.takes_lines;

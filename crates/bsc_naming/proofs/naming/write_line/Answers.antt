@@ -1,12 +1,11 @@
 -- Shows that a blank line prints nothing, and that any other prints its transmission.
 use Rattle.std.proofs.Common.{◌≡◌, Some, true, false, sym, ap, ◌∙◌, option_map, rules}
+use Rattle.std.proofs.lemmas.Result.{on_err_weaker, on_ok_weaker}
 use Rattle.bsc_input.specs.Hexadecimal.{octets_of}
 use Rattle.bsc_input.specs.Lines.{is_blank}
 use Rattle.bsc_naming.specs.Lines.{is_traced}
-use Rattle.bsc_print.proofs.Fronts.{on_err}
 use Rattle.bsc_naming.proofs.Lines.{prints_lines_plain, prints_lines_skip, digits_plain}
 use Rattle.bsc_naming.proofs.Lines.{given_blank, lines_front_plain}
-use Rattle.bsc_naming.proofs.Outcomes.{on_ok}
 use Rattle.bsc_naming.proofs.naming.write_line.Goals as goal
 
 pub returns-then-is_blank-clause-ok : goal.returns-then-is_blank-clause-ok
@@ -25,7 +24,7 @@ returns-in-Some-clause-ok g c =
     ∙ ap (option_map (λ v. v.items)) c.in-Some.is ∙ ap Some (sym c.deref.ensures.value) in
     let plain : is_traced line ≡ false = search rules in
     let blank : is_blank line ≡ false = search rules in
-    on_ok c.write_transmission.result (prints_lines_plain c.args.detail line octets _ _ plain
+    on_ok_weaker c.write_transmission.result (prints_lines_plain c.args.detail line octets _ _ plain
     (digits_plain line plain) blank read) c.write_transmission.ensures.ok
 
 pub returns-in-Some-clause-front : goal.returns-in-Some-clause-front
@@ -36,5 +35,5 @@ returns-in-Some-clause-front g c =
     ∙ ap (option_map (λ v. v.items)) c.in-Some.is ∙ ap Some (sym c.deref.ensures.value) in
     let plain : is_traced line ≡ false = search rules in
     let blank : is_blank line ≡ false = search rules in
-    on_err c.write_transmission.result (lines_front_plain c.args.detail line octets _ _ plain
+    on_err_weaker c.write_transmission.result (lines_front_plain c.args.detail line octets _ _ plain
     (digits_plain line plain) blank read) c.write_transmission.ensures.front

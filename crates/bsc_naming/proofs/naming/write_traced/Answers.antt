@@ -1,12 +1,11 @@
 -- Shows that a line of a trace prints the transmission in its last word, if there is one.
 use Rattle.std.proofs.Common.{◌≡◌, Some, None, true, false, sym, ap, ◌∙◌, option_map, rules}
+use Rattle.std.proofs.lemmas.Result.{on_err_weaker, on_ok_weaker}
 use Rattle.bsc_input.specs.Hexadecimal.{octets_of}
 use Rattle.bsc_input.specs.Lines.{is_blank}
 use Rattle.bsc_naming.specs.Lines.{digits}
-use Rattle.bsc_print.proofs.Fronts.{on_err}
 use Rattle.bsc_naming.proofs.Lines.{prints_lines_one, prints_lines_kept, digits_traced}
 use Rattle.bsc_naming.proofs.Lines.{given_blank, given_wrong, lines_front_kept, lines_front_one}
-use Rattle.bsc_naming.proofs.Outcomes.{on_ok}
 use Rattle.bsc_naming.proofs.naming.write_traced.Goals as goal
 
 pub returns-then-is_blank-clause-ok : goal.returns-then-is_blank-clause-ok
@@ -15,7 +14,7 @@ returns-then-is_blank-clause-ok g c =
     let word = c.last_word-word.result.now in
     let same : digits line ≡ word = digits_traced line c.requires ∙ sym c.last_word-word.ensures in
     let blank : is_blank word ≡ true = search rules in
-    on_ok c.write_kept.result (prints_lines_kept c.args.detail true line word _ _ c.requires same
+    on_ok_weaker c.write_kept.result (prints_lines_kept c.args.detail true line word _ _ c.requires same
     (given_blank word blank)) c.write_kept.ensures.ok
 
 pub returns-then-is_blank-clause-front : goal.returns-then-is_blank-clause-front
@@ -24,7 +23,7 @@ returns-then-is_blank-clause-front g c =
     let word = c.last_word-word.result.now in
     let same : digits line ≡ word = digits_traced line c.requires ∙ sym c.last_word-word.ensures in
     let blank : is_blank word ≡ true = search rules in
-    on_err c.write_kept.result (lines_front_kept c.args.detail true line word _ _ c.requires same
+    on_err_weaker c.write_kept.result (lines_front_kept c.args.detail true line word _ _ c.requires same
     (given_blank word blank)) c.write_kept.ensures.front
 
 pub returns-in-Some-clause-ok : goal.returns-in-Some-clause-ok
@@ -36,7 +35,7 @@ returns-in-Some-clause-ok g c =
     let read : octets_of word ≡ Some octets = sym c.in_ok-octets.ensures
     ∙ ap (option_map (λ v. v.items)) c.in-Some.is ∙ ap Some (sym c.deref.ensures.value) in
     let blank : is_blank word ≡ false = search rules in
-    on_ok c.write_spoken.result (prints_lines_one c.args.detail true line word octets _ _ c.requires
+    on_ok_weaker c.write_spoken.result (prints_lines_one c.args.detail true line word octets _ _ c.requires
     same blank read) c.write_spoken.ensures.ok
 
 pub returns-in-Some-clause-front : goal.returns-in-Some-clause-front
@@ -48,7 +47,7 @@ returns-in-Some-clause-front g c =
     let read : octets_of word ≡ Some octets = sym c.in_ok-octets.ensures
     ∙ ap (option_map (λ v. v.items)) c.in-Some.is ∙ ap Some (sym c.deref.ensures.value) in
     let blank : is_blank word ≡ false = search rules in
-    on_err c.write_spoken.result (lines_front_one c.args.detail true line word octets _ _ c.requires
+    on_err_weaker c.write_spoken.result (lines_front_one c.args.detail true line word octets _ _ c.requires
     same blank read) c.write_spoken.ensures.front
 
 pub returns-in-None-clause-ok : goal.returns-in-None-clause-ok
@@ -59,7 +58,7 @@ returns-in-None-clause-ok g c =
     let blank : is_blank word ≡ false = search rules in
     let read : octets_of word ≡ None = sym c.in_ok-octets.ensures
     ∙ ap (option_map (λ v. v.items)) c.in-None.is in
-    on_ok c.write_kept-in-None.result (prints_lines_kept c.args.detail true line word _ _ c.requires
+    on_ok_weaker c.write_kept-in-None.result (prints_lines_kept c.args.detail true line word _ _ c.requires
     same (given_wrong word blank read)) c.write_kept-in-None.ensures.ok
 
 pub returns-in-None-clause-front : goal.returns-in-None-clause-front
@@ -70,5 +69,5 @@ returns-in-None-clause-front g c =
     let blank : is_blank word ≡ false = search rules in
     let read : octets_of word ≡ None = sym c.in_ok-octets.ensures
     ∙ ap (option_map (λ v. v.items)) c.in-None.is in
-    on_err c.write_kept-in-None.result (lines_front_kept c.args.detail true line word _ _ c.requires
+    on_err_weaker c.write_kept-in-None.result (lines_front_kept c.args.detail true line word _ _ c.requires
     same (given_wrong word blank read)) c.write_kept-in-None.ensures.front

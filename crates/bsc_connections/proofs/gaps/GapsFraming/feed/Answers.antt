@@ -3,7 +3,7 @@ use Rattle.std.proofs.Common.{◌≡◌, ℕ, ◌+◌, ◌-◌, min, List, ◌++
 use Rattle.std.proofs.Common.{arith}
 use Rattle.bsc_connections.specs.declared.limits.TheConstants.{KEPT}
 use Rattle.bsc_connections.specs.Framings.{GapsValue}
-use Rattle.bsc_connections.proofs.Kept.{take_of_appended}
+use Rattle.bsc_carrier.proofs.Kept.{take_of_appended}
 use Rattle.bsc_connections.proofs.gaps.GapsFraming.feed.Goals as goal
 
 pub returns-clause-feeds : goal.returns-clause-feeds
