@@ -1,7 +1,7 @@
 -- What is kept of a sender when its process ends, and how a new sender recalls it. This is the
 -- project's own.
-use Rattle.std.specs.Prelude.{ℕ, ◌-◌, ◌≤◌, nat_lt, nat_le, Bool, true, ◌&&◌, length, Option}
-use Rattle.std.specs.Prelude.{None, Some, Result, Ok, Err, if◌then◌else◌, IfSome}
+use Rattle.std.specs.Prelude.{◌≡◌, ℕ, ◌-◌, ◌≤◌, nat_lt, nat_le, Bool, true, ◌&&◌, length}
+use Rattle.std.specs.Prelude.{Option, None, Some, Result, Ok, Err, if◌then◌else◌, IfSome}
 use Rattle.bsc_frame.specs.declared.limits.TheConstants.{MAX_UNITS}
 use Rattle.bsc_spool.specs.Queue.{QueueValue, queue_of}
 use Rattle.bsc_bid.specs.declared.kept.KeptSender.{KeptSender}
@@ -10,7 +10,7 @@ use Rattle.bsc_bid.specs.declared.kept.RecallError.TheVariants.{NotNew, Known, D
 use Rattle.bsc_bid.specs.declared.phase.Phase.{Phase}
 use Rattle.bsc_bid.specs.declared.phase.Phase.TheVariants.{Idle, Unanswered, Held, InDoubt}
 use Rattle.bsc_bid.specs.Setup.{SetupValue}
-use Rattle.bsc_bid.specs.Sender.{SenderValue, with_phase}
+use Rattle.bsc_bid.specs.Sender.{SenderValue, restarted_sender, with_phase}
 
 -- A doubtful block has 1 to 7 records.
 abbrev pub HasDoubt : Phase → Type 0
@@ -87,3 +87,12 @@ recall_in s q _ kept = not_recalled s q NotNew
 -- A recall.
 abbrev pub recall_step : SenderValue → QueueValue → KeptSender → RecallStep
 recall_step s q kept = recall_in s q s.phase kept
+
+-- What is kept of a sender, if it fits, makes it again: a new sender with the same settings that
+-- recalls it, for a queue of the same records of which none is known, is the sender after a
+-- restart, with its queue as it was.
+abbrev pub RecallsKept : Type 0
+RecallsKept =
+    (s : SenderValue) (q : QueueValue) → FitsOffered (kept_of s q) (length q.offered)
+    → recall_step (new_sender s.setup) (queue_of q.format q.offered 0) (kept_of s q)
+    ≡ record { sender = restarted_sender s; queue = q; answer = Ok tt }

@@ -1,11 +1,10 @@
 //! Laws about the definitions: what holds of every bid, whatever is lost or damaged.
 
 ghost use Rattle.std.specs.Prelude.{◌≡◌, ◌↔◌, length, Ok};
-ghost use Rattle.bsc_spool.specs.Queue.{QueueValue, queue_of};
+ghost use Rattle.bsc_spool.specs.Queue.{QueueValue};
 ghost use Rattle.bsc_bid.specs.declared.kept.KeptSender.{KeptSender};
 ghost use Rattle.bsc_bid.specs.Setup.{SetupValue};
-ghost use Rattle.bsc_bid.specs.Sender.{SenderValue, restarted_sender};
-ghost use Rattle.bsc_bid.specs.Stored.{FitsOffered, kept_of, new_sender, recall_step};
+ghost use Rattle.bsc_bid.specs.Stored.{FitsOffered, RecallsKept, new_sender, recall_step};
 ghost use Rattle.bsc_bid.specs.OneBid.{SendsTextsAndEnq, SendsItsBlocks, HearsItsBlocks};
 ghost use Rattle.bsc_bid.specs.OneBid.{OnlyMoves, OffersMove, StaysReady, StaysSound};
 ghost use Rattle.bsc_bid.specs.OneBid.{SoundWithinTurns, EndsKnowing, DoubtsAtSilence};
@@ -94,10 +93,7 @@ pub fn each_step()
 /// none is known, is the sender after a restart, with its queue as it was. And a new sender recalls
 /// exactly what fits the records that were offered, whatever a file has.
 pub fn recalls()
-    ensures restart { (s : SenderValue) (q : QueueValue)
-        → FitsOffered (kept_of s q) (length q.offered)
-        → recall_step (new_sender s.setup) (queue_of q.format q.offered 0) (kept_of s q)
-        ≡ record { sender = restarted_sender s; queue = q; answer = Ok tt } }
+    ensures restart { RecallsKept }
     ensures accepted { (setup : SetupValue) (q : QueueValue) (kept : KeptSender) → q.known ≡ 0
         → ((recall_step (new_sender setup) q kept).answer ≡ Ok tt)
         ↔ FitsOffered kept (length q.offered) }

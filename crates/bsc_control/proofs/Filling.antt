@@ -7,19 +7,20 @@ use Rattle.std.proofs.lemmas.List.{length-map, ext_get_or}
 use Rattle.std.proofs.lemmas.Simd.{map-map}
 use Rattle.std.specs.List.{All}
 use Rattle.bsc_block.specs.Format.{FormatValue}
-use Rattle.bsc_spool.specs.Queue.{QueueValue, queue_of}
+use Rattle.bsc_spool.specs.Queue.{queue_of}
+use Rattle.bsc_spool.specs.Spool.{without_room}
 use Rattle.bsc_bid.specs.declared.kept.KeptSender.{KeptSender}
 use Rattle.bsc_bid.specs.Receiver.{new_receiver}
-use Rattle.bsc_bid.specs.Sender.{SenderValue, restarted_sender}
+use Rattle.bsc_bid.specs.Sender.{restarted_sender}
 use Rattle.bsc_bid.specs.Setup.{SetupValue}
-use Rattle.bsc_bid.specs.Stored.{FitsOffered, RecallStep, kept_of, new_sender, recall_step}
+use Rattle.bsc_bid.specs.Stored.{FitsOffered, RecallStep, RecallsKept, new_sender, recall_step}
 use Rattle.bsc_bid.specs.Terminal.{TerminalValue}
 use Rattle.bsc_control.specs.Control.{ControlValue, peer_at, restarted, terminals, with_peer}
 use Rattle.bsc_control.specs.Kept.{HasSettings, IsControl, IsNewControl, outbound_of}
 use Rattle.bsc_control.specs.Peer.{OutboundValue, PeerValue, IsNewPeer, IsPeer, no_outbound}
 use Rattle.bsc_control.specs.Peer.{no_peer, restarted_outbound, restarted_peer}
 use Rattle.bsc_control.specs.Stored.{BecomesRestarted, IsBegunAs, IsFilledAs, apart_from_room}
-use Rattle.bsc_control.specs.Stored.{kept_of_side, without_records, without_room}
+use Rattle.bsc_control.specs.Stored.{kept_of_side, without_records}
 use Rattle.bsc_control.proofs.PeerLists.{map_kept_by_set}
 use Rattle.bsc_control.proofs.Restarting.{peer_at_restarted}
 
@@ -69,14 +70,7 @@ begun_filled c n t p same begun =
     ap (λ (ps : List PeerValue). record n { peers = ps })
     (map_kept_by_set without_records n.peers t p no_peer same) ∙ begun
 
--- what a sender recalls, by its law
-abbrev pub Recalls : Type 0
-Recalls =
-    (s : SenderValue) (q : QueueValue) → FitsOffered (kept_of s q) (length q.offered)
-    → recall_step (new_sender s.setup) (queue_of q.format q.offered 0) (kept_of s q)
-    ≡ record { sender = restarted_sender s; queue = q; answer = Ok tt }
-
-side_recalled : Recalls → (setup : SetupValue) (o : OutboundValue) → o.sender.setup ≡ setup
+side_recalled : RecallsKept → (setup : SetupValue) (o : OutboundValue) → o.sender.setup ≡ setup
     → o.queue.format ≡ setup.format
     → FitsOffered (kept_of_side o) (length o.queue.offered) → BecomesRestarted setup o
 side_recalled law setup o same format fits =
@@ -92,7 +86,7 @@ side_recalled law setup o same format fits =
     λ x. record { sender = x.sender; queue = x.queue } in
     record { recalls = ap (λ (x : RecallStep). x.answer) step; restarts = ap side step }
 
-pub recalled_restarted : Recalls → (c : ControlValue) (t s : ℕ) → IsControl c
+pub recalled_restarted : RecallsKept → (c : ControlValue) (t s : ℕ) → IsControl c
     → s < length (peer_at c t).outbounds
     → FitsOffered (kept_of_side (outbound_of c t s)) (length (outbound_of c t s).queue.offered)
     → BecomesRestarted c.setup (outbound_of c t s)

@@ -2,7 +2,7 @@
 -- is in specs/Kept.antt.
 use Rattle.std.specs.Prelude.{◌≡◌, ℕ, false, List, [], map, Result, Ok, Err}
 use Rattle.bsc_spool.specs.Queue.{queue_of}
-use Rattle.bsc_spool.specs.Spool.{SpoolValue}
+use Rattle.bsc_spool.specs.Spool.{without_room}
 use Rattle.bsc_bid.specs.declared.kept.KeptSender.{KeptSender}
 use Rattle.bsc_bid.specs.declared.kept.RecallError.{RecallError}
 use Rattle.bsc_bid.specs.declared.kept.RecallError.TheVariants.{NotNew}
@@ -72,10 +72,6 @@ pub record IsFilledAs (c n : ControlValue) : Type 0 where
   pub begun : IsBegunAs c n
   pub arrived : (t : ℕ) → (peer_at n t).spool.records ≡ (peer_at c t).spool.records
   pub sides : (t s : ℕ) → outbound_of n t s ≡ restarted_outbound (outbound_of c t s)
-
--- a spool of which only the records are known
-abbrev pub without_room : SpoolValue → SpoolValue
-without_room s = record { records = s.records; room = false; delays = 0 }
 
 -- The station apart from the room in its spools, and how often room was refused. Both are of the
 -- memory of a process, and end with it.

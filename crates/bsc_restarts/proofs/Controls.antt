@@ -7,8 +7,8 @@ use Rattle.std.proofs.lemmas.Bool.{cases_lt}
 use Rattle.bsc_block.proofs.Forgotten.{forgotten_fewer, length_after_forgotten}
 use Rattle.bsc_block.specs.Records.{after_forgotten}
 use Rattle.bsc_bid.specs.declared.kept.KeptSender.{KeptSender}
-use Rattle.bsc_bid.specs.Sender.{SenderValue, restarted_sender}
-use Rattle.bsc_bid.specs.Stored.{FitsOffered, RecallStep, kept_of, new_sender, recall_step}
+use Rattle.bsc_bid.specs.Sender.{restarted_sender}
+use Rattle.bsc_bid.specs.Stored.{FitsOffered, RecallStep, RecallsKept, new_sender, recall_step}
 use Rattle.bsc_bid.specs.Terminal.{TerminalValue}
 use Rattle.bsc_control.specs.Control.{ControlValue, peer_at, terminals}
 use Rattle.bsc_control.specs.Kept.{IsNewControl, outbound_of}
@@ -22,7 +22,7 @@ use Rattle.bsc_keeping.specs.Filled.{sent_again}
 use Rattle.bsc_keeping.specs.Filling.{offered_at, recalled_at}
 use Rattle.bsc_keeping.specs.Own.{channel_to, sending_of, terminal_at}
 use Rattle.bsc_keeping.specs.declared.own_text.Owner.TheVariants.{Control}
-use Rattle.bsc_spool.specs.Queue.{QueueValue, queue_of, waiting, with_forgotten}
+use Rattle.bsc_spool.specs.Queue.{queue_of, waiting, with_forgotten}
 use Rattle.bsc_spool.specs.Spool.{SpoolValue}
 use Rattle.bsc_restarts.specs.BegunAgain.{ControlBeginsAgain, HasSent, HasSides}
 use Rattle.bsc_restarts.proofs.Arriving.{each_gained}
@@ -110,14 +110,8 @@ begun_forgotten o n few =
     (λ rs. record (begun_side o) { queue = queue_of o.queue.format rs o.queue.known })
     (forgotten_fewer o.queue.known n (waiting o.queue) few)
 
--- the type of what recalls say of a sender
-abbrev pub Recalls : Type 0
-Recalls = (s : SenderValue) (q : QueueValue) → FitsOffered (kept_of s q) (length q.offered)
-    → recall_step (new_sender s.setup) (queue_of q.format q.offered 0) (kept_of s q)
-    ≡ record { sender = restarted_sender s; queue = q; answer = Ok tt }
-
 -- a new sending side that is offered and recalls what the store has of one is that one
-side_begins : Recalls → (c : ControlValue) (it : Contents) (o : OutboundValue)
+side_begins : RecallsKept → (c : ControlValue) (it : Contents) (o : OutboundValue)
     → o.sender.setup ≡ c.setup → o.queue.format ≡ c.setup.format
     → FitsOffered (kept_of_side o) (length o.queue.offered)
     → HasSent it (kept_of_side o) (waiting o.queue)
@@ -143,7 +137,7 @@ side_begins recalls c it o setup format fits all =
     ap (λ (r : RecallStep). record { sender = r.sender; queue = r.queue }) step
 
 -- a new control station that is filled is the control station begun again
-pub control_begins : Recalls
+pub control_begins : RecallsKept
     → ((c n : ControlValue) → IsNewControl c.setup (terminals c) c.poll_list n → IsBegunAs c n)
     → ControlBeginsAgain
 control_begins recalls begins has forgets_printed c new filled is_one sides fit is_new same all

@@ -6,8 +6,9 @@ use Rattle.std.proofs.lemmas.Bool.{cases_lt}
 use Rattle.bsc_block.specs.Records.{after_forgotten, forgotten}
 use Rattle.bsc_block.proofs.Forgotten.{forgotten_fewer, length_after_forgotten}
 use Rattle.bsc_bid.specs.declared.kept.KeptSender.{KeptSender}
-use Rattle.bsc_bid.specs.Sender.{SenderValue, restarted_sender}
-use Rattle.bsc_bid.specs.Stored.{FitsOffered, RecallStep, kept_of, new_sender, recall_step}
+use Rattle.bsc_bid.specs.Sender.{restarted_sender}
+use Rattle.bsc_bid.specs.Stored.{FitsOffered, RecallStep, RecallsKept, kept_of, new_sender}
+use Rattle.bsc_bid.specs.Stored.{recall_step}
 use Rattle.bsc_bid.specs.Terminal.{TerminalValue}
 use Rattle.bsc_kept.specs.Contents.{Contents, records_from}
 use Rattle.bsc_kept.specs.declared.channel.Channel.{Channel}
@@ -222,10 +223,7 @@ none_arrived spools all s = elim (cases_lt s (length spools)) [
 ]
 
 -- a new terminal that is filled is the terminal begun again
-pub terminal_begins : ((s : SenderValue) (q : QueueValue)
-    → FitsOffered (kept_of s q) (length q.offered)
-    → recall_step (new_sender s.setup) (queue_of q.format q.offered 0) (kept_of s q)
-    ≡ record { sender = restarted_sender s; queue = q; answer = Ok tt }) → TerminalBeginsAgain
+pub terminal_begins : RecallsKept → TerminalBeginsAgain
 terminal_begins recalls has forgets_printed t new filled is_one fits is_new all made =
     let its = has (From t.terminal.poll) in
     let forgot = with_forgotten t.queue t.queue.known in

@@ -1,6 +1,6 @@
 -- What contracts see of a spool.
 use Rattle.std.specs.Prelude.{◌≡◌, ℕ, ◌+◌, ◌-◌, ◌^◌, Bool, List, [], ◌∷◌, ◌++◌, min}
-use Rattle.std.specs.Prelude.{if◌then◌else◌, true}
+use Rattle.std.specs.Prelude.{if◌then◌else◌, true, false}
 use Rattle.bsc_block.specs.Records.{forgotten}
 
 -- The records that arrived, in order, whether seven more fit without allocating memory, and how
@@ -22,6 +22,10 @@ room_asked s answer =
       room = answer;
       delays = if answer then s.delays else with_delay s.delays;
     }
+
+-- The spool of which only the records are known.
+abbrev pub without_room : SpoolValue → SpoolValue
+without_room s = record { records = s.records; room = false; delays = 0 }
 
 -- The spool has one more record at its end. Room was not refused, and whether there is some now is
 -- left open.

@@ -6,14 +6,15 @@ use Rattle.std.proofs.lemmas.List.{map-set}
 use Rattle.std.proofs.lemmas.Simd.{map-map}
 use Rattle.std.specs.List.{All}
 use Rattle.bsc_spool.specs.Queue.{QueueValue, queue_of}
-use Rattle.bsc_spool.specs.Spool.{SpoolValue, GainsRecord}
+use Rattle.bsc_spool.specs.Spool.{SpoolValue, GainsRecord, without_room}
 use Rattle.bsc_bid.specs.declared.kept.KeptSender.{KeptSender}
 use Rattle.bsc_bid.specs.Sender.{SenderValue, restarted_sender}
 use Rattle.bsc_bid.specs.Setup.{SetupValue}
-use Rattle.bsc_bid.specs.Stored.{FitsOffered, RecallStep, kept_of, new_sender, recall_step}
+use Rattle.bsc_bid.specs.Stored.{FitsOffered, RecallStep, RecallsKept, kept_of, new_sender}
+use Rattle.bsc_bid.specs.Stored.{recall_step}
 use Rattle.bsc_bid.specs.Terminal.{TerminalValue}
 use Rattle.bsc_tributary.specs.Kept.{IsTributary, IsNewTerminal}
-use Rattle.bsc_tributary.specs.Stored.{IsFilled, BecomesRestarted, arrived, without_room}
+use Rattle.bsc_tributary.specs.Stored.{IsFilled, BecomesRestarted, arrived}
 use Rattle.bsc_tributary.specs.Tributary.{TributaryValue, empty_spool, spool_at}
 
 -- nothing arrived in any of these spools
@@ -72,13 +73,6 @@ filled_spooled setup terminal rs rss t r s x filled gains =
           filled.spools;
     }
 
--- what a sender recalls, by its law
-abbrev pub Recalls : Type 0
-Recalls =
-    (s : SenderValue) (q : QueueValue) → FitsOffered (kept_of s q) (length q.offered)
-    → recall_step (new_sender s.setup) (queue_of q.format q.offered 0) (kept_of s q)
-    ≡ record { sender = restarted_sender s; queue = q; answer = Ok tt }
-
 -- spools with the same records are the same apart from their room
 same_apart_from_room : (xs ys : List SpoolValue) → map (λ (s : SpoolValue). s.records) xs
     ≡ map (λ (s : SpoolValue). s.records) ys → map without_room xs ≡ map without_room ys
@@ -88,7 +82,7 @@ same_apart_from_room xs ys e =
     sym (map-map spool_of (λ (s : SpoolValue). s.records) xs) ∙ ap (map spool_of) e
     ∙ map-map spool_of (λ (s : SpoolValue). s.records) ys
 
-pub becomes_restarted : Recalls → (t n : TributaryValue) → IsTributary t
+pub becomes_restarted : RecallsKept → (t n : TributaryValue) → IsTributary t
     → FitsOffered (kept_of t.sender t.queue) (length t.queue.offered)
     → IsFilled t.sender.setup t.terminal t.queue.offered (arrived t) n → BecomesRestarted t n
 becomes_restarted law t n is fits filled =

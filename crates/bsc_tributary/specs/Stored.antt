@@ -2,7 +2,7 @@
 -- specs/Kept.antt.
 use Rattle.std.specs.Prelude.{◌≡◌, ℕ, true, false, List, map, Ok}
 use Rattle.bsc_spool.specs.Queue.{queue_of}
-use Rattle.bsc_spool.specs.Spool.{SpoolValue}
+use Rattle.bsc_spool.specs.Spool.{SpoolValue, without_room}
 use Rattle.bsc_bid.specs.declared.kept.KeptSender.{KeptSender}
 use Rattle.bsc_bid.specs.Receiver.{new_receiver}
 use Rattle.bsc_bid.specs.Setup.{SetupValue}
@@ -35,10 +35,6 @@ pub record IsFilled (setup : SetupValue) (terminal : TerminalValue) (offered : L
   pub receiver : t.receiver ≡ new_receiver true
   pub queue : t.queue ≡ queue_of setup.format offered 0
   pub spools : arrived t ≡ spooled
-
--- a spool of which only the records are known
-abbrev pub without_room : SpoolValue → SpoolValue
-without_room s = record { records = s.records; room = false; delays = 0 }
 
 -- The terminal apart from the room in its spools, and how often room was refused. Both are of the
 -- memory of a process, and end with it.
