@@ -14,9 +14,6 @@ use Rattle.bsc_bid.specs.Sender.{SenderValue, SenderStep, ReleaseStep, begin_ste
 use Rattle.bsc_bid.specs.Sender.{released, release_in, cut_phase}
 use Rattle.bsc_bid.specs.Act.{Act}
 use Rattle.bsc_bid.specs.Act as a
-use Rattle.bsc_bid.specs.Ready.{AreWaiting}
-use Rattle.bsc_frame.specs.declared.text.End.{End}
-use Rattle.bsc_frame.specs.declared.text.End.TheVariants.{Etb, Etx}
 use Rattle.bsc_bid.specs.Fair.{IsTextMessage}
 use Rattle.bsc_bid.specs.Bid.{answered}
 use Rattle.bsc_bid.specs.Agreement.{IsResting}
@@ -33,6 +30,7 @@ use Rattle.bsc_bid.proofs.Offers.{not_longer, bid_offered, resting_offered}
 use Rattle.bsc_bid.proofs.Fitting.{Fits, fits_heard, fits_silence, fits_begin}
 use Rattle.bsc_bid.proofs.Turning.{LawsBelow, at_rest_after_end, sound_by, bid_continues}
 use Rattle.bsc_bid.proofs.Blocks.{released_by}
+use Rattle.bsc_bid.proofs.Readiness.{all_waiting}
 
 sender_agrees_after_step : (s : SenderValue) (q : QueueValue) (alternation : Alternation) (last : Reply)
     (spooled : List (List ℕ)) (t : SenderStep) → Leaves q alternation last spooled t → Fits s t
@@ -103,10 +101,6 @@ release_keeps_rest s q k spooled e h =
     release_by s q k spooled s.phase e h (not_longer spooled q.offered h.sound.front)
 
 -- a block that was unanswered is in doubt, and the sender that was held asks no more
-few_enough : (k n : ℕ) (end : End) → AreWaiting k end n → k ≤ n
-few_enough k n Etb h = omega (arith, h)
-few_enough k n Etx h = h
-
 cut_rests : (phase : Phase) (q : QueueValue) (spooled : List (List ℕ)) → IsResting phase q spooled
     → IsResting (cut_phase phase) q spooled
 cut_rests Idle q spooled h = h
@@ -121,7 +115,7 @@ cut_rests (Held end x) q spooled h =
 cut_rests (Unanswered b) q spooled h =
     record {
       queue = h.queue;
-      counts = few_enough b.count (length (waiting q)) b.end h.counts;
+      counts = all_waiting b.count (length (waiting q)) b.end h.counts;
       sound = record {
         front = h.sound.front;
         known = h.sound.known;

@@ -80,7 +80,7 @@ stays_reached {c} {d} {t} {s} {p} {o} {x} h reached ready keeps =
     (stays_replaced c t s x h reached.reached.within reached.there ready kept)
 
 -- replacing a sending side by itself changes nothing
-replaced_by_itself : (c : ControlValue) (t s : ℕ) → replaced c t s (outbound_of c t s) ≡ c
+pub replaced_by_itself : (c : ControlValue) (t s : ℕ) → replaced c t s (outbound_of c t s) ≡ c
 replaced_by_itself c t s =
     ap (λ os. with_peer c t (record (peer_at c t) { outbounds = os }))
     (set-get_or (peer_at c t).outbounds s no_outbound)

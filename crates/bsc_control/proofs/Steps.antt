@@ -214,7 +214,7 @@ which_after_bid s (Some Wack) = inl refl
 which_after_bid s None = inl refl
 
 -- no reply is a call
-reply_is_no_call : (r : Option Reply) (address : List ℕ) → option_map m.Reply r ≡ Some (m.Call address)
+pub reply_is_no_call : (r : Option Reply) (address : List ℕ) → option_map m.Reply r ≡ Some (m.Call address)
     → ⊥
 reply_is_no_call None address e = cc
 reply_is_no_call (Some r) address e = cc

@@ -1,6 +1,5 @@
 -- A release or a recall that is refused leaves the station as it was.
 use Rattle.std.proofs.Common.{◌≡◌, ◌∙◌, ℕ, ap, refl, Err}
-use Rattle.std.proofs.lemmas.List.{set-get_or}
 use Rattle.bsc_spool.specs.Queue.{QueueValue}
 use Rattle.bsc_bid.specs.declared.kept.KeptSender.{KeptSender}
 use Rattle.bsc_bid.specs.declared.kept.RecallError.{RecallError}
@@ -10,23 +9,10 @@ use Rattle.bsc_control.specs.declared.task.Task.{Task}
 use Rattle.bsc_control.specs.declared.task.Task.TheVariants.{AtRest, Selecting, Sending, Polling}
 use Rattle.bsc_control.specs.Control.{ControlValue, peer_at, with_peer}
 use Rattle.bsc_control.specs.Kept.{outbound_of}
-use Rattle.bsc_control.specs.Peer.{OutboundValue, no_outbound, no_peer}
 use Rattle.bsc_control.specs.Peer.{outbound_released, with_outbound}
 use Rattle.bsc_control.specs.Stored.{answer_during, outbound_recalled, recalled_during}
-
--- the station with this sending side
-abbrev with_side : ControlValue → ℕ → ℕ → OutboundValue → ControlValue
-with_side c t s o = with_peer c t (with_outbound (peer_at c t) s o)
-
--- A sending side takes its own place.
-side_stays : (c : ControlValue) (t s : ℕ) → with_side c t s (outbound_of c t s) ≡ c
-side_stays c t s =
-    let peer : with_outbound (peer_at c t) s (outbound_of c t s) ≡ peer_at c t =
-    ap (λ os. record (peer_at c t) { outbounds = os })
-    (set-get_or (peer_at c t).outbounds s no_outbound) in
-    let whole : with_peer c t (peer_at c t) ≡ c =
-    ap (λ ps. record c { peers = ps }) (set-get_or c.peers t no_peer) in
-    ap (with_peer c t) peer ∙ whole
+use Rattle.bsc_control.proofs.Reached.{replaced_by_itself}
+use Rattle.bsc_control.proofs.Replacing.{replaced}
 
 -- A release that leaves the sender and its queue as they were.
 pub release_changes_nothing : (c : ControlValue) (t s count : ℕ)
@@ -39,7 +25,7 @@ pub release_changes_nothing : (c : ControlValue) (t s count : ℕ)
 release_changes_nothing c t s count sender queue =
     let same : outbound_released (outbound_of c t s) count ≡ outbound_of c t s =
     rw (sender, queue) refl in
-    ap (with_side c t s) same ∙ side_stays c t s
+    ap (replaced c t s) same ∙ replaced_by_itself c t s
 
 -- A recall that is refused, during each task.
 pub recall_changes_nothing
@@ -54,7 +40,7 @@ recall_changes_nothing senders queues c AtRest t s k e refused =
     let queue : _ = queues (outbound_of c t s).sender (outbound_of c t s).queue k e refused in
     let same : outbound_recalled (outbound_of c t s) k ≡ outbound_of c t s =
     rw (sender, queue) refl in
-    ap (with_side c t s) same ∙ side_stays c t s
+    ap (replaced c t s) same ∙ replaced_by_itself c t s
 recall_changes_nothing senders queues c (Selecting select enquired) t s k e refused = refl
 recall_changes_nothing senders queues c (Sending select) t s k e refused = refl
 recall_changes_nothing senders queues c (Polling replied) t s k e refused = refl

@@ -32,6 +32,7 @@ use Rattle.bsc_control.specs.Table.{replied_after, is_interrupted, poll_call_ste
 use Rattle.bsc_control.specs.Table.{next_call_step, performed, after_step, bid_step, after_bid}
 use Rattle.bsc_control.specs.Table.{selecting_step, receive_step, polling_step, task_step, repeated}
 use Rattle.bsc_control.specs.Table.{silence_in, rooms_after}
+use Rattle.bsc_control.proofs.Steps.{reply_is_no_call}
 use Rattle.bsc_monitor.specs.Visits.{is_begun, calls_anew, polled_in, polled_by, ended_by}
 use Rattle.bsc_monitor.specs.Visits.{FollowsStep}
 
@@ -187,11 +188,6 @@ reply_ends_none replied (Some r) first polled entry is =
     subst (λ (b : Bool). (if b && first then polled else None) ≡ Some entry)
     (replied_not_begun replied r) is in
     cc
-
-reply_is_no_call : (r : Option Reply) (address : List ℕ) → option_map m.Reply r ≡ Some (m.Call address)
-    → ⊥
-reply_is_no_call None address e = cc
-reply_is_no_call (Some r) address e = cc
 
 -- the receiver replies, or keeps silent
 follows_receiving : (c : ControlValue) (replied : Replied) (step : ReceiverStep) → c.task

@@ -1,10 +1,9 @@
 -- What an operator's works on a store leave of a control station.
-use Rattle.std.proofs.Common.{◌≡◌, ◌∙◌, ◌<◌, ℕ, zero, suc, nat_eq, nat_lt}
-use Rattle.std.proofs.Common.{List, [], ◌∷◌, map, length, None, Some, refl, sym, ap}
+use Rattle.std.proofs.Common.{◌≡◌, ◌∙◌, ◌<◌, ℕ, nat_eq, nat_lt}
+use Rattle.std.proofs.Common.{List, [], length, None, Some, refl, sym, ap}
 use Rattle.std.proofs.Common.{subst, arith, if◌then◌else◌}
 use Rattle.std.proofs.lemmas.Bool.{and_from, lt-ltb}
 use Rattle.std.proofs.lemmas.List.{length-map}
-use Rattle.std.specs.Prelude.{slice_index_or}
 use Rattle.bsc_spool.specs.Queue.{waiting}
 use Rattle.bsc_bid.specs.Terminal.{TerminalValue}
 use Rattle.bsc_directory.specs.Addresses.{AreDistinct}
@@ -15,6 +14,8 @@ use Rattle.bsc_control.specs.Peer.{outbound_released, restarted_outbound, restar
 use Rattle.bsc_control.specs.Peer.{with_outbound}
 use Rattle.bsc_control.specs.Stored.{kept_of_side}
 use Rattle.bsc_control.proofs.PeerLists.{value_kept_by_set}
+use Rattle.bsc_control.proofs.Replacing.{replaced}
+use Rattle.bsc_control.proofs.Restarting.{outbound_of_restarted, peer_at_restarted}
 use Rattle.bsc_kept.specs.Contents.{Contents}
 use Rattle.bsc_kept.specs.declared.change.Change.TheVariants.{Known, Offered}
 use Rattle.bsc_kept.specs.declared.channel.Channel.{Channel}
@@ -34,26 +35,9 @@ use Rattle.bsc_restarts.proofs.Forgotten.{has_still, side_where}
 use Rattle.bsc_restarts.proofs.Lists.{at_set, length_of_set}
 use Rattle.bsc_restarts.proofs.Offered.{gains_here, only_gains}
 use Rattle.bsc_restarts.proofs.Offers.{HasAddress, at_most_of_control, control_gains, control_place}
-use Rattle.bsc_restarts.proofs.Offers.{control_sides, other_side, with_side}
+use Rattle.bsc_restarts.proofs.Offers.{control_sides, other_side}
 use Rattle.bsc_restarts.proofs.OneSide.{OnlySide}
 use Rattle.bsc_restarts.proofs.Works.{by_phase, one_changed}
-
--- a control station after a restart, place by place
-index_of_map : {X : Type 0} (f : X → X) (d : X) (xs : List X) (i : ℕ) → f d ≡ d
-    → slice_index_or (map f xs) i d ≡ f (slice_index_or xs i d)
-index_of_map f d [] i same = sym same
-index_of_map f d (x ∷ xs) zero same = refl
-index_of_map f d (x ∷ xs) (suc i) same = index_of_map f d xs i same
-
-peer_restarted : (c : ControlValue) (t : ℕ)
-    → peer_at (restarted c) t ≡ restarted_peer (peer_at c t)
-peer_restarted c t = index_of_map restarted_peer no_peer c.peers t refl
-
-side_restarted : (c : ControlValue) (t s : ℕ)
-    → outbound_of (restarted c) t s ≡ restarted_outbound (outbound_of c t s)
-side_restarted c t s =
-    ap (λ p. outbound_at p s) (peer_restarted c t)
-    ∙ index_of_map restarted_outbound no_outbound (peer_at c t).outbounds s refl
 
 control_begins : (ts : List TerminalValue) (has : Channel → Contents) (c : ControlValue)
     → HasStation kept_at_control waiting_at_control arrived_at_control has (sending_of ts Control)
@@ -65,21 +49,21 @@ control_begins ts has c all =
     has_still kept_at_control waiting_at_control arrived_at_control c (restarted c)
     (λ t s.
     side_where t s
-    (ap (λ (p : PeerValue). length p.outbounds) (peer_restarted c t)
+    (ap (λ (p : PeerValue). length p.outbounds) (peer_at_restarted c t)
     ∙ length-map (peer_at c t).outbounds restarted_outbound)
     peers
-    (ap kept_of_side (side_restarted c t s)
+    (ap kept_of_side (outbound_of_restarted c t s)
     ∙ ap (λ d. record { known = (outbound_of c t s).queue.known; doubt = d })
     (cut_doubt (outbound_of c t s).sender.phase)))
-    (λ t s. ap (λ (o : OutboundValue). waiting o.queue) (side_restarted c t s))
+    (λ t s. ap (λ (o : OutboundValue). waiting o.queue) (outbound_of_restarted c t s))
     (λ n it got.
     subst (HasAllReceived it)
-    (λ k. if nat_lt n (sym peers k) then (sym (peer_restarted c n) k).spool.records else []) got)
+    (λ k. if nat_lt n (sym peers k) then (sym (peer_at_restarted c n) k).spool.records else []) got)
     has (sending_of ts Control) (receiving_of ts Control) all
 
 -- one sending side has changed
 side_only : (ts : List TerminalValue) (c : ControlValue) (t s : ℕ) (o : OutboundValue)
-    → OnlySide kept_at_control waiting_at_control arrived_at_control t s c (with_side c t s o)
+    → OnlySide kept_at_control waiting_at_control arrived_at_control t s c (replaced c t s o)
     (HasAddress ts)
 side_only ts c t s o =
     let q = with_outbound (peer_at c t) s o in

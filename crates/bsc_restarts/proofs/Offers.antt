@@ -12,12 +12,13 @@ use Rattle.bsc_bid.specs.Terminal.{HasDistinctAddresses, TerminalValue}
 use Rattle.bsc_bid.specs.declared.kept.KeptSender.{KeptSender}
 use Rattle.bsc_tributary.specs.Kept.{IsTributary}
 use Rattle.bsc_directory.specs.Addresses.{AreDistinct}
-use Rattle.bsc_control.specs.Control.{ControlValue, peer_at, with_peer}
+use Rattle.bsc_control.specs.Control.{ControlValue, peer_at}
 use Rattle.bsc_control.specs.Kept.{IsControl, outbound_of}
 use Rattle.bsc_control.specs.Peer.{OutboundValue, PeerValue, no_outbound, no_peer, offered}
 use Rattle.bsc_control.specs.Peer.{offered_to, outbound_at, with_outbound}
 use Rattle.bsc_control.specs.Stored.{kept_of_side}
 use Rattle.bsc_control.proofs.PeerLists.{value_kept_by_set}
+use Rattle.bsc_control.proofs.Replacing.{replaced}
 use Rattle.bsc_kept.specs.Contents.{Contents}
 use Rattle.bsc_kept.specs.declared.change.Change.TheVariants.{Offered}
 use Rattle.bsc_kept.specs.declared.channel.Channel.{Channel}
@@ -342,17 +343,14 @@ found_side P t s (end ∷ ends) its (one, all) found =
     (λ later. found_side P t s ends its all later) found
 
 -- another sending side than the one that changes: of another terminal, or of the same one
-abbrev pub with_side : ControlValue → ℕ → ℕ → OutboundValue → ControlValue
-with_side c t s o = with_peer c t (with_outbound (peer_at c t) s o)
-
 other_terminal : (c : ControlValue) (t s : ℕ) (o : OutboundValue) (i j : ℕ) → i ≢ t
-    → outbound_of (with_side c t s o) i j ≡ outbound_of c i j
+    → outbound_of (replaced c t s o) i j ≡ outbound_of c i j
 other_terminal c t s o i j other =
     ap (λ p. outbound_at p j)
     (other_of_set c.peers t i (with_outbound (peer_at c t) s o) no_peer other)
 
 other_address : (c : ControlValue) (t s : ℕ) (o : OutboundValue) (i j : ℕ) → j ≢ s
-    → outbound_of (with_side c t s o) i j ≡ outbound_of c i j
+    → outbound_of (replaced c t s o) i j ≡ outbound_of c i j
 other_address c t s o i j other =
     value_kept_by_set (λ (p : PeerValue). outbound_at p j) c.peers t i
     (with_outbound (peer_at c t) s o) no_peer
@@ -360,7 +358,7 @@ other_address c t s o i j other =
 
 pub other_side : (c : ControlValue) (t s : ℕ) (o : OutboundValue) (i j : ℕ) (b : Bool)
     → nat_eq i t ≡ b → (b && nat_eq j s) ≡ false
-    → outbound_of (with_side c t s o) i j ≡ outbound_of c i j
+    → outbound_of (replaced c t s o) i j ≡ outbound_of c i j
 other_side c t s o i j false apart elsewhere =
     other_terminal c t s o i j (eqb-false i t apart)
 other_side c t s o i j true same elsewhere =

@@ -1,5 +1,5 @@
 -- What programs have a station do between sessions is followed.
-use Rattle.std.proofs.Common.{◌≡◌, ◌∙◌, ◌<◌, ◌+◌, ◌==◌, ◌||◌, ℕ, Bool, true, false, List, [], length}
+use Rattle.std.proofs.Common.{◌≡◌, ◌∙◌, ◌+◌, ◌==◌, ◌||◌, ℕ, Bool, true, false, List, [], length}
 use Rattle.std.proofs.Common.{Some, Result, Ok, ◌⊎◌, inl, inr, refl, sym, ap, subst, arith}
 use Rattle.std.proofs.Common.{append-nil, if◌then◌else◌}
 use Rattle.std.proofs.lemmas.Bool.{or_cases}
@@ -11,13 +11,13 @@ use Rattle.bsc_bid.specs.declared.phase.Phase.{Phase}
 use Rattle.bsc_bid.specs.declared.phase.Phase.TheVariants.{Held, Idle, InDoubt, Unanswered}
 use Rattle.bsc_bid.specs.declared.sender.ReleaseError.TheVariants.{CountMismatch}
 use Rattle.bsc_directory.specs.Addresses.{AreDistinct}
-use Rattle.bsc_directory.specs.Ways.{IsSelection, select_of}
+use Rattle.bsc_directory.specs.Ways.{select_of}
 use Rattle.bsc_directory.specs.declared.way.Way.{Way}
-use Rattle.bsc_directory.specs.declared.way.Way.TheVariants.{FromTerminal, ToTerminal}
 use Rattle.bsc_feed.specs.declared.fault.Fault.{Fault}
 use Rattle.bsc_control.specs.Control.{ControlValue, peer_at}
 use Rattle.bsc_control.specs.Kept.{IsControl, outbound_of}
 use Rattle.bsc_control.specs.Peer.{PeerValue, no_peer, outbound_released, with_outbound}
+use Rattle.bsc_control.proofs.Controls.{selection_within_outbounds}
 use Rattle.bsc_control.proofs.PeerLists.{value_kept_by_set}
 use Rattle.bsc_kept.specs.Contents.{Contents}
 use Rattle.bsc_kept.specs.declared.channel.Channel.{Channel}
@@ -134,10 +134,6 @@ terminal_sets has terminal old new (inr (result, urges)) all =
     (sym urges.state) (record { sent = all.sent; received = all.received })
 
 -- a control station that is offered a record
-within : (way : Way) (count : ℕ) → IsSelection way count → select_of way < count
-within FromTerminal count selection = absurd selection
-within (ToTerminal s) count selection = selection
-
 pub control_offers : {K : Type 0} (store : store_of.Ghosts K) (ts : List TerminalValue)
     → AreDistinct ts → (has : K → Channel → Contents) → KeepsGiven store has
     → (t : ℕ) (way : Way) (chars : List ℕ) (result : Result (List ℕ) StoreFault)
@@ -156,7 +152,7 @@ control_offers store ts distinct has given t way chars result old new before aft
     (sending_of ts Control) (receiving_of ts Control) has old x chars result before after)
     (sym offers.state)
     (control_offered_there store ts distinct has given t (select_of way) chars old result before
-    after offers.control offers.terminal (within way _ offers.address) knows all keeps)
+    after offers.control offers.terminal (selection_within_outbounds way _ offers.address) knows all keeps)
 
 -- that ends a doubt
 control_grown : (c : ControlValue) (t s count : ℕ) → IsControl (control_released c t s count)
