@@ -2,6 +2,7 @@
 -- the rows of the table.
 use Rattle.std.proofs.Common.{◌≡◌, ◌∙◌, ◌<◌, ℕ, sym, ap, subst, refl, Bool, true, false, List}
 use Rattle.std.proofs.Common.{length, nat_eq, not, slice_set, Option, if◌then◌else◌, arith}
+use Rattle.std.proofs.lemmas.Bool.{not-false, not-true}
 use Rattle.std.proofs.lemmas.List.{get_or-set_same, length-set}
 use Rattle.bsc_frame.specs.declared.message.Message.{Message}
 use Rattle.bsc_frame.specs.declared.message.Message.TheVariants as m
@@ -36,14 +37,6 @@ poll_from_poll_step : (t old : TributaryValue) → t ≡ without_line old →
     poll_from (record t { urgent = false }) ≡ poll_step old
 poll_from_poll_step t old e = ap (λ (v : TributaryValue). poll_from (record v { urgent = false })) e
 
-true_of_not_false : (b : Bool) → not b ≡ false → b ≡ true
-true_of_not_false true e = refl
-true_of_not_false false e = absurd (cc)
-
-false_of_not_true : (b : Bool) → not b ≡ true → b ≡ false
-false_of_not_true true e = absurd (cc)
-false_of_not_true false e = refl
-
 -- EOT, because the terminal is in doubt
 pub poll_step_in_doubt : (t old : TributaryValue) → t ≡ without_line old
     → is_in_doubt t.sender.phase ≡ true →
@@ -60,7 +53,7 @@ pub poll_step_empty : (t old : TributaryValue) → t ≡ without_line old → is
     answer_step (record t { urgent = false }) m.Eot ≡ poll_step old
 poll_step_empty t old e sure none =
     let empty : nat_eq (length (waiting t.queue)) 0 ≡ true =
-    true_of_not_false (nat_eq (length (waiting t.queue)) 0) none in
+    not-false (nat_eq (length (waiting t.queue)) 0) none in
     let here : answer_step (record t { urgent = false }) m.Eot
     ≡ poll_from (record t { urgent = false }) = rw
     (sure, empty) refl in
@@ -81,7 +74,7 @@ pub poll_step_begins : (t old : TributaryValue) (step : SenderStep) (mode : Mode
     } ≡ poll_step old
 poll_step_begins t old step mode sent e sure some row mode_is sent_is =
     let wait : nat_eq (length (waiting t.queue)) 0 ≡ false =
-    false_of_not_true (nat_eq (length (waiting t.queue)) 0) some in
+    not-true (nat_eq (length (waiting t.queue)) 0) some in
     let u : TributaryValue = record t { urgent = false } in
     let done : record {
       tributary =

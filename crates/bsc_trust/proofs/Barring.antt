@@ -1,6 +1,7 @@
 -- A connection on which something arrived out of turn is barred until it ends.
 use Rattle.std.proofs.Common.{◌≡◌, ℕ, zero, suc, ◌<◌, Bool, true, false, ◌||◌, ◌&&◌, List, [], ◌∷◌}
 use Rattle.std.proofs.Common.{length, refl, sym, ◌∙◌, ap, arith, Option, None, Some}
+use Rattle.std.proofs.lemmas.Bool.{or_left, or_parts}
 use Rattle.std.proofs.lemmas.List.{get_or-set_other, get_or-set_same}
 use Rattle.std.specs.Prelude.{not, is_none, slice_set}
 use Rattle.std.specs.List.{list_any}
@@ -17,7 +18,7 @@ use Rattle.bsc_trust.specs.Histories.{after, after_all}
 use Rattle.bsc_trust.specs.Histories.{ends}
 use Rattle.bsc_trust.specs.Histories.{ArrivesOutOfTurn, AnswersAt, AnswersAfterwards}
 use Rattle.bsc_trust.proofs.Steps.{given_by, part_of_chosen, after_refused}
-use Rattle.bsc_trust.proofs.Owning.{no_reason, due_where_admitted, not_same, neither, IsSound}
+use Rattle.bsc_trust.proofs.Owning.{no_reason, due_where_admitted, not_same, IsSound}
 use Rattle.bsc_trust.proofs.Owning.{sound_after_all, new_is_sound}
 
 -- Whether the connection at a place is barred.
@@ -38,10 +39,6 @@ barred_beside_set : (cs : List Connected) (place p : ℕ) (c : Connected) → (p
     → barred_at cs p ≡ true → barred_at (slice_set cs place c) p ≡ true
 barred_beside_set cs place p c other h =
     ap (λ (x : Connected). x.barred) (get_or-set_other cs place p c nobody other) ∙ h
-
-or_first : (one other : Bool) → one ≡ true → (one || other) ≡ true
-or_first true other h = refl
-or_first false other h = absurd (cc)
 
 or_second : (one shared : Bool) (owner : Option ℕ) → shared ≡ false → owner ≡ None
     → (one || (not shared && is_none owner)) ≡ true
@@ -78,7 +75,7 @@ barred_stays t (Arrives called place heard now) p stays h =
     true given given))
     (barred_stays_set t.connections place p
     (ignored_on t.shared (connected_at t.connections place))
-    (λ e. or_first (barred_at t.connections place) _ (ap (barred_at t.connections) (sym e) ∙ h)) h)
+    (λ e. or_left (barred_at t.connections place) _ (ap (barred_at t.connections) (sym e) ∙ h)) h)
 barred_stays t (Joins place peer) p stays h =
     barred_beside_set t.connections place p
     (newcomer peer) (not_same p place stays) h
@@ -89,7 +86,7 @@ barred_stays_all : (t : Trust) (events : List Event) (p : ℕ) → list_any (end
     → barred_at t.connections p ≡ true → barred_at (after_all t events).connections p ≡ true
 barred_stays_all t [] p stays h = h
 barred_stays_all t (event ∷ events) p stays h =
-    let each = neither (ends p event) (list_any (ends p) events) stays in
+    let each = or_parts (ends p event) (list_any (ends p) events) stays in
     barred_stays_all (after t event) events p each.1 (barred_stays t event p each.0 h)
 
 -- ---- it becomes barred, and then nothing is heard on it

@@ -3,7 +3,7 @@ use Rattle.std.proofs.Common.{◌≡◌, ◌≢◌, ◌⊎◌, inl, inr, ℕ, ze
 use Rattle.std.proofs.Common.{cond, ◌||◌}
 use Rattle.std.proofs.Common.{List, [], ◌∷◌, length, refl, sym, ◌∙◌, ap, subst, arith}
 use Rattle.std.proofs.Common.{Option, None, Some, length-set}
-use Rattle.std.proofs.lemmas.Bool.{eqb-true, eq-eqb}
+use Rattle.std.proofs.lemmas.Bool.{eqb-true, eq-eqb, or_parts}
 use Rattle.std.proofs.lemmas.Bool.Decides.{eqb_tells}
 use Rattle.std.proofs.Math.ListN.{length-replicate, replicate}
 use Rattle.std.specs.Prelude.{is_none, ◌==◌, slice_set}
@@ -367,16 +367,12 @@ new_is_sound time_out peers = record {
       not_of_nobody owner (sym (nobody_of_new MAX_CONNECTIONS p) ∙ left);
 }
 
-pub neither : (one other : Bool) → (one || other) ≡ false → (one ≡ false) × (other ≡ false)
-neither true other h = absurd (cc)
-neither false other h = (refl, h)
-
 owner_stays_all : (t : Trust) (events : List Event) (p owner : ℕ) → t.shared ≡ false
     → list_any (ends p) events ≡ false → owner_at t.connections p ≡ Some owner
     → owner_at (after_all t events).connections p ≡ Some owner
 owner_stays_all t [] p owner several stays h = h
 owner_stays_all t (event ∷ events) p owner several stays h =
-    let each = neither (ends p event) (list_any (ends p) events) stays in
+    let each = or_parts (ends p event) (list_any (ends p) events) stays in
     owner_stays_all (after t event) events p owner (shared_stays t event ∙ several) each.1
     (owner_stays t event p owner several each.0 h)
 
