@@ -5,7 +5,7 @@ use Rattle.std.specs.List.{flat_map}
 use Rattle.std.specs.Fmt.{decimal}
 use Rattle.bsc_bid.specs.Terminal.{TerminalValue}
 use Rattle.bsc_report.specs.Channels.{each_below}
-use Rattle.bsc_run.specs.Traces.{number_shown}
+use Rattle.bsc_report.specs.Traces.{time_shown}
 
 -- An address, after a space.
 abbrev pub address_shown : List ℕ → List ℕ
@@ -14,7 +14,7 @@ address_shown address = codes " " ++ address
 -- The line for terminal t. The full stop keeps the last address from being read as octets.
 abbrev pub address_line : ℕ → TerminalValue → List ℕ
 address_line t terminal =
-    number_shown 0 ++ codes "terminal " ++ decimal t ++ codes " is " ++ terminal.poll
+    time_shown 0 ++ codes "terminal " ++ decimal t ++ codes " is " ++ terminal.poll
     ++ codes ", selected as" ++ flat_map address_shown terminal.selects ++ codes ".\n"
 
 -- The same, if the terminal is there.

@@ -10,9 +10,10 @@ use Rattle.bsc_directory.specs.declared.way.Way.TheVariants.{FromTerminal, ToTer
 use Rattle.bsc_line_model.specs.declared.event.Event.{Event}
 use Rattle.bsc_line_model.specs.Line.{LineValue, terminal_count, channel_of, phase_of}
 use Rattle.bsc_line_model.specs.Offers.{select_count}
+use Rattle.bsc_report.specs.Traces.{told_line}
 use Rattle.bsc_script.specs.Events.{Event as Asked}
 use Rattle.bsc_run.specs.declared.standing.ChannelStanding.{ChannelStanding}
-use Rattle.bsc_run.specs.Traces.{doubt_of, lines_of, number_shown, place_shown, record_shown}
+use Rattle.bsc_run.specs.Traces.{doubt_of, lines_of, place_shown, record_shown}
 
 -- What the trace has to know of a channel from before an event.
 abbrev pub standing_on : LineValue → ℕ → Way → ChannelStanding
@@ -50,12 +51,11 @@ end_shown t (ToTerminal s) = codes "to " ++ place_shown t s
 -- The line for a record that landed.
 abbrev pub landed_line : ℕ → ℕ → Way → List ℕ → List ℕ
 landed_line n t way r =
-    number_shown n ++ codes "arrived " ++ end_shown t way ++ codes ": " ++ record_shown r
-    ++ codes "\n"
+    told_line n (codes "arrived " ++ end_shown t way ++ codes ": " ++ record_shown r)
 
 -- The line for a doubt that begins.
 abbrev pub doubt_line : ℕ → ℕ → Way → List ℕ
-doubt_line n t way = number_shown n ++ doubt_of t way ++ codes " begins\n"
+doubt_line n t way = told_line n (doubt_of t way ++ codes " begins")
 
 -- The text for something that holds now and did not hold before.
 abbrev pub if_begins : Bool → Bool → List ℕ → List ℕ
@@ -72,7 +72,7 @@ channel_changes n new before =
 -- The line for the end of trust.
 abbrev pub trust_changes : ℕ → Bool → Bool → List ℕ
 trust_changes n before now =
-    if before && not now then number_shown n ++ codes "the line is no longer trusted\n" else []
+    if before && not now then told_line n (codes "the line is no longer trusted") else []
 
 -- The lines for what changed since, by what is known of the channels and of trust from before.
 abbrev pub changes_since : ℕ → List ChannelStanding → Bool → LineValue → List ℕ

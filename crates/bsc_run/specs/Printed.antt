@@ -8,6 +8,9 @@ use Rattle.bsc_frame.specs.declared.message.Heard.TheVariants.{Whole}
 use Rattle.bsc_print.specs.Names.{name_line}
 use Rattle.bsc_print.specs.declared.form.Form.TheVariants.{Hexadecimal}
 use Rattle.bsc_report.specs.Channels.{channel_name, doubt_shown, record_line, each_below}
+use Rattle.bsc_report.specs.Traces.{who_shown}
+use Rattle.bsc_report.specs.declared.trace.Who.{Who}
+use Rattle.bsc_report.specs.declared.trace.Who.TheVariants as who
 use Rattle.bsc_bid.specs.Channel.{Channel}
 use Rattle.bsc_bid.specs.Sender.{is_in_doubt}
 use Rattle.bsc_directory.specs.declared.way.Way.{Way}
@@ -18,17 +21,17 @@ use Rattle.bsc_line_model.specs.declared.transmission.Transmission.{Transmission
 use Rattle.bsc_line_model.specs.Line.{LineValue, terminal_count, channel_of, phase_of}
 use Rattle.bsc_line_model.specs.Offers.{select_count}
 
--- The name of a sender.
-abbrev pub speaker_name : Speaker → List ℕ
-speaker_name Control = codes "control"
-speaker_name (Terminal t) = codes "terminal " ++ decimal t
+-- The sender of a transmission, as a trace names it.
+abbrev pub who_of : Speaker → Who
+who_of Control = who.Control
+who_of (Terminal t) = who.Terminal t
 
 -- The line for the pending transmission: its sender and the name of its message, or that none is
 -- pending.
 abbrev pub pending_line : Option Transmission → List ℕ
 pending_line None = codes "quiet\n"
 pending_line (Some sent) =
-    speaker_name sent.speaker ++ codes " " ++ name_line (Whole sent.message)
+    who_shown (who_of sent.speaker) ++ codes " " ++ name_line (Whole sent.message)
 
 -- The numbers of records that are offered, known and spooled on a channel.
 abbrev pub counts_shown : Channel → List ℕ

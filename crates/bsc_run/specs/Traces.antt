@@ -11,11 +11,12 @@ use Rattle.bsc_frame.specs.declared.message.Heard.{Heard}
 use Rattle.bsc_frame.specs.declared.message.Heard.TheVariants.{Whole}
 use Rattle.bsc_frame.specs.declared.message.Message.{Message}
 use Rattle.bsc_print.specs.Forms.{escaped}
-use Rattle.bsc_print.specs.Names.{chars_shown, name_of}
 use Rattle.bsc_report.specs.Channels.{each_below}
+use Rattle.bsc_report.specs.Traces.{silence_shown, told_line, transmission_line}
+use Rattle.bsc_report.specs.declared.trace.Fate.{Fate}
+use Rattle.bsc_report.specs.declared.trace.Fate.TheVariants as fate
 use Rattle.bsc_directory.specs.declared.way.Way.{Way}
 use Rattle.bsc_directory.specs.declared.way.Way.TheVariants.{FromTerminal, ToTerminal}
-use Rattle.bsc_line_model.specs.declared.transmission.Speaker.{Speaker}
 use Rattle.bsc_line_model.specs.declared.transmission.Transmission.{Transmission}
 use Rattle.bsc_line_model.specs.declared.event.Event.{Event}
 use Rattle.bsc_line_model.specs.declared.event.Event.TheVariants as event
@@ -23,26 +24,7 @@ use Rattle.bsc_line_model.specs.Hearing.{octets_in}
 use Rattle.bsc_line_model.specs.Line.{LineValue}
 use Rattle.bsc_script.specs.Events.{Event as Asked, offer_at, offer_for, carry, lose, heard}
 use Rattle.bsc_script.specs.Events.{heard_each, silence, ready, urgent_at, urgent_for, release}
-use Rattle.bsc_run.specs.Printed.{speaker_name}
-
--- The number of the line of the script, at the start of a line.
-abbrev pub number_shown : ℕ → List ℕ
-number_shown n = codes "+" ++ decimal n ++ codes " "
-
--- The terminal that heard, if the line is about one of them only.
-abbrev pub hearer_shown : Option ℕ → List ℕ
-hearer_shown None = []
-hearer_shown (Some t) = codes "at " ++ decimal t ++ codes " "
-
--- The end of a line: the octets in hexadecimal text.
-abbrev pub octets_shown : List ℕ → List ℕ
-octets_shown octets = codes " " ++ chars_shown octets ++ codes "\n"
-
--- The start of the line for a transmission: the number, the sender, the word for what became of it,
--- and who heard it.
-abbrev pub start_shown : ℕ → Speaker → List ℕ → Option ℕ → List ℕ
-start_shown n speaker word hearer =
-    number_shown n ++ speaker_name speaker ++ word ++ hearer_shown hearer
+use Rattle.bsc_run.specs.Printed.{who_of}
 
 -- Whether a message was heard that is another than the one that was sent. Two messages are the same
 -- if the same octets are sent for them.
@@ -50,21 +32,21 @@ abbrev pub is_turned : Message → Heard → Bool
 is_turned sent (Whole message) = not (bytes_eq (wire message) (wire sent))
 is_turned sent _ = false
 
--- The word for what became of a transmission that arrived.
-abbrev pub fate_shown : Bool → List ℕ
-fate_shown turned = if turned then codes " turned " else codes " heard "
+-- What became of a transmission that arrived.
+abbrev pub fate_if : Bool → Fate
+fate_if turned = if turned then fate.Turned else fate.Heard
 
 -- The line for a transmission that was heard as these octets.
 abbrev pub heard_line : ℕ → Transmission → Option ℕ → List ℕ → List ℕ
 heard_line n sent hearer octets =
-    start_shown n sent.speaker (fate_shown (is_turned sent.message (heard_of octets))) hearer
-    ++ name_of (heard_of octets) ++ octets_shown octets
+    transmission_line n (who_of sent.speaker)
+    (fate_if (is_turned sent.message (heard_of octets))) hearer (heard_of octets) octets
 
 -- The line for a transmission that was lost.
 abbrev pub lost_line : ℕ → Transmission → Option ℕ → List ℕ
 lost_line n sent hearer =
-    start_shown n sent.speaker (codes " lost ") hearer
-    ++ name_of (Whole sent.message) ++ octets_shown (wire sent.message)
+    transmission_line n (who_of sent.speaker) fate.Lost hearer (Whole sent.message)
+    (wire sent.message)
 
 -- The line for what terminal t heard.
 abbrev pub item_line : ℕ → Transmission → ℕ → Option (List ℕ) → List ℕ
@@ -107,7 +89,7 @@ abbrev pub mark : Asked → List ℕ
 mark (offer_at t r) = codes "offered at terminal " ++ decimal t ++ codes ": " ++ record_shown r
 mark (offer_for t s r) =
     codes "offered for terminal " ++ place_shown t s ++ codes ": " ++ record_shown r
-mark silence = codes "silence"
+mark silence = silence_shown
 mark (ready t true) = codes "terminal " ++ decimal t ++ codes " is ready"
 mark (ready t false) = codes "terminal " ++ decimal t ++ codes " is not ready"
 mark (urgent_at t) = codes "terminal " ++ decimal t ++ codes " asks for the line"
@@ -117,7 +99,7 @@ mark _ = []
 
 -- The line for an event in which nothing is sent.
 abbrev pub mark_line : ℕ → Asked → List ℕ
-mark_line n asked = number_shown n ++ mark asked ++ codes "\n"
+mark_line n asked = told_line n (mark asked)
 
 -- The lines for an accepted event of a script, which is this event of the line.
 abbrev pub lines_of : ℕ → Asked → Event → LineValue → List ℕ

@@ -7,9 +7,9 @@ ghost use Rattle.std.specs.Io.KnownBytes.{Appends};
 ghost use Rattle.bsc_run.specs.Addresses.{address_line, address_line_of, address_lines};
 ghost use Rattle.bsc_run.specs.Addresses.{address_shown, addresses_traced};
 
-use crate::trace::write_number;
 use bsc_bid::Terminal;
 use bsc_print::{PrintError, put};
+use bsc_report::write_time;
 use std::io::Write;
 
 /// Writes the selection addresses of a terminal, each after a space.
@@ -41,7 +41,7 @@ fn write_terminal<W: Write>(
     ensures { OnOk result
         (Appends (W.contents out.old) (W.contents out.new) (address_line number terminal.now)) }
 {
-    write_number(0, out)?;
+    write_time(0, out)?;
     write_terminal_number(number, out)?;
     put(terminal.poll().codes(), out)?;
     put(b", selected as", out)?;

@@ -11,11 +11,11 @@ ghost use Rattle.bsc_run.specs.Traces.{if_traced};
 
 use crate::marks::{write_doubt, write_place, write_record};
 use crate::standing::{ChannelStanding, LineStanding};
-use crate::trace::write_number;
 use bsc_block::Records;
 use bsc_control::Way;
 use bsc_line::Line;
 use bsc_print::{PrintError, put};
+use bsc_report::write_time;
 use std::alloc::Allocator;
 use std::io::Write;
 
@@ -44,7 +44,7 @@ fn write_landed<A: Allocator, W: Write>(
     ensures { OnOk result (Appends (W.contents out.old) (W.contents out.new)
         (landed_line number before.now.terminal before.now.way codes.now)) }
 {
-    write_number(number, out)?;
+    write_time(number, out)?;
     put(b"arrived ", out)?;
     write_end(before.terminal, before.way, out)?;
     put(b": ", out)?;
@@ -97,7 +97,7 @@ fn write_begins<W: Write>(
     ensures { OnOk result (Appends (W.contents out.old) (W.contents out.new)
         (doubt_line number before.now.terminal before.now.way)) }
 {
-    write_number(number, out)?;
+    write_time(number, out)?;
     write_doubt(before.terminal, before.way, out)?;
     put(b" begins\n", out)
 }
@@ -131,7 +131,7 @@ fn write_trust<W: Write>(
         (trust_changes number before trusted)) }
 {
     if before && !trusted {
-        write_number(number, out)?;
+        write_time(number, out)?;
         put(b"the line is no longer trusted\n", out)
     } else {
         Ok(())

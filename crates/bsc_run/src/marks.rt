@@ -8,9 +8,9 @@ ghost use Rattle.bsc_script.specs.Events.{urgent_for};
 ghost use Rattle.bsc_run.specs.Traces.{doubt_of, if_traced, mark, mark_line, place_shown};
 ghost use Rattle.bsc_run.specs.Traces.{record_shown};
 
-use crate::trace::write_number;
 use bsc_control::Way;
 use bsc_print::{Form, PrintError, put, write_in_form};
+use bsc_report::write_time;
 use bsc_script::Action;
 use std::alloc::Allocator;
 use std::io::Write;
@@ -174,7 +174,7 @@ pub(crate) fn trace_mark<A: Allocator, B: Allocator, W: Write>(
     let Some(number) = number else {
         return Ok(());
     };
-    write_number(number, out)?;
+    write_time(number, out)?;
     write_mark(alloc, action, out)?;
     put(b"\n", out)
 }

@@ -3,23 +3,21 @@
 ghost use Rattle.std.specs.Prelude.{◌≡◌, Some, OnOk, IfErr};
 ghost use Rattle.std.specs.Io.KnownBytes.{Appends};
 ghost use Rattle.bsc_print.specs.Fronts.{Extends};
-ghost use Rattle.bsc_run.specs.Printed.{speaker_name, pending_line};
+ghost use Rattle.bsc_run.specs.Printed.{pending_line, who_of};
 
 use bsc_line::{Line, Speaker, Transmission};
-use bsc_print::{PrintError, put, put_numbered, write_name};
+use bsc_print::{PrintError, put, write_name};
+use bsc_report::{Who, write_who};
 use std::alloc::Allocator;
 use std::io::Write;
 
-/// Writes the sender of a transmission.
-pub(crate) fn write_speaker<W: Write>(speaker: Speaker, out: &mut W) -> Result<(), PrintError>
-    ensures ok { OnOk result
-        (Appends (W.contents out.old) (W.contents out.new) (speaker_name speaker)) }
-    ensures stays { Extends (W.contents out.old) (W.contents out.new) }
-    ensures err { IfErr result (λ error. error ≡ PrintError.Output) }
+/// Returns the sender of a transmission, as a trace names it.
+pub(crate) fn who_of(speaker: Speaker) -> Who
+    ensures { result ≡ who_of speaker }
 {
     match speaker {
-        Speaker::Control => put(b"control", out),
-        Speaker::Terminal(terminal) => put_numbered(b"terminal ", terminal as u64, out),
+        Speaker::Control => Who::Control,
+        Speaker::Terminal(terminal) => Who::Terminal(terminal),
     }
 }
 
@@ -30,7 +28,7 @@ fn write_sent<W: Write>(sent: &Transmission<'_>, out: &mut W) -> Result<(), Prin
     ensures stays { Extends (W.contents out.old) (W.contents out.new) }
     ensures err { IfErr result (λ error. error ≡ PrintError.Output) }
 {
-    write_speaker(sent.speaker, out)?;
+    write_who(who_of(sent.speaker), out)?;
     put(b" ", out)?;
     write_name(&sent.message, out)?;
     put(b"\n", out)

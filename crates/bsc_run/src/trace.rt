@@ -5,73 +5,18 @@ ghost use Rattle.std.specs.Prelude.{slice_index_or};
 ghost use Rattle.std.specs.Io.KnownBytes.{Appends};
 ghost use Rattle.bsc_frame.specs.Wire.{wire};
 ghost use Rattle.bsc_line_model.specs.Hearing.{octets_in};
-ghost use Rattle.bsc_run.specs.Traces.{fate_shown, hearer_shown, heard_line, if_sent, if_traced};
+ghost use Rattle.bsc_report.specs.Traces.{octets_shown};
+ghost use Rattle.bsc_run.specs.Traces.{fate_if, heard_line, if_sent, if_traced};
 ghost use Rattle.bsc_run.specs.Traces.{is_turned as is_other, item_line, item_lines, lost_line};
-ghost use Rattle.bsc_run.specs.Traces.{number_shown, octets_shown, start_shown};
 
-use crate::pending::write_speaker;
+use crate::pending::who_of;
 use bsc_frame::laws::{one_reading, reading};
 use bsc_frame::{Heard, Message, TextBuffer, Wire, decode, encode};
-use bsc_line::{Line, Speaker, Transmission};
-use bsc_print::{PrintError, put, write_chars, write_heard_name, write_name};
+use bsc_line::{Line, Transmission};
+use bsc_print::{PrintError, write_heard_name, write_name};
+use bsc_report::{Fate, write_octets, write_start};
 use std::alloc::Allocator;
 use std::io::Write;
-
-/// Writes the number of the line of the script at the start of a line.
-pub(crate) fn write_number<W: Write>(number: u64, out: &mut W) -> Result<(), PrintError>
-    ensures { OnOk result
-        (Appends (W.contents out.old) (W.contents out.new) (number_shown number)) }
-{
-    match write!(out, "+{number} ") {
-        Ok(()) => Ok(()),
-        Err(_) => Err(PrintError::Output),
-    }
-}
-
-/// Writes which terminal heard, if the line is about one of them only.
-fn write_hearer<W: Write>(hearer: Option<usize>, out: &mut W) -> Result<(), PrintError>
-    ensures { OnOk result
-        (Appends (W.contents out.old) (W.contents out.new) (hearer_shown hearer)) }
-{
-    let Some(terminal) = hearer else {
-        return Ok(());
-    };
-    match write!(out, "at {terminal} ") {
-        Ok(()) => Ok(()),
-        Err(_) => Err(PrintError::Output),
-    }
-}
-
-/// Writes the start of the line for a transmission.
-fn write_start<W: Write>(
-    number: u64,
-    speaker: Speaker,
-    word: &[u8],
-    hearer: Option<usize>,
-    out: &mut W,
-) -> Result<(), PrintError>
-    ensures { OnOk result (Appends (W.contents out.old) (W.contents out.new)
-        (start_shown number speaker word.now hearer)) }
-{
-    write_number(number, out)?;
-    write_speaker(speaker, out)?;
-    put(word, out)?;
-    write_hearer(hearer, out)
-}
-
-/// Writes the octets of a transmission in hexadecimal text and the end of its line.
-fn write_octets<A: Allocator, W: Write>(
-    alloc: A,
-    octets: &[u8],
-    out: &mut W,
-) -> Result<(), PrintError>
-    ensures { OnOk result
-        (Appends (W.contents out.old) (W.contents out.new) (octets_shown octets.now)) }
-{
-    put(b" ", out)?;
-    write_chars(alloc, octets, out)?;
-    put(b"\n", out)
-}
 
 /// Whether other octets are sent for these two messages.
 fn are_other(a: &Message<'_>, b: &Message<'_>) -> bool
@@ -94,11 +39,11 @@ fn is_turned(sent: &Message<'_>, heard: &Heard<'_>) -> bool
     }
 }
 
-/// Returns the word for what became of a transmission that arrived.
-fn fate_text(turned: bool) -> &'static [u8]
-    ensures { result.now ≡ fate_shown turned }
+/// Returns what became of a transmission that arrived.
+fn fate_if(turned: bool) -> Fate
+    ensures { result ≡ fate_if turned }
 {
-    if turned { b" turned " } else { b" heard " }
+    if turned { Fate::Turned } else { Fate::Heard }
 }
 
 /// Writes the line for a transmission that was heard as these octets.
@@ -117,8 +62,8 @@ fn write_heard<A: Allocator, W: Write>(
     reading();
     let mut buffer = TextBuffer::new();
     let heard = decode(octets, &mut buffer);
-    let word = fate_text(is_turned(&sent.message, &heard));
-    write_start(number, sent.speaker, word, hearer, out)?;
+    let fate = fate_if(is_turned(&sent.message, &heard));
+    write_start(number, who_of(sent.speaker), fate, hearer, out)?;
     write_heard_name(&heard, out)?;
     write_octets(alloc, octets, out)
 }
@@ -148,7 +93,7 @@ fn write_lost<A: Allocator, W: Write>(
     ensures { OnOk result (Appends (W.contents out.old) (W.contents out.new)
         (lost_line number sent.now hearer)) }
 {
-    write_start(number, sent.speaker, b" lost ", hearer, out)?;
+    write_start(number, who_of(sent.speaker), Fate::Lost, hearer, out)?;
     write_name(&sent.message, out)?;
     write_wire(alloc, &sent.message, out)
 }
