@@ -8,27 +8,28 @@ use Rattle.bsc_frame.specs.declared.message.Heard.{Heard}
 use Rattle.bsc_frame.specs.declared.message.Heard.TheVariants.{Whole}
 use Rattle.bsc_frame.specs.declared.message.Message.TheVariants.{Call, Eot}
 use Rattle.bsc_frame.specs.Reading.{heard}
-use Rattle.bsc_monitor.specs.Traces.{IsTraced, transmission_line}
+use Rattle.bsc_report.specs.Traces.{transmission_line}
+use Rattle.bsc_report.specs.declared.trace.Fate.{Fate}
+use Rattle.bsc_report.specs.declared.trace.Fate.TheVariants as fate
+use Rattle.bsc_report.specs.declared.trace.Who.{Who}
+use Rattle.bsc_report.specs.declared.trace.Who.TheVariants.{Control}
+use Rattle.bsc_monitor.specs.Traces.{IsTraced}
 use Rattle.bsc_monitor.specs.declared.held.Calls.{Calls}
 use Rattle.bsc_monitor.specs.declared.held.Calls.TheVariants as calls
-use Rattle.bsc_monitor.specs.declared.trace.Deed.{Deed}
-use Rattle.bsc_monitor.specs.declared.trace.Deed.TheVariants as deed
-use Rattle.bsc_monitor.specs.declared.trace.Who.{Who}
-use Rattle.bsc_monitor.specs.declared.trace.Who.TheVariants.{Control}
 
 -- The line of a call of the control station: its time, whether it was sent or heard, its octets.
 pub record CallLine : Type 0 where
   pub time : ℕ
-  pub deed : Deed
+  pub fate : Fate
   pub octets : List ℕ
 
-abbrev pub call_line_of : ℕ → Deed → List ℕ → CallLine
-call_line_of time deed octets = record { time = time; deed = deed; octets = octets }
+abbrev pub call_line_of : ℕ → Fate → List ℕ → CallLine
+call_line_of time fate octets = record { time = time; fate = fate; octets = octets }
 
 -- The text of the line that is held back, if there is one.
 abbrev pub held_shown : Option CallLine → List ℕ
 held_shown None = []
-held_shown (Some l) = transmission_line l.time Control l.deed (heard l.octets) l.octets
+held_shown (Some l) = transmission_line l.time Control l.fate None (heard l.octets) l.octets
 
 abbrev pub is_call : Heard → Bool
 is_call (Whole (Call a)) = true
@@ -40,10 +41,10 @@ is_eot _ = false
 
 -- The line of this transmission, if it is held back: it is a call, and has at most as many octets
 -- as are sent for a message. A call of more octets is padded.
-abbrev pub held_if_call : ℕ → Deed → List ℕ → Option CallLine
-held_if_call time deed octets =
+abbrev pub held_if_call : ℕ → Fate → List ℕ → Option CallLine
+held_if_call time fate octets =
     if is_call (heard octets) && nat_le (length octets) MAX_SENT
-    then Some (call_line_of time deed octets) else None
+    then Some (call_line_of time fate octets) else None
 
 -- Whether the calls that may begin an idle poll are those that a terminal hears.
 abbrev pub are_heard : Calls → Bool
@@ -60,9 +61,9 @@ are_sent calls.Neither = false
 -- The line of this that is held back, by which calls may begin an idle poll.
 abbrev pub held_for : Calls → ℕ → Happening → Option CallLine
 held_for c time (WasHeard place octets) =
-    if are_heard c then held_if_call time deed.Heard octets else None
+    if are_heard c then held_if_call time fate.Heard octets else None
 held_for c time (WasSent octets) =
-    if are_sent c then held_if_call time deed.Sent octets else None
+    if are_sent c then held_if_call time fate.Sent octets else None
 held_for c time _ = None
 
 -- Whether this is EOT, which ends an idle poll.

@@ -5,17 +5,17 @@ use Rattle.bsc_connections.specs.Histories.{Happening, HadClient}
 use Rattle.bsc_control.specs.Control.{ControlValue}
 use Rattle.bsc_control.specs.declared.task.Task.{Task}
 use Rattle.bsc_control.specs.declared.task.Task.TheVariants.{Polling}
+use Rattle.bsc_report.specs.Traces.{time_shown}
+use Rattle.bsc_report.specs.declared.trace.Who.{Who}
+use Rattle.bsc_report.specs.declared.trace.Who.TheVariants.{Control, Terminal}
 use Rattle.bsc_trust.specs.declared.distrust.Distrust.{Distrust}
 use Rattle.bsc_monitor.specs.Answering.{unanswered}
 use Rattle.bsc_monitor.specs.Holding.{CallLine, TracesNext, held_for, held_shown}
-use Rattle.bsc_monitor.specs.Traces.{IsTraced, ShowsChange, distrust_line, time_shown}
-use Rattle.bsc_monitor.specs.Traces.{unanswered_line}
+use Rattle.bsc_monitor.specs.Traces.{IsTraced, ShowsChange, distrust_line, unanswered_line}
 use Rattle.bsc_monitor.specs.Trusting.{called_by, distrust_told, trust_after, trusting_of}
 use Rattle.bsc_monitor.specs.declared.answering.Answering.{Answering}
 use Rattle.bsc_monitor.specs.declared.held.Calls.{Calls}
 use Rattle.bsc_monitor.specs.declared.held.Calls.TheVariants as calls
-use Rattle.bsc_monitor.specs.declared.trace.Who.{Who}
-use Rattle.bsc_monitor.specs.declared.trace.Who.TheVariants.{Control, Terminal}
 use Rattle.bsc_monitor.specs.declared.tracing.Tracing.{Tracing}
 use Rattle.bsc_monitor.specs.declared.tracing.Tracing.TheVariants.{Off, Exchanges, All}
 use Rattle.bsc_monitor.specs.declared.trusting.Trusting.{Trusting}

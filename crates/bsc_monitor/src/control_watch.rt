@@ -11,12 +11,12 @@ use crate::answering::Answering;
 use crate::ended::LastWatch;
 use crate::held::{Calls, Seen};
 use crate::progress::Progress;
-use crate::trace::Who;
 use crate::trusting::{Trusting, called_by};
 use crate::watch::Watch;
 use crate::{Limits, Meter, Party, Timer};
 use bsc_connections::{LiveError, Monitor, Note, Pace};
 use bsc_control::{Control, Task};
+use bsc_report::Who;
 use bsc_trust::Trust;
 use std::alloc::Allocator;
 use std::io::Write;
@@ -127,7 +127,7 @@ impl<'a, A: Allocator + Copy, T: Timer + Meter + Drop, W: Write, D: Write, B: Al
     ghost use Rattle.bsc_monitor.specs.Progress.{pace_after};
     ghost use Rattle.bsc_monitor.specs.Refusing.{Refuses};
     ghost use Rattle.bsc_monitor.specs.Telling.{ControlShows, calls_in, trace_of};
-    ghost use Rattle.bsc_monitor.specs.declared.trace.Who.TheVariants.{Control};
+    ghost use Rattle.bsc_report.specs.declared.trace.Who.TheVariants.{Control};
     ghost use Rattle.bsc_monitor.specs.Trusting.{called_by, is_admitted};
     ghost use Rattle.bsc_monitor.specs.Watching.{Counts, Sees, output_of};
 

@@ -5,7 +5,6 @@ ghost use Rattle.bsc_bid.specs.declared.limits.TheConstants.{MAX_TRIES};
 ghost use Rattle.bsc_monitor.specs.LastCall.{ended_of, refuses};
 
 use crate::held::{Calls, Seen};
-use crate::trace::Who;
 use crate::trusting::Trusting;
 use crate::watch::{Watch, live};
 use crate::{Meter, Timer};
@@ -13,6 +12,7 @@ use bsc_bid::Station;
 use bsc_bid::limits::MAX_TRIES;
 use bsc_connections::{LiveError, Monitor, Note, Pace};
 use bsc_frame::{Heard, Message, MessageBuffer, Reply};
+use bsc_report::Who;
 use bsc_trust::Trust;
 use std::alloc::Allocator;
 use std::io::Write;

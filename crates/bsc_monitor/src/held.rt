@@ -9,12 +9,13 @@ ghost use Rattle.bsc_monitor.specs.Holding.{drops, lacks_line};
 ghost use Rattle.bsc_monitor.specs.Holding.{held_for, held_if_call, held_shown, is_call};
 ghost use Rattle.bsc_monitor.specs.Holding.{is_eot, is_poll_end, released};
 
-use crate::trace::{Deed, Who, write_note, write_transmission};
+use crate::trace::{write_note, write_transmission};
 use arrayvec::ArrayVec;
 use bsc_connections::Note;
 use bsc_frame::limits::MAX_SENT;
 use bsc_frame::{Heard, Message, TextBuffer, decode};
 use bsc_print::PrintError;
+use bsc_report::{Fate, Who};
 use std::alloc::Allocator;
 use std::io::Write;
 use std::marker::Model;
@@ -39,7 +40,7 @@ pub(crate) struct HeldCall {
     time: u64,
 
     /// Whether the call was sent or heard.
-    deed: Deed,
+    fate: Fate,
 
     /// The octets of the call.
     octets: ArrayVec<u8, MAX_SENT>,
@@ -50,7 +51,7 @@ impl Model for HeldCall {
 
     ghost Value = { CallLine };
 
-    ghost view = { λ h. call_line_of h.time h.deed h.octets.items };
+    ghost view = { λ h. call_line_of h.time h.fate h.octets.items };
 }
 
 /// Where and when an event is seen.
@@ -103,8 +104,8 @@ fn are_call(octets: &[u8]) -> bool
 }
 
 /// Returns the line of this transmission, to be held back, if it is a call of at most 1,033 octets.
-fn held_call(time: u64, deed: Deed, octets: &[u8]) -> Option<HeldCall>
-    ensures { result ≡ held_if_call time deed octets.now }
+fn held_call(time: u64, fate: Fate, octets: &[u8]) -> Option<HeldCall>
+    ensures { result ≡ held_if_call time fate octets.now }
 {
     if !are_call(octets) || MAX_SENT < octets.len() {
         return None;
@@ -113,7 +114,7 @@ fn held_call(time: u64, deed: Deed, octets: &[u8]) -> Option<HeldCall>
     own.try_extend_from_slice(octets).unwrap();
     Some(HeldCall {
         time,
-        deed,
+        fate,
         octets: own,
     })
 }
@@ -123,8 +124,8 @@ fn held_of(calls: Calls, time: u64, note: &Note<'_>) -> Option<HeldCall>
     ensures { result ≡ held_for calls time (told_by note.now) }
 {
     match note {
-        Note::Heard { octets, .. } if are_heard(calls) => held_call(time, Deed::Heard, octets),
-        Note::Sent { octets } if are_sent(calls) => held_call(time, Deed::Sent, octets),
+        Note::Heard { octets, .. } if are_heard(calls) => held_call(time, Fate::Heard, octets),
+        Note::Sent { octets } if are_sent(calls) => held_call(time, Fate::Sent, octets),
         _ => None,
     }
 }
@@ -172,7 +173,7 @@ pub(crate) fn write_held<A: Allocator, W: Write>(
     match held {
         Some(call) => {
             let octets = call.octets.as_slice();
-            write_transmission(alloc, call.time, Who::Control, call.deed, octets, out)
+            write_transmission(alloc, call.time, Who::Control, call.fate, octets, out)
         }
         None => Ok(()),
     }

@@ -1,98 +1,29 @@
 //! The lines printed for the events of a station.
 
-ghost use Rattle.std.specs.Prelude.{◌≡◌, ◌++◌, IfErr, OnOk};
+ghost use Rattle.std.specs.Prelude.{◌≡◌, ◌++◌, IfErr, None, OnOk};
 ghost use Rattle.std.specs.Io.KnownBytes.{Appends};
 ghost use Rattle.bsc_connections.specs.Notes.{told_by};
 ghost use Rattle.bsc_frame.specs.Reading.{heard};
 ghost use Rattle.bsc_print.specs.Names.{name_of};
+ghost use Rattle.bsc_report.specs.Traces.{octets_shown, silence_line, time_shown};
+ghost use Rattle.bsc_report.specs.Traces.{transmission_line};
 ghost use Rattle.bsc_monitor.specs.Traces.{IsTraced, ShowsChange, closed_line, closed_shown};
-ghost use Rattle.bsc_monitor.specs.Traces.{connection_shown, deed_shown, distrust_line};
+ghost use Rattle.bsc_monitor.specs.Traces.{connection_shown, distrust_line};
 ghost use Rattle.bsc_monitor.specs.Traces.{error_shown, fault_shown, joined_line, joined_shown};
-ghost use Rattle.bsc_monitor.specs.Traces.{octets_shown};
+ghost use Rattle.bsc_monitor.specs.Traces.{heard_from as sender_heard};
 ghost use Rattle.bsc_monitor.specs.Traces.{origin_shown, peer_shown, refusal_shown, refused_line};
-ghost use Rattle.bsc_monitor.specs.Traces.{silence_line, stopped_line};
-ghost use Rattle.bsc_monitor.specs.Traces.{heard_from as sender_heard, time_shown};
-ghost use Rattle.bsc_monitor.specs.Traces.{transmission_line, unanswered_line, who_shown};
-ghost use Rattle.bsc_monitor.specs.Traces.{withheld_line};
+ghost use Rattle.bsc_monitor.specs.Traces.{stopped_line, unanswered_line, withheld_line};
 
 use bsc_carrier::{CarrierError, DeviceFault};
 use bsc_connections::{Note, Refusal};
 use bsc_frame::laws::{one_reading, reading};
 use bsc_frame::{TextBuffer, decode};
-use bsc_print::{PrintError, put, write_chars, write_heard_name};
+use bsc_print::{PrintError, put, write_heard_name};
+use bsc_report::{Fate, Who, write_octets, write_start, write_time, write_who};
 use bsc_trust::Distrust;
 use std::alloc::Allocator;
 use std::io::Write;
 use std::net::SocketAddr;
-
-/// The sender of a transmission, as far as the station knows it.
-#[derive(Clone, Copy)]
-pub(crate) enum Who {
-    /// The control station.
-    Control,
-
-    /// The terminal with this number.
-    Terminal(usize),
-
-    /// A station reached by the connection with this index.
-    Connection(usize),
-}
-
-/// What a station did with a transmission.
-#[derive(Clone, Copy)]
-pub(crate) enum Deed {
-    /// The station sent it.
-    Sent,
-
-    /// The station heard it.
-    Heard,
-
-    /// The station did not hear it, since it was not admitted.
-    Ignored,
-
-    /// The station did not send it, since it would have been late.
-    Withheld,
-}
-
-/// Writes the time at the start of a line, in milliseconds.
-pub(crate) fn write_time<W: Write>(time: u64, out: &mut W) -> Result<(), PrintError>
-    ensures ok { OnOk result (Appends (W.contents out.old) (W.contents out.new)
-        (time_shown time)) }
-    ensures err { IfErr result (λ error. error ≡ PrintError.Output) }
-{
-    match write!(out, "+{time} ") {
-        Ok(()) => Ok(()),
-        Err(_) => Err(PrintError::Output),
-    }
-}
-
-/// Writes the sender of a transmission.
-fn write_who<W: Write>(who: Who, out: &mut W) -> Result<(), PrintError>
-    ensures ok { OnOk result (Appends (W.contents out.old) (W.contents out.new) (who_shown who)) }
-    ensures err { IfErr result (λ error. error ≡ PrintError.Output) }
-{
-    let written = match who {
-        Who::Control => write!(out, "control"),
-        Who::Terminal(number) => write!(out, "terminal {number}"),
-        Who::Connection(place) => write!(out, "connection {place}"),
-    };
-    match written {
-        Ok(()) => Ok(()),
-        Err(_) => Err(PrintError::Output),
-    }
-}
-
-/// Returns the word for what was done with a transmission.
-fn deed_text(deed: Deed) -> &'static [u8]
-    ensures { result.now ≡ deed_shown deed }
-{
-    match deed {
-        Deed::Sent => b" sent ",
-        Deed::Heard => b" heard ",
-        Deed::Ignored => b" ignored ",
-        Deed::Withheld => b" withheld ",
-    }
-}
 
 /// Writes the line of a transmission: the time in milliseconds, who sent it, what the station did
 /// with it, its name, and its octets in hexadecimal text.
@@ -100,16 +31,14 @@ pub(crate) fn write_transmission<A: Allocator, W: Write>(
     alloc: A,
     time: u64,
     who: Who,
-    deed: Deed,
+    fate: Fate,
     octets: &[u8],
     out: &mut W,
 ) -> Result<(), PrintError>
     ensures { OnOk result (Appends (W.contents out.old) (W.contents out.new)
-        (transmission_line time who deed (heard octets.now) octets.now)) }
+        (transmission_line time who fate None (heard octets.now) octets.now)) }
 {
-    write_time(time, out)?;
-    write_who(who, out)?;
-    put(deed_text(deed), out)?;
+    write_start(time, who, fate, None, out)?;
     write_content(alloc, octets, out)
 }
 
@@ -129,20 +58,6 @@ fn write_content<A: Allocator, W: Write>(
     write_octets(alloc, octets, out)
 }
 
-/// Writes the octets of a transmission in hexadecimal text and the end of its line.
-fn write_octets<A: Allocator, W: Write>(
-    alloc: A,
-    octets: &[u8],
-    out: &mut W,
-) -> Result<(), PrintError>
-    ensures { OnOk result (Appends (W.contents out.old) (W.contents out.new)
-        (octets_shown octets.now)) }
-{
-    put(b" ", out)?;
-    write_chars(alloc, octets, out)?;
-    put(b"\n", out)
-}
-
 /// Writes the line for an event of the station `me`: the time in milliseconds, and then the
 /// transmission that it sent, heard, ignored or withheld, the time-out, that it is asked to end, or
 /// the change of a connection.
@@ -159,15 +74,15 @@ pub(crate) fn write_note<A: Allocator, W: Write>(
     match note {
         Note::Heard { connection, octets } => {
             let who = heard_from(me, *connection);
-            write_transmission(alloc, time, who, Deed::Heard, octets, out)
+            write_transmission(alloc, time, who, Fate::Heard, octets, out)
         }
         Note::Ignored { connection, octets } => {
             let who = heard_from(me, *connection);
-            write_transmission(alloc, time, who, Deed::Ignored, octets, out)
+            write_transmission(alloc, time, who, Fate::Ignored, octets, out)
         }
-        Note::Sent { octets } => write_transmission(alloc, time, me, Deed::Sent, octets, out),
+        Note::Sent { octets } => write_transmission(alloc, time, me, Fate::Sent, octets, out),
         Note::Withheld { octets } => {
-            write_transmission(alloc, time, me, Deed::Withheld, octets, out)
+            write_transmission(alloc, time, me, Fate::Withheld, octets, out)
         }
         Note::Silence => write_silence(time, out),
         Note::Stopped => write_stopped(time, out),
