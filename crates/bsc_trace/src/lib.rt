@@ -3,6 +3,7 @@
 //! The transmissions are those of GA27-3004. The form of a trace is this project's own.
 #![tactic(auto)]
 
+pub mod laws;
 mod line;
 mod marks;
 mod octets;
