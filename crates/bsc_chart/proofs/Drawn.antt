@@ -2,7 +2,7 @@
 use Rattle.std.proofs.Common.{◌≡◌, ◌<◌, ◌≤◌, ℕ, ◌+◌, ◌||◌, ◌&&◌, not, map, List, [], ◌∷◌, ◌++◌, Bool, suc}
 use Rattle.std.proofs.Common.{true, false, Option, Some, None, length, refl, sym, ap}
 use Rattle.std.proofs.Common.{subst, ◌∙◌, append_assoc, append-nil, length-append, arith, get_or, take}
-use Rattle.std.proofs.KnownBytes.{Appends-nil, Appends-trans}
+use Rattle.std.proofs.KnownBytes.{Appends-trans}
 use Rattle.std.proofs.Math.Seq.{take-append_seam}
 use Rattle.std.proofs.lemmas.Bool.Decides.{nat_tests}
 use Rattle.std.proofs.lemmas.List.{take-map}
@@ -17,6 +17,7 @@ use Rattle.bsc_input.specs.declared.input.InputError.TheVariants as input
 use Rattle.bsc_input.specs.declared.reading.LineEnd.{LineEnd}
 use Rattle.bsc_input.specs.declared.reading.LineEnd.TheVariants.{LineFeed, InputEnd}
 use Rattle.bsc_input.proofs.LineParts.{first_part}
+use Rattle.bsc_ladder.specs.Texts.{Writes}
 use Rattle.bsc_naming.specs.Inputs.{is_too_long}
 use Rattle.bsc_naming.proofs.Lists.{NonePasses, NonePasses-more, position-append, position_none}
 use Rattle.bsc_trace.specs.Lines.{TraceValue}
@@ -24,38 +25,33 @@ use Rattle.bsc_chart.specs.Errors.{IsWrongOrPrintError, input_error}
 use Rattle.bsc_chart.specs.Inputs.{DrawsFirst, DrawsInput, HasStopped, ReadsInput, StopsAt}
 use Rattle.bsc_chart.specs.Inputs.{StopsFull, is_misspelt}
 use Rattle.bsc_chart.specs.Inputs.{is_refused, is_wrong, values_at, values_of}
-use Rattle.bsc_chart.specs.Pages.{PageValue, blank_page, early_text, is_full, late_text}
-use Rattle.bsc_chart.specs.Pages.{page_by, page_from, page_of, text_by, text_from}
+use Rattle.bsc_chart.specs.Pages.{IsEarlyOf, IsEarlyText, PageValue, blank_page, drawn_at}
+use Rattle.bsc_chart.specs.Pages.{drawn_from, drawn_of, is_full, late_text, page_by, page_of}
+use Rattle.bsc_chart.specs.Pages.{page_with}
 use Rattle.bsc_chart.specs.declared.error.ChartError.{ChartError}
 use Rattle.bsc_chart.specs.declared.error.ChartError.TheVariants as chart
 use Rattle.bsc_chart.specs.declared.drawing.Drawing.{Drawing}
+use Rattle.bsc_chart.specs.declared.drawing.Form.{Form}
+use Rattle.bsc_chart.specs.declared.drawing.Range.{Range}
+use Rattle.bsc_chart.proofs.Ladders.{early_none, early_trans}
 
 -- one more line
-page_append : (d : Drawing) (n : ℕ) (p : PageValue) (xs : List (List TraceValue))
-    (y : List TraceValue)
-    → page_from d n p (xs ++ y ∷ []) ≡ page_by d (n + length xs) (page_from d n p xs) y
-page_append d n p [] y =
-    let e : n ≡ n + 0 = omega arith in ap (λ m. page_by d m p y) e
-page_append d n p (x ∷ xs) y =
-    let e : n + 1 + length xs ≡ n + length (x ∷ xs) = omega arith in
-    page_append d (n + 1) (page_by d n p x) xs y
-    ∙ ap (λ m. page_by d m (page_from d (n + 1) (page_by d n p x) xs) y) e
+page_append : (f : Form) (p : PageValue) (xs ys : List TraceValue)
+    → page_by f p (xs ++ ys) ≡ page_by f (page_by f p xs) ys
+page_append f p [] ys = refl
+page_append f p (x ∷ xs) ys = page_append f (page_with f p x) xs ys
 
-text_append : (d : Drawing) (n : ℕ) (p : PageValue) (xs : List (List TraceValue))
-    (y : List TraceValue)
-    → text_from d n p (xs ++ y ∷ [])
-    ≡ text_from d n p xs ++ text_by d (n + length xs) (page_from d n p xs) y
-text_append d n p [] y =
+drawn_append : (r : Range) (n : ℕ) (xs : List (List TraceValue)) (y : List TraceValue)
+    → drawn_from r n (xs ++ y ∷ []) ≡ drawn_from r n xs ++ drawn_at r (n + length xs) y
+drawn_append r n [] y =
     let e : n ≡ n + 0 = omega arith in
-    append-nil (text_by d n p y) ∙ ap (λ m. text_by d m p y) e
-text_append d n p (x ∷ xs) y =
+    append-nil (drawn_at r n y) ∙ ap (λ m. drawn_at r m y) e
+drawn_append r n (x ∷ xs) y =
     let e : n + 1 + length xs ≡ n + length (x ∷ xs) = omega arith in
-    let q = page_by d n p x in
-    ap (λ text. text_by d n p x ++ text) (text_append d (n + 1) q xs y)
-    ∙ sym (append_assoc (text_by d n p x) (text_from d (n + 1) q xs)
-    (text_by d (n + 1 + length xs) (page_from d (n + 1) q xs) y))
-    ∙ ap (λ m. text_by d n p x ++ text_from d (n + 1) q xs
-    ++ text_by d m (page_from d (n + 1) q xs) y) e
+    ap (λ values. drawn_at r n x ++ values) (drawn_append r (n + 1) xs y)
+    ∙ sym (append_assoc (drawn_at r n x) (drawn_from r (n + 1) xs)
+    (drawn_at r (n + 1 + length xs) y))
+    ∙ ap (λ m. drawn_at r n x ++ drawn_from r (n + 1) xs ++ drawn_at r m y) e
 
 -- the values of some parts
 abbrev values_in : List (List ℕ) → List (List TraceValue)
@@ -80,7 +76,7 @@ pub record HasDrawn (drawing : Drawing) (all left : List (List ℕ)) (number : �
   pub count : length done + 1 ≡ number
   pub right : NonePasses is_refused done
   pub kept : page ≡ page_of drawing (values_in done)
-  pub drawn : Appends old new (early_text drawing (values_in done))
+  pub drawn : Writes (IsEarlyText drawing (values_in done)) old new
 
 -- the same of the lines of what a reader had and of what it has left, where these are known
 abbrev pub HasDrawnOf : Option (List ℕ) → Option (List ℕ) → Drawing → ℕ → PageValue
@@ -99,7 +95,7 @@ drawn_none (Some all) drawing a = record {
   count = refl;
   right = tt;
   kept = refl;
-  drawn = Appends-nil a;
+  drawn = early_none drawing.form a;
 }
 
 get_or_seam : {X : Type 0} (xs : List X) (y : X) (ys : List X) (d : X)
@@ -138,15 +134,20 @@ module _ {drawing : Drawing} {n : ℕ} {k : PageValue} {a b : Option (List ℕ)}
   has_drawn_more : (all : List (List ℕ)) (part line : List ℕ) (left : List (List ℕ))
       (more : PageValue) (c : Option (List ℕ)) → HasDrawn drawing all (part ∷ left) n k a b
       → length part ≤ 1048576 → line ≡ strip_carriage_return part → is_wrong line ≡ false
-      → more ≡ page_by drawing n k (values_at line)
-      → Appends b c (text_by drawing n k (values_at line))
+      → more ≡ page_by drawing.form k (drawn_at drawing.range n (values_at line))
+      → Writes (IsEarlyOf drawing.form (drawn_at drawing.range n (values_at line))) b c
       → HasDrawn drawing all left (n + 1) more a c
   has_drawn_more all part line left more c h fits same right grown p =
       let before = values_in h.done in
       let now = values_at line in
+      let here = drawn_at drawing.range n now in
       let place : n ≡ 1 + length before = omega (arith, h.count, values_count h.done) in
       let values : values_in (h.done ++ part ∷ []) ≡ before ++ now ∷ [] =
       values_more h.done part ∙ ap (λ l. before ++ values_at l ∷ []) (sym same) in
+      let all_drawn : drawn_of drawing (values_in (h.done ++ part ∷ []))
+      ≡ drawn_of drawing before ++ here =
+      ap (drawn_of drawing) values ∙ drawn_append drawing.range 1 before now
+      ∙ ap (λ m. drawn_of drawing before ++ drawn_at drawing.range m now) (sym place) in
       record {
         done = h.done ++ part ∷ [];
         whole = h.whole ∙ sym (append_assoc h.done (part ∷ []) left);
@@ -156,18 +157,12 @@ module _ {drawing : Drawing} {n : ℕ} {k : PageValue} {a b : Option (List ℕ)}
             (fits_by (is_too_long part) (is_wrong (strip_carriage_return part))
             (not_long part fits) (rw same at right));
         kept =
-            grown ∙ ap (λ m. page_by drawing m k now) place
-            ∙ ap (λ q. page_by drawing (1 + length before) q now) h.kept
-            ∙ sym (page_append drawing 1 blank_page before now)
-            ∙ ap (page_from drawing 1 blank_page) (sym values);
+            grown ∙ ap (λ q. page_by drawing.form q here) h.kept
+            ∙ sym (page_append drawing.form blank_page (drawn_of drawing before) here)
+            ∙ ap (page_by drawing.form blank_page) (sym all_drawn);
         drawn =
-            subst (λ vs. Appends a c (early_text drawing vs)) (sym values)
-            (subst (λ text. Appends a c text)
-            (sym (text_append drawing 1 blank_page before now))
-            (Appends-trans a b c (early_text drawing before)
-            (text_by drawing (1 + length before) (page_of drawing before) now) h.drawn
-            (subst (λ q. Appends b c (text_by drawing (1 + length before) q now)) h.kept
-            (subst (λ m. Appends b c (text_by drawing m k now)) place p))));
+            subst (λ vs. Writes (IsEarlyOf drawing.form vs) a c) (sym all_drawn)
+            (early_trans drawing.form (drawn_of drawing before) here a b c h.drawn p);
       }
 
   -- the next line is refused
@@ -182,7 +177,7 @@ module _ {drawing : Drawing} {n : ℕ} {k : PageValue} {a b : Option (List ℕ)}
         ap (λ parts. is_fault (get_or parts (length h.done) [])) h.whole
         ∙ ap is_fault (get_or_seam h.done part left []) ∙ fault;
     before =
-        subst (λ lines. Appends a b (early_text drawing (values_of lines)))
+        subst (λ lines. Writes (IsEarlyText drawing (values_of lines)) a b)
         (sym (first_lines octets h.done (part ∷ left) h.whole)) h.drawn;
   }
 
@@ -195,7 +190,7 @@ module _ {drawing : Drawing} {n : ℕ} {k : PageValue} {a b : Option (List ℕ)}
         right = rw all_done (position_none is_refused h.done h.right);
         kept = h.kept ∙ ap (λ parts. page_of drawing (values_in parts)) (sym all_done);
         drawn =
-            subst (λ parts. Appends a b (early_text drawing (values_in parts)))
+            subst (λ parts. Writes (IsEarlyText drawing (values_in parts)) a b)
             (sym all_done) h.drawn;
       }
 
@@ -211,7 +206,7 @@ module _ {drawing : Drawing} {n : ℕ} {k : PageValue} {a b : Option (List ℕ)}
             subst (λ lines. is_full (page_of drawing (values_of lines)) ≡ true) first
             (subst (λ q. is_full q ≡ true) h.kept full);
         before =
-            subst (λ lines. Appends a b (early_text drawing (values_of lines))) first h.drawn;
+            subst (λ lines. Writes (IsEarlyText drawing (values_of lines)) a b) first h.drawn;
       }
 
   has_drawn_first : (octets : List ℕ) (left : List (List ℕ))
@@ -219,7 +214,7 @@ module _ {drawing : Drawing} {n : ℕ} {k : PageValue} {a b : Option (List ℕ)}
   has_drawn_first octets left h = record {
     place = length h.done;
     before =
-        subst (λ lines. Appends a b (early_text drawing (values_of lines)))
+        subst (λ lines. Writes (IsEarlyText drawing (values_of lines)) a b)
         (sym (first_lines octets h.done left h.whole)) h.drawn;
   }
 
@@ -235,8 +230,8 @@ module _ (drawing : Drawing) (n : ℕ) (k : PageValue) (a b c : Option (List ℕ
   pub drawn_line : (given left next : Option (List ℕ)) (part line : List ℕ) (more : PageValue)
       → HasDrawnOf given left drawing n k a b → ReadsLine left next LineFeed part
       → length part ≤ 1048576 → line ≡ strip_carriage_return part → is_wrong line ≡ false
-      → more ≡ page_by drawing n k (values_at line)
-      → Appends b c (text_by drawing n k (values_at line))
+      → more ≡ page_by drawing.form k (drawn_at drawing.range n (values_at line))
+      → Writes (IsEarlyOf drawing.form (drawn_at drawing.range n (values_at line))) b c
       → HasDrawnOf given next drawing (n + 1) more a c
   drawn_line None left next part line more h read fits same right grown p = tt
   drawn_line (Some all) None next part line more h read fits same right grown p = absurd h
@@ -251,8 +246,8 @@ module _ (drawing : Drawing) (n : ℕ) (k : PageValue) (a b c : Option (List ℕ
   pub drawn_last : (given left next : Option (List ℕ)) (part line : List ℕ) (more : PageValue)
       → HasDrawnOf given left drawing n k a b → ReadsLine left next InputEnd part
       → length part ≤ 1048576 → line ≡ strip_carriage_return part → is_wrong line ≡ false
-      → more ≡ page_by drawing n k (values_at line)
-      → Appends b c (text_by drawing n k (values_at line))
+      → more ≡ page_by drawing.form k (drawn_at drawing.range n (values_at line))
+      → Writes (IsEarlyOf drawing.form (drawn_at drawing.range n (values_at line))) b c
       → IfSome given (λ octets. ReadsInput drawing octets more a c)
   drawn_last None left next part line more h read fits same right grown p = tt
   drawn_last (Some all) None next part line more h read fits same right grown p = absurd h
@@ -342,10 +337,20 @@ module _ (drawing : Drawing) (n : ℕ) (k : PageValue) (a b c : Option (List ℕ
 pub drawn_end : (drawing : Drawing) (octets : List ℕ) (k : PageValue) (a b c : Option (List ℕ))
     → ReadsInput drawing octets k a b → Appends b c (late_text drawing.form k)
     → DrawsInput drawing octets a c
-drawn_end drawing octets k a b c h p = record {
-  right = h.right;
-  drawn =
-      Appends-trans a b c (early_text drawing (values_of (lines_of octets)))
-      (late_text drawing.form (page_of drawing (values_of (lines_of octets)))) h.drawn
-      (subst (λ q. Appends b c (late_text drawing.form q)) h.kept p);
-}
+drawn_end drawing octets k a b c h p =
+    let first = h.drawn.text in
+    let last = late_text drawing.form (page_of drawing (values_of (lines_of octets))) in
+    record {
+      right = h.right;
+      drawn = record {
+        text = first ++ last;
+        kind = record {
+          early = first;
+          is_early = h.drawn.kind;
+          whole = refl;
+        };
+        appended =
+            Appends-trans a b c first last h.drawn.appended
+            (subst (λ q. Appends b c (late_text drawing.form q)) h.kept p);
+      };
+    }

@@ -1,3 +1,4 @@
 pub mod Drawn
 pub mod Ends
+pub mod Ladders
 pub mod TraceErrors

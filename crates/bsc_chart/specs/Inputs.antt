@@ -2,15 +2,15 @@
 use Rattle.std.specs.Prelude.{◌≡◌, ℕ, ◌+◌, ◌&&◌, ◌||◌, not, Bool, true, List, [], map, take, codes}
 use Rattle.std.specs.Prelude.{position, slice_index_or, is_none, Option, Some, None}
 use Rattle.std.specs.Prelude.{if◌then◌else◌}
-use Rattle.std.specs.Io.KnownBytes.{Appends}
 use Rattle.std.specs.Option.{option_to_list}
 use Rattle.std.specs.Str.{bytes_eq}
 use Rattle.std.specs.Str.Lines.{strip_carriage_return}
 use Rattle.bsc_input.specs.Lines.{is_blank, lines_of, parts_of}
 use Rattle.bsc_input.specs.Parts.{before_octet}
+use Rattle.bsc_ladder.specs.Texts.{Writes}
 use Rattle.bsc_naming.specs.Inputs.{is_too_long}
 use Rattle.bsc_trace.specs.Lines.{TraceValue, value_of}
-use Rattle.bsc_chart.specs.Pages.{PageValue, early_text, is_full, ladder_text, page_of}
+use Rattle.bsc_chart.specs.Pages.{IsChart, IsEarlyText, PageValue, is_full, page_of}
 use Rattle.bsc_chart.specs.declared.error.ChartError.{ChartError}
 use Rattle.bsc_chart.specs.declared.error.ChartError.TheVariants.{NotATraceAt, TooLongAt}
 use Rattle.bsc_chart.specs.declared.error.ChartError.TheVariants.{TooMany, Input}
@@ -49,14 +49,14 @@ is_refused part = is_too_long part || is_wrong (strip_carriage_return part)
 pub record DrawsInput (drawing : Drawing) (input : List ℕ) (old new : Option (List ℕ))
     : Type 0 where
   pub right : position is_refused (parts_of input) ≡ None
-  pub drawn : Appends old new (ladder_text drawing (values_of (lines_of input)))
+  pub drawn : Writes (IsChart drawing (values_of (lines_of input))) old new
 
 -- No line of the input is refused, the rows of a text were written, and this was kept.
 pub record ReadsInput (drawing : Drawing) (input : List ℕ) (page : PageValue)
     (old new : Option (List ℕ)) : Type 0 where
   pub right : position is_refused (parts_of input) ≡ None
   pub kept : page ≡ page_of drawing (values_of (lines_of input))
-  pub drawn : Appends old new (early_text drawing (values_of (lines_of input)))
+  pub drawn : Writes (IsEarlyText drawing (values_of (lines_of input))) old new
 
 -- The line with this number, counted from 1, is the first of the input that is refused, and it is
 -- so for this reason. Of the lines before it the rows of a text were written, and nothing else.
@@ -66,7 +66,7 @@ pub record StopsAt (is_fault : List ℕ → Bool) (drawing : Drawing) (number : 
   pub counted : number ≡ place + 1
   pub first : position is_refused (parts_of input) ≡ Some place
   pub reason : is_fault (slice_index_or (parts_of input) place []) ≡ true
-  pub before : Appends old new (early_text drawing (values_of (take place (lines_of input))))
+  pub before : Writes (IsEarlyText drawing (values_of (take place (lines_of input)))) old new
 
 -- The page of some first lines of the input is full, and what is written for them early was
 -- written, and nothing else.
@@ -74,13 +74,13 @@ pub record StopsFull (drawing : Drawing) (input : List ℕ) (old new : Option (L
     : Type 0 where
   pub place : ℕ
   pub full : is_full (page_of drawing (values_of (take place (lines_of input)))) ≡ true
-  pub before : Appends old new (early_text drawing (values_of (take place (lines_of input))))
+  pub before : Writes (IsEarlyText drawing (values_of (take place (lines_of input)))) old new
 
 -- The rows of some first lines of the input were written, if it is a text, and nothing else.
 pub record DrawsFirst (drawing : Drawing) (input : List ℕ) (old new : Option (List ℕ))
     : Type 0 where
   pub place : ℕ
-  pub before : Appends old new (early_text drawing (values_of (take place (lines_of input))))
+  pub before : Writes (IsEarlyText drawing (values_of (take place (lines_of input)))) old new
 
 -- What an error says of the input and of the output. Of an error while a line was written it says
 -- nothing.

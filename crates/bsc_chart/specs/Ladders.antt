@@ -1,15 +1,12 @@
 -- The ladder of a trace, as text: for each line one row, in order.
-use Rattle.std.specs.Prelude.{ℕ, ◌+◌, ◌-◌, ◌==◌, nat_lt, List, [], ◌++◌, if◌then◌else◌}
-use Rattle.bsc_ladder.specs.Texts.{header_text, row_text}
+use Rattle.std.specs.Prelude.{◌≡◌, ◌⊎◌, ℕ, ◌+◌, nat_lt, List, [], ◌∷◌, ◌++◌, if◌then◌else◌}
+use Rattle.bsc_ladder.specs.Rows.{time_in}
+use Rattle.bsc_ladder.specs.Texts.{IsLine, IsRow}
 use Rattle.bsc_ladder.specs.declared.row.Course.{Course}
 use Rattle.bsc_ladder.specs.declared.row.Course.TheVariants.{ToAll, ToOne, From}
 use Rattle.bsc_ladder.specs.declared.row.Place.{Place}
 use Rattle.bsc_ladder.specs.declared.row.Place.TheVariants.{Control, Station}
-use Rattle.bsc_ladder.specs.declared.row.Sign.{Sign}
-use Rattle.bsc_ladder.specs.declared.row.Sign.TheVariants.{Named}
-use Rattle.bsc_ladder.specs.declared.text.Layout.{Layout}
 use Rattle.bsc_chart.specs.Rows.{row_of}
-use Rattle.bsc_chart.specs.declared.drawing.Drawing.{Drawing}
 use Rattle.bsc_trace.specs.Lines.{TraceValue, transmission, silence, told}
 
 -- How many columns there are up to this one, at most 255. A trace has columns below 100.
@@ -32,39 +29,33 @@ needed_columns (transmission time course fate octets) = course_columns course
 needed_columns (silence time) = 1
 needed_columns (told time mark text) = place_columns mark.place
 
--- How many columns have a label before a mark: the addresses of a station are its label.
-abbrev pub named_columns : Place → Sign → ℕ
-named_columns (Station column) Named = column
-named_columns place sign = place_columns place
-
--- How many columns have a label before a row.
-abbrev pub labelled_columns : TraceValue → ℕ
-labelled_columns (transmission time course fate octets) = course_columns course
-labelled_columns (silence time) = 1
-labelled_columns (told time mark text) = named_columns mark.place mark.sign
-
 -- The columns that a ladder with this many has after a line: it never has fewer than before.
 abbrev pub columns_after : ℕ → TraceValue → ℕ
 columns_after columns value =
     if nat_lt columns (needed_columns value) then needed_columns value else columns
 
--- The layout of a ladder with this many columns.
-abbrev pub layout_with : Drawing → ℕ → Layout
-layout_with drawing columns =
-    record { style = drawing.style; more = columns - 1; width = drawing.width }
+-- What stands before a row: one line, the labels of the columns, or nothing.
+abbrev pub AreLabels : List ℕ → Type 0
+AreLabels text = (text ≡ []) ⊎ IsLine text
 
--- The labels of this many columns, if there are none yet, or fewer than these.
-abbrev pub labels_due : ℕ → ℕ → List ℕ
-labels_due columns labelled =
-    if columns == 0 then header_text labelled
-    else (if nat_lt columns labelled then header_text labelled else [])
+-- The text for a line: its row, which may have labels of the columns before it.
+pub record IsLineText (value : TraceValue) (text : List ℕ) : Type 0 where
+  pub labels : List ℕ
+  pub row : List ℕ
+  pub are_labels : AreLabels labels
+  pub is_row : IsRow (time_in (row_of value)) row
+  pub whole : text ≡ labels ++ row
 
--- The labels of the columns before a row.
-abbrev pub labels_before : ℕ → TraceValue → List ℕ
-labels_before columns value = labels_due columns (labelled_columns value)
+-- The text for the first line, and then the rest.
+pub record IsFollowed (value : TraceValue) (IsRest : List ℕ → Type 0) (text : List ℕ)
+    : Type 0 where
+  pub first : List ℕ
+  pub rest : List ℕ
+  pub is_first : IsLineText value first
+  pub is_rest : IsRest rest
+  pub whole : text ≡ first ++ rest
 
--- The text for a line, in a ladder with this many columns so far.
-abbrev pub line_text : Drawing → ℕ → TraceValue → List ℕ
-line_text drawing columns value =
-    labels_before columns value
-    ++ row_text (layout_with drawing (columns_after columns value)) (row_of value)
+-- The text for lines: that for each of them, in order, and nothing else.
+abbrev pub IsLadder : List TraceValue → List ℕ → Type 0
+IsLadder [] text = text ≡ []
+IsLadder (value ∷ values) text = IsFollowed value (IsLadder values) text

@@ -1,13 +1,14 @@
--- What becomes of a trace, line by line: the rows of a text, or rows that are kept for a picture.
-use Rattle.std.specs.Prelude.{ℕ, ◌+◌, ◌&&◌, ◌||◌, nat_le, Bool, true, false, List, [], ◌∷◌, ◌++◌}
-use Rattle.std.specs.Prelude.{length, if◌then◌else◌}
+-- What becomes of the lines of a trace: the rows of a text, or rows that are kept for a picture.
+use Rattle.std.specs.Prelude.{◌≡◌, ℕ, ◌+◌, ◌&&◌, ◌||◌, nat_le, Bool, true, false, List, [], ◌∷◌}
+use Rattle.std.specs.Prelude.{◌++◌, length, if◌then◌else◌}
+use Rattle.std.specs.List.{filter}
 use Rattle.bsc_ladder.specs.Rows.{RowValue}
 use Rattle.bsc_ladder.specs.declared.row.Sign.{Sign}
 use Rattle.bsc_ladder.specs.declared.row.Sign.TheVariants.{Named}
 use Rattle.bsc_picture.specs.Pictures.{svg_text}
 use Rattle.bsc_picture.specs.Rows.{rows_in}
 use Rattle.bsc_summary.specs.Pages.{html_text}
-use Rattle.bsc_chart.specs.Ladders.{columns_after, line_text}
+use Rattle.bsc_chart.specs.Ladders.{IsLadder, columns_after}
 use Rattle.bsc_chart.specs.Rows.{row_of}
 use Rattle.bsc_chart.specs.declared.pages.Page.{Page}
 use Rattle.bsc_chart.specs.declared.drawing.Drawing.{Drawing}
@@ -91,52 +92,36 @@ page_with Text page value = widened page value
 page_with Svg page value = with_kept page value
 page_with Html page value = with_kept page value
 
--- The text that is written for a line that is drawn.
-abbrev pub text_with : Form → Drawing → ℕ → TraceValue → List ℕ
-text_with Text drawing columns value = line_text drawing columns value
-text_with Svg drawing columns value = []
-text_with Html drawing columns value = []
+-- A page after these lines.
+abbrev pub page_by : Form → PageValue → List TraceValue → PageValue
+page_by form page [] = page
+page_by form page (value ∷ values) = page_by form (page_with form page value) values
 
-abbrev pub page_after : Drawing → ℕ → PageValue → TraceValue → PageValue
-page_after drawing number page value =
-    if is_drawn drawing.range number value then page_with drawing.form page value else page
+-- The values of a line with this number, if it is drawn. A line has no value if it is skipped.
+abbrev pub drawn_at : Range → ℕ → List TraceValue → List TraceValue
+drawn_at range number values = filter (is_drawn range number) values
 
-abbrev pub text_after : Drawing → ℕ → PageValue → TraceValue → List ℕ
-text_after drawing number page value =
-    if is_drawn drawing.range number value
-    then text_with drawing.form drawing page.columns value else []
+-- The values of the lines that are drawn, in order, of lines of which the first has this number.
+abbrev pub drawn_from : Range → ℕ → List (List TraceValue) → List TraceValue
+drawn_from range number [] = []
+drawn_from range number (line ∷ lines) =
+    drawn_at range number line ++ drawn_from range (number + 1) lines
 
--- The same for the value of a line, if it is not blank.
-abbrev pub page_by : Drawing → ℕ → PageValue → List TraceValue → PageValue
-page_by drawing number page [] = page
-page_by drawing number page (value ∷ values) =
-    page_by drawing number (page_after drawing number page value) values
-
-abbrev pub text_by : Drawing → ℕ → PageValue → List TraceValue → List ℕ
-text_by drawing number page [] = []
-text_by drawing number page (value ∷ values) =
-    text_after drawing number page value
-    ++ text_by drawing number (page_after drawing number page value) values
-
--- The same for lines, of which the first has this number.
-abbrev pub page_from : Drawing → ℕ → PageValue → List (List TraceValue) → PageValue
-page_from drawing number page [] = page
-page_from drawing number page (line ∷ lines) =
-    page_from drawing (number + 1) (page_by drawing number page line) lines
-
-abbrev pub text_from : Drawing → ℕ → PageValue → List (List TraceValue) → List ℕ
-text_from drawing number page [] = []
-text_from drawing number page (line ∷ lines) =
-    text_by drawing number page line
-    ++ text_from drawing (number + 1) (page_by drawing number page line) lines
+abbrev pub drawn_of : Drawing → List (List TraceValue) → List TraceValue
+drawn_of drawing lines = drawn_from drawing.range 1 lines
 
 -- The page of all lines of a trace.
 abbrev pub page_of : Drawing → List (List TraceValue) → PageValue
-page_of drawing lines = page_from drawing 1 blank_page lines
+page_of drawing lines = page_by drawing.form blank_page (drawn_of drawing lines)
 
--- The text that is written as the lines are read.
-abbrev pub early_text : Drawing → List (List TraceValue) → List ℕ
-early_text drawing lines = text_from drawing 1 blank_page lines
+-- What is written for lines as they are read: the ladder of them, if it is a text.
+abbrev pub IsEarlyOf : Form → List TraceValue → List ℕ → Type 0
+IsEarlyOf Text values = IsLadder values
+IsEarlyOf Svg values = λ text. text ≡ []
+IsEarlyOf Html values = λ text. text ≡ []
+
+abbrev pub IsEarlyText : Drawing → List (List TraceValue) → List ℕ → Type 0
+IsEarlyText drawing lines = IsEarlyOf drawing.form (drawn_of drawing lines)
 
 -- What is written after the last line: a picture or a page, of all that was kept.
 abbrev pub late_text : Form → PageValue → List ℕ
@@ -145,6 +130,8 @@ late_text Svg page = svg_text page.columns page.names page.rows
 late_text Html page = html_text page.columns page.names page.rows
 
 -- The ladder of a trace.
-abbrev pub ladder_text : Drawing → List (List TraceValue) → List ℕ
-ladder_text drawing lines =
-    early_text drawing lines ++ late_text drawing.form (page_of drawing lines)
+pub record IsChart (drawing : Drawing) (lines : List (List TraceValue)) (text : List ℕ)
+    : Type 0 where
+  pub early : List ℕ
+  pub is_early : IsEarlyText drawing lines early
+  pub whole : text ≡ early ++ late_text drawing.form (page_of drawing lines)

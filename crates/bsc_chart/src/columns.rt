@@ -2,8 +2,7 @@
 ghost use Rattle.std.specs.Prelude.{◌≡◌, nat_lt, if◌then◌else◌};
 ghost use Rattle.bsc_trace.specs.Lines.{value_in};
 ghost use Rattle.bsc_chart.specs.Ladders.{columns_after, columns_up_to, course_columns};
-ghost use Rattle.bsc_chart.specs.Ladders.{labelled_columns, named_columns, needed_columns};
-ghost use Rattle.bsc_chart.specs.Ladders.{place_columns};
+ghost use Rattle.bsc_chart.specs.Ladders.{needed_columns, place_columns};
 
 use bsc_ladder::{Course, Mark, Place, Sign};
 use bsc_trace::TraceLine;
@@ -45,9 +44,7 @@ fn place_needs(place: Place) -> u8
 }
 
 /// Returns how many columns have a label before the row of a line.
-pub(crate) fn labelled<A: Allocator>(value: &TraceLine<'_, A>) -> u8
-    ensures { result ≡ labelled_columns (value_in value.now) }
-{
+pub(crate) fn labelled<A: Allocator>(value: &TraceLine<'_, A>) -> u8 {
     match value {
         TraceLine::Transmission { course, .. } => course_needs(*course),
         TraceLine::Silence { .. } => 1,
@@ -56,9 +53,7 @@ pub(crate) fn labelled<A: Allocator>(value: &TraceLine<'_, A>) -> u8
 }
 
 /// Returns how many columns have a label before a mark: the addresses of a station are its label.
-fn named_needs(mark: Mark) -> u8
-    ensures { result ≡ named_columns mark.place mark.sign }
-{
+fn named_needs(mark: Mark) -> u8 {
     match (mark.place, mark.sign) {
         (Place::Station { column }, Sign::Named) => column,
         (place, _) => place_needs(place),

@@ -1,17 +1,17 @@
 //! Draws the ladder of a trace, line by line as it is read.
 ghost use Rattle.std.specs.Prelude.{◌≡◌, ◌≤◌, ℕ, length, Err, false, true, OnOk, IfErr, IfOk};
-ghost use Rattle.std.specs.Prelude.{IfSome, ◌&&◌, nat_le};
+ghost use Rattle.std.specs.Prelude.{IfSome, ◌&&◌, ◌∷◌, [], nat_le};
 ghost use Rattle.std.specs.Str.{bytes_eq};
 ghost use Rattle.std.specs.Io.KnownBytes.{Appends};
+ghost use Rattle.bsc_ladder.specs.Texts.{Writes};
 ghost use Rattle.bsc_trace.specs.Lines.{value_in};
 ghost use Rattle.bsc_chart.specs.Errors.{IsDrawError, IsEndError, IsLineError};
 ghost use Rattle.bsc_chart.specs.Errors.{IsWrongOrPrintError, input_error};
 ghost use Rattle.bsc_chart.specs.Inputs.{DrawsInput, HasStopped, ReadsInput, is_wrong, values_at};
 ghost use Rattle.bsc_chart.specs.Inputs.{is_skipped as is_skipped_line, tells_fault as is_fault};
-ghost use Rattle.bsc_chart.specs.Pages.{is_drawn, is_full, late_text, page_after, page_by};
-ghost use Rattle.bsc_chart.specs.Pages.{page_in, page_with, text_after, text_by, text_with};
-ghost use Rattle.bsc_chart.specs.Pages.{widened};
-ghost use Rattle.bsc_chart.specs.Ladders.{line_text};
+ghost use Rattle.bsc_chart.specs.Ladders.{IsLadder};
+ghost use Rattle.bsc_chart.specs.Pages.{IsEarlyOf, drawn_at, is_drawn, is_full, late_text, page_by};
+ghost use Rattle.bsc_chart.specs.Pages.{page_in, page_with, widened};
 
 use crate::pages::{Page, keep, tells_names, widen};
 use crate::text::write_line;
@@ -193,12 +193,13 @@ fn draw_line<A: Allocator + Copy, W: Write>(
     out: &mut W,
 ) -> Result<(), ChartError>
     ensures right { OnOk result (is_wrong line.now ≡ false) }
-    ensures page { OnOk result (page_in page.new
-        ≡ page_by pen.drawing pen.number (page_in page.old) (values_at line.now)) }
+    ensures page { OnOk result (page_in page.new ≡ page_by pen.drawing.form (page_in page.old)
+        (drawn_at pen.drawing.range pen.number (values_at line.now))) }
     ensures fits { OnOk result
         (length page.old.rows.items ≤ 20000 → length page.new.rows.items ≤ 20000) }
-    ensures drawn { OnOk result (Appends (W.contents out.old) (W.contents out.new)
-        (text_by pen.drawing pen.number (page_in page.old) (values_at line.now))) }
+    ensures drawn { OnOk result (Writes (IsEarlyOf pen.drawing.form
+        (drawn_at pen.drawing.range pen.number (values_at line.now)))
+        (W.contents out.old) (W.contents out.new)) }
     ensures wrong { (n : ℕ) → result ≡ Err (ChartError.NotATraceAt n) →
         (n ≡ pen.number) × (is_wrong line.now ≡ true) × (out.new ≡ out.old) }
     ensures full { result ≡ Err ChartError.TooMany →
@@ -236,12 +237,13 @@ fn draw_value<A: Allocator + Copy, W: Write>(
     value: &TraceLine<'_, A>,
     out: &mut W,
 ) -> Result<(), ChartError>
-    ensures page { OnOk result (page_in page.new
-        ≡ page_after pen.drawing pen.number (page_in page.old) (value_in value.now)) }
+    ensures page { OnOk result (page_in page.new ≡ page_by pen.drawing.form (page_in page.old)
+        (drawn_at pen.drawing.range pen.number (value_in value.now ∷ []))) }
     ensures fits { OnOk result
         (length page.old.rows.items ≤ 20000 → length page.new.rows.items ≤ 20000) }
-    ensures drawn { OnOk result (Appends (W.contents out.old) (W.contents out.new)
-        (text_after pen.drawing pen.number (page_in page.old) (value_in value.now))) }
+    ensures drawn { OnOk result (Writes (IsEarlyOf pen.drawing.form
+        (drawn_at pen.drawing.range pen.number (value_in value.now ∷ [])))
+        (W.contents out.old) (W.contents out.new)) }
     ensures full { result ≡ Err ChartError.TooMany →
         (is_full (page_in page.old) ≡ true) × (out.new ≡ out.old) }
     ensures faults { IfErr result IsDrawError }
@@ -264,8 +266,8 @@ fn draw_row<A: Allocator + Copy, W: Write>(
         ≡ page_with drawing.form (page_in page.old) (value_in value.now)) }
     ensures fits { OnOk result
         (length page.old.rows.items ≤ 20000 → length page.new.rows.items ≤ 20000) }
-    ensures drawn { OnOk result (Appends (W.contents out.old) (W.contents out.new)
-        (text_with drawing.form drawing page.old.columns (value_in value.now))) }
+    ensures drawn { OnOk result (Writes (IsEarlyOf drawing.form (value_in value.now ∷ []))
+        (W.contents out.old) (W.contents out.new)) }
     ensures full { result ≡ Err ChartError.TooMany →
         (is_full (page_in page.old) ≡ true) × (out.new ≡ out.old) }
     ensures faults { IfErr result IsDrawError }
@@ -287,8 +289,8 @@ fn write_wide<A: Allocator + Copy, W: Write>(
     ensures page { OnOk result (page_in page.new
         ≡ widened (page_in page.old) (value_in value.now)) }
     ensures same { OnOk result (page.new.rows ≡ page.old.rows) }
-    ensures drawn { OnOk result (Appends (W.contents out.old) (W.contents out.new)
-        (line_text drawing page.old.columns (value_in value.now))) }
+    ensures drawn { OnOk result (Writes (IsLadder (value_in value.now ∷ []))
+        (W.contents out.old) (W.contents out.new)) }
     ensures faults { IfErr result IsEndError }
 {
     write_line(alloc, &drawing, page.columns, value, out)?;

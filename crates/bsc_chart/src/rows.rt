@@ -2,7 +2,8 @@
 ghost use Rattle.std.specs.Prelude.{◌≡◌, IfOk, OnOk};
 ghost use Rattle.std.specs.Io.KnownBytes.{Appends};
 ghost use Rattle.std.specs.List.{flat_map};
-ghost use Rattle.bsc_ladder.specs.Texts.{row_text};
+ghost use Rattle.bsc_ladder.specs.Rows.{time_in};
+ghost use Rattle.bsc_ladder.specs.Texts.{IsRow, Writes};
 ghost use Rattle.bsc_picture.specs.Rows.{kept_in};
 ghost use Rattle.bsc_print.specs.Names.{name_of};
 ghost use Rattle.bsc_trace.specs.Lines.{value_in};
@@ -128,9 +129,9 @@ pub(crate) fn write_line_row<A: Allocator + Copy, W: Write>(
     line: &TraceLine<'_, A>,
     out: &mut W,
 ) -> Result<(), PrintError>
-    ensures { OnOk result (Appends (W.contents out.old) (W.contents out.new)
-        (row_text layout (row_of (value_in line.now)))) }
+    ensures { OnOk result (Writes (IsRow (time_in (row_of (value_in line.now))))
+        (W.contents out.old) (W.contents out.new)) }
 {
     let kept = kept_row(alloc, line)?;
-    write_row(layout, &kept.row(), out)
+    write_row(alloc, layout, &kept.row(), out)
 }

@@ -1,8 +1,8 @@
 //! The rows of a ladder as text.
-ghost use Rattle.std.specs.Prelude.{◌≡◌, OnOk};
-ghost use Rattle.std.specs.Io.KnownBytes.{Appends};
+ghost use Rattle.std.specs.Prelude.{OnOk, ◌∷◌, []};
+ghost use Rattle.bsc_ladder.specs.Texts.{Writes};
 ghost use Rattle.bsc_trace.specs.Lines.{value_in};
-ghost use Rattle.bsc_chart.specs.Ladders.{labels_due, layout_with, line_text};
+ghost use Rattle.bsc_chart.specs.Ladders.{AreLabels, IsLadder};
 
 use crate::Drawing;
 use crate::columns::{columns_with, labelled};
@@ -14,23 +14,22 @@ use std::alloc::Allocator;
 use std::io::Write;
 
 /// Writes the labels of this many columns, if there are none yet or fewer than these.
-fn put_labels<W: Write>(columns: u8, labelled: u8, out: &mut W) -> Result<(), PrintError>
-    ensures { OnOk result
-        (Appends (W.contents out.old) (W.contents out.new) (labels_due columns labelled)) }
+fn put_labels<A: Allocator, W: Write>(
+    alloc: A,
+    columns: u8,
+    labelled: u8,
+    out: &mut W,
+) -> Result<(), PrintError>
+    ensures { OnOk result (Writes AreLabels (W.contents out.old) (W.contents out.new)) }
 {
-    if columns == 0 {
-        return write_header(labelled, out);
-    }
-    if columns < labelled {
-        return write_header(labelled, out);
+    if columns == 0 || columns < labelled {
+        return write_header(alloc, labelled, out);
     }
     Ok(())
 }
 
 /// Returns the layout of a ladder with this many columns.
-fn layout(drawing: &Drawing, columns: u8) -> Layout
-    ensures { result ≡ layout_with drawing.now columns }
-{
+fn layout(drawing: &Drawing, columns: u8) -> Layout {
     Layout {
         style: drawing.style,
         more: columns.saturating_sub(1),
@@ -47,10 +46,10 @@ pub(crate) fn write_line<A: Allocator + Copy, W: Write>(
     value: &TraceLine<'_, A>,
     out: &mut W,
 ) -> Result<(), PrintError>
-    ensures { OnOk result (Appends (W.contents out.old) (W.contents out.new)
-        (line_text drawing.now columns (value_in value.now))) }
+    ensures { OnOk result (Writes (IsLadder (value_in value.now ∷ []))
+        (W.contents out.old) (W.contents out.new)) }
 {
-    put_labels(columns, labelled(value), out)?;
+    put_labels(alloc, columns, labelled(value), out)?;
     let layout = layout(drawing, columns_with(columns, value));
     write_line_row(alloc, layout, value, out)?;
     Ok(())

@@ -9,7 +9,7 @@ use Rattle.bsc_asked.specs.Asked.{AskedValue, names, name, show, chart, run, sta
 use Rattle.bsc_chart.specs.Asked.{HasFailed as HasFailedDrawing, drawing_of}
 use Rattle.bsc_chart.specs.Inputs.{DrawsInput, HasStopped as HasStoppedDrawing}
 use Rattle.bsc_chart.specs.Inputs.{StopsAt as StopsDrawingAt, is_misspelt as is_misread, values_of}
-use Rattle.bsc_chart.specs.Pages.{early_text, ladder_text}
+use Rattle.bsc_chart.specs.Pages.{IsChart, IsEarlyText}
 use Rattle.bsc_chart.specs.declared.error.ChartError.{ChartError}
 use Rattle.bsc_chart.specs.declared.error.ChartError.TheVariants as drawing
 use Rattle.bsc_chart.specs.declared.drawing.Drawing.{Drawing}
@@ -20,6 +20,7 @@ use Rattle.bsc_chart.specs.Named.{SaysOf}
 use Rattle.bsc_frame.specs.declared.message.Heard.{Heard}
 use Rattle.bsc_input.specs.Hexadecimal.{octets_of}
 use Rattle.bsc_input.specs.Lines.{lines_of}
+use Rattle.bsc_ladder.specs.Texts.{Writes}
 use Rattle.bsc_print.specs.Fronts.{AppendsFront}
 use Rattle.bsc_print.specs.Names.{Prints, name_line}
 use Rattle.bsc_print.specs.declared.printed.Detail.{Detail}
@@ -131,11 +132,19 @@ lines_kept fault.Output detail given a b c p k = tt
 lines_kept fault.OutOfMemory detail given a b c p k = tt
 lines_kept (fault.Usage error) detail given a b c p k = tt
 
+writes_kept : (IsKind : List ℕ → Type 0) (a b c : Option (List ℕ)) → Writes IsKind a b
+    → Keeps b c → Writes IsKind a c
+writes_kept IsKind a b c p k = record {
+  text = p.text;
+  kind = p.kind;
+  appended = Appends-kept a b c p.text p.appended k;
+}
+
 draws_kept : (d : Drawing) (octets : List ℕ) (a b c : Option (List ℕ))
     → DrawsInput d octets a b → Keeps b c → DrawsInput d octets a c
 draws_kept d octets a b c p k = record {
   right = p.right;
-  drawn = Appends-kept a b c (ladder_text d (values_of (lines_of octets))) p.drawn k;
+  drawn = writes_kept (IsChart d (values_of (lines_of octets))) a b c p.drawn k;
 }
 
 drawing_kept : (d : Result Drawing ChartError) (octets : List ℕ) (a b c : Option (List ℕ))
@@ -169,7 +178,7 @@ drawing_stop_kept is_fault d n octets a b c p k = record {
   first = p.first;
   reason = p.reason;
   before =
-      Appends-kept a b c (early_text d (values_of (take p.place (lines_of octets)))) p.before k;
+      writes_kept (IsEarlyText d (values_of (take p.place (lines_of octets)))) a b c p.before k;
 }
 
 drawing_stopped_kept : (e : ChartError) (d : Drawing) (octets : List ℕ) (a b c : Option (List ℕ))
@@ -185,12 +194,12 @@ drawing_stopped_kept drawing.TooMany d octets a b c p k = record {
   place = p.place;
   full = p.full;
   before =
-      Appends-kept a b c (early_text d (values_of (take p.place (lines_of octets)))) p.before k;
+      writes_kept (IsEarlyText d (values_of (take p.place (lines_of octets)))) a b c p.before k;
 }
 drawing_stopped_kept (drawing.Input why) d octets a b c p k = record {
   place = p.place;
   before =
-      Appends-kept a b c (early_text d (values_of (take p.place (lines_of octets)))) p.before k;
+      writes_kept (IsEarlyText d (values_of (take p.place (lines_of octets)))) a b c p.before k;
 }
 drawing_stopped_kept drawing.Output d octets a b c p k = tt
 drawing_stopped_kept drawing.Memory d octets a b c p k = tt

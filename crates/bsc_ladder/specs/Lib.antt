@@ -1,4 +1,3 @@
 pub mod Rows
-pub mod Glyphs
 pub mod Arrows
 pub mod Texts

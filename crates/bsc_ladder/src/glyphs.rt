@@ -1,7 +1,4 @@
 //! The characters of which a ladder is drawn.
-ghost use Rattle.std.specs.Prelude.{◌≡◌};
-ghost use Rattle.bsc_ladder.specs.Glyphs.{either_text, end_text, glyph_text};
-ghost use Rattle.bsc_ladder.specs.Glyphs.{head_left_text, head_right_text, mark_glyph};
 
 use crate::{Fate, Sign};
 
@@ -55,82 +52,71 @@ pub(crate) enum Glyph {
     Of { sign: Sign },
 }
 
-/// Returns the text of a part.
-pub(crate) fn glyph_bytes(style: Style, glyph: Glyph) -> &'static [u8]
-    ensures { result.now ≡ glyph_text style glyph }
-{
+/// Returns the character of a part.
+pub(crate) fn glyph_text(style: Style, glyph: Glyph) -> &'static str {
     match glyph {
-        Glyph::Space => b" ",
-        Glyph::Rail => either(style, b"\xe2\x94\x82", b"|"),
-        Glyph::Cross => either(style, b"\xe2\x94\xbc", b"+"),
-        Glyph::Line => either(style, b"\xe2\x94\x80", b"-"),
-        Glyph::TailRight => either(style, b"\xe2\x94\x9c", b"*"),
-        Glyph::TailLeft => either(style, b"\xe2\x94\xa4", b"*"),
+        Glyph::Space => " ",
+        Glyph::Rail => either(style, "│", "|"),
+        Glyph::Cross => either(style, "┼", "+"),
+        Glyph::Line => either(style, "─", "-"),
+        Glyph::TailRight => either(style, "├", "*"),
+        Glyph::TailLeft => either(style, "┤", "*"),
         Glyph::HeadRight { fate } => head_right(style, fate),
         Glyph::HeadLeft { fate } => head_left(style, fate),
         Glyph::End { fate } => end(style, fate),
-        Glyph::Pause => either(style, b"\xe2\x94\x8a", b":"),
-        Glyph::Dash => either(style, b"\xe2\x94\x84", b"."),
+        Glyph::Pause => either(style, "┊", ":"),
+        Glyph::Dash => either(style, "┄", "."),
         Glyph::Of { sign } => sign_text(style, sign),
     }
 }
 
-/// Returns the text of this style.
-fn either(style: Style, boxes: &'static [u8], ascii: &'static [u8]) -> &'static [u8]
-    ensures { result.now ≡ either_text style boxes.now ascii.now }
-{
+/// Returns the character of this style.
+fn either(style: Style, boxes: &'static str, ascii: &'static str) -> &'static str {
     match style {
         Style::Boxes => boxes,
         Style::Ascii => ascii,
     }
 }
 
-/// Returns the head of an arrow that points away from the control station.
-fn head_right(style: Style, fate: Fate) -> &'static [u8]
-    ensures { result.now ≡ head_right_text style fate }
-{
+/// Returns the head of an arrow that points away from the control station. Each fate of what
+/// arrives has its own.
+fn head_right(style: Style, fate: Fate) -> &'static str {
     match fate {
-        Fate::Heard => either(style, b"\xe2\x96\xb6", b">"),
-        Fate::Failed => either(style, b"\xe2\x96\xb7", b"?"),
-        Fate::Turned => either(style, b"\xe2\x97\x88", b"#"),
-        Fate::Ignored => either(style, b"\xe2\x97\x8b", b"o"),
-        Fate::Sent | Fate::Lost | Fate::Withheld => either(style, b"\xe2\x86\x92", b")"),
+        Fate::Heard => either(style, "▶", ">"),
+        Fate::Failed => either(style, "▷", "?"),
+        Fate::Turned => either(style, "◈", "#"),
+        Fate::Ignored => either(style, "○", "o"),
+        Fate::Sent | Fate::Lost | Fate::Withheld => either(style, "→", ")"),
     }
 }
 
 /// Returns the head of an arrow that points to the control station.
-fn head_left(style: Style, fate: Fate) -> &'static [u8]
-    ensures { result.now ≡ head_left_text style fate }
-{
+fn head_left(style: Style, fate: Fate) -> &'static str {
     match fate {
-        Fate::Heard => either(style, b"\xe2\x97\x80", b"<"),
-        Fate::Failed => either(style, b"\xe2\x97\x81", b"?"),
-        Fate::Turned => either(style, b"\xe2\x97\x88", b"#"),
-        Fate::Ignored => either(style, b"\xe2\x97\x8b", b"o"),
-        Fate::Sent | Fate::Lost | Fate::Withheld => either(style, b"\xe2\x86\x90", b"("),
+        Fate::Heard => either(style, "◀", "<"),
+        Fate::Failed => either(style, "◁", "?"),
+        Fate::Turned => either(style, "◈", "#"),
+        Fate::Ignored => either(style, "○", "o"),
+        Fate::Sent | Fate::Lost | Fate::Withheld => either(style, "←", "("),
     }
 }
 
 /// Returns the end of a transmission that does not arrive.
-fn end(style: Style, fate: Fate) -> &'static [u8]
-    ensures { result.now ≡ end_text style fate }
-{
+fn end(style: Style, fate: Fate) -> &'static str {
     match fate {
-        Fate::Withheld => either(style, b"\xe2\x80\x96", b"!"),
-        _ => either(style, b"\xe2\x9c\x95", b"x"),
+        Fate::Withheld => either(style, "‖", "!"),
+        _ => either(style, "✕", "x"),
     }
 }
 
-/// Returns the beginning of a mark.
-fn sign_text(style: Style, sign: Sign) -> &'static [u8]
-    ensures { result.now ≡ mark_glyph style sign }
-{
+/// Returns the beginning of a mark. Each sign that may stand at a station has its own.
+fn sign_text(style: Style, sign: Sign) -> &'static str {
     match sign {
-        Sign::Told | Sign::Named => either(style, b"\xe2\x97\x8f", b"="),
-        Sign::Arrived => either(style, b"\xe2\x97\x86", b"@"),
-        Sign::DoubtBegins => either(style, b"\xe2\x97\x87", b"~"),
-        Sign::DoubtEnds => either(style, b"\xe2\x9c\x93", b"^"),
-        Sign::Restart => either(style, b"\xe2\x86\xbb", b"%"),
-        Sign::TrustEnds => either(style, b"\xe2\x9c\x97", b"&"),
+        Sign::Told | Sign::Named => either(style, "●", "="),
+        Sign::Arrived => either(style, "◆", "@"),
+        Sign::DoubtBegins => either(style, "◇", "~"),
+        Sign::DoubtEnds => either(style, "✓", "^"),
+        Sign::Restart => either(style, "↻", "%"),
+        Sign::TrustEnds => either(style, "✗", "&"),
     }
 }

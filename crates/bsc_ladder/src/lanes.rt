@@ -1,18 +1,11 @@
 //! The lane of an arrow: what is between the control station and the first column, and between two
 //! columns.
-ghost use Rattle.std.specs.Prelude.{◌++◌, OnOk, codes};
-ghost use Rattle.std.specs.Io.KnownBytes.{Appends};
-ghost use Rattle.bsc_ladder.specs.Glyphs.{glyph_text};
-ghost use Rattle.bsc_ladder.specs.Texts.{arrived_lane, came_lane, gap_text, lane_text};
-ghost use Rattle.bsc_ladder.specs.Texts.{lost_from_lane, lost_to_lane, name_text, sent_lane};
-ghost use Rattle.bsc_ladder.specs.declared.glyphs.Glyph.TheVariants.{End, Line};
 
 use crate::arrows::{arrives, before_station, ends_before};
 use crate::glyphs::Glyph;
-use crate::text::{put_glyph, put_glyphs, put_visible};
-use crate::{Course, Fate, Style};
-use bsc_print::{PrintError, put};
-use std::io::Write;
+use crate::line_text::LineText;
+use crate::{Course, Fate};
+use std::alloc::{AllocError, Allocator};
 
 /// The transmission of a row.
 #[derive(Clone, Copy)]
@@ -30,125 +23,74 @@ pub(crate) struct Drawn<'a> {
     pub(crate) note: &'a [u8],
 }
 
-/// Writes the name of a transmission between two spaces.
-fn put_name<W: Write>(name: &[u8], out: &mut W) -> Result<(), PrintError>
-    ensures { OnOk result
-        (Appends (W.contents out.old) (W.contents out.new) (name_text name.now)) }
-{
-    put(b" ", out)?;
-    put_visible(name, out)?;
-    put(b" ", out)
+/// Draws the name of a transmission between two spaces, and the line of its arrow up to this many
+/// characters from the beginning of the name.
+fn draw_name<A: Allocator>(
+    name: &[u8],
+    room: usize,
+    text: &mut LineText<A>,
+) -> Result<(), AllocError> {
+    text.push_str(" ")?;
+    text.push_visible(name)?;
+    text.push_str(" ")?;
+    text.push_glyphs(Glyph::Line, room.saturating_sub(name.len()))
 }
 
-/// Writes what is between the control station and the first column, for a transmission that
+/// Draws what is between the control station and the first column, for a transmission that
 /// arrived.
-fn write_arrived<W: Write>(style: Style, name: &[u8], out: &mut W) -> Result<(), PrintError>
-    ensures { OnOk result
-        (Appends (W.contents out.old) (W.contents out.new) (arrived_lane style name.now)) }
-{
-    put_glyph(style, Glyph::Line, out)?;
-    put_name(name, out)?;
-    put_glyphs(style, Glyph::Line, 15usize.saturating_sub(name.len()), out)
+fn draw_arrived<A: Allocator>(name: &[u8], text: &mut LineText<A>) -> Result<(), AllocError> {
+    text.push_glyph(Glyph::Line)?;
+    draw_name(name, 15, text)
 }
 
-/// Writes the same for one that the control station sent and that did not arrive.
-fn write_lost_to<W: Write>(
-    style: Style,
+/// Draws the same for one that the control station sent and that did not arrive: its line ends
+/// before the first column.
+fn draw_lost_to<A: Allocator>(
     fate: Fate,
     name: &[u8],
-    out: &mut W,
-) -> Result<(), PrintError>
-    ensures { OnOk result
-        (Appends (W.contents out.old) (W.contents out.new) (lost_to_lane style fate name.now)) }
-{
-    put_glyph(style, Glyph::Line, out)?;
-    put_name(name, out)?;
-    put_glyphs(style, Glyph::Line, 13usize.saturating_sub(name.len()), out)?;
-    put_glyph(style, Glyph::End { fate }, out)?;
-    put(b" ", out)
+    text: &mut LineText<A>,
+) -> Result<(), AllocError> {
+    text.push_glyph(Glyph::Line)?;
+    draw_name(name, 13, text)?;
+    text.push_glyph(Glyph::End { fate })?;
+    text.push_str(" ")
 }
 
-/// Writes the same for one that another station sent and that did not arrive.
-fn write_lost_from<W: Write>(
-    style: Style,
+/// Draws the same for one that another station sent and that did not arrive: its line ends before
+/// the control station.
+fn draw_lost_from<A: Allocator>(
     fate: Fate,
     name: &[u8],
-    out: &mut W,
-) -> Result<(), PrintError>
-    ensures { OnOk result
-        (Appends (W.contents out.old) (W.contents out.new) (lost_from_lane style fate name.now)) }
-{
-    put(b" ", out)?;
-    put_glyph(style, Glyph::End { fate }, out)?;
-    put_name(name, out)?;
-    put_glyphs(style, Glyph::Line, 14usize.saturating_sub(name.len()), out)
+    text: &mut LineText<A>,
+) -> Result<(), AllocError> {
+    text.push_str(" ")?;
+    text.push_glyph(Glyph::End { fate })?;
+    draw_name(name, 14, text)
 }
 
-/// Writes what is between the control station and the first column.
-pub(crate) fn write_lane<W: Write>(
-    style: Style,
+/// Draws what is between the control station and the first column.
+pub(crate) fn draw_lane<A: Allocator>(
     drawn: &Drawn<'_>,
-    out: &mut W,
-) -> Result<(), PrintError>
-    ensures { OnOk result (Appends (W.contents out.old) (W.contents out.new)
-        (lane_text style drawn.now.course drawn.now.fate drawn.now.name.now)) }
-{
+    text: &mut LineText<A>,
+) -> Result<(), AllocError> {
     match drawn.course {
-        Course::From { .. } => write_came(style, drawn.fate, drawn.name, out),
-        Course::ToAll | Course::ToOne { .. } => write_sent(style, drawn, out),
+        Course::From { .. } if !arrives(drawn.fate) => draw_lost_from(drawn.fate, drawn.name, text),
+        course if ends_before(course, drawn.fate, 0) => draw_lost_to(drawn.fate, drawn.name, text),
+        _ => draw_arrived(drawn.name, text),
     }
 }
 
-/// Writes the same for a transmission of another station.
-fn write_came<W: Write>(
-    style: Style,
-    fate: Fate,
-    name: &[u8],
-    out: &mut W,
-) -> Result<(), PrintError>
-    ensures { OnOk result
-        (Appends (W.contents out.old) (W.contents out.new) (came_lane style fate name.now)) }
-{
-    if arrives(fate) {
-        return write_arrived(style, name, out);
-    }
-    write_lost_from(style, fate, name, out)
-}
-
-/// Writes the same for a transmission of the control station.
-fn write_sent<W: Write>(style: Style, drawn: &Drawn<'_>, out: &mut W) -> Result<(), PrintError>
-    ensures { OnOk result (Appends (W.contents out.old) (W.contents out.new)
-        (sent_lane style drawn.now.course drawn.now.fate drawn.now.name.now)) }
-{
-    if ends_before(drawn.course, drawn.fate, 0) {
-        return write_lost_to(style, drawn.fate, drawn.name, out);
-    }
-    write_arrived(style, drawn.name, out)
-}
-
-/// Writes the end of an arrow before a column.
-fn write_end<W: Write>(style: Style, fate: Fate, out: &mut W) -> Result<(), PrintError>
-    ensures { OnOk result (Appends (W.contents out.old) (W.contents out.new)
-        (glyph_text style Line ++ glyph_text style (End fate) ++ codes " ")) }
-{
-    put_glyph(style, Glyph::Line, out)?;
-    put_glyph(style, Glyph::End { fate }, out)?;
-    put(b" ", out)
-}
-
-/// Writes the part of an arrow before a column after the first.
-pub(crate) fn write_gap<W: Write>(
-    style: Style,
+/// Draws the part of an arrow before a column after the first: where its line ends, or a line or a
+/// space.
+pub(crate) fn draw_gap<A: Allocator>(
     drawn: &Drawn<'_>,
     column: u8,
-    out: &mut W,
-) -> Result<(), PrintError>
-    ensures { OnOk result (Appends (W.contents out.old) (W.contents out.new)
-        (gap_text style drawn.now.course drawn.now.fate column)) }
-{
+    text: &mut LineText<A>,
+) -> Result<(), AllocError> {
     if ends_before(drawn.course, drawn.fate, column) {
-        return write_end(style, drawn.fate, out);
+        text.push_glyph(Glyph::Line)?;
+        text.push_glyph(Glyph::End { fate: drawn.fate })?;
+        return text.push_str(" ");
     }
-    let before = before_station(drawn.course, drawn.fate, column);
-    put_glyphs(style, before, 3, out)
+    text.push_glyphs(before_station(drawn.course, drawn.fate, column), 3)
 }

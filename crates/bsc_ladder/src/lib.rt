@@ -4,6 +4,7 @@
 mod arrows;
 mod glyphs;
 mod lanes;
+mod line_text;
 mod row;
 mod text;
 

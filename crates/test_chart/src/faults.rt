@@ -62,6 +62,9 @@ fn words_are_taken_up_to_their_bounds(rt: HostRuntime) -> Result<(), Fail> {
     Ok(())
 }
 
+/// Each form, and a number of writes, of which it needs more for this trace.
+const WRITES: &[(&str, usize)] = &[("", 11), ("svg", 20), ("html", 20)];
+
 /// Whether a write that fails after this many others is told.
 fn is_told(alloc: Global, asked: &str, left: usize) -> bool {
     let Ok(words) = words_of(alloc, asked) else {
@@ -74,10 +77,10 @@ fn is_told(alloc: Global, asked: &str, left: usize) -> bool {
 
 #[test]
 fn failing_writes_are_told(rt: HostRuntime) {
-    for left in 0..20usize {
-        assert!(rt; is_told(rt.alloc(), "", left), "{left}");
-        assert!(rt; is_told(rt.alloc(), "svg", left), "{left}");
-        assert!(rt; is_told(rt.alloc(), "html", left), "{left}");
+    for (asked, most) in WRITES {
+        for left in 0..=*most {
+            assert!(rt; is_told(rt.alloc(), asked, left), "{asked} {left}");
+        }
     }
 }
 
