@@ -57,5 +57,5 @@ pub record IsFollowed (value : TraceValue) (IsRest : List ℕ → Type 0) (text 
 
 -- The text for lines: that for each of them, in order, and nothing else.
 abbrev pub IsLadder : List TraceValue → List ℕ → Type 0
-IsLadder [] text = text ≡ []
-IsLadder (value ∷ values) text = IsFollowed value (IsLadder values) text
+IsLadder [] = λ text. text ≡ []
+IsLadder (value ∷ values) = IsFollowed value (IsLadder values)
