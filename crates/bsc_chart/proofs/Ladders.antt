@@ -17,15 +17,11 @@ pub line_written : (value : TraceValue) (a b c : Option (List ℕ)) → Writes A
 line_written value a b c p q = record {
   text = p.text ++ q.text;
   kind = record {
-    first = p.text ++ q.text;
+    labels = p.text;
+    row = q.text;
     rest = [];
-    is_first = record {
-      labels = p.text;
-      row = q.text;
-      are_labels = p.kind;
-      is_row = q.kind;
-      whole = refl;
-    };
+    are_labels = p.kind;
+    is_row = q.kind;
     is_rest = refl;
     whole = sym (append-nil (p.text ++ q.text));
   };
@@ -36,11 +32,13 @@ ladder_append : (xs ys : List TraceValue) (s t : List ℕ) → IsLadder xs s →
     → IsLadder (xs ++ ys) (s ++ t)
 ladder_append [] ys s t h k = subst (λ u. IsLadder ys (u ++ t)) (sym h) k
 ladder_append (x ∷ xs) ys s t h k = record {
-  first = h.first;
+  labels = h.labels;
+  row = h.row;
   rest = h.rest ++ t;
-  is_first = h.is_first;
+  are_labels = h.are_labels;
+  is_row = h.is_row;
   is_rest = ladder_append xs ys h.rest t h.is_rest k;
-  whole = ap (λ u. u ++ t) h.whole ∙ append_assoc h.first h.rest t;
+  whole = ap (λ u. u ++ t) h.whole ∙ append_assoc (h.labels ++ h.row) h.rest t;
 }
 
 early_append : (f : Form) (xs ys : List TraceValue) (s t : List ℕ) → IsEarlyOf f xs s

@@ -38,22 +38,16 @@ columns_after columns value =
 abbrev pub AreLabels : List ℕ → Type 0
 AreLabels text = (text ≡ []) ⊎ IsLine text
 
--- The text for a line: its row, which may have labels of the columns before it.
-pub record IsLineText (value : TraceValue) (text : List ℕ) : Type 0 where
-  pub labels : List ℕ
-  pub row : List ℕ
-  pub are_labels : AreLabels labels
-  pub is_row : IsRow (time_in (row_of value)) row
-  pub whole : text ≡ labels ++ row
-
--- The text for the first line, and then the rest.
+-- The text for a line and then the rest: its row, before which labels of the columns may stand.
 pub record IsFollowed (value : TraceValue) (IsRest : List ℕ → Type 0) (text : List ℕ)
     : Type 0 where
-  pub first : List ℕ
+  pub labels : List ℕ
+  pub row : List ℕ
   pub rest : List ℕ
-  pub is_first : IsLineText value first
+  pub are_labels : AreLabels labels
+  pub is_row : IsRow (time_in (row_of value)) row
   pub is_rest : IsRest rest
-  pub whole : text ≡ first ++ rest
+  pub whole : text ≡ labels ++ row ++ rest
 
 -- The text for lines: that for each of them, in order, and nothing else.
 abbrev pub IsLadder : List TraceValue → List ℕ → Type 0
