@@ -1,15 +1,33 @@
 -- A ladder of lines, and then one of others, is a ladder of all of them.
 use Rattle.std.proofs.Common.{◌≡◌, List, [], ◌∷◌, ◌++◌, Option, refl, sym, ap, subst, ◌∙◌, ℕ}
-use Rattle.std.proofs.Common.{append_assoc, append-nil}
+use Rattle.std.proofs.Common.{append_assoc, append-nil, inl, inr, Result, Ok, Err}
 use Rattle.std.proofs.KnownBytes.{Appends-nil, Appends-trans}
+use Rattle.std.specs.Prelude.{OnOk}
 use Rattle.bsc_ladder.specs.Rows.{time_in}
-use Rattle.bsc_ladder.specs.Texts.{IsRow, Writes}
+use Rattle.bsc_ladder.specs.Texts.{IsLine, IsRow, Writes}
 use Rattle.bsc_trace.specs.Lines.{TraceValue}
 use Rattle.bsc_chart.specs.Ladders.{AreLabels, IsLadder}
 use Rattle.bsc_chart.specs.Pages.{IsEarlyOf}
 use Rattle.bsc_chart.specs.Rows.{row_of}
 use Rattle.bsc_chart.specs.declared.drawing.Form.{Form}
 use Rattle.bsc_chart.specs.declared.drawing.Form.TheVariants.{Text, Svg, Html}
+
+-- a line is labels, and so is nothing
+pub no_labels : (a : Option (List ℕ)) → Writes AreLabels a a
+no_labels a = record {
+  text = [];
+  kind = inl refl;
+  appended = Appends-nil a;
+}
+
+pub labels_written : {X E : Type 0} (r : Result X E) (a b : Option (List ℕ))
+    → OnOk r (Writes IsLine a b) → OnOk r (Writes AreLabels a b)
+labels_written (Ok done) a b p = record {
+  text = p.text;
+  kind = inr p.kind;
+  appended = p.appended;
+}
+labels_written (Err error) a b p = tt
 
 -- labels and a row are the ladder of one line
 pub line_written : (value : TraceValue) (a b c : Option (List ℕ)) → Writes AreLabels a b
@@ -68,3 +86,13 @@ early_none f a = record {
   kind = blank_early f;
   appended = Appends-nil a;
 }
+
+-- nothing is written for a line that is kept for a picture
+pub kept_early : {X E : Type 0} (r : Result X E) (a : Option (List ℕ))
+    → OnOk r (Writes (λ text. text ≡ []) a a)
+kept_early (Ok done) a = record {
+  text = [];
+  kind = refl;
+  appended = Appends-nil a;
+}
+kept_early (Err error) a = tt
