@@ -3,8 +3,12 @@
 ghost use Rattle.std.specs.Prelude.{◌≡◌, nat_eq, not};
 ghost use Rattle.bsc_handle.specs.Handles.{made_in};
 ghost use Rattle.bsc_handle.specs.declared.made.Made.TheVariants.{Line};
-ghost use Rattle.bsc_line_calls.specs.Channels.{ArrivalsFrom, ArrivalsTo, ArrivedFrom, ArrivedTo, SendingFrom, SendingTo};
-ghost use Rattle.bsc_line_calls.specs.Events.{Carries, CarriesSent, Loses, OffersAt, OffersFor, PassesSilence, ReleasesFrom, ReleasesTo, RestartsControl, RestartsTerminal, SetsReady, SetsUrgentAt, SetsUrgentFor};
+ghost use Rattle.bsc_line_calls.specs.Channels.{ArrivalsFrom, ArrivalsTo, ArrivedFrom, ArrivedTo};
+ghost use Rattle.bsc_line_calls.specs.Channels.{SendingFrom, SendingTo};
+ghost use Rattle.bsc_line_calls.specs.Events.{Carries, CarriesSent, Loses, OffersAt, OffersFor};
+ghost use Rattle.bsc_line_calls.specs.Events.{PassesSilence, ReleasesFrom, ReleasesTo};
+ghost use Rattle.bsc_line_calls.specs.Events.{RestartsControl, RestartsTerminal, SetsReady};
+ghost use Rattle.bsc_line_calls.specs.Events.{SetsUrgentAt, SetsUrgentFor};
 ghost use Rattle.bsc_line_calls.specs.Hearings.{CarriesEach};
 ghost use Rattle.bsc_line_calls.specs.Making.{MakesLine};
 ghost use Rattle.bsc_line_calls.specs.Transmissions.{PendingIs, TrustIs};

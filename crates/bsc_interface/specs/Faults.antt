@@ -1,7 +1,18 @@
 -- The faults of calls from C, by their numbers and texts in `enum bsc_error` of bsc.h.
-use Rattle.std.specs.Prelude.{ℕ, ◌==◌, if◌then◌else◌, List, Option, Some, None, Result, Ok, Err, codes}
+use Rattle.std.specs.Prelude.{ℕ, ◌==◌, if◌then◌else◌, List, Option, Some, None, Result, Ok, Err}
+use Rattle.std.specs.Prelude.{codes}
 use Rattle.bsc_interface.specs.declared.fault.Fault.{Fault}
-use Rattle.bsc_interface.specs.declared.fault.Fault.TheVariants.{NotMade, OtherKind, AlreadyMade, Memory, NoRoom, Full, BlockChars, Tries, Waits, Address, Selects, SameAddress, NoTerminal, TooManyTerminals, EmptyPollList, PollList, NoSuchTerminal, NoSuchAddress, NoSuchRecord, TooLong, NotText, NotInDoubt, CountMismatch, NothingSent, NotControl, WrongCount, Pending, NotNew, Known, Doubt}
+use Rattle.bsc_interface.specs.declared.fault.Fault.TheVariants.{NotMade, OtherKind, AlreadyMade}
+use Rattle.bsc_interface.specs.declared.fault.Fault.TheVariants.{Memory, NoRoom, Full, BlockChars}
+use Rattle.bsc_interface.specs.declared.fault.Fault.TheVariants.{Tries, Waits, Address, Selects}
+use Rattle.bsc_interface.specs.declared.fault.Fault.TheVariants.{SameAddress, NoTerminal}
+use Rattle.bsc_interface.specs.declared.fault.Fault.TheVariants.{TooManyTerminals, EmptyPollList}
+use Rattle.bsc_interface.specs.declared.fault.Fault.TheVariants.{PollList, NoSuchTerminal}
+use Rattle.bsc_interface.specs.declared.fault.Fault.TheVariants.{NoSuchAddress, NoSuchRecord}
+use Rattle.bsc_interface.specs.declared.fault.Fault.TheVariants.{TooLong, NotText, NotInDoubt}
+use Rattle.bsc_interface.specs.declared.fault.Fault.TheVariants.{CountMismatch, NothingSent}
+use Rattle.bsc_interface.specs.declared.fault.Fault.TheVariants.{NotControl, WrongCount, Pending}
+use Rattle.bsc_interface.specs.declared.fault.Fault.TheVariants.{NotNew, Known, Doubt}
 
 -- The number of a fault.
 abbrev pub fault_number : Fault → ℕ

@@ -220,7 +220,11 @@ fn draw_happening<A: Allocator>(
             draw_arrow(layout, &drawn, text)
         }
         Row::Silence { .. } => draw_silence(layout, text),
-        Row::Mark { mark, text: told, .. } => draw_mark(layout, *mark, told, text),
+        Row::Mark {
+            mark,
+            text: told,
+            ..
+        } => draw_mark(layout, *mark, told, text),
     }
 }
 

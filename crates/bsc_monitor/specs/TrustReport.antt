@@ -6,7 +6,6 @@ use Rattle.bsc_trust.specs.Trust.{slowest_share}
 use Rattle.bsc_trust.specs.declared.distrust.Distrust.{Distrust}
 use Rattle.bsc_trust.specs.declared.trust.Trust.{Trust}
 use Rattle.bsc_monitor.specs.Traces.{distrust_line}
-use Rattle.bsc_monitor.specs.declared.trust_report.TheConstants.{SLOW}
 
 -- The end of the line for the slowest answer; the flag says whether it took half of the time-out or
 -- more.
@@ -19,7 +18,7 @@ abbrev pub share_shown : ℕ → List ℕ
 share_shown share = codes "slowest answer: " ++ decimal share ++ codes "% of the time-out"
 
 abbrev pub measured_line : ℕ → List ℕ
-measured_line share = share_shown share ++ advice_shown (nat_le SLOW share)
+measured_line share = share_shown share ++ advice_shown (nat_le 50 share)
 
 -- The line for the slowest answer, if one was heard whose time counts.
 abbrev pub slowest_line : Option ℕ → List ℕ

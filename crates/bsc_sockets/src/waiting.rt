@@ -231,8 +231,9 @@ impl<'a, N: Net + Clock, A: Allocator + Copy> Sockets<'a, N, A> {
         Ok(Awaited::TimeOut)
     }
 
-    /// Returns how long the system is asked at once, if this is left of a time. A peer that it could
-    /// not accept is tried again after a short time: the system does not report that peer anew.
+    /// Returns how long the system is asked at once, if this is left of a time. A peer that it
+    /// could not accept is tried again after a short time: the system does not report that peer
+    /// anew.
     fn asked_at_once(&self, left: Duration) -> Duration
         ensures { self.now.refuses ≡ false → result ≡ left }
     {

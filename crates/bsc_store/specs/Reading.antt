@@ -102,7 +102,8 @@ abbrev pub up_to_query : Side → Query
 up_to_query side.Offered = query.OfferedUpTo
 up_to_query side.Arrived = query.ArrivedUpTo
 
--- The values of the queries for a channel, for the records up to a mark, and for one of its records.
+-- The values of the queries for a channel, for the records up to a mark, and for one of its
+-- records.
 abbrev pub channel_values : Channel → Row
 channel_values channel = Text (way_of channel) ∷ Blob (address_of channel) ∷ []
 
@@ -155,8 +156,8 @@ IsFound g marks side channel mark more old new None =
     old new None
 
 -- The query gives a row, and the fault says that it is not as it was kept: it names the channel and
--- the number of the record, which is how many records of the channel stand up to the mark and how many are passed
--- over after it. If the records before it are not counted, it is why not.
+-- the number of the record, which is how many records of the channel stand up to the mark and how
+-- many are passed over after it. If the records before it are not counted, it is why not.
 pub record IsDamaged {S : Type 0} (g : Ghosts S) (marks : Option Marks) (side : Side)
     (channel : Channel) (mark : ℤ) (more : ℕ) (old new : Held S) (it : StoreFault) : Type 0 where
   pub mid : Held S

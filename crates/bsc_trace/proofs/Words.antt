@@ -76,9 +76,12 @@ last_onto x (part ∷ next ∷ parts) more = refl
 
 two_parts : (text rest : List ℕ) → 1 < length (parts_at 32 (text ++ 32 ∷ rest))
 two_parts text rest =
-    omega (arith, length-slice_split (λ octet. octet == 32) (text ++ 32 ∷ rest),
-        sum_by-append (λ octet. cond (octet == 32) 1 0) text (32 ∷ rest),
-        sum_by-cons (λ octet. cond (octet == 32) 1 0) 32 rest)
+    omega (
+      arith,
+      length-slice_split (λ octet. octet == 32) (text ++ 32 ∷ rest),
+      sum_by-append (λ octet. cond (octet == 32) 1 0) text (32 ∷ rest),
+      sum_by-cons (λ octet. cond (octet == 32) 1 0) 32 rest,
+    )
 
 one_part : (word : List ℕ) → IsWord word → parts_at 32 word ≡ word ∷ []
 one_part [] h = refl

@@ -1,4 +1,4 @@
-//! Random scripts. No such run is ended by want of memory, by the cable or by the output. What it
+//! Random scripts. No such run is out of memory or stopped by the cable or the output. What it
 //! prints otherwise the contract of `run_line` says.
 
 use crate::watched::{NO_TROUBLE, RunWatch};
@@ -29,7 +29,7 @@ const HEARD: &[&str] = &[
 ];
 
 /// The number of events that a run tells, with a trace or without one, if it ends at the end of its
-/// script, or at an event that the line refuses for another reason than want of memory.
+/// script, or at an event that the line refuses for another reason than lack of memory.
 fn count_told(
     alloc: Global,
     config: &str,

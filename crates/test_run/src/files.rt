@@ -109,7 +109,7 @@ fn texts_of<R: Net>(
 const PATHS: &str = "line.toml script.txt";
 
 /// The events of `examples/lossy_line`, with as many empty lines between them. One bit of the first
-/// text is turned on its way; an acknowledgement and an ENQ are lost, and the terminal is in doubt;
+/// text is inverted on its way; an acknowledgement and an ENQ are lost, and the terminal is in doubt;
 /// a call of terminal 1 is not heard, and a text only by it; and the doubt is ended.
 const LOSSY_LINE: &str = "#\noffer-at 0 HI\noffer-for 1 BYE\n\n\n\nsilence\ncarry
 heard 16 16 02 C8 48 19 83 9B FF\ncarry\ncarry\n\n\n\nlose\nsilence\nlose\nsilence\ncarry
