@@ -8,6 +8,7 @@ use Rattle.std.specs.List.{AllZip, Any}
 use Rattle.std.specs.Prelude.{Result, IsErr, OnOk}
 use borrow.Rule.Slice.PartMut.{put_mid}
 use Rattle.bsc_carrier.specs.Cable.{ChangesAt}
+use Rattle.bsc_carrier.specs.declared.cable.Cable.{Cable as CableValue}
 use Rattle.bsc_carrier.specs.declared.limits.TheConstants.{MAX_CONNECTIONS}
 
 module _ {S : Type 0} where
@@ -110,3 +111,11 @@ module _ {S : Type 0} where
   stays_after_error result P ends t there failed =
       stays_at (λ before after. OnOk result (P before after))
       (λ end. IfOk-from_err result (λ _. P end end) failed) ends t there
+
+-- Cables with the same ends and the same fault.
+pub same_cable : {S : Type 0} (A : Type 0) (a b : CableValue S A) → a.control_ends ≡ b.control_ends
+    → a.terminal_ends ≡ b.terminal_ends → a.fault ≡ b.fault → a ≡ b
+same_cable {S} A a b control terminals fault =
+    ap {B = CableValue S A} (λ x. record a { control_ends = x }) control
+    ∙ ap {B = CableValue S A} (λ x. record b { terminal_ends = x; fault = a.fault }) terminals
+    ∙ ap {B = CableValue S A} (λ x. record b { fault = x }) fault

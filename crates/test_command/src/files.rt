@@ -63,12 +63,21 @@ poll = "A"
 select = "a"
 "#;
 
+/// A line of three terminals.
+const THREE_TERMINALS: &str = r#"version = 1
+poll_list = [0]
+terminals = [
+  { poll = "A", select = "a" }, { poll = "B", select = "b" }, { poll = "C", select = "c" },
+]
+"#;
+
 /// Returns the text of the file at this path.
 fn text_at(path: &str) -> Option<&'static str> {
     match path {
         "line.toml" => Some(TWO_TERMINALS),
         "three.toml" => Some(THREE_ADDRESSES),
         "tries.toml" => Some(MOST_TRIES),
+        "more.toml" => Some(THREE_TERMINALS),
         "polled.txt" => Some(POLLED),
         "refused.txt" => Some(REFUSED),
         "wrong.txt" => Some("carry\n\ncarry 1\n"),

@@ -305,10 +305,12 @@ impl<'a> Cables for Machine<'a> {
         Metered { work, record }
     }
 
-    /// Makes connections of two terminals only.
+    /// Makes connections of two terminals only: one has no sockets, and for more there is no memory.
     fn connect(&mut self, count: usize) -> Result<Cable<End<'a>>, LoopbackError> {
-        if count != 2 {
-            return Err(LoopbackError::Sockets);
+        match count {
+            2 => {}
+            0 | 1 => return Err(LoopbackError::Sockets),
+            _ => return Err(LoopbackError::Memory),
         }
         let record = self.record;
         match record.wires.cable(self.alloc) {

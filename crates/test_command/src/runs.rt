@@ -54,6 +54,8 @@ $ run secret none.txt
 ! bscline: cannot read secret: permission denied
 $ run tries.toml polled.txt
 ! bscline: cannot make the sockets
+$ run more.toml polled.txt
+! bscline: out of memory
 $ run line.toml polled.txt
 output-fails
 ! bscline: output fault

@@ -1,8 +1,9 @@
 -- `up` changes one end on each side, and returns each result when it is due.
 use Rattle.std.proofs.Common.{length, sym, ap, ◌∙◌}
 use Rattle.std.specs.Prelude.{OnOk, slice_get}
+use Rattle.std.specs.Result.{result_err}
 use Rattle.bsc_carrier.specs.Cable.{Takes, Gives}
-use Rattle.bsc_carrier.proofs.Places.{changes_back, counts_written_back, same_back}
+use Rattle.bsc_carrier.proofs.Places.{changes_back, counts_written_back, same_back, same_cable}
 use Rattle.bsc_carrier.proofs.Places.{written_back_length}
 use Rattle.bsc_carrier.proofs.cable.Cable.up.Goals as goal
 
@@ -46,13 +47,14 @@ returns-clause-count g c =
 
 pub returns-clause-first_error : goal.returns-clause-first_error
 returns-clause-first_error g c = λ e first.
-    let stays = c.carry_at-result.ensures.first_error e (ap (λ v. v.fault) c.self.view_is ∙ first) in
-    let near =
-    same_back _ c.args.self.now.terminal_ends _ c.carry_at-result.new.near _
-    (c.as_mut_slice-near.ensures.value ∙ ap (λ v. v.terminal_ends) c.self.view_is)
-    (c.carry_at-result.auto.near ∙ c.as_mut_slice-near.ensures.len) stays.1.0 in
-    let far =
-    same_back _ c.args.self.now.control_ends _ c.carry_at-result.new.far _
-    (c.as_mut_slice-far.ensures.value ∙ ap (λ v. v.control_ends) c.self.view_is)
-    (c.carry_at-result.auto.far ∙ c.as_mut_slice-far.ensures.len) stays.1.1 in
-    (stays.0, cc (near, far, stays.0, first, c.err.ensures))
+    let stays = c.carry_at-result.ensures.first_error e (ap (λ v. v.fault) c.self.view_is ∙ first) in (
+      stays.0,
+      same_cable g.row.A.Denot _ _
+          (same_back _ c.args.self.now.control_ends _ c.carry_at-result.new.far _
+          (c.as_mut_slice-far.ensures.value ∙ ap (λ v. v.control_ends) c.self.view_is)
+          (c.carry_at-result.auto.far ∙ c.as_mut_slice-far.ensures.len) stays.2)
+          (same_back _ c.args.self.now.terminal_ends _ c.carry_at-result.new.near _
+          (c.as_mut_slice-near.ensures.value ∙ ap (λ v. v.terminal_ends) c.self.view_is)
+          (c.carry_at-result.auto.near ∙ c.as_mut_slice-near.ensures.len) stays.1)
+          (c.err-self-inside.ensures.value ∙ ap result_err stays.0 ∙ sym first),
+    )
