@@ -69,7 +69,7 @@ impl Framing for Gaps {
         MAX_READ
     }
 
-    #[tactic(auto, using(crate::proofs::Kept::take_of_appended))]
+    #[tactic(auto, using(bsc_carrier::proofs::Kept::take_of_appended))]
     fn feed(&mut self, piece: &[u8]) -> Result<(usize, bool), CarrierError> {
         if piece.len() > MOST_WITHOUT_GAP - self.arrived {
             return Err(CarrierError::Length);
