@@ -1,7 +1,7 @@
-pub mod Marks
+pub mod MarkLines
 pub mod Numbers
-pub mod Octets
+pub mod OctetWords
 pub mod ReadBack
-pub mod Speaking
+pub mod Speakers
 pub mod Told
-pub mod Words
+pub mod PlainWords

@@ -9,7 +9,7 @@ use Rattle.std.proofs.lemmas.List.Folds.{list_all-append}
 use Rattle.std.specs.Char.{is_ascii_digit}
 use Rattle.std.specs.List.{list_all}
 use Rattle.bsc_trace.specs.Words.{column_in, is_time}
-use Rattle.bsc_trace.proofs.Words.{IsWord, word_by}
+use Rattle.bsc_trace.proofs.PlainWords.{IsWord, word_by}
 
 digit : (d : ℕ) → d < 10 → is_ascii_digit (48 + d) ≡ true
 digit d h = and_from _ _ (le-leb 48 (48 + d) (omega arith)) (le-leb (48 + d) 57 (omega arith))

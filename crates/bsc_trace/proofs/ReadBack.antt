@@ -1,6 +1,6 @@
 -- The lines of a trace are read back.
 use Rattle.std.proofs.Common.{◌≡◌, ◌<◌, ℕ, ◌^◌, List, ◌∷◌, ◌++◌, false, codes, decimal, Some, None, option_map}
-use Rattle.std.proofs.Common.{refl, ap, ◌∙◌, append_assoc, arith, bytes_eq}
+use Rattle.std.proofs.Common.{refl, sym, ap, ◌∙◌, append_assoc, arith, bytes_eq}
 use Rattle.std.proofs.lemmas.Bool.{cond-false, cond-true, false_from_ne_true}
 use Rattle.std.proofs.lemmas.Slice.Eq.{bytes_eq-Decides}
 use Rattle.bsc_print.specs.Names.{chars_shown, name_of}
@@ -14,10 +14,10 @@ use Rattle.bsc_trace.specs.ReadBack.{TransmissionsAreReadBack, course_of, fate_o
 use Rattle.bsc_trace.specs.Speaking.{spoken_of}
 use Rattle.bsc_trace.specs.Words.{is_time}
 use Rattle.bsc_trace.proofs.Numbers.{number_is_word, time_is_read}
-use Rattle.bsc_trace.proofs.Octets.{octets_are_read, octets_are_word}
-use Rattle.bsc_trace.proofs.Speaking.{spoken_is_read}
+use Rattle.bsc_trace.proofs.OctetWords.{octets_are_read, octets_are_word}
+use Rattle.bsc_trace.proofs.Speakers.{spoken_is_read}
 use Rattle.bsc_trace.proofs.Told.{begins_as_told}
-use Rattle.bsc_trace.proofs.Words.{by_word, last_after}
+use Rattle.bsc_trace.proofs.PlainWords.{by_word, last_after}
 
 -- a line, with its time, and what is told
 abbrev pub timed : ℕ → List ℕ → List ℕ
@@ -62,12 +62,23 @@ pub sentences_are_read_back : SentencesAreReadBack
 sentences_are_read_back text begins =
     let both = begins_as_told text begins in other_is_read text both.0 both.1
 
+joined_left : (a b c d e f g h : List ℕ) → a ++ b ++ c ++ d ++ e ++ f ++ g ++ h
+    ≡ a ++ (b ++ (c ++ (d ++ (e ++ (f ++ (g ++ h))))))
+joined_left a b c d e f g h = simp append_assoc
+
+joined_right : (a b c d e f g h k : List ℕ) → (a ++ (b ++ (c ++ (d ++ (e ++ (f ++ (g ++ h))))))) ++ k
+    ≡ a ++ (b ++ (c ++ (d ++ (e ++ (f ++ (g ++ (h ++ k)))))))
+joined_right a b c d e f g h k = simp append_assoc
+
 -- the text of the line for a transmission, by its parts
 parts_joined : (digits who fate hearer name chars : List ℕ)
     → (codes "+" ++ digits ++ codes " " ++ who ++ fate ++ hearer) ++ name
     ++ (codes " " ++ chars ++ codes "\n")
     ≡ (43 ∷ (digits ++ 32 ∷ (who ++ (fate ++ (hearer ++ (name ++ 32 ∷ chars)))))) ++ codes "\n"
-parts_joined digits who fate hearer name chars = simp append_assoc
+parts_joined digits who fate hearer name chars =
+    joined_left (codes "+") digits (codes " ") who fate hearer name
+    (codes " " ++ chars ++ codes "\n")
+    ∙ sym (joined_right (codes "+") digits (codes " ") who fate hearer name (32 ∷ chars) (codes "\n"))
 
 pub transmissions_are_read_back : TransmissionsAreReadBack
 transmissions_are_read_back time who became hearer heard octets h k l are_octets =

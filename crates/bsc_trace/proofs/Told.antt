@@ -7,9 +7,10 @@ use Rattle.bsc_report.specs.Traces.{silence_shown, who_shown}
 use Rattle.bsc_report.specs.declared.trace.Who.{Who}
 use Rattle.bsc_report.specs.declared.trace.Who.TheVariants.{Control, Terminal, Connection}
 use Rattle.bsc_trace.specs.ReadBack.{BeginsAsTold, IsStation, first_words, is_one_of, words_after}
-use Rattle.bsc_trace.specs.Speaking.{first_word, sender_by, spoken_of}
+use Rattle.bsc_input.specs.Words.{first_word}
+use Rattle.bsc_trace.specs.Speaking.{sender_by, spoken_of}
 use Rattle.bsc_trace.specs.Words.{fate_in}
-use Rattle.bsc_trace.proofs.Speaking.{no_fate, no_sender}
+use Rattle.bsc_trace.proofs.Speakers.{no_fate, no_sender}
 
 one_or_more : (P : List ℕ → Type 0) (first : List ℕ) (words : List (List ℕ)) (word : List ℕ)
     (b : Bool) → bytes_eq word first ≡ b → P first → (is_one_of words word ≡ true → P word)

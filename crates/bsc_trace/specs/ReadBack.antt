@@ -19,7 +19,8 @@ use Rattle.bsc_report.specs.declared.trace.Who.{Who}
 use Rattle.bsc_report.specs.declared.trace.Who.TheVariants.{Control, Terminal, Connection}
 use Rattle.bsc_trace.specs.Lines.{TraceValue, silence, told_at, transmission, value_of}
 use Rattle.bsc_trace.specs.Marks.{marked_of}
-use Rattle.bsc_trace.specs.Speaking.{first_word, spoken_of}
+use Rattle.bsc_input.specs.Words.{first_word}
+use Rattle.bsc_trace.specs.Speaking.{spoken_of}
 
 -- The line is a text and a line feed, and the text has this value.
 abbrev pub IsReadAs : List ℕ → TraceValue → Type 0

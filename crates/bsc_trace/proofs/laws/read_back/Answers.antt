@@ -1,5 +1,5 @@
 -- The law of the lines that are read back.
-use Rattle.bsc_trace.proofs.Marks.{texts_are_kept}
+use Rattle.bsc_trace.proofs.MarkLines.{texts_are_kept}
 use Rattle.bsc_trace.proofs.ReadBack.{sentences_are_read_back, silences_are_read_back}
 use Rattle.bsc_trace.proofs.ReadBack.{texts_are_read_back, transmissions_are_read_back}
 use Rattle.bsc_trace.proofs.laws.read_back.Goals as goal

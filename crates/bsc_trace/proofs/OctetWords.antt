@@ -14,7 +14,7 @@ use Rattle.bsc_input.specs.Lines.{is_blank}
 use Rattle.bsc_print.specs.Forms.{AreOctets}
 use Rattle.bsc_print.specs.Names.{chars_shown}
 use Rattle.bsc_trace.specs.Lines.{octets_given}
-use Rattle.bsc_trace.proofs.Words.{IsWord, not_that, word_by}
+use Rattle.bsc_trace.proofs.PlainWords.{IsWord, not_that, word_by}
 
 all_kept : (word : List ℕ) → IsWord word → filter (λ octet. not (is_space octet)) word ≡ word
 all_kept [] h = refl

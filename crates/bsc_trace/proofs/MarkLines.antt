@@ -10,7 +10,7 @@ use Rattle.bsc_trace.specs.Marks.{doubt_from, doubt_mark, doubt_sign, doubt_to, 
 use Rattle.bsc_trace.specs.Marks.{named_at, numbered_of, selects_in, sign_in}
 use Rattle.bsc_trace.specs.Marks.{station_mark, terminal_mark, told_mark, trust_mark}
 use Rattle.bsc_trace.specs.ReadBack.{TextsAreKept}
-use Rattle.bsc_trace.specs.Speaking.{after_word, first_word}
+use Rattle.bsc_input.specs.Words.{after_word, first_word}
 
 abbrev pub Keeps : List ℕ → Option MarkedValue → Type 0
 Keeps text o = IfSome o (λ m. m.mark.sign ≢ Named → m.text ≡ text)

@@ -13,7 +13,7 @@ use Rattle.bsc_input.proofs.Splitting.{before_first_some}
 use Rattle.bsc_naming.specs.Lines.{last_part}
 use Rattle.bsc_naming.proofs.Lists.{NonePasses, position-append}
 use Rattle.bsc_naming.proofs.Parts.{last_part_more}
-use Rattle.bsc_trace.specs.Speaking.{after_word, first_word}
+use Rattle.bsc_input.specs.Words.{after_word, first_word}
 
 -- no octet is a space
 abbrev pub IsWord : List ℕ → Type 0

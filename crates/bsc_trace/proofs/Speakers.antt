@@ -19,12 +19,13 @@ use Rattle.bsc_report.specs.declared.trace.Fate.TheVariants as printed
 use Rattle.bsc_report.specs.declared.trace.Who.{Who}
 use Rattle.bsc_report.specs.declared.trace.Who.TheVariants.{Control, Terminal, Connection}
 use Rattle.bsc_trace.specs.ReadBack.{IsColumn, IsStation, course_of, fate_of}
-use Rattle.bsc_trace.specs.Speaking.{HeadValue, SpokenValue, after_word, first_word, from_column}
+use Rattle.bsc_input.specs.Words.{after_word, first_word}
+use Rattle.bsc_trace.specs.Speaking.{HeadValue, SpokenValue, from_column}
 use Rattle.bsc_trace.specs.Speaking.{heard_by, sender_by, sender_in, sent_from, spoken_after}
 use Rattle.bsc_trace.specs.Speaking.{spoken_by, spoken_of, spoken_to, to_one}
 use Rattle.bsc_trace.specs.Words.{column_in, fate_in}
 use Rattle.bsc_trace.proofs.Numbers.{column_is_read, number_is_word}
-use Rattle.bsc_trace.proofs.Words.{IsWord, by_word, letters, rest_after, word_before}
+use Rattle.bsc_trace.proofs.PlainWords.{IsWord, by_word, letters, rest_after, word_before}
 
 -- the number of a station, and the text after it
 module _ (number : ℕ) (rest : List ℕ) (h : number < 100) where
