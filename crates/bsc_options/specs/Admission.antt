@@ -30,6 +30,12 @@ ReadsEach {V} Changes (text ∷ texts) value result =
     × MatchResult next (λ changed. ReadsEach Changes texts changed result)
     (λ why. result ≡ Err why)
 
+-- The texts of an option, after the value to which no text comes.
+abbrev pub ReadsFrom : {V : Type 0} → (V → Type 0) → (List ℕ → V → Result V OptionError → Type 0)
+    → List (List ℕ) → Result V OptionError → Type 0
+ReadsFrom {V} Begins Changes texts result =
+    (first : V) × Begins first × ReadsEach Changes texts first result
+
 -- ---- networks
 
 -- The network that a text names comes after the others.
@@ -45,10 +51,12 @@ AddsNetwork text before (Err error.AllowForm) = (why : NetworkError) × Reads te
 AddsNetwork text before (Err error.TooManyNetworks) = MAX_NETWORKS ≤ length (listed before)
 AddsNetwork text before (Err _) = ⊥
 
+abbrev pub HasNoNetwork : Networks → Type 0
+HasNoNetwork none = listed none ≡ []
+
 -- The networks in the texts of `--allow`, after none.
 abbrev pub ReadsNetworks : List (List ℕ) → Result Networks OptionError → Type 0
-ReadsNetworks texts result =
-    (none : Networks) × (listed none ≡ []) × ReadsEach AddsNetwork texts none result
+ReadsNetworks = ReadsFrom HasNoNetwork AddsNetwork
 
 -- ---- the peers of terminals
 
@@ -100,8 +108,7 @@ pub record IsNobody (given : GivenPeers) : Type 0 where
 
 -- The peers in the texts of `--peer`, after none.
 abbrev pub ReadsPeers : List (List ℕ) → Result GivenPeers OptionError → Type 0
-ReadsPeers texts result =
-    (nobody : GivenPeers) × IsNobody nobody × ReadsEach AddsPeer texts nobody result
+ReadsPeers = ReadsFrom IsNobody AddsPeer
 
 -- The peers in the options, or the first reason for refusing them.
 abbrev pub IsAdmission : AskedWords → Result Admission OptionError → Type 0

@@ -2,8 +2,8 @@
 
 ghost use Rattle.std.specs.Prelude.{◌≡◌, ℕ, List, Result, map, string_bytes};
 ghost use Rattle.bsc_asked.specs.StationWords.{asked_words};
-ghost use Rattle.bsc_options.specs.Admission.{AddsNetwork, AddsPeer, IsAdmission, ReadsEach};
-ghost use Rattle.bsc_options.specs.Admission.{ReadsNetworks, ReadsPeer, ReadsPeers};
+ghost use Rattle.bsc_options.specs.Admission.{AddsNetwork, AddsPeer, HasNoNetwork, IsAdmission};
+ghost use Rattle.bsc_options.specs.Admission.{IsNobody, ReadsFrom, ReadsPeer};
 ghost use Rattle.bsc_options.specs.declared.error.OptionError.{OptionError as OptionErrorValue};
 
 use crate::OptionError;
@@ -36,20 +36,27 @@ pub struct Admission {
 
 /// What the texts of an option that may be given more than once come to.
 trait Given: Copy {
+    /// Whether this is what no text comes to.
+    ghost begins: { Self → Type 0 };
+
     /// What one more text changes: the text, the value before it, the value after it or why the
     /// text is refused.
     ghost adds: { List ℕ → Self → Result Self OptionErrorValue → Type 0 };
+
+    /// Returns what no text comes to.
+    fn nothing() -> Self
+        ensures { begins result };
 
     /// Adds what one more text gives.
     fn with_text(self, text: &str) -> Result<Self, OptionError>
         ensures { adds text.now self result };
 }
 
-/// Reads the texts of an option in order, after this value.
-fn read_each<V: Given>(first: V, texts: &[String]) -> Result<V, OptionError>
-    ensures { ReadsEach V.adds (map string_bytes texts.now) first result }
+/// Reads the texts of an option in order.
+fn read_each<V: Given>(texts: &[String]) -> Result<V, OptionError>
+    ensures { ReadsFrom V.begins V.adds (map string_bytes texts.now) result }
 {
-    let mut value = first;
+    let mut value = V::nothing();
     'texts: for text in texts {
         value = value.with_text(text.as_str())?;
     }
@@ -57,7 +64,13 @@ fn read_each<V: Given>(first: V, texts: &[String]) -> Result<V, OptionError>
 }
 
 impl Given for Networks {
+    ghost begins = { HasNoNetwork };
+
     ghost adds = { AddsNetwork };
+
+    fn nothing() -> Networks {
+        Networks::new()
+    }
 
     /// Adds the network in a text of `--allow`.
     fn with_text(self, text: &str) -> Result<Networks, OptionError> {
@@ -69,13 +82,6 @@ impl Given for Networks {
             None => Err(OptionError::TooManyNetworks),
         }
     }
-}
-
-/// Reads the texts of `--allow`.
-fn read_networks(texts: &[String]) -> Result<Networks, OptionError>
-    ensures { ReadsNetworks (map string_bytes texts.now) result }
-{
-    read_each(Networks::new(), texts)
 }
 
 /// Returns the terminal and the address in `T=ADDRESS`.
@@ -91,7 +97,16 @@ fn peer_of(text: &str) -> Option<(usize, IpAddr)>
 }
 
 impl Given for GivenPeers {
+    ghost begins = { IsNobody };
+
     ghost adds = { AddsPeer };
+
+    fn nothing() -> GivenPeers {
+        GivenPeers {
+            addresses: TerminalPeers::new(),
+            terminals: 0,
+        }
+    }
 
     /// Adds the address in a text of `--peer`.
     fn with_text(self, text: &str) -> Result<GivenPeers, OptionError> {
@@ -108,23 +123,12 @@ impl Given for GivenPeers {
     }
 }
 
-/// Reads the texts of `--peer`.
-fn read_peers(texts: &[String]) -> Result<GivenPeers, OptionError>
-    ensures { ReadsPeers (map string_bytes texts.now) result }
-{
-    let nobody = GivenPeers {
-        addresses: TerminalPeers::new(),
-        terminals: 0,
-    };
-    read_each(nobody, texts)
-}
-
 /// Reads the peers in the options, or returns the first reason for refusing them: those of
 /// `--allow` come before those of `--peer`.
 pub fn read_admission(words: &StationWords) -> Result<Admission, OptionError>
     ensures { IsAdmission (asked_words words.now) result }
 {
-    let allowed = read_networks(&words.allowed)?;
-    let peers = read_peers(&words.peers)?;
+    let allowed: Networks = read_each(&words.allowed)?;
+    let peers: GivenPeers = read_each(&words.peers)?;
     Ok(Admission { allowed, peers })
 }
