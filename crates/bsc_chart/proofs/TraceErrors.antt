@@ -1,7 +1,6 @@
 -- What an error of drawing says of the trace that is named.
 use Rattle.std.proofs.Common.{◌≡◌, ℕ, List, [], Option, None, Some, Result, Ok, Err, refl, sym, ap, ◌∙◌, subst}
 use Rattle.std.proofs.Common.{inr}
-use Rattle.std.proofs.KnownBytes.{Appends-nil}
 use Rattle.std.specs.Prelude.{IfErr, IfSome, OnOk}
 use Rattle.bsc_asked.specs.ChartWords.{AskedChart}
 use Rattle.bsc_input.specs.declared.unreadable.Unreadable.{Unreadable}
@@ -18,6 +17,7 @@ use Rattle.bsc_chart.specs.declared.error.ChartError.TheVariants as chart
 use Rattle.bsc_chart.specs.declared.named.TraceError.{TraceError}
 use Rattle.bsc_chart.specs.declared.named.TraceError.TheVariants.{CannotRead, Chart}
 use Rattle.bsc_chart.proofs.Ends.{late}
+use Rattle.bsc_chart.proofs.Ladders.{early_none}
 
 pub none_some : {X : Type 0} (o : Option X) (x : X) → None ≡ o → o ≡ Some x → ⊥
 none_some None x a b = cc
@@ -259,7 +259,7 @@ module _ (d : Drawing) (path : List ℕ) where
   pub unopened_says : (why : Unreadable) (told : TraceError) (a : Option (List ℕ))
       → IsUnread path why told → HasFailedFile path d told (Some []) a a
   unopened_says why told a is =
-      unread_says why told (Some []) a a is (record { place = 0; before = Appends-nil a })
+      unread_says why told (Some []) a a is (record { place = 0; before = early_none d.form a })
 
   pub unread_late : (why : Unreadable) (told : TraceError) → IsUnread path why told → IsLateTrace told
   unread_late why (CannotRead p reason) is = tt
