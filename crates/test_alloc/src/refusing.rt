@@ -1,9 +1,8 @@
 //! The allocator. It is the only place where the tests of this repository own raw memory.
-ghost use Rattle.std.specs.Prelude.{◌≡◌};
-ghost use Rattle.test_alloc.specs.Turns.{new_turns};
 
 use crate::in_turn::InTurn;
 use crate::requests::{Requests, Rule};
+use crate::turns::Turns;
 use std::alloc::{AllocError, Allocator, Global};
 use std::cell::Cell;
 use std::ops::Range;
@@ -96,11 +95,13 @@ impl<B: Allocator> Refusing<B> {
     /// `refused` tells whether a run met a refusal, and `refuse` may restart its counting during a
     /// run. The number of runs that meet a refusal has to be in this range, and at least 1;
     /// otherwise the last item is an error. After the last item nothing is refused.
-    pub fn in_turn(&self, refusal: Refusal, runs: Range<usize>) -> InTurn<'_, B>
-        ensures turns { result.turns ≡ new_turns runs.start runs.end }
-        ensures refusal { result.refusal ≡ refusal }
-    {
-        InTurn::new(self, refusal, runs)
+    pub fn in_turn(&self, refusal: Refusal, runs: Range<usize>) -> InTurn<'_, B> {
+        InTurn {
+            alloc: self,
+            refusal,
+            turns: Turns::new(runs.start, runs.end),
+            refused_before: self.ever_refused(),
+        }
     }
 
     /// The number of requests since counting started, refused or not.

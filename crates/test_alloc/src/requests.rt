@@ -1,7 +1,5 @@
-//! The rule of refusals and the counts of requests. Every decision of the allocator is made here on
-//! plain values, so that contracts can state it: no contract can state what a cell holds.
-ghost use Rattle.std.specs.Prelude.{◌≡◌, ◌↔◌, IsTrue};
-ghost use Rattle.test_alloc.specs.Refusals.{RefusesRequest, next_count, count_if};
+//! The rule of refusals and the counts of requests. Every decision of the allocator is made here, on
+//! plain values.
 
 /// Which requests are refused. Requests are counted from 1, and sizes are in octets.
 #[derive(Clone, Copy)]
@@ -24,10 +22,7 @@ pub(crate) struct Requests {
 
 impl Requests {
     /// No rule, and no requests.
-    pub(crate) fn new() -> Requests
-        ensures { result
-            ≡ record { rule = Rule.Nothing; requests = 0; refused = 0; ever_refused = 0 } }
-    {
+    pub(crate) fn new() -> Requests {
         Requests {
             rule: Rule::Nothing,
             requests: 0,
@@ -37,14 +32,7 @@ impl Requests {
     }
 
     /// Sets the rule. Counting starts again, except for the requests ever refused.
-    pub(crate) fn set(&mut self, rule: Rule)
-        ensures { self.new ≡ record {
-          rule = rule;
-          requests = 0;
-          refused = 0;
-          ever_refused = self.old.ever_refused;
-        } }
-    {
+    pub(crate) fn set(&mut self, rule: Rule) {
         self.rule = rule;
         self.requests = 0;
         self.refused = 0;
@@ -52,14 +40,7 @@ impl Requests {
 
     /// Counts one more request, of `size` octets, and returns whether it is refused. A count stays
     /// at `usize::MAX` once it is there.
-    pub(crate) fn ask(&mut self, size: usize) -> bool
-        ensures refuses { IsTrue result
-            ↔ RefusesRequest self.old.rule (next_count self.old.requests) size }
-        ensures rule { self.new.rule ≡ self.old.rule }
-        ensures requests { self.new.requests ≡ next_count self.old.requests }
-        ensures refused { self.new.refused ≡ count_if result self.old.refused }
-        ensures ever { self.new.ever_refused ≡ count_if result self.old.ever_refused }
-    {
+    pub(crate) fn ask(&mut self, size: usize) -> bool {
         self.requests = self.requests.saturating_add(1);
         let refuses = match self.rule {
             Rule::Nothing => false,

@@ -3,14 +3,15 @@ use linked_list_allocator::LocalHeap;
 use std::alloc::Allocator;
 use std::test::Fail;
 
-/// Which of five requests of 1 to 5 octets a refusal and a number grant.
-const GRANTED: &[(Refusal, usize, [bool; 5])] = &[
-    (Refusal::Nth, 2, [true, false, true, true, true]),
-    (Refusal::From, 4, [true, true, true, false, false]),
+/// Which of five requests of 1 to 5 octets a refusal and a number grant, and how many are refused.
+const GRANTED: &[(Refusal, usize, [bool; 5], usize)] = &[
+    (Refusal::Nth, 2, [true, false, true, true, true], 1),
+    (Refusal::From, 4, [true, true, true, false, false], 2),
     (
         Refusal::Above { octets: 2 },
         1,
         [true, true, false, false, false],
+        3,
     ),
 ];
 
@@ -20,6 +21,7 @@ const RUNS: &[(Refusal, usize, usize, usize, bool)] = &[
     (Refusal::Nth, 5, 6, 6, false),
     (Refusal::Above { octets: 1 }, 4, 5, 5, false),
     (Refusal::Above { octets: 1 }, 5, 6, 5, true),
+    (Refusal::Above { octets: 9 }, 0, 4, 1, true),
     (Refusal::From, 0, 4, 4, true),
 ];
 
@@ -28,19 +30,23 @@ fn is_granted<A: Allocator>(alloc: A, octets: usize) -> bool {
     Vec::<u8, A>::with_capacity(alloc, octets).is_ok()
 }
 
+/// Whether requests of 1 to 5 octets are granted exactly as expected, this many are refused, and
+/// all are counted.
+fn grants(alloc: &Refusing, granted: &[bool; 5], refused: usize) -> bool {
+    for (octets, expected) in (1..6usize).zip(granted) {
+        if is_granted(alloc, octets) != *expected {
+            return false;
+        }
+    }
+    alloc.requests() == 5 && alloc.refused() == refused
+}
+
 #[test]
 fn refusals_by_a_number(rt: HostRuntime) {
     let alloc = Refusing::new(rt.alloc());
-    for (refusal, number, granted) in GRANTED {
+    for (refusal, number, granted, refused) in GRANTED {
         alloc.refuse(*refusal, *number);
-        for (place, expected) in granted.iter().enumerate() {
-            assert!(rt;
-                is_granted(&alloc, place.saturating_add(1)) == *expected,
-                "{refusal:?}"
-            );
-        }
-        let refused = granted.iter().filter(|granted| !**granted).count();
-        assert!(rt; alloc.requests() == 5 && alloc.refused() == refused);
+        assert!(rt; grants(&alloc, granted, *refused), "{refusal:?}");
     }
 }
 
@@ -107,8 +113,8 @@ fn every_block_goes_back(rt: HostRuntime) -> Result<(), Fail> {
     let alloc = Refusing::new(&heap);
     for round in 0..5000usize {
         alloc.refuse_nth(round % 8);
-        assert!(rt; is_refused_once(&alloc, round % 8), "{round}");
-        assert!(rt; heap.used() == 0, "{round}");
+        let refused_once = is_refused_once(&alloc, round % 8);
+        assert!(rt; refused_once && heap.used() == 0, "{round}");
     }
     alloc.refuse_none();
     assert!(rt; !is_granted(&alloc, 1 << 13) && alloc.requests() == 1 && alloc.refused() == 0);

@@ -1,7 +1,6 @@
 //! Which run comes next, and whether enough runs met a refusal. Every decision about the runs is
-//! made here on plain values, since no contract can state what a cell holds.
-ghost use Rattle.std.specs.Prelude.{◌≡◌};
-ghost use Rattle.test_alloc.specs.Turns.{new_turns, IsTurn};
+//! made here, on plain values.
+ghost use Rattle.std.specs.Prelude.{◌<◌, OnSome};
 
 /// Why the refusals in turn do not make a test.
 #[derive(Clone, Copy, Debug)]
@@ -29,9 +28,7 @@ pub(crate) struct Turns {
 impl Turns {
     /// No run has begun. At least `least` runs, and at least 1, have to meet a refusal, and fewer
     /// than `end`.
-    pub(crate) fn new(least: usize, end: usize) -> Turns
-        ensures { result ≡ new_turns least end }
-    {
+    pub(crate) fn new(least: usize, end: usize) -> Turns {
         Turns {
             least: least.max(1),
             number: 0,
@@ -42,7 +39,7 @@ impl Turns {
     /// The number of the next run, or an error; None if the current run met no refusal and the runs
     /// are over.
     pub(crate) fn next(&mut self, is_refused: bool) -> Option<Result<usize, TurnError>>
-        ensures { IsTurn self.old is_refused result self.new }
+        ensures { OnSome result (self.new.left < self.old.left) }
     {
         if self.left == 0 {
             return None;
