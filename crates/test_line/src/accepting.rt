@@ -1,22 +1,24 @@
 //! Offers, in every state of a line, while memory is granted to them: each is accepted. While
 //! memory is granted to all stations, no text is put off.
 
-use crate::channels::is_put_off;
-use crate::fixtures::{go_on, line_of, longest_poll_list, most_terminals};
+use crate::channels::{is_put_off, offer};
+use crate::fixtures::{On, go_on, line_of, line_on, most_terminals};
 use bsc_bid::Setup;
+use bsc_control::Way;
 use bsc_control::Way::{FromTerminal, ToTerminal};
 use bsc_frame::{Message, Reply};
 use bsc_line::{Event, Line, LineError, Speaker};
-use std::alloc::Allocator;
+use std::alloc::{Allocator, Global};
 use std::test::Fail;
 use test_alloc::Refusing;
-use test_fixtures::lines::setup;
 use test_fixtures::octets::BROKEN_TEXT;
 
 /// The greatest number of characters of a record and of a block, the limits of tries and of WACKs,
-/// and the number of terminals: the least and the greatest of each, and one failure that is enough
-/// for a doubt.
-const SETTINGS: &[(u8, u16, u8, u8, usize)] = &[
+/// and the number of terminals.
+type Setting = (u8, u16, u8, u8, usize);
+
+/// The least and the greatest of each, and one failure that is enough for a doubt.
+const SETTINGS: &[Setting] = &[
     (1, 146, 1, 1, 1),
     (80, 400, 1, 10, 2),
     (144, 400, 15, 255, 64),
@@ -107,17 +109,23 @@ fn play_and_offer<A: Allocator>(line: &mut Line<A>, chars: u8) -> Result<States,
     Ok(seen)
 }
 
+/// The states that a line of this setting goes through.
+fn states_with(alloc: Global, memory: &Refusing, setting: &Setting) -> Result<States, Fail> {
+    let (chars, block_chars, tries, waits, count) = *setting;
+    let setup = Setup::new(chars, block_chars, tries, waits)?;
+    let most = most_terminals(4)?;
+    let terminals = most.get(..count).ok_or("too few terminals")?;
+    let mut line = line_of(alloc, memory, setup, terminals, &[0])?;
+    Ok(play_and_offer(&mut line, chars)?)
+}
+
 #[test]
 fn offers_are_accepted_in_every_state(rt: HostRuntime) -> Result<(), Fail> {
     let memory = Refusing::new(rt.alloc());
-    let most = most_terminals(4)?;
-    for (chars, block_chars, tries, waits, count) in SETTINGS {
-        let setup = Setup::new(*chars, *block_chars, *tries, *waits)?;
-        let terminals = most.get(..*count).ok_or("too few terminals")?;
-        let mut line = line_of(rt.alloc(), &memory, setup, terminals, &[0])?;
-        assert_eq!(rt; play_and_offer(&mut line, *chars)?, ALL, "{count}");
+    for setting in SETTINGS {
+        let states = states_with(rt.alloc(), &memory, setting)?;
+        assert!(rt; states == ALL && memory.refused() == 0, "{setting:?}");
     }
-    assert_eq!(rt; memory.refused(), 0);
     Ok(())
 }
 
@@ -158,38 +166,41 @@ fn count_polls<A: Allocator>(line: &mut Line<A>, most: usize) -> Result<usize, L
     Ok(polls)
 }
 
-#[test]
-fn offers_are_accepted_at_each_entry_of_the_longest_poll_list(rt: HostRuntime) -> Result<(), Fail> {
-    let memory = Refusing::new(rt.alloc());
-    let poll_list = longest_poll_list(rt.alloc())?;
-    let most = most_terminals(4)?;
-    let mut line = line_of(rt.alloc(), &memory, setup(3)?, &most, &poll_list)?;
-    assert_eq!(rt; count_polls(&mut line, 256)?, 256);
+/// Offers 1,200 times a record each way of each terminal.
+fn offer_on<A: Allocator>(line: &mut Line<A>) -> Result<(), LineError> {
     for _ in 0..1200u16 {
         for terminal in 0..64usize {
-            offer_each(&mut line, terminal)?;
+            offer_each(line, terminal)?;
         }
     }
-    assert_eq!(rt; memory.refused(), 0);
     Ok(())
 }
 
-/// Plays a bid of the longest records, and 600 transmissions and silences, with offers in between.
-/// Memory is granted to the offers only, and to the first `granted` transmissions. Returns how
-/// often the sender is put off.
+#[test]
+fn offers_are_accepted_at_each_entry_of_the_longest_poll_list(rt: HostRuntime) -> Result<(), Fail> {
+    let memory = Refusing::new(rt.alloc());
+    let mut line = line_on(rt.alloc(), &memory, On::Longest)?;
+    let polls = count_polls(&mut line, 256)?;
+    offer_on(&mut line)?;
+    assert!(rt; polls == 256 && memory.refused() == 0, "{polls}");
+    Ok(())
+}
+
+/// Offers twenty of the longest records at terminal 0, or for it.
+fn offer_twenty<A: Allocator>(line: &mut Line<A>, way: Way) -> Result<(), LineError> {
+    for _ in 0..20u8 {
+        offer(line, 0, way, CHARS)?;
+    }
+    Ok(())
+}
+
+/// Plays 600 transmissions and silences, with offers in between. Memory is granted to the offers
+/// only, and to the first `granted` transmissions. Returns how often the sender is put off.
 fn count_put_off<A: Allocator>(
     memory: &Refusing,
     line: &mut Line<A>,
-    from_terminal: bool,
     granted: usize,
 ) -> Result<usize, LineError> {
-    for _ in 0..20u8 {
-        if from_terminal {
-            line.offer_at(0, CHARS)?;
-        } else {
-            line.offer_for(0, 0, CHARS)?;
-        }
-    }
     let mut count = 0usize;
     for step in 0..600usize {
         if step > granted {
@@ -204,15 +215,21 @@ fn count_put_off<A: Allocator>(
     Ok(count)
 }
 
+/// How often the sender of a bid of the longest records is put off.
+fn put_off_on(alloc: Global, memory: &Refusing, way: Way, granted: usize) -> Result<usize, Fail> {
+    let setup = Setup::new(144, 400, 15, 255)?;
+    let mut line = line_of(alloc, memory, setup, &most_terminals(4)?, &[0])?;
+    offer_twenty(&mut line, way)?;
+    Ok(count_put_off(memory, &mut line, granted)?)
+}
+
 /// The call that selects a terminal has no room at once. A control station that polled has room for
 /// the first text.
 #[test]
 fn offers_are_accepted_while_a_bid_is_put_off_255_times(rt: HostRuntime) -> Result<(), Fail> {
     let memory = Refusing::new(rt.alloc());
-    let (setup, most) = (Setup::new(144, 400, 15, 255)?, most_terminals(4)?);
-    for (from_terminal, granted) in [(false, 0), (true, 2)] {
-        let mut line = line_of(rt.alloc(), &memory, setup, &most, &[0])?;
-        let count = count_put_off(&memory, &mut line, from_terminal, granted)?;
+    for (way, granted) in [(ToTerminal(0), 0), (FromTerminal, 2)] {
+        let count = put_off_on(rt.alloc(), &memory, way, granted)?;
         assert!(rt; count > 255, "{count}");
     }
     Ok(())

@@ -3,7 +3,7 @@
 use bsc_bid::{Setup, Terminal};
 use bsc_frame::Address;
 use bsc_line::{Line, LineError};
-use std::alloc::{AllocError, Allocator, Global};
+use std::alloc::{Allocator, Global};
 use std::test::Fail;
 use test_alloc::Refusing;
 use test_fixtures::lines::{setup, two_terminals, two_terminals_by_three};
@@ -35,12 +35,12 @@ pub(crate) fn most_terminals(count: usize) -> Result<[Terminal; 64], Fail> {
 }
 
 /// A poll list with the greatest number of entries, which names each of 64 terminals in turn.
-pub(crate) fn longest_poll_list(alloc: Global) -> Result<Vec<u8>, AllocError> {
-    let mut entries = Vec::new(alloc);
-    for place in 0..255u8 {
-        entries.push(place % 64)?;
+fn longest_poll_list() -> [u8; 255] {
+    let mut entries = [0; 255];
+    for (entry, number) in entries.iter_mut().zip(0..255u8) {
+        *entry = number % 64;
     }
-    Ok(entries)
+    entries
 }
 
 /// A new line, to which no memory is refused while it is made.
@@ -72,6 +72,9 @@ pub(crate) enum On {
 
     /// The greatest number of terminals, one of which is polled.
     Most,
+
+    /// The same with the longest poll list, which names each terminal in turn.
+    Longest,
 }
 
 /// A new line of this kind.
@@ -87,6 +90,13 @@ pub(crate) fn line_on<'a>(
         On::SecondFirst => line_of(alloc, memory, one, &two_terminals(), &[1, 0]),
         On::ByThree => line_of(alloc, memory, three, &two_terminals_by_three(), &[0, 1]),
         On::Most => line_of(alloc, memory, three, &most_terminals(4)?, &[0]),
+        On::Longest => line_of(
+            alloc,
+            memory,
+            three,
+            &most_terminals(4)?,
+            &longest_poll_list(),
+        ),
     }
 }
 

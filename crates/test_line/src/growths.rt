@@ -81,14 +81,19 @@ fn goes<A: Allocator>(memory: &Refusing, line: &mut Line<A>) -> Result<bool, Lin
     Ok(true)
 }
 
+/// Whether all records of an exchange are delivered.
+fn has_all<A: Allocator>(line: &Line<A>, (from, to, _): &Exchange) -> bool {
+    has_count(line, 0, FromTerminal, from.len()) && has_count(line, 0, ToTerminal(0), to.len())
+}
+
 /// Plays an exchange while growths are refused, and then the rest of it without refusals, after
 /// which all records are delivered. Returns whether growths were refused to an offer, and to a
-/// spool.
+/// spool; None if something is not as it has to be.
 fn refused_in<A: Allocator>(
     memory: &Refusing,
     line: &mut Line<A>,
     exchange: &Exchange,
-) -> Result<(bool, bool), Fail> {
+) -> Result<Option<(bool, bool)>, LineError> {
     let is_offered = offers_all(memory, line, exchange);
     if exchange.2 {
         line.set_urgent_at(0)?;
@@ -98,14 +103,21 @@ fn refused_in<A: Allocator>(
     let refused = (offers > 0, memory.refused() > offers);
     memory.refuse_none();
     let is_whole = offers_all(memory, line, exchange) && goes(memory, line)?;
-    let (from, to, _) = exchange;
-    let is_delivered = has_count(line, 0, FromTerminal, from.len())
-        && has_count(line, 0, ToTerminal(0), to.len());
-    if is_offered && is_gone && is_whole && is_delivered {
-        Ok(refused)
-    } else {
-        Err("not as expected".into())
-    }
+    let is_right = is_offered && is_gone && is_whole && has_all(line, exchange);
+    Ok(if is_right { Some(refused) } else { None })
+}
+
+/// Plays an exchange on a new line, and refuses growths by this number.
+fn refused_at(
+    alloc: Global,
+    memory: &Refusing,
+    which: Refusal,
+    number: usize,
+    exchange: &Exchange,
+) -> Result<(bool, bool), Fail> {
+    let mut line = line_on(alloc, memory, On::Two)?;
+    memory.refuse(which, number);
+    Ok(refused_in(memory, &mut line, exchange)?.ok_or("not as expected")?)
 }
 
 /// Plays an exchange with refusals from each number in turn, until no growth is refused. Returns
@@ -114,10 +126,7 @@ fn refuses_each(alloc: Global, which: Refusal, exchange: &Exchange) -> Result<bo
     let memory = Refusing::new(alloc);
     let (mut offers, mut rooms) = (false, false);
     for number in memory.in_turn(which, 1..999) {
-        let number = number?;
-        let mut line = line_on(alloc, &memory, On::Two)?;
-        memory.refuse(which, number);
-        let (offer, room) = refused_in(&memory, &mut line, exchange)?;
+        let (offer, room) = refused_at(alloc, &memory, which, number?, exchange)?;
         offers |= offer;
         rooms |= room;
     }

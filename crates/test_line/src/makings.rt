@@ -6,33 +6,37 @@ use crate::fixtures::{FIRST_CODE, carry_on, coded, line_of, most_terminals};
 use bsc_bid::{Setup, Terminal};
 use bsc_control::Way::{FromTerminal, ToTerminal};
 use bsc_frame::Address;
-use std::alloc::Global;
+use bsc_line::{Line, LineError};
+use std::alloc::{Allocator, Global};
 use std::test::Fail;
 use test_alloc::Refusing;
 use test_fixtures::lines::setup;
 
-/// Whether a line is made of these, and delivers a record of the greatest length each way of the
-/// last terminal, which the first entry of the poll list names. The selection takes four
-/// transmissions, and so does the poll.
+/// Whether a line delivers this record each way of its last terminal, which the first entry of the
+/// poll list names. The selection takes four transmissions, and so does the poll.
+fn takes<A: Allocator>(line: &mut Line<A>, record: &[u8]) -> Result<bool, LineError> {
+    let last = line.terminals().saturating_sub(1);
+    line.offer_at(last, record)?;
+    line.offer_for(last, 0, record)?;
+    line.silence()?;
+    carry_on(line, 8)?;
+    let (from, to) = (FromTerminal, ToTerminal(0));
+    Ok(has_count(line, last, from, 1) && has_count(line, last, to, 1) && are_sound(line))
+}
+
+/// Whether a line is made of these, and delivers a record of the greatest length each way.
 fn delivers(
     alloc: Global,
     setup: Setup,
     terminals: &[Terminal],
     poll_list: &[u8],
 ) -> Result<bool, Fail> {
+    let full = usize::from(setup.format().full());
+    let record = [b'M'; 144];
+    let record = record.get(..full).ok_or("too long")?;
     let memory = Refusing::new(alloc);
     let mut line = line_of(alloc, &memory, setup, terminals, poll_list)?;
-    let record = [b'M'; 144];
-    let record = record
-        .get(..usize::from(setup.format().full()))
-        .ok_or("too long")?;
-    let last = line.terminals().saturating_sub(1);
-    line.offer_at(last, record)?;
-    line.offer_for(last, 0, record)?;
-    line.silence()?;
-    carry_on(&mut line, 8)?;
-    let (from, to) = (FromTerminal, ToTerminal(0));
-    Ok(has_count(&line, last, from, 1) && has_count(&line, last, to, 1) && are_sound(&line))
+    Ok(takes(&mut line, record)?)
 }
 
 #[test]
@@ -134,17 +138,22 @@ fn front(number: usize, length: usize) -> Result<Address, Fail> {
     Ok(Address::read(longest[number % 5].get(..length).ok_or("too short")?)?)
 }
 
+/// A terminal whose polling address has this length, and its selection addresses the other one.
+fn terminal_of(poll: usize, length: usize) -> Result<Terminal, Fail> {
+    let selects = [
+        front(1, length)?,
+        front(2, length)?,
+        front(3, length)?,
+        front(4, length)?,
+    ];
+    Ok(Terminal::new(front(0, poll)?, &selects)?)
+}
+
 #[test]
 fn a_line_is_made_with_each_length_of_an_address(rt: HostRuntime) -> Result<(), Fail> {
     for poll in 1..=7usize {
         for length in 1..=7usize {
-            let selects = [
-                front(1, length)?,
-                front(2, length)?,
-                front(3, length)?,
-                front(4, length)?,
-            ];
-            let terminals = [Terminal::new(front(0, poll)?, &selects)?];
+            let terminals = [terminal_of(poll, length)?];
             assert!(rt;
                 delivers(rt.alloc(), setup(3)?, &terminals, &[0])?,
                 "{poll} {length}"

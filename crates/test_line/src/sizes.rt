@@ -2,7 +2,7 @@
 //! line, and the longest text.
 
 use crate::channels::{are_sound, has_count, is_put_off, offer};
-use crate::fixtures::{On, carry_on, line_of, line_on, longest_poll_list, most_terminals};
+use crate::fixtures::{On, carry_on, line_on};
 use bsc_control::Way;
 use bsc_control::Way::{FromTerminal, ToTerminal};
 use bsc_frame::{Message, Reply};
@@ -10,7 +10,6 @@ use bsc_line::{Line, LineError};
 use std::alloc::{AllocError, Allocator, Global};
 use std::test::Fail;
 use test_alloc::Refusing;
-use test_fixtures::lines::setup;
 
 /// The number of records offered each way, and of those that are offered before the first arrives.
 const COUNT: usize = 300_000;
@@ -52,8 +51,8 @@ fn delivers_all<A: Allocator>(line: &mut Line<A>) -> Result<bool, LineError> {
 fn hundreds_of_thousands_of_records_arrive_each_way(rt: HostRuntime) -> Result<(), Fail> {
     let memory = Refusing::new(rt.alloc());
     let mut line = line_on(rt.alloc(), &memory, On::Two)?;
-    assert!(rt; delivers_all(&mut line)?);
-    assert!(rt; line.trusted() && are_sound(&line) && memory.refused() == 0);
+    let is_delivered = delivers_all(&mut line)? && line.trusted() && are_sound(&line);
+    assert!(rt; is_delivered && memory.refused() == 0);
     Ok(())
 }
 
@@ -68,25 +67,31 @@ fn channel(number: usize) -> (usize, Way) {
     }
 }
 
+/// Whether a record on each channel arrives in this many transmissions, on a line that stays
+/// trusted.
+fn delivers_each<A: Allocator>(line: &mut Line<A>, count: u64) -> Result<bool, LineError> {
+    for number in 0..CHANNELS {
+        let (terminal, way) = channel(number);
+        offer(line, terminal, way, b"HI")?;
+    }
+    line.silence()?;
+    carry_on(line, count)?;
+    for number in 0..CHANNELS {
+        let (terminal, way) = channel(number);
+        if !has_count(line, terminal, way, 1) {
+            return Ok(false);
+        }
+    }
+    Ok(line.trusted() && are_sound(line))
+}
+
 /// Each of the 64 terminals has four selections and one poll of four transmissions each. Each of
 /// the other 191 entries of the poll list is a poll of two transmissions.
 #[test]
 fn a_record_each_way_of_each_address_arrives_in_one_round(rt: HostRuntime) -> Result<(), Fail> {
     let memory = Refusing::new(rt.alloc());
-    let poll_list = longest_poll_list(rt.alloc())?;
-    let most = most_terminals(4)?;
-    let mut line = line_of(rt.alloc(), &memory, setup(3)?, &most, &poll_list)?;
-    for number in 0..CHANNELS {
-        let (terminal, way) = channel(number);
-        offer(&mut line, terminal, way, b"HI")?;
-    }
-    line.silence()?;
-    carry_on(&mut line, 64 * 5 * 4 + 191 * 2)?;
-    for number in 0..CHANNELS {
-        let (terminal, way) = channel(number);
-        assert!(rt; has_count(&line, terminal, way, 1), "{number}");
-    }
-    assert!(rt; line.trusted() && are_sound(&line));
+    let mut line = line_on(rt.alloc(), &memory, On::Longest)?;
+    assert!(rt; delivers_each(&mut line, 64 * 5 * 4 + 191 * 2)?);
     Ok(())
 }
 
@@ -127,11 +132,11 @@ fn takes<A: Allocator>(
 #[test]
 fn the_longest_text_is_stored_whole(rt: HostRuntime) -> Result<(), Fail> {
     let text = longest_text(rt.alloc())?;
-    assert_eq!(rt; text.len(), 1033);
     let memory = Refusing::new(rt.alloc());
     for (way, count) in [(FromTerminal, 1), (ToTerminal(0), 2)] {
         let mut line = line_on(rt.alloc(), &memory, On::Two)?;
-        assert!(rt; takes(&mut line, way, count, &text)?);
+        let is_stored = takes(&mut line, way, count, &text)?;
+        assert!(rt; is_stored && text.len() == 1033, "{way:?}");
     }
     Ok(())
 }
