@@ -1,17 +1,18 @@
 //! What a line shows of a channel.
 
-ghost use Rattle.std.specs.Prelude.{◌↔◌, IsTrue};
+ghost use Rattle.std.specs.Prelude.{IsTrue};
 ghost use Rattle.bsc_line_model.specs.Line.{IsChannel};
 
+use crate::records::EMPTY;
 use bsc_block::Records;
 use bsc_control::Way;
 use bsc_frame::Address;
-use bsc_line::Line;
+use bsc_line::{Line, Speaker};
 use std::alloc::Allocator;
 
 /// The numbers of records that were offered, that are known to have arrived, and that arrived; and
 /// whether the sending end is in doubt.
-#[derive(Clone, Copy, Debug, PartialEq, Eq)]
+#[derive(Clone, Copy, Default, PartialEq, Eq)]
 pub(crate) struct View {
     pub(crate) offered: usize,
     pub(crate) known: usize,
@@ -19,21 +20,60 @@ pub(crate) struct View {
     pub(crate) in_doubt: bool,
 }
 
-/// A channel, its address, and what was last seen of it.
+/// What was last seen of a channel, and the digests of the records that were offered and of those
+/// that arrived.
 #[derive(Clone, Copy)]
-pub(crate) struct Channel {
-    pub(crate) terminal: usize,
-    pub(crate) way: Way,
-    pub(crate) address: Address,
+pub(crate) struct Seen {
     pub(crate) view: View,
-    /// The digests of the records that were offered and of those that arrived.
     pub(crate) offered: u64,
     pub(crate) spooled: u64,
 }
 
+/// A channel and its address.
+#[derive(Drop)]
+pub(crate) struct Channel {
+    pub(crate) terminal: usize,
+    pub(crate) way: Way,
+    pub(crate) address: Address,
+    pub(crate) seen: Seen,
+}
+
+impl Channel {
+    /// A channel on which nothing has happened yet.
+    pub(crate) fn new(terminal: usize, way: Way, address: Address) -> Channel {
+        let seen = Seen {
+            view: View::default(),
+            offered: EMPTY,
+            spooled: EMPTY,
+        };
+        Channel {
+            terminal,
+            way,
+            address,
+            seen,
+        }
+    }
+}
+
+/// What a line shows of a channel: the records that were offered, and those that arrived.
+#[derive(Drop)]
+pub(crate) struct Shown<'a, A: Allocator> {
+    pub(crate) view: View,
+    pub(crate) offered: &'a Records<A>,
+    pub(crate) spooled: &'a Records<A>,
+}
+
+/// The station at the sending end of a channel.
+pub(crate) fn sender_of(terminal: usize, way: Way) -> Speaker {
+    match way {
+        Way::FromTerminal => Speaker::Terminal(terminal),
+        Way::ToTerminal(_) => Speaker::Control,
+    }
+}
+
 /// Whether the line has this channel.
 pub(crate) fn is_channel<A: Allocator>(line: &Line<A>, terminal: usize, way: Way) -> bool
-    ensures { IsTrue result ↔ IsChannel line.now terminal way }
+    ensures { IsTrue result → IsChannel line.now terminal way }
 {
     terminal < line.terminals()
         && match way {
@@ -43,40 +83,24 @@ pub(crate) fn is_channel<A: Allocator>(line: &Line<A>, terminal: usize, way: Way
 }
 
 /// What the line shows of a channel, or None if it has no such channel.
-pub(crate) fn look<A: Allocator>(line: &Line<A>, terminal: usize, way: Way) -> Option<View> {
+pub(crate) fn look<A: Allocator>(
+    line: &Line<A>,
+    terminal: usize,
+    way: Way,
+) -> Option<Shown<'_, A>> {
     if !is_channel(line, terminal, way) {
         return None;
     }
-    Some(View {
-        offered: line.offered(terminal, way).len(),
+    let (offered, spooled) = (line.offered(terminal, way), line.spooled(terminal, way));
+    let view = View {
+        offered: offered.len(),
         known: line.known(terminal, way),
-        spooled: line.spooled(terminal, way).len(),
+        spooled: spooled.len(),
         in_doubt: line.in_doubt(terminal, way),
+    };
+    Some(Shown {
+        view,
+        offered,
+        spooled,
     })
-}
-
-/// The records that were offered on a channel, or None if the line has no such channel.
-pub(crate) fn offered_on<A: Allocator>(
-    line: &Line<A>,
-    terminal: usize,
-    way: Way,
-) -> Option<&Records<A>> {
-    if is_channel(line, terminal, way) {
-        Some(line.offered(terminal, way))
-    } else {
-        None
-    }
-}
-
-/// The records that arrived on a channel, or None if the line has no such channel.
-pub(crate) fn spooled_on<A: Allocator>(
-    line: &Line<A>,
-    terminal: usize,
-    way: Way,
-) -> Option<&Records<A>> {
-    if is_channel(line, terminal, way) {
-        Some(line.spooled(terminal, way))
-    } else {
-        None
-    }
 }

@@ -1,22 +1,14 @@
 //! Random events of a line, which are made without access to the line.
 
+use crate::heard::octets_of;
 use crate::spoiling::{Spoiling, any_spoiling, change};
 use bsc_control::Way;
-use bsc_frame::{Message, Wire, encode};
+use bsc_frame::Message;
 use bsc_line::{Event, Speaker, Transmission};
 use std::alloc::{AllocError, Global};
 use std::mem;
 use test_fixtures::Random;
-
-/// What was pending: nothing, a call, another message of the control station, or a message of a
-/// terminal.
-#[derive(Clone, Copy, PartialEq, Eq)]
-enum Pending {
-    Nothing,
-    Call,
-    Control,
-    Terminal,
-}
+use test_fixtures::octets::EOT;
 
 /// A generator of random events.
 #[derive(Drop)]
@@ -88,8 +80,7 @@ impl Events {
         pending: Option<Transmission<'_>>,
     ) -> Result<Next<'_>, AllocError> {
         match choice {
-            0..=4 => self.offer_at(),
-            5..=9 => self.offer_for(),
+            0..=9 => self.offer(choice < 5),
             10 => Ok(Next::Event(self.flag())),
             RELEASE => Ok(Next::Event(self.release(doubtful))),
             12 => Ok(Next::Event(self.any_turn())),
@@ -144,21 +135,20 @@ impl Events {
         Ok(())
     }
 
-    fn offer_at(&mut self) -> Result<Next<'_>, AllocError> {
+    /// Offers a record at a terminal, or for one of the addresses of a terminal.
+    fn offer(&mut self, is_at: bool) -> Result<Next<'_>, AllocError> {
         let terminal = self.terminal();
+        let select = if is_at { 0 } else { self.select(terminal) };
         self.make_record()?;
         let codes = self.codes.as_slice();
-        Ok(Next::Event(Event::OfferAt { terminal, codes }))
-    }
-
-    fn offer_for(&mut self) -> Result<Next<'_>, AllocError> {
-        let terminal = self.terminal();
-        let select = self.select(terminal);
-        self.make_record()?;
-        Ok(Next::Event(Event::OfferFor {
-            terminal,
-            select,
-            codes: self.codes.as_slice(),
+        Ok(Next::Event(if is_at {
+            Event::OfferAt { terminal, codes }
+        } else {
+            Event::OfferFor {
+                terminal,
+                select,
+                codes,
+            }
         }))
     }
 
@@ -210,76 +200,57 @@ impl Events {
         }
     }
 
-    /// Keeps the octets of what is pending, and sometimes those of what was pending before it.
-    fn keep(&mut self, pending: Option<Transmission<'_>>) -> Result<Pending, AllocError> {
+    /// What is pending is carried or lost; if nothing is pending, a silence passes. Its octets are
+    /// kept, and sometimes those of what was pending before it.
+    fn turn(&mut self, pending: Option<Transmission<'_>>) -> Result<Next<'_>, AllocError> {
         if self.random.one_in(4) {
             mem::swap(&mut self.octets, &mut self.earlier);
         }
         self.octets.clear();
         let Some(sent) = pending else {
-            return Ok(Pending::Nothing);
-        };
-        let mut octets = Wire::new();
-        encode(&sent.message, &mut octets);
-        self.octets.extend_from_slice(octets.as_slice())?;
-        Ok(kind_of(&sent))
-    }
-
-    /// What is pending is carried or lost; if nothing is pending, a silence passes.
-    fn turn(&mut self, pending: Option<Transmission<'_>>) -> Result<Next<'_>, AllocError> {
-        let pending = self.keep(pending)?;
-        if pending == Pending::Nothing {
             return Ok(Next::Event(Event::Silence));
-        }
+        };
+        self.octets
+            .extend_from_slice(octets_of(&sent.message).as_slice())?;
         if self.random.below(16) >= self.spoiled {
             return Ok(Next::Event(Event::CarrySent));
         }
         match self.random.below(4) {
             0 => Ok(Next::Event(Event::Carry { heard: None })),
-            1 | 2 if pending != Pending::Terminal => self.hear_each(pending),
+            1 | 2 if sent.speaker == Speaker::Control => {
+                self.hear_each(matches!(sent.message, Message::Call(_)))
+            }
             _ => self.hear(),
         }
     }
 
     /// All stations that hear what is pending hear it spoiled in the same way.
     fn hear(&mut self) -> Result<Next<'_>, AllocError> {
-        self.heard.clear();
-        self.heard.extend_from_slice(&self.octets)?;
-        self.spoiling
-            .spoil(&mut self.random, &mut self.heard, &self.earlier)?;
+        self.heard = self.spoiled_octets()?;
         let heard = Some(self.heard.as_slice());
         Ok(Next::Event(Event::Carry { heard }))
     }
 
     /// Each terminal hears what is pending differently.
-    fn hear_each(&mut self, pending: Pending) -> Result<Next<'_>, AllocError> {
+    fn hear_each(&mut self, is_call: bool) -> Result<Next<'_>, AllocError> {
         self.hearings.clear();
         for _ in 0..self.selects.len() {
-            let hearing = self.hearing(pending)?;
+            let hearing = self.hearing(is_call)?;
             self.hearings.push(hearing)?;
         }
         Ok(Next::Each(self.hearings.as_slice()))
     }
 
     /// What one terminal hears of what is pending. If it is a call and everything has to be heard
-    /// fairly, no terminal hears the call.
-    fn hearing(&mut self, pending: Pending) -> Result<Option<Vec<u8>>, AllocError> {
-        if pending == Pending::Call && self.spoiling.is_fair() {
-            return self.hearing_of_eot();
-        }
-        match self.random.below(4) {
+    /// fairly, no terminal hears the call: each hears EOT or nothing.
+    fn hearing(&mut self, is_call: bool) -> Result<Option<Vec<u8>>, AllocError> {
+        let is_eot = is_call && self.spoiling.is_fair();
+        match self.random.below(if is_eot { 2 } else { 4 }) {
             0 => Ok(None),
+            _ if is_eot => Ok(Some(Vec::from_slice(self.alloc, EOT)?)),
             1 => Ok(Some(self.spoiled_octets()?)),
             _ => Ok(Some(self.octets.clone()?)),
         }
-    }
-
-    /// EOT or nothing.
-    fn hearing_of_eot(&mut self) -> Result<Option<Vec<u8>>, AllocError> {
-        if self.random.one_in(2) {
-            return Ok(None);
-        }
-        Ok(Some(Vec::from_slice(self.alloc, b"\x16\x16\x04\xff")?))
     }
 
     /// What is heard in place of what is pending.
@@ -288,14 +259,5 @@ impl Events {
         self.spoiling
             .spoil(&mut self.random, &mut octets, &self.earlier)?;
         Ok(octets)
-    }
-}
-
-/// The kind of a transmission that is pending.
-fn kind_of(sent: &Transmission<'_>) -> Pending {
-    match (sent.speaker, &sent.message) {
-        (Speaker::Terminal(_), _) => Pending::Terminal,
-        (Speaker::Control, Message::Call(_)) => Pending::Call,
-        (Speaker::Control, _) => Pending::Control,
     }
 }

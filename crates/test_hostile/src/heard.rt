@@ -4,7 +4,7 @@
 use bsc_frame::{Heard, Message, Reply, TextBuffer, Wire, decode, encode};
 
 /// The kind of what is heard.
-#[derive(Clone, Copy, Debug, PartialEq, Eq)]
+#[derive(Clone, Copy, PartialEq, Eq)]
 pub(crate) enum Kind {
     Eot,
     Call,
@@ -16,21 +16,19 @@ pub(crate) enum Kind {
 }
 
 /// What a station heard, and whether it is the message that was sent.
-#[derive(Clone, Copy, Debug, PartialEq, Eq)]
+#[derive(Clone, Copy)]
 pub(crate) struct Hearing {
     pub(crate) kind: Kind,
     pub(crate) itself: bool,
 }
 
-/// Nothing, or noise.
-const NOTHING: Hearing = Hearing {
-    kind: Kind::Noise,
-    itself: false,
-};
-
 impl Default for Hearing {
+    /// Nothing, or noise.
     fn default() -> Hearing {
-        NOTHING
+        Hearing {
+            kind: Kind::Noise,
+            itself: false,
+        }
     }
 }
 
@@ -57,15 +55,6 @@ impl Kind {
     }
 }
 
-/// The kind of a decoded transmission.
-fn kind_of(heard: &Heard<'_>) -> Kind {
-    match heard {
-        Heard::Whole(message) => Kind::of(message),
-        Heard::Failed => Kind::Failed,
-        Heard::Noise => Kind::Noise,
-    }
-}
-
 /// The octets that are sent for the message.
 pub(crate) fn octets_of(message: &Message<'_>) -> Wire {
     let mut octets = Wire::new();
@@ -79,30 +68,21 @@ pub(crate) fn is_sent_as(message: &Message<'_>, octets: &[u8]) -> bool {
     octets_of(message).as_slice() == octets
 }
 
-/// Whether a whole message was heard whose encoding is these octets.
-fn is_itself(heard: &Heard<'_>, sent: &[u8]) -> bool {
-    match heard {
-        Heard::Whole(message) => is_sent_as(message, sent),
-        Heard::Failed => false,
-        Heard::Noise => false,
-    }
-}
-
 /// What a station hears if `sent` was sent and `heard` arrives, or nothing does.
 pub(crate) fn hear(sent: &[u8], heard: Option<&[u8]>) -> Hearing {
-    match heard {
-        Some(octets) => hear_octets(sent, octets),
-        None => NOTHING,
-    }
-}
-
-/// What a station hears if `sent` was sent and `octets` arrive.
-fn hear_octets(sent: &[u8], octets: &[u8]) -> Hearing {
-    let mut buffer = TextBuffer::new();
-    let heard = decode(octets, &mut buffer);
-    Hearing {
-        kind: kind_of(&heard),
-        itself: is_itself(&heard, sent),
+    let Some(octets) = heard else {
+        return Hearing::default();
+    };
+    match decode(octets, &mut TextBuffer::new()) {
+        Heard::Whole(message) => Hearing {
+            kind: Kind::of(&message),
+            itself: is_sent_as(&message, sent),
+        },
+        Heard::Failed => Hearing {
+            kind: Kind::Failed,
+            itself: false,
+        },
+        Heard::Noise => Hearing::default(),
     }
 }
 
@@ -111,5 +91,26 @@ pub(crate) fn kind_at(hearings: &[Hearing], station: usize) -> Kind {
     match hearings.get(station) {
         Some(hearing) => hearing.kind,
         None => Kind::Noise,
+    }
+}
+
+/// Whether a message of this kind was heard fairly by the stations that hear it. A text is heard
+/// fairly if each station hears the text itself, a failed text, or noise. A call is heard fairly if
+/// all stations hear it whole, or none does and each hears EOT or noise. Any other message is heard
+/// fairly if each station hears the message itself or noise.
+pub(crate) fn is_fair(sent: Kind, hearings: &[Hearing]) -> bool {
+    match sent {
+        Kind::Text => hearings.iter().all(|hearing| {
+            hearing.itself || matches!(hearing.kind, Kind::Failed | Kind::Noise)
+        }),
+        Kind::Call => {
+            hearings.iter().all(|hearing| hearing.itself)
+                || hearings
+                    .iter()
+                    .all(|hearing| matches!(hearing.kind, Kind::Eot | Kind::Noise))
+        }
+        _ => hearings
+            .iter()
+            .all(|hearing| hearing.itself || hearing.kind == Kind::Noise),
     }
 }

@@ -1,7 +1,7 @@
 //! Whether a station may send what is pending.
 
 use crate::broken::Broken;
-use crate::channel::{Channel, look, offered_on};
+use crate::channel::{Channel, look};
 use crate::heard::{Kind, octets_of};
 use crate::records::carried;
 use bsc_control::Way;
@@ -15,6 +15,14 @@ pub(crate) struct Sent {
     pub(crate) speaker: Speaker,
     pub(crate) kind: Kind,
     pub(crate) octets: Wire,
+}
+
+/// The station that sent this.
+pub(crate) fn speaker_of(sent: &Option<Sent>) -> Option<Speaker> {
+    match sent {
+        Some(sent) => Some(sent.speaker),
+        None => None,
+    }
 }
 
 /// Whether a station of this kind sends messages of this kind. The control station sends EOT only
@@ -39,7 +47,7 @@ fn is_due(channels: &[Channel], address: &Address) -> bool {
     match find(channels, address) {
         None => false,
         Some(channel) => {
-            let view = channel.view;
+            let view = channel.seen.view;
             channel.way == Way::FromTerminal || (view.known < view.offered && !view.in_doubt)
         }
     }
@@ -47,14 +55,11 @@ fn is_due(channels: &[Channel], address: &Address) -> bool {
 
 /// Whether the text carries the next records of this channel, at least one.
 fn carries_next<A: Allocator>(line: &Line<A>, terminal: usize, way: Way, text: &Text<'_>) -> bool {
-    let Some(view) = look(line, terminal, way) else {
-        return false;
-    };
-    let Some(offered) = offered_on(line, terminal, way) else {
-        return false;
-    };
-    match carried(text, offered, view.known) {
-        Some(count) => count > 0,
+    match look(line, terminal, way) {
+        Some(shown) => {
+            let count = carried(text, shown.offered, shown.view.known);
+            matches!(count, Some(count) if count > 0)
+        }
         None => false,
     }
 }
@@ -68,17 +73,16 @@ fn is_next<A: Allocator>(
     addressed: Option<(usize, Way)>,
     text: &Text<'_>,
 ) -> bool {
-    match speaker {
-        Speaker::Terminal(terminal) => carries_next(line, terminal, Way::FromTerminal, text),
-        Speaker::Control => match addressed {
-            Some((_, Way::FromTerminal)) => false,
-            Some((terminal, way)) => carries_next(line, terminal, way, text),
-            None => !line.trusted(),
-        },
+    match (speaker, addressed) {
+        (Speaker::Terminal(terminal), _) => carries_next(line, terminal, Way::FromTerminal, text),
+        (Speaker::Control, Some((_, Way::FromTerminal))) => false,
+        (Speaker::Control, Some((terminal, way))) => carries_next(line, terminal, way, text),
+        (Speaker::Control, None) => !line.trusted(),
     }
 }
 
-/// What is pending, or the rule that is broken if its sender may not send it.
+/// What is pending, or the rule that is broken if its sender may not send it: a call has to be to
+/// an address that may be called, and a text has to carry the next records.
 pub(crate) fn read_pending<A: Allocator>(
     line: &Line<A>,
     channels: &[Channel],
@@ -91,26 +95,13 @@ pub(crate) fn read_pending<A: Allocator>(
     if !sends(speaker, kind) {
         return Err(Broken::Message);
     }
-    check_content(line, channels, speaker, addressed, &pending.message)?;
-    Ok(Some(Sent {
-        speaker,
-        kind,
-        octets: octets_of(&pending.message),
-    }))
-}
-
-/// Checks that a call is to an address that may be called, and that a text carries the next
-/// records.
-fn check_content<A: Allocator>(
-    line: &Line<A>,
-    channels: &[Channel],
-    speaker: Speaker,
-    addressed: Option<(usize, Way)>,
-    message: &Message<'_>,
-) -> Result<(), Broken> {
-    match message {
+    match &pending.message {
         Message::Call(address) if !is_due(channels, address) => Err(Broken::Call),
         Message::Text(text) if !is_next(line, speaker, addressed, text) => Err(Broken::Text),
-        _ => Ok(()),
+        message => Ok(Some(Sent {
+            speaker,
+            kind,
+            octets: octets_of(message),
+        })),
     }
 }

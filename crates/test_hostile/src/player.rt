@@ -1,9 +1,9 @@
 //! A line that is played with a watch on it.
 
-use crate::broken::Broken;
 use crate::events::{Events, Next, RELEASE};
 use crate::setups::{poll_list, select_counts, setup, terminals};
 use crate::watch::LineWatch;
+use anyhow::Result;
 use bsc_bid::{Setup, Terminal};
 use bsc_line::{Event, Line};
 use std::alloc::{AllocError, Allocator, Global};
@@ -20,9 +20,6 @@ pub struct Player<'a> {
     starved: bool,
 }
 
-/// The result of a step; the outer error is that memory ran out outside the line.
-type Answer = Result<Result<(), Broken>, AllocError>;
-
 /// A new line and its watch.
 fn watched<'a>(
     alloc: Global,
@@ -30,7 +27,7 @@ fn watched<'a>(
     setup: Setup,
     terminals: &[Terminal],
     poll_list: &[u8],
-) -> anyhow::Result<(LineWatch, Line<&'a Refusing>)> {
+) -> Result<(LineWatch, Line<&'a Refusing>)> {
     let watch = LineWatch::new(alloc, setup, terminals)?;
     let line = Line::new(memory, setup, terminals, poll_list)?;
     Ok((watch, line))
@@ -42,21 +39,13 @@ fn play<A: Allocator>(
     watch: &mut LineWatch,
     line: &mut Line<A>,
     event: &Event<'_>,
-) -> Result<(), Broken> {
-    match watch.play(memory, line, event) {
-        Ok(_) => Ok(()),
-        Err(broken) => Err(broken),
-    }
+) -> Result<()> {
+    let _ = watch.play(memory, line, event)?;
+    Ok(())
 }
 
-/// Each terminal hears its own item in place of what is pending.
-fn play_each<A: Allocator>(
-    alloc: Global,
-    memory: &Refusing,
-    watch: &mut LineWatch,
-    line: &mut Line<A>,
-    hearings: &[Option<Vec<u8>>],
-) -> Answer {
+/// Lends each of these hearings.
+fn lend(alloc: Global, hearings: &[Option<Vec<u8>>]) -> Result<Vec<Option<&[u8]>>, AllocError> {
     let mut items = Vec::new(alloc);
     for hearing in hearings {
         items.push(match hearing {
@@ -64,13 +53,12 @@ fn play_each<A: Allocator>(
             None => None,
         })?;
     }
-    let heard = items.as_slice();
-    Ok(play(memory, watch, line, &Event::CarryEach { heard }))
+    Ok(items)
 }
 
 impl<'a> Player<'a> {
     /// Makes a new line from this seed, whose records are allocated from `memory`.
-    pub fn new(alloc: Global, memory: &'a Refusing, seed: u64) -> anyhow::Result<Player<'a>> {
+    pub fn new(alloc: Global, memory: &'a Refusing, seed: u64) -> Result<Player<'a>> {
         let mut random = Random::new(seed);
         memory.refuse_none();
         let setup = setup(&mut random)?;
@@ -99,7 +87,7 @@ impl<'a> Player<'a> {
     }
 
     /// Plays one event.
-    pub fn step(&mut self, alloc: Global) -> Answer {
+    pub fn step(&mut self, alloc: Global) -> Result<()> {
         if self.events.below(32) == 0 {
             self.feed();
         }
@@ -110,10 +98,12 @@ impl<'a> Player<'a> {
             None
         };
         match self.events.next(choice, doubtful, self.line.pending())? {
-            Next::Event(event) => Ok(play(self.memory, &mut self.watch, &mut self.line, &event)),
+            Next::Event(event) => play(self.memory, &mut self.watch, &mut self.line, &event),
             Next::Each(hearings) => {
+                let items = lend(alloc, hearings)?;
+                let heard = items.as_slice();
                 let (watch, line) = (&mut self.watch, &mut self.line);
-                play_each(alloc, self.memory, watch, line, hearings)
+                play(self.memory, watch, line, &Event::CarryEach { heard })
             }
         }
     }

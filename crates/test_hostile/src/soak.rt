@@ -3,7 +3,7 @@
 
 use crate::events::Events;
 use crate::player::Player;
-use crate::report::Report;
+use crate::tally::{Counted, Tally};
 use anyhow::{Context, Result, bail};
 use std::alloc::Global;
 use std::env;
@@ -13,20 +13,14 @@ use test_alloc::Refusing;
 /// Plays as the command line says, and prints what was counted.
 pub(crate) fn run<R: AllocGlobal + Env + Print>(rt: &R) -> Result<()> {
     let mut words = Vec::new(rt.alloc());
-    add_words(rt, &mut words)?;
+    for word in env::args(rt)? {
+        words.push(word)?;
+    }
     let (events, seed) = read_words(&words)?;
     soak(rt.alloc(), events, seed)?.print(rt)
 }
 
-/// Adds the words of the command line, the first of which is the name of the program.
-fn add_words<R: AllocGlobal + Env>(rt: &R, words: &mut Vec<String>) -> Result<()> {
-    for word in env::args(rt)? {
-        words.push(word)?;
-    }
-    Ok(())
-}
-
-/// The number of events and the seed.
+/// The number of events and the seed, after the name of the program.
 fn read_words(words: &[String]) -> Result<(u64, u64)> {
     match words {
         [] | [_] => Ok((20_000, 1)),
@@ -37,42 +31,44 @@ fn read_words(words: &[String]) -> Result<(u64, u64)> {
 }
 
 /// Plays lines in order until this many events have been played.
-fn soak(alloc: Global, events: u64, seed: u64) -> Result<Report> {
+fn soak(alloc: Global, events: u64, seed: u64) -> Result<Tally> {
     let memory = Refusing::new(alloc);
-    let mut report = Report::new();
+    let mut tally = Tally::new();
     for line in 0..events {
-        let left = events.saturating_sub(report.played);
+        let left = events.saturating_sub(tally.of(Counted::Events));
         if left == 0 {
-            return Ok(report);
+            return Ok(tally);
         }
-        play_line(alloc, &memory, seed.wrapping_add(line), left, &mut report)?;
+        let seed = seed.wrapping_add(line);
+        let mut player = Player::new(alloc, &memory, seed)?;
+        play_on(alloc, &mut player, seed, left, &mut tally)?;
     }
-    Ok(report)
+    Ok(tally)
 }
 
-/// Plays the line of this seed for at most this many events.
-fn play_line(
-    alloc: Global,
-    memory: &Refusing,
-    seed: u64,
-    most: u64,
-    report: &mut Report,
-) -> Result<()> {
-    let mut player = Player::new(alloc, memory, seed)?;
-    play_on(alloc, &mut player, seed, most, report)
-}
-
-/// Plays at most this many events on the line of this seed.
+/// Plays at most this many events on the line of this seed, then compares all records, and counts
+/// what was seen.
 fn play_on(
     alloc: Global,
     player: &mut Player<'_>,
     seed: u64,
     most: u64,
-    report: &mut Report,
+    tally: &mut Tally,
 ) -> Result<()> {
     let events = life(&mut player.events).min(most);
-    play_events(alloc, player, seed, events)?;
-    report.add(events, player.line.trusted(), &player.watch.tally());
+    for number in 0..events {
+        player
+            .step(alloc)
+            .context(format_args!("line {seed}, event {number}"))?;
+    }
+    player
+        .watch
+        .see_all(&player.line)
+        .context(format_args!("line {seed}, after {events} events"))?;
+    tally.add(Counted::Events, events);
+    tally.add(Counted::Lines, 1);
+    tally.add(Counted::Untrusted, u64::from(!player.line.trusted()));
+    tally.add_all(&player.watch.tally);
     Ok(())
 }
 
@@ -80,17 +76,4 @@ fn play_on(
 fn life(events: &mut Events) -> u64 {
     let most = if events.below(8) == 0 { 6000 } else { 1000 };
     (events.below(most) as u64).saturating_add(100)
-}
-
-/// Plays this many events on the line of this seed, and then compares all records.
-fn play_events(alloc: Global, player: &mut Player<'_>, seed: u64, events: u64) -> Result<()> {
-    for number in 0..events {
-        player
-            .step(alloc)?
-            .context(format_args!("line {seed}, event {number}"))?;
-    }
-    player
-        .watch
-        .see_all(&player.line)
-        .context(format_args!("line {seed}, after {events} events"))
 }

@@ -1,26 +1,26 @@
 //! What an event may do to a channel.
 
-use crate::aside::{Aside, sender_of};
+use crate::aside::Aside;
 use crate::broken::Broken;
-use crate::channel::View;
+use crate::channel::{View, sender_of};
 use crate::heard::{Hearing, Kind, kind_at};
 use bsc_control::Way;
 use bsc_line::{Event, Speaker};
 
 /// The effect of an event on channels.
-#[derive(Clone, Copy, Debug, PartialEq, Eq)]
+#[derive(Clone, Copy, PartialEq, Eq)]
 pub(crate) enum Effect {
     /// The event was refused, or only set a flag.
     Nothing,
 
     /// A record was offered on this channel.
-    Offered { terminal: usize, way: Way },
+    Offered(usize, Way),
 
     /// The doubt of this channel was ended.
-    Released { terminal: usize, way: Way },
+    Released(usize, Way),
 
     /// This station began again.
-    Restarted { party: Speaker },
+    Restarted(Speaker),
 
     /// A silence passed.
     Silence,
@@ -35,37 +35,26 @@ pub(crate) enum Effect {
 /// The effect of an accepted event, given the station that had sent what was pending.
 pub(crate) fn effect_of(event: &Event<'_>, speaker: Option<Speaker>) -> Effect {
     match *event {
-        Event::OfferAt { terminal, .. } => Effect::Offered {
-            terminal,
-            way: Way::FromTerminal,
-        },
+        Event::OfferAt { terminal, .. } => Effect::Offered(terminal, Way::FromTerminal),
         Event::OfferFor {
             terminal,
             select,
             ..
-        } => Effect::Offered {
-            terminal,
-            way: Way::ToTerminal(select),
-        },
-        Event::Release { terminal, way } => Effect::Released { terminal, way },
-        Event::Restart { party } => Effect::Restarted { party },
+        } => Effect::Offered(terminal, Way::ToTerminal(select)),
+        Event::Release { terminal, way } => Effect::Released(terminal, way),
+        Event::Restart { party } => Effect::Restarted(party),
         Event::Silence => Effect::Silence,
-        Event::Carry { .. } | Event::CarryEach { .. } | Event::CarrySent => carried(speaker),
+        Event::Carry { .. } | Event::CarryEach { .. } | Event::CarrySent => match speaker {
+            Some(Speaker::Control) => Effect::Down,
+            Some(Speaker::Terminal(_)) => Effect::Up,
+            None => Effect::Nothing,
+        },
         Event::Ready { .. } | Event::UrgentAt { .. } | Event::UrgentFor { .. } => Effect::Nothing,
     }
 }
 
-/// The effect of a transmission of this station.
-fn carried(speaker: Option<Speaker>) -> Effect {
-    match speaker {
-        Some(Speaker::Control) => Effect::Down,
-        Some(Speaker::Terminal(_)) => Effect::Up,
-        None => Effect::Nothing,
-    }
-}
-
-/// What an event may do to a channel.
-#[derive(Clone, Copy, Debug, PartialEq, Eq)]
+/// What an event may do to a channel; nothing by default.
+#[derive(Clone, Copy, Default)]
 pub(crate) struct May {
     /// One more record is offered.
     offer: bool,
@@ -83,15 +72,6 @@ pub(crate) struct May {
     release: bool,
 }
 
-/// The channel does not change.
-const STAYS: May = May {
-    offer: false,
-    land: false,
-    learn: false,
-    doubt: false,
-    release: false,
-};
-
 /// What an event with this effect may do to the channel, given what the stations heard and which
 /// of them took no part before it.
 pub(crate) fn allowed(
@@ -101,65 +81,47 @@ pub(crate) fn allowed(
     terminal: usize,
     way: Way,
 ) -> May {
+    let sender = sender_of(terminal, way);
+    let stays = May::default();
     match effect {
-        Effect::Nothing => STAYS,
-        Effect::Offered {
-            terminal: at,
-            way: on,
-        } => May {
-            offer: at == terminal && on == way,
-            ..STAYS
+        Effect::Offered(at, on) => May {
+            offer: (at, on) == (terminal, way),
+            ..stays
         },
-        Effect::Released {
-            terminal: at,
-            way: on,
-        } => May {
-            release: at == terminal && on == way,
-            ..STAYS
+        Effect::Released(at, on) => May {
+            release: (at, on) == (terminal, way),
+            ..stays
         },
-        Effect::Restarted { party } => May {
-            doubt: party == sender_of(terminal, way) && !aside.has(party),
-            ..STAYS
+        Effect::Restarted(party) => May {
+            doubt: party == sender && !aside.has(party),
+            ..stays
         },
         Effect::Silence => May {
-            doubt: !aside.has(sender_of(terminal, way)),
-            ..STAYS
+            doubt: !aside.has(sender),
+            ..stays
         },
         Effect::Down if !aside.has(Speaker::Terminal(terminal)) => {
-            may_down(kind_at(hearings, terminal), way)
+            let (heard, sends) = (kind_at(hearings, terminal), way == Way::FromTerminal);
+            let doubt = sends && heard.takes_line();
+            May {
+                doubt,
+                ..may_hear(heard, sends)
+            }
         }
-        Effect::Up if !aside.has(Speaker::Control) => may_up(kind_at(hearings, 0), way),
-        Effect::Down | Effect::Up => STAYS,
+        Effect::Up if !aside.has(Speaker::Control) => {
+            may_hear(kind_at(hearings, 0), way != Way::FromTerminal)
+        }
+        Effect::Nothing | Effect::Down | Effect::Up => stays,
     }
 }
 
-/// What a transmission of the control station may do to a channel whose terminal heard this. The
-/// terminal is the sending end of the channel from it, and the receiving end of the channels to it.
-fn may_down(heard: Kind, way: Way) -> May {
-    match way {
-        Way::FromTerminal => May {
-            learn: heard.is_positive(),
-            doubt: heard.takes_line(),
-            ..STAYS
-        },
-        Way::ToTerminal(_) => May {
-            land: heard == Kind::Text,
-            ..STAYS
-        },
-    }
-}
-
-/// What a transmission of a terminal may do to its channels if the control station heard this.
-fn may_up(heard: Kind, way: Way) -> May {
-    match way {
-        Way::FromTerminal => May {
-            land: heard == Kind::Text,
-            ..STAYS
-        },
-        Way::ToTerminal(_) => May {
-            learn: heard.is_positive(),
-            ..STAYS
-        },
+/// What a transmission may do to a channel if the station that it is for heard this, and sends or
+/// receives on the channel.
+fn may_hear(heard: Kind, sends: bool) -> May {
+    May {
+        land: !sends && heard == Kind::Text,
+        learn: sends && heard.is_positive(),
+        ..May::default()
     }
 }
 
@@ -169,12 +131,6 @@ fn grows(before: usize, after: usize, may: bool) -> bool {
         None => false,
         Some(more) => more == 0 || (may && more <= 7),
     }
-}
-
-/// Whether one more record was offered if one has to be, and none otherwise.
-fn offers(before: View, after: View, may: May) -> bool {
-    let more = usize::from(may.offer);
-    after.offered.checked_sub(before.offered) == Some(more)
 }
 
 /// Whether a doubt began or ended only if it may, and ended if it has to.
@@ -191,7 +147,7 @@ fn doubts(before: View, after: View, may: May) -> bool {
 
 /// Checks that a channel did only what it may do between the two views.
 pub(crate) fn check(before: View, after: View, may: May) -> Result<(), Broken> {
-    if !offers(before, after, may) {
+    if after.offered.checked_sub(before.offered) != Some(usize::from(may.offer)) {
         return Err(Broken::Offered);
     }
     if !grows(before.spooled, after.spooled, may.land) {
@@ -201,10 +157,11 @@ pub(crate) fn check(before: View, after: View, may: May) -> Result<(), Broken> {
     if !grows(before.known, after.known, learns) || after.known > after.offered {
         return Err(Broken::Known);
     }
-    if !doubts(before, after, may) {
-        return Err(Broken::Doubt);
+    if doubts(before, after, may) {
+        Ok(())
+    } else {
+        Err(Broken::Doubt)
     }
-    Ok(())
 }
 
 /// Whether the number of arrived records, the number of known records or the doubt changed.
@@ -227,11 +184,5 @@ pub(crate) fn steps(before: View, after: View) -> bool {
 /// offered, and all of them are known to have arrived, except for up to a block of 7 records while
 /// the channel is in use or in doubt.
 pub(crate) fn is_sound(view: View, in_use: bool) -> bool {
-    let ahead = view.spooled.checked_sub(view.known);
-    let most = if in_use || view.in_doubt {
-        Some(7)
-    } else {
-        Some(0)
-    };
-    ahead.is_some() && ahead <= most && view.spooled <= view.offered
+    grows(view.known, view.spooled, in_use || view.in_doubt) && view.spooled <= view.offered
 }

@@ -1,16 +1,10 @@
 //! Plays an event by the function of the line that it stands for.
 
-ghost use Rattle.bsc_line_model.specs.Runs.{Does};
-ghost use Rattle.bsc_line_model.specs.Kept.{IsLine};
-
 use bsc_line::{Event, Line, LineError};
 use std::alloc::Allocator;
 
 /// Calls the function of the line that the event stands for.
-pub(crate) fn take<A: Allocator>(line: &mut Line<A>, event: &Event<'_>) -> Result<(), LineError>
-    ensures does { Does event.now line.old result line.new }
-    ensures line { IsLine line.new }
-{
+pub(crate) fn take<A: Allocator>(line: &mut Line<A>, event: &Event<'_>) -> Result<(), LineError> {
     match event {
         Event::OfferAt { terminal, codes } => line.offer_at(*terminal, codes),
         Event::OfferFor {

@@ -1,24 +1,14 @@
 //! The watch of a line.
 
 mod answers;
-mod history;
 mod moves;
 
-ghost use Rattle.std.specs.Prelude.{◌≡◌, ◌++◌, ◌∷◌, [], IfOk, OnOk, length};
-ghost use Rattle.bsc_line_model.specs.Runs.{Does};
-ghost use Rattle.bsc_line_model.specs.Kept.{IsLine};
-ghost use Rattle.test_hostile.specs.NewWatches.{new_channel, channels_of, IsNewWatch};
-ghost use Rattle.test_hostile.specs.Watches.{tally_of, first_doubt, HasSeen};
-ghost use Rattle.test_hostile.specs.Tallies.{SameAnswers};
-
-use crate::aside::{Aside, sender_of};
+use crate::aside::Aside;
 use crate::broken::Broken;
-use crate::channel::{Channel, View};
-use crate::fairness::is_fair;
-use crate::heard::{Hearing, hear, kind_at};
-use crate::pending::Sent;
-use crate::records::EMPTY;
-use crate::refusals::{Circumstances, may_answer, puts_off, refusal};
+use crate::channel::{Channel, sender_of};
+use crate::heard::{Hearing, Kind, hear, is_fair, kind_at};
+use crate::pending::{Sent, speaker_of};
+use crate::refusals::{due, may_fail};
 use crate::step::{Effect, effect_of, is_sound};
 use crate::taking::take;
 use crate::tally::Tally;
@@ -26,13 +16,10 @@ use arrayvec::ArrayVec;
 use bsc_bid::{Setup, Terminal};
 use bsc_control::Way;
 use bsc_directory::limits::MAX_TERMINALS;
-use bsc_frame::Address;
+use bsc_frame::Reply;
 use bsc_line::{Event, Line, LineError, Speaker};
 use std::alloc::{AllocError, Allocator, Global};
 use test_alloc::Refusing;
-
-/// What each station that hears the transmission heard.
-type Hearings = ArrayVec<Hearing, MAX_TERMINALS>;
 
 /// The state of a watch, which follows a line from its beginning.
 #[derive(Drop)]
@@ -50,28 +37,10 @@ pub struct LineWatch {
     addressed: Option<(usize, Way)>,
     // The stations that have taken no part since they began.
     aside: Aside,
-    hearings: Hearings,
-    tally: Tally,
-}
-
-/// A channel on which nothing has happened yet.
-fn new_channel(terminal: usize, way: Way, address: Address) -> Channel
-    ensures { result ≡ new_channel terminal way address }
-{
-    let view = View {
-        offered: 0,
-        known: 0,
-        spooled: 0,
-        in_doubt: false,
-    };
-    Channel {
-        terminal,
-        way,
-        address,
-        view,
-        offered: EMPTY,
-        spooled: EMPTY,
-    }
+    // What each station that hears the transmission heard.
+    hearings: ArrayVec<Hearing, MAX_TERMINALS>,
+    // The counts of what was seen so far.
+    pub tally: Tally,
 }
 
 /// Adds the channels of this terminal.
@@ -79,53 +48,22 @@ fn add_channels(
     channels: &mut Vec<Channel>,
     number: usize,
     terminal: &Terminal,
-) -> Result<(), AllocError>
-    ensures { OnOk result (channels.new.items ≡
-        channels.old.items ++ channels_of number terminal.now (length terminal.now.selects)) }
-{
-    channels.push(new_channel(number, Way::FromTerminal, terminal.poll()))?;
+) -> Result<(), AllocError> {
+    channels.push(Channel::new(number, Way::FromTerminal, terminal.poll()))?;
     for select in 0..terminal.selects() {
         let way = Way::ToTerminal(select);
-        channels.push(new_channel(number, way, terminal.select(select)))?;
+        channels.push(Channel::new(number, way, terminal.select(select)))?;
     }
     Ok(())
 }
 
-/// Adds the same hearing this many times.
-fn hear_alike(hearings: &mut Hearings, count: usize, hearing: Hearing) {
-    for _ in 0..count {
-        let _ = hearings.try_push(hearing);
-    }
-}
-
-/// Adds what each of these items is heard as if `sent` was sent.
-fn hear_each(hearings: &mut Hearings, sent: &[u8], items: &[Option<&[u8]>]) {
-    for item in items {
-        let _ = hearings.try_push(hear(sent, *item));
-    }
-}
-
-/// The octets that the terminal of this number hears at an event, or that the control station
-/// hears; the number matters only if each terminal hears its own octets.
-fn octets_heard<'a>(event: &Event<'a>, sent: &'a [u8], terminal: usize) -> &'a [u8] {
-    match *event {
-        Event::Carry {
-            heard: Some(octets),
-        } => octets,
-        Event::CarrySent => sent,
-        Event::CarryEach { heard } => match heard.get(terminal) {
-            Some(Some(octets)) => octets,
-            _ => &[],
-        },
-        _ => &[],
-    }
-}
-
 impl LineWatch {
     /// Watches a new line with these settings and terminals.
-    pub fn new(alloc: Global, setup: Setup, terminals: &[Terminal]) -> Result<LineWatch, AllocError>
-        ensures { IfOk result (IsNewWatch setup terminals.now) }
-    {
+    pub fn new(
+        alloc: Global,
+        setup: Setup,
+        terminals: &[Terminal],
+    ) -> Result<LineWatch, AllocError> {
         let mut channels = Vec::new(alloc);
         for (number, terminal) in terminals.iter().enumerate() {
             add_channels(&mut channels, number, terminal)?;
@@ -139,37 +77,20 @@ impl LineWatch {
             alike: true,
             addressed: None,
             aside: Aside::all(),
-            hearings: Hearings::new(),
-            tally: Tally::default(),
+            hearings: ArrayVec::new(),
+            tally: Tally::new(),
         })
-    }
-
-    /// The counts of what was seen so far.
-    pub fn tally(&self) -> Tally
-        ensures { result ≡ tally_of self.now }
-    {
-        self.tally
     }
 
     /// The terminal and direction of the first channel that is in doubt, in the order of the
     /// terminals, and for each terminal the channel from it before the channels to it.
-    pub fn doubtful(&self) -> Option<(usize, Way)>
-        ensures { result ≡ first_doubt self.now }
-    {
+    pub fn doubtful(&self) -> Option<(usize, Way)> {
         for channel in self.channels.iter() {
-            if channel.view.in_doubt {
+            if channel.seen.view.in_doubt {
                 return Some((channel.terminal, channel.way));
             }
         }
         None
-    }
-
-    /// The station that sent what is pending.
-    fn speaker(&self) -> Option<Speaker> {
-        match &self.sent {
-            Some(sent) => Some(sent.speaker),
-            None => None,
-        }
     }
 
     /// Plays an event on the line, and compares what the line shows with what the event may do.
@@ -182,37 +103,31 @@ impl LineWatch {
         memory: &Refusing,
         line: &mut Line<A>,
         event: &Event<'_>,
-    ) -> Result<Result<(), LineError>, Broken>
-        ensures does { IfOk result (λ answer. Does event.now line.old answer line.new) }
-        ensures line { IsLine line.new }
-        ensures seen { IfOk result (λ answer. HasSeen answer self.old self.new line.new) }
-    {
-        let speaker = self.speaker();
-        let refusal = refusal(line, self.setup, speaker, event);
+    ) -> Result<Result<(), LineError>, Broken> {
+        let speaker = speaker_of(&self.sent);
+        let due = due(line, self.setup, speaker, event);
         self.hear(event);
         let refused_before = memory.refused();
         let answer = take(line, event);
-        let circumstances = Circumstances {
-            refusal,
-            trusted: self.trusted,
-            starved: memory.refused() != refused_before,
-        };
-        if !may_answer(event, answer, circumstances) {
+        let starved = memory.refused() != refused_before;
+        let fails = due.is_ok() && may_fail(event, answer, starved, self.trusted);
+        if answer != due && !fails {
             return Err(Broken::Answer);
         }
-        self.tally.count_answer(answer);
         let effect = match answer {
             Ok(()) => effect_of(event, speaker),
             Err(_) => Effect::Nothing,
         };
+        self.tally.count_answer(answer, effect);
         self.see(line, event, effect)?;
-        if self.is_put_off(effect) && !circumstances.starved {
+        if self.is_put_off(effect) && !starved {
             return Err(Broken::PutOff);
         }
         Ok(answer)
     }
 
-    /// Whether the station that answers what it heard puts the sender of records off.
+    /// Whether the station that answers what it heard puts the sender of records off: by WACK, or
+    /// by NAK to a whole text. It may only if it has no room for a text.
     fn is_put_off(&self, effect: Effect) -> bool {
         let (Some(sent), Effect::Down | Effect::Up) = (&self.sent, effect) else {
             return false;
@@ -221,33 +136,40 @@ impl LineWatch {
             Speaker::Control => 0,
             Speaker::Terminal(terminal) => terminal,
         };
-        puts_off(kind_at(self.hearings.as_slice(), station), sent.kind)
+        match sent.kind {
+            Kind::Reply(Reply::Wack) => true,
+            Kind::Reply(Reply::Nak) => kind_at(self.hearings.as_slice(), station) == Kind::Text,
+            _ => false,
+        }
     }
 
     /// Stores what each station hears of what is pending.
-    fn hear(&mut self, event: &Event<'_>)
-        ensures { self.new ≡ record self.old { hearings = self.new.hearings } }
-    {
+    fn hear(&mut self, event: &Event<'_>) {
         self.hearings.clear();
         let Some(sent) = &self.sent else {
             return;
         };
-        let count = match sent.speaker {
+        let octets = sent.octets.as_slice();
+        let hearing = match *event {
+            Event::Carry { heard } => hear(octets, heard),
+            Event::CarrySent => Hearing {
+                kind: sent.kind,
+                itself: true,
+            },
+            Event::CarryEach { heard } => {
+                for item in heard {
+                    let _ = self.hearings.try_push(hear(octets, *item));
+                }
+                return;
+            }
+            _ => return,
+        };
+        let stations = match sent.speaker {
             Speaker::Control => self.terminals,
             Speaker::Terminal(_) => 1,
         };
-        let octets = sent.octets.as_slice();
-        let whole = Hearing {
-            kind: sent.kind,
-            itself: true,
-        };
-        match *event {
-            Event::Carry { heard } => {
-                hear_alike(&mut self.hearings, count, hear(octets, heard));
-            }
-            Event::CarrySent => hear_alike(&mut self.hearings, count, whole),
-            Event::CarryEach { heard } => hear_each(&mut self.hearings, octets, heard),
-            _ => {}
+        for _ in 0..stations {
+            let _ = self.hearings.try_push(hearing);
         }
     }
 
@@ -257,13 +179,7 @@ impl LineWatch {
         line: &Line<A>,
         event: &Event<'_>,
         effect: Effect,
-    ) -> Result<(), Broken>
-        ensures setup { self.new.setup ≡ self.old.setup }
-        ensures terminals { self.new.terminals ≡ self.old.terminals }
-        ensures counted { SameAnswers self.old.tally self.new.tally }
-        ensures trusted { OnOk result (self.new.trusted ≡ line.now.trusted) }
-    {
-        self.tally.count_effect(effect);
+    ) -> Result<(), Broken> {
         self.see_trust(line, event, effect)?;
         self.see_channels(line, event, effect)?;
         self.see_addressed(event, effect);
@@ -278,13 +194,7 @@ impl LineWatch {
         line: &Line<A>,
         event: &Event<'_>,
         effect: Effect,
-    ) -> Result<(), Broken>
-        ensures state { self.new ≡ record self.old {
-          trusted = self.new.trusted;
-          alike = self.new.alike;
-        } }
-        ensures trusted { OnOk result (self.new.trusted ≡ line.now.trusted) }
-    {
+    ) -> Result<(), Broken> {
         if effect == Effect::Down || effect == Effect::Up {
             self.trusted = self.trusted && self.was_fair();
             self.alike = self.alike && !matches!(event, Event::CarryEach { .. });
@@ -306,18 +216,14 @@ impl LineWatch {
 
     /// Checks that each channel of a trusted line is sound.
     fn see_soundness(&self) -> Result<(), Broken> {
-        if !self.trusted {
-            return Ok(());
-        }
-        let (addressed, aside) = (self.addressed, &self.aside);
-        if self.channels.iter().all(|channel| {
+        for channel in self.channels.iter() {
             let (terminal, way) = (channel.terminal, channel.way);
-            let in_use = addressed == Some((terminal, way)) && !aside.has(sender_of(terminal, way));
-            is_sound(channel.view, in_use)
-        }) {
-            Ok(())
-        } else {
-            Err(Broken::NotSound)
+            let in_use = self.addressed == Some((terminal, way))
+                && !self.aside.has(sender_of(terminal, way));
+            if self.trusted && !is_sound(channel.seen.view, in_use) {
+                return Err(Broken::NotSound);
+            }
         }
+        Ok(())
     }
 }

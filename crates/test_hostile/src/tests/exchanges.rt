@@ -22,7 +22,7 @@ const EMPTY_FOR: Event<'static> = Event::OfferFor {
 };
 
 /// Offers HI at terminal 0.
-const HI_AT: Event<'static> = Event::OfferAt {
+pub(crate) const HI_AT: Event<'static> = Event::OfferAt {
     terminal: 0,
     codes: b"HI",
 };

@@ -96,4 +96,16 @@ impl Watched {
         }
         self.watch.see_all(&self.line)
     }
+
+    /// Plays the exchange up to its transmission of this number, then this event, and goes on.
+    pub(crate) fn play_through(
+        &mut self,
+        exchange: &Exchange,
+        place: usize,
+        event: &Event<'_>,
+    ) -> Result<(), Broken> {
+        self.begin(exchange, place)?;
+        let _ = self.play(event)?;
+        self.go_on()
+    }
 }

@@ -1,7 +1,6 @@
 //! Each transmission of an exchange is heard as anything near it, by all terminals or by one, and
 //! then the exchange goes on for 40 events. All rules of a line have to hold after each event.
 
-use crate::broken::Broken;
 use crate::tests::exchanges::{
     Exchange, INTERRUPTED, POLLED, SELECTED, SELECTED_TWICE, Sent, transmissions,
 };
@@ -22,22 +21,10 @@ struct Stage<'a> {
     sent: &'a Sent,
 }
 
-/// Plays the exchange up to the transmission of this number, then the event, and goes on.
-fn play_on(
-    watched: &mut Watched,
-    exchange: &Exchange,
-    place: usize,
-    event: &Event<'_>,
-) -> Result<(), Broken> {
-    watched.begin(exchange, place)?;
-    let _ = watched.play(event)?;
-    watched.go_on()
-}
-
-/// Plays the exchange on a new line, with the event at the place of the transmission.
+/// Plays the exchange on a new line, with the event at the place of the transmission, and goes on.
 fn play(stage: Stage<'_>, event: &Event<'_>) -> Result<(), Fail> {
     let mut watched = Watched::new(stage.alloc)?;
-    Ok(play_on(&mut watched, stage.exchange, stage.sent.place, event)?)
+    Ok(watched.play_through(stage.exchange, stage.sent.place, event)?)
 }
 
 /// Terminal 0 hears the first item in place of the transmission, and terminal 1 the second.

@@ -45,7 +45,10 @@ fn play_on(
 /// Whether each record that was offered on this channel arrived, and the sending end knows it.
 fn is_delivered(watched: &Watched, way: Way) -> bool {
     match look(&watched.line, 0, way) {
-        Some(view) => view.spooled == view.offered && view.known == view.offered,
+        Some(shown) => {
+            let view = shown.view;
+            view.spooled == view.offered && view.known == view.offered
+        }
         None => false,
     }
 }

@@ -2,6 +2,7 @@
 //! was refused during the event.
 
 use crate::broken::Broken;
+use crate::tests::exchanges::HI_AT;
 use crate::watch::LineWatch;
 use bsc_line::Event::{CarrySent, Silence};
 use bsc_line::{Event, Line, LineError};
@@ -10,12 +11,6 @@ use std::test::Fail;
 use test_alloc::Refusing;
 use test_fixtures::lines::{setup, two_terminals};
 use test_fixtures::on_heap;
-
-/// Offers HI at terminal 0.
-const HI_AT: Event<'static> = Event::OfferAt {
-    terminal: 0,
-    codes: b"HI",
-};
 
 /// Offers HI for terminal 0.
 const HI_FOR: Event<'static> = Event::OfferFor {

@@ -3,7 +3,7 @@
 //! rules.
 
 use crate::broken::Broken;
-use crate::tests::exchanges::POLLED;
+use crate::tests::exchanges::{HI_AT, POLLED};
 use crate::tests::fixtures::Watched;
 use bsc_bid::Terminal;
 use bsc_control::Way;
@@ -15,13 +15,8 @@ use std::test::Fail;
 use test_fixtures::lines::{two_terminals, two_terminals_by_three};
 use test_fixtures::octets::{EOT, TEXT_HI};
 
-/// Offers HI at terminal 0, at terminal 1, at the last terminal of the most, and for the second
-/// selection address of terminal 0.
-const HI_AT_FIRST: Event<'static> = Event::OfferAt {
-    terminal: 0,
-    codes: b"HI",
-};
-
+/// Offers HI at terminal 1, at the last terminal of the most, and for the second selection address
+/// of terminal 0.
 const HI_AT_SECOND: Event<'static> = Event::OfferAt {
     terminal: 1,
     codes: b"HI",
@@ -110,10 +105,10 @@ fn other_addresses_are_told(rt: HostRuntime) -> Result<(), Fail> {
 
 /// HI is offered at both terminals, the first is called, and its text is lost; the same on a line
 /// that is not trusted, since the first call was heard as a text.
-const TRUSTED: &[Event<'static>] = &[HI_AT_FIRST, HI_AT_SECOND, Silence, CarrySent, LOST];
+const TRUSTED: &[Event<'static>] = &[HI_AT, HI_AT_SECOND, Silence, CarrySent, LOST];
 
 const DISTRUSTED: &[Event<'static>] = &[
-    HI_AT_FIRST,
+    HI_AT,
     HI_AT_SECOND,
     Silence,
     AS_TEXT,

@@ -1,70 +1,15 @@
 //! Which station may send next, and which channel is addressed.
 
-ghost use Rattle.std.specs.Prelude.{◌≡◌};
-ghost use Rattle.test_hostile.specs.Watches.{SameBasis};
-
 use crate::broken::Broken;
 use crate::channel::Channel;
 use crate::heard::{Kind, is_sent_as, kind_at};
-use crate::pending::{Sent, find, read_pending};
+use crate::pending::{Sent, find, read_pending, speaker_of};
 use crate::step::Effect;
-use crate::watch::{LineWatch, octets_heard};
+use crate::watch::LineWatch;
 use bsc_control::Way;
-use bsc_frame::{Address, Heard, Message, TextBuffer, decode};
+use bsc_frame::{Heard, Message, TextBuffer, decode};
 use bsc_line::{Event, Line, Speaker};
 use std::alloc::Allocator;
-
-/// The address that a message calls.
-fn address_in(message: &Message<'_>) -> Option<Address> {
-    match message {
-        Message::Call(address) => Some(*address),
-        _ => None,
-    }
-}
-
-/// The address that these octets call, if they are a call.
-fn called(octets: &[u8]) -> Option<Address> {
-    match decode(octets, &mut TextBuffer::new()) {
-        Heard::Whole(message) => address_in(&message),
-        _ => None,
-    }
-}
-
-/// The number of hearings of an event that can differ.
-fn hearers(event: &Event<'_>) -> usize {
-    match *event {
-        Event::CarryEach { heard } => heard.len(),
-        _ => 1,
-    }
-}
-
-/// The address that all terminals heard called, if `sent` was sent; None if they heard different
-/// ones.
-fn called_alike(event: &Event<'_>, sent: &[u8]) -> Option<Address> {
-    let first = called(octets_heard(event, sent, 0));
-    for terminal in 1..hearers(event) {
-        if called(octets_heard(event, sent, terminal)) != first {
-            return None;
-        }
-    }
-    first
-}
-
-/// The terminal and direction of the channel with this address, if the line has one.
-fn channel_of(channels: &[Channel], address: Address) -> Option<(usize, Way)> {
-    match find(channels, &address) {
-        Some(channel) => Some((channel.terminal, channel.way)),
-        None => None,
-    }
-}
-
-/// The station that sent this.
-fn speaker_of(sent: &Option<Sent>) -> Option<Speaker> {
-    match sent {
-        Some(sent) => Some(sent.speaker),
-        None => None,
-    }
-}
 
 /// Whether the line still shows this as pending.
 fn is_shown<A: Allocator>(line: &Line<A>, sent: &Option<Sent>) -> bool {
@@ -77,50 +22,51 @@ fn is_shown<A: Allocator>(line: &Line<A>, sent: &Option<Sent>) -> bool {
     }
 }
 
+/// The terminal and direction of the channel that this message calls, if it calls one.
+fn channel_in(channels: &[Channel], message: &Message<'_>) -> Option<(usize, Way)> {
+    match message {
+        Message::Call(address) => match find(channels, address) {
+            Some(channel) => Some((channel.terminal, channel.way)),
+            None => None,
+        },
+        _ => None,
+    }
+}
+
 impl LineWatch {
     /// Whether all terminals heard a message of this kind.
     fn all_heard(&self, kind: Kind) -> bool {
-        self.hearings
-            .as_slice()
-            .iter()
-            .all(|hearing| hearing.kind == kind)
+        let hearings = self.hearings.as_slice();
+        hearings.iter().all(|hearing| hearing.kind == kind)
     }
 
-    /// Stores the channel that is addressed after a transmission of the control station.
-    pub(crate) fn see_addressed(&mut self, event: &Event<'_>, effect: Effect)
-        ensures { self.new ≡ record self.old { addressed = self.new.addressed } }
-    {
+    /// Stores the channel that is addressed after a transmission of the control station: the called
+    /// one if all terminals heard a call, and none if all heard EOT. Which one it is matters only
+    /// while all terminals have always heard the same octets.
+    pub(crate) fn see_addressed(&mut self, event: &Event<'_>, effect: Effect) {
         if effect != Effect::Down {
             return;
         }
         if self.all_heard(Kind::Eot) {
             self.addressed = None;
         } else if self.all_heard(Kind::Call) {
-            self.see_call(event);
+            self.addressed = self.called(event);
         }
     }
 
-    /// Stores the channel that is addressed after all terminals heard a call, which need not be the
-    /// same call.
-    fn see_call(&mut self, event: &Event<'_>)
-        ensures { self.new ≡ record self.old { addressed = self.new.addressed } }
-    {
-        let sent = match &self.sent {
-            Some(sent) => sent.octets.as_slice(),
-            None => &[],
-        };
-        if let Some(address) = called_alike(event, sent) {
-            self.addressed = channel_of(&self.channels, address);
+    /// The terminal and direction of the channel that terminal 0 heard called, if it heard a call.
+    fn called(&self, event: &Event<'_>) -> Option<(usize, Way)> {
+        match decode(self.octets_heard(event, 0), &mut TextBuffer::new()) {
+            Heard::Whole(message) => channel_in(&self.channels, &message),
+            _ => None,
         }
     }
 
     /// Stores which stations take no part after the event: one that began again takes none, and
     /// loses what it sent; a terminal takes part again once it hears a call.
-    pub(crate) fn see_aside(&mut self, effect: Effect)
-        ensures { SameBasis self.old self.new }
-    {
+    pub(crate) fn see_aside(&mut self, effect: Effect) {
         match effect {
-            Effect::Restarted { party } => {
+            Effect::Restarted(party) => {
                 self.aside.set(party, true);
                 if speaker_of(&self.sent) == Some(party) {
                     self.sent = None;
@@ -132,9 +78,7 @@ impl LineWatch {
     }
 
     /// Lets each terminal that heard a call take part.
-    fn call_each(&mut self)
-        ensures { SameBasis self.old self.new }
-    {
+    fn call_each(&mut self) {
         for (terminal, hearing) in self.hearings.as_slice().iter().enumerate() {
             if hearing.kind == Kind::Call {
                 self.aside.set(Speaker::Terminal(terminal), false);
@@ -147,50 +91,60 @@ impl LineWatch {
         &mut self,
         line: &Line<A>,
         effect: Effect,
-    ) -> Result<(), Broken>
-        ensures { SameBasis self.old self.new }
-    {
-        if !matches!(effect, Effect::Silence | Effect::Down | Effect::Up) {
-            return if is_shown(line, &self.sent) {
-                Ok(())
-            } else {
-                Err(Broken::Pending)
-            };
+    ) -> Result<(), Broken> {
+        if matches!(effect, Effect::Silence | Effect::Down | Effect::Up) {
+            let addressed = if self.trusted { self.addressed } else { None };
+            let next = read_pending(line, &self.channels, addressed)?;
+            self.see_next(effect, &next)?;
+            self.sent = next;
+            Ok(())
+        } else if is_shown(line, &self.sent) {
+            Ok(())
+        } else {
+            Err(Broken::Pending)
         }
-        let addressed = if self.trusted { self.addressed } else { None };
-        let next = read_pending(line, &self.channels, addressed)?;
-        if !self.may_follow(effect, speaker_of(&next)) || self.is_too_early(&next) {
+    }
+
+    /// Checks that this may be sent next, and counts it; its sender takes part from now on.
+    fn see_next(&mut self, effect: Effect, next: &Option<Sent>) -> Result<(), Broken> {
+        if !self.may_follow(effect, speaker_of(next)) {
             return Err(Broken::Pending);
         }
-        self.count_sent(&next);
-        self.sent = next;
+        let Some(next) = next else {
+            return Ok(());
+        };
+        // A station that has taken no part yet sends nothing but a call.
+        if self.aside.has(next.speaker) && next.kind != Kind::Call {
+            return Err(Broken::Pending);
+        }
+        self.aside.set(next.speaker, false);
+        self.tally.count_sent(next.kind);
         Ok(())
-    }
-
-    /// Whether a station sent this that has taken no part yet, and it is no call.
-    fn is_too_early(&self, next: &Option<Sent>) -> bool {
-        match next {
-            Some(next) => self.aside.has(next.speaker) && next.kind != Kind::Call,
-            None => false,
-        }
-    }
-
-    /// Counts what was sent; its sender takes part from now on.
-    fn count_sent(&mut self, sent: &Option<Sent>)
-        ensures { SameBasis self.old self.new }
-    {
-        if let Some(sent) = sent {
-            self.aside.set(sent.speaker, false);
-            self.tally.count_sent(sent.kind);
-        }
     }
 
     /// Whether this station may send next, after a silence or a transmission.
     fn may_follow(&self, effect: Effect, next: Option<Speaker>) -> bool {
-        match effect {
-            Effect::Silence => self.may_act(next),
-            Effect::Down => self.may_answer_down(next),
-            Effect::Up => self.may_answer_up(next),
+        match (effect, next) {
+            // After a silence some station has to send, and a terminal only if it is addressed and
+            // sends, unless several terminals can be out of control mode.
+            (Effect::Silence, Some(Speaker::Control)) => true,
+            (Effect::Silence, Some(Speaker::Terminal(terminal))) => {
+                !self.is_focused() || self.addressed == Some((terminal, Way::FromTerminal))
+            }
+            // The control station is answered by a terminal that heard more than noise; if all
+            // terminals heard the call, the called terminal has to answer.
+            (Effect::Down, None) => !self.was_called(),
+            (Effect::Down, Some(Speaker::Terminal(terminal))) => {
+                let heard = kind_at(self.hearings.as_slice(), terminal);
+                heard != Kind::Noise && self.may_speak(terminal)
+            }
+            // A terminal is answered by the control station, if that heard more than noise and has
+            // made a call.
+            (Effect::Up, None) => true,
+            (Effect::Up, Some(Speaker::Control)) => {
+                kind_at(self.hearings.as_slice(), 0) != Kind::Noise
+                    && !self.aside.has(Speaker::Control)
+            }
             _ => false,
         }
     }
@@ -200,37 +154,10 @@ impl LineWatch {
         self.trusted || self.alike
     }
 
-    /// Whether this station may send after a silence: some station has to, and a terminal only if
-    /// it is addressed and sends, unless several terminals can be out of control mode.
-    fn may_act(&self, next: Option<Speaker>) -> bool {
-        match next {
-            None => false,
-            Some(Speaker::Control) => true,
-            Some(Speaker::Terminal(terminal)) => {
-                !self.is_focused() || self.addressed == Some((terminal, Way::FromTerminal))
-            }
-        }
-    }
-
     /// Whether all terminals heard a call as it was sent.
     fn was_called(&self) -> bool {
-        self.hearings
-            .as_slice()
-            .iter()
-            .all(|hearing| hearing.itself && hearing.kind == Kind::Call)
-    }
-
-    /// Whether this station may answer the control station: a terminal that heard more than noise,
-    /// and if all terminals heard the call, the called terminal, which has to answer.
-    fn may_answer_down(&self, next: Option<Speaker>) -> bool {
-        match next {
-            None => !self.was_called(),
-            Some(Speaker::Control) => false,
-            Some(Speaker::Terminal(terminal)) => {
-                let heard = kind_at(self.hearings.as_slice(), terminal);
-                heard != Kind::Noise && self.may_speak(terminal)
-            }
-        }
+        let hearings = self.hearings.as_slice();
+        self.all_heard(Kind::Call) && hearings.iter().all(|hearing| hearing.itself)
     }
 
     /// Whether the terminal may answer: the addressed terminal always may, any other one only if
@@ -242,18 +169,5 @@ impl LineWatch {
             None => false,
         };
         addressed || !(self.is_focused() || self.was_called())
-    }
-
-    /// Whether this station may answer a terminal: the control station may, if it heard more than
-    /// noise and has made a call.
-    fn may_answer_up(&self, next: Option<Speaker>) -> bool {
-        match next {
-            None => true,
-            Some(Speaker::Control) => {
-                kind_at(self.hearings.as_slice(), 0) != Kind::Noise
-                    && !self.aside.has(Speaker::Control)
-            }
-            Some(Speaker::Terminal(_)) => false,
-        }
     }
 }
