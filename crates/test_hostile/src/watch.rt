@@ -21,6 +21,9 @@ use bsc_line::{Event, Line, LineError, Speaker};
 use std::alloc::{AllocError, Allocator, Global};
 use test_alloc::Refusing;
 
+/// What each station that hears a transmission heard.
+type Hearings = ArrayVec<Hearing, MAX_TERMINALS>;
+
 /// The state of a watch, which follows a line from its beginning.
 #[derive(Drop)]
 pub struct LineWatch {
@@ -38,7 +41,7 @@ pub struct LineWatch {
     // The stations that have taken no part since they began.
     aside: Aside,
     // What each station that hears the transmission heard.
-    hearings: ArrayVec<Hearing, MAX_TERMINALS>,
+    hearings: Hearings,
     // The counts of what was seen so far.
     pub tally: Tally,
 }
@@ -55,6 +58,20 @@ fn add_channels(
         channels.push(Channel::new(number, way, terminal.select(select)))?;
     }
     Ok(())
+}
+
+/// Adds what this many stations hear, each the same.
+fn hear_alike(hearings: &mut Hearings, count: usize, hearing: Hearing) {
+    for _ in 0..count {
+        let _ = hearings.try_push(hearing);
+    }
+}
+
+/// Adds what each of these items is heard as if `sent` was sent.
+fn hear_each(hearings: &mut Hearings, sent: &[u8], items: &[Option<&[u8]>]) {
+    for item in items {
+        let _ = hearings.try_push(hear(sent, *item));
+    }
 }
 
 impl LineWatch {
@@ -77,7 +94,7 @@ impl LineWatch {
             alike: true,
             addressed: None,
             aside: Aside::all(),
-            hearings: ArrayVec::new(),
+            hearings: Hearings::new(),
             tally: Tally::new(),
         })
     }
@@ -149,27 +166,20 @@ impl LineWatch {
         let Some(sent) = &self.sent else {
             return;
         };
-        let octets = sent.octets.as_slice();
-        let hearing = match *event {
-            Event::Carry { heard } => hear(octets, heard),
-            Event::CarrySent => Hearing {
-                kind: sent.kind,
-                itself: true,
-            },
-            Event::CarryEach { heard } => {
-                for item in heard {
-                    let _ = self.hearings.try_push(hear(octets, *item));
-                }
-                return;
-            }
-            _ => return,
-        };
-        let stations = match sent.speaker {
+        let count = match sent.speaker {
             Speaker::Control => self.terminals,
             Speaker::Terminal(_) => 1,
         };
-        for _ in 0..stations {
-            let _ = self.hearings.try_push(hearing);
+        let octets = sent.octets.as_slice();
+        let whole = Hearing {
+            kind: sent.kind,
+            itself: true,
+        };
+        match *event {
+            Event::Carry { heard } => hear_alike(&mut self.hearings, count, hear(octets, heard)),
+            Event::CarrySent => hear_alike(&mut self.hearings, count, whole),
+            Event::CarryEach { heard } => hear_each(&mut self.hearings, octets, heard),
+            _ => {}
         }
     }
 
