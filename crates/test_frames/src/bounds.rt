@@ -13,6 +13,14 @@ const FORMATS: &[(u8, u16, Option<FormatError>)] = &[
     (144, 400, None),
 ];
 
+#[test]
+fn formats_have_limits(rt: HostRuntime) {
+    for (full, block_chars, why) in FORMATS {
+        let error = Format::new(*full, *block_chars).err();
+        assert!(rt; error == *why, "{full}, {block_chars}");
+    }
+}
+
 /// Codes, and the error of a record with them if the full length is 80.
 const RECORDS: &[(&[u8], Option<RecordError>)] = &[
     (&[0x19; 81], Some(RecordError::TooLong)),
@@ -21,6 +29,13 @@ const RECORDS: &[(&[u8], Option<RecordError>)] = &[
     (&[0x41; 80], None),
     (&[], None),
 ];
+
+#[test]
+fn records_have_limits(rt: HostRuntime) {
+    for (codes, why) in RECORDS {
+        assert!(rt; Record::read(codes, 80).err() == *why, "{codes:?}");
+    }
+}
 
 /// Codes, and the error of an address with them.
 const ADDRESSES: &[(&[u8], Option<AddressError>)] = &[
@@ -32,16 +47,7 @@ const ADDRESSES: &[(&[u8], Option<AddressError>)] = &[
 ];
 
 #[test]
-fn formats_records_and_addresses_have_limits(rt: HostRuntime) {
-    for (full, block_chars, why) in FORMATS {
-        assert!(rt;
-            Format::new(*full, *block_chars).err() == *why,
-            "{full}, {block_chars}"
-        );
-    }
-    for (codes, why) in RECORDS {
-        assert!(rt; Record::read(codes, 80).err() == *why, "{codes:?}");
-    }
+fn addresses_have_limits(rt: HostRuntime) {
     for (codes, why) in ADDRESSES {
         assert!(rt; Address::read(codes).err() == *why, "{codes:?}");
     }
