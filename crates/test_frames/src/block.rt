@@ -1,5 +1,5 @@
 //! Records as they are sent, and what texts carry.
-ghost use Rattle.std.specs.Prelude.{◌≡◌, ◌-◌, ◌<◌, ◌≤◌, length};
+ghost use Rattle.std.specs.Prelude.{◌≡◌, ◌-◌, ◌<◌, ◌≤◌, [], ◌∷◌, ◌++◌, length, IfSome, IsTrue};
 ghost use Rattle.bsc_block.specs.Blocks.{AreShort};
 
 use bsc_block::{Block, Format, Record, Records, build, pack, unpack};
@@ -53,24 +53,41 @@ fn wire_of<A: Allocator>(records: &Records<A>, from: usize, format: Format) -> W
     wire
 }
 
-// Whether these octets are sent for the records.
-fn is_sent<A: Allocator + Copy>(alloc: A, sent: &Sent) -> bool {
-    let (full, first, second, octets) = *sent;
+// Adds two records, and returns whether there is memory for both.
+fn adds<A: Allocator>(records: &mut Records<A>, first: &Record, second: &Record) -> bool
+    ensures { IsTrue result → records.new.items
+        ≡ (records.old.items ++ «first».now ∷ []) ++ «second».now ∷ [] }
+{
+    records.push(first).is_ok() && records.push(second).is_ok()
+}
+
+// Whether these octets are sent for the records with these characters.
+fn sends<A: Allocator + Copy>(
+    alloc: A,
+    format: Format,
+    (first, second): (&[u8], &[u8]),
+    octets: &[u8],
+) -> bool {
     let from = usize::from(!second.is_empty());
-    let Ok(format) = Format::new(full, 400) else {
-        return false;
-    };
-    let Ok(first) = Record::read(first, format.full()) else {
-        return false;
-    };
-    let Ok(second) = Record::read(second, format.full()) else {
+    let (Ok(first), Ok(second)) = (
+        Record::read(first, format.full()),
+        Record::read(second, format.full()),
+    ) else {
         return false;
     };
     let mut records = Records::new(alloc);
-    records.push(&first).is_ok()
-        && records.push(&second).is_ok()
+    adds(&mut records, &first, &second)
         && from < 2
         && wire_of(&records, from, format).as_slice() == octets
+}
+
+// Whether these octets are sent for the records.
+fn is_sent<A: Allocator + Copy>(alloc: A, sent: &Sent) -> bool {
+    let (full, first, second, octets) = *sent;
+    match Format::new(full, 400) {
+        Ok(format) => sends(alloc, format, (first, second), octets),
+        Err(_) => false,
+    }
 }
 
 #[test]
@@ -80,23 +97,44 @@ fn records_are_built_and_sent(rt: HostRuntime) {
     }
 }
 
+// Whether the record at this place of the block has these characters.
+fn has_at(block: &Block<'_>, place: usize, chars: &[u8]) -> bool {
+    place < block.count() && block.chars(place) == chars && block.record(place).chars() == chars
+}
+
 // Whether the block holds these records.
 fn holds(block: &Block<'_>, records: &[&[u8]]) -> bool {
-    if block.count() != records.len() {
-        return false;
-    }
     for (place, chars) in records.iter().enumerate() {
-        if block.chars(place) != *chars || block.record(place).chars() != *chars {
+        if !has_at(block, place, chars) {
             return false;
         }
     }
-    true
+    block.count() == records.len()
+}
+
+// The characters of the first record of a text, after the block that lent them is gone.
+fn first_of<'a>(text: &'a Text<'_>) -> Option<&'a [u8]> {
+    let block = unpack(text);
+    if block.count() == 0 {
+        return None;
+    }
+    Some(block.chars(0))
+}
+
+// Whether the first record of a text is the first one of these.
+fn begins_with(text: &Text<'_>, records: &[&[u8]]) -> bool {
+    match records.first() {
+        Some(chars) => first_of(text) == Some(*chars),
+        None => first_of(text).is_none(),
+    }
 }
 
 // Whether the octets are heard as a text of these records.
 fn carries(octets: &[u8], records: &[&[u8]]) -> bool {
     match &decode(octets, &mut TextBuffer::new()) {
-        Heard::Whole(Message::Text(text)) => holds(&unpack(text), records),
+        Heard::Whole(Message::Text(text)) => {
+            holds(&unpack(text), records) && begins_with(text, records)
+        }
         _ => false,
     }
 }
@@ -126,28 +164,6 @@ fn texts_carry_records(rt: HostRuntime) {
     }
 }
 
-// The characters of the first record of a text, after the block that lent them is gone.
-fn first_of<'a>(text: &'a Text<'_>) -> Option<&'a [u8]> {
-    let block = unpack(text);
-    if block.count() == 0 {
-        return None;
-    }
-    Some(block.chars(0))
-}
-
-// Whether these are the characters of the first record of the text that the octets are heard as.
-fn begins_with(octets: &[u8], chars: &[u8]) -> bool {
-    match &decode(octets, &mut TextBuffer::new()) {
-        Heard::Whole(Message::Text(text)) => first_of(text) == Some(chars),
-        _ => false,
-    }
-}
-
-#[test]
-fn characters_outlive_the_block_that_lends_them(rt: HostRuntime) {
-    assert!(rt; begins_with(TWO_UNITS, b"HI"));
-}
-
 /// The number of characters of the last of five records, of which the others have 80; the number of
 /// characters that a block may count; and how many records the first block and the second take.
 const BLOCKS: &[(usize, u16, usize, usize)] = &[
@@ -171,37 +187,39 @@ fn packs<A: Allocator>(records: &Records<A>, format: Format, first: usize, secon
         && records.len() - first == second
 }
 
-// Whether four records of 80 characters and one of fewer are cut into these blocks.
+// The record of this many characters A, at most 80.
+fn record_of(count: usize) -> Option<Record>
+    ensures { IfSome result (λ r. length r ≤ 80) }
+{
+    Record::read([b'A'; 80].as_slice().get(..count)?, 80).ok()
+}
+
+// Whether four records of 80 characters and one of this many are cut into these blocks.
 fn are_cut<A: Allocator + Copy>(
     alloc: A,
-    last: &[u8],
+    count: usize,
     format: Format,
     first: usize,
     second: usize,
 ) -> bool
     requires { format.full ≡ 80 }
 {
-    let (Ok(full), Ok(last)) = (Record::read(&[b'A'; 80], 80), Record::read(last, 80)) else {
+    let (Some(full), Some(last)) = (record_of(80), record_of(count)) else {
         return false;
     };
     let mut records = Records::new(alloc);
-    records.push(&full).is_ok()
-        && records.push(&full).is_ok()
-        && records.push(&full).is_ok()
-        && records.push(&full).is_ok()
+    adds(&mut records, &full, &full)
+        && adds(&mut records, &full, &full)
         && records.push(&last).is_ok()
         && packs(&records, format, first, second)
 }
 
 #[test]
 fn a_block_takes_as_many_records_as_it_may_count(rt: HostRuntime) -> Result<(), Fail> {
-    for (length, block_chars, first, second) in BLOCKS {
+    for (count, block_chars, first, second) in BLOCKS {
         let format = Format::new(80, *block_chars)?;
-        let last = [b'A'; 80].as_slice().get(..*length).ok_or("too long")?;
-        assert!(rt;
-            are_cut(rt.alloc(), last, format, *first, *second),
-            "{length}, {block_chars}"
-        );
+        let is_right = are_cut(rt.alloc(), *count, format, *first, *second);
+        assert!(rt; is_right, "{count}, {block_chars}");
     }
     Ok(())
 }
