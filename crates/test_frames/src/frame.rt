@@ -5,14 +5,8 @@ ghost use Rattle.std.specs.Prelude.{◌<◌};
 use bsc_frame::{Heard, Message, TextBuffer, Wire, decode, decode_short, encode};
 use bsc_input::read_octets;
 use bsc_print::{Detail, write_shown};
-use std::alloc::Global;
+use std::alloc::{AllocError, Global};
 use std::test::Fail;
-
-/// A call of one character.
-const CALL: &str = "16 16 04 FF 16 16 C1 85 FF";
-
-/// The text of the one unit HI with EM.
-const HI: &str = "16 16 02 C8 49 19 83 9B FF";
 
 /// Transmissions in hexadecimal text, in the form in which they are sent, and what they are heard
 /// as, with the units of a text.
@@ -74,11 +68,6 @@ const HEARD: &[&str] = &[
     "16 16 02 19 1F 86 19 1F 86 19 1F 86 19 1F 86 19 1F 86 19 1F 86 19 1F 86 19 83 1A FF: FAILED\n",
 ];
 
-/// The octets of hexadecimal text.
-fn octets_of(alloc: Global, text: &str) -> Result<Vec<u8>, Fail> {
-    Ok(read_octets(alloc, text.as_bytes())?.ok_or("not hexadecimal")?)
-}
-
 /// Whether this is printed for what was heard.
 fn is_shown(alloc: Global, heard: &Heard<'_>, shown: &str) -> Result<bool, Fail> {
     let mut out = Vec::new(alloc);
@@ -119,14 +108,29 @@ fn kind_for(octets: &[u8], sent: &[u8]) -> &'static str {
     }
 }
 
+/// Whether this is printed for what the octets are heard as, with a buffer and without one, and
+/// they are what is sent for it.
+fn is_read_and_sent(alloc: Global, octets: &[u8], shown: &str) -> Result<bool, Fail> {
+    let is_read = is_heard(alloc, octets, shown)? && is_heard_short(alloc, octets, shown)?;
+    Ok(is_read && kind_for(octets, octets) == "WHOLE")
+}
+
+/// Whether the octets of a row are heard as it says, and sent for that if they are a message in the
+/// form in which it is sent.
+fn is_right(alloc: Global, row: &str, is_sent: bool) -> Result<bool, Fail> {
+    let (text, shown) = row.split_once(": ").ok_or("no row")?;
+    let octets = read_octets(alloc, text.as_bytes())?.ok_or("not hexadecimal")?;
+    if is_sent {
+        is_read_and_sent(alloc, &octets, shown)
+    } else {
+        is_heard(alloc, &octets, shown)
+    }
+}
+
 #[test]
 fn messages_are_read_and_sent(rt: HostRuntime) -> Result<(), Fail> {
     for row in SENT {
-        let (text, shown) = row.split_once(": ").ok_or("no row")?;
-        let octets = octets_of(rt.alloc(), text)?;
-        assert!(rt; is_heard(rt.alloc(), &octets, shown)?, "{text}");
-        assert!(rt; is_heard_short(rt.alloc(), &octets, shown)?, "{text}");
-        assert!(rt; kind_for(&octets, &octets) == "WHOLE", "{text}");
+        assert!(rt; is_right(rt.alloc(), row, true)?, "{row}");
     }
     Ok(())
 }
@@ -134,33 +138,43 @@ fn messages_are_read_and_sent(rt: HostRuntime) -> Result<(), Fail> {
 #[test]
 fn what_is_heard_is_named(rt: HostRuntime) -> Result<(), Fail> {
     for row in HEARD {
-        let (text, shown) = row.split_once(": ").ok_or("no row")?;
-        let octets = octets_of(rt.alloc(), text)?;
-        assert!(rt; is_heard(rt.alloc(), &octets, shown)?, "{text}");
+        assert!(rt; is_right(rt.alloc(), row, false)?, "{row}");
     }
     Ok(())
 }
 
-/// Numbers of characters A of a unit without EM, and the check of the unit; the last is too long.
-const UNITS: &[(usize, &str)] = &[(81, "C2"), (144, "83"), (145, "C2")];
+/// How often the parts of a row in angle brackets are repeated: units of characters A without EM,
+/// of which the last one is too long, and SYN before EOT.
+const LONG: &[(usize, &str)] = &[
+    (81, "161602<C1>83C2FF: TEXT ETX 1\nunit <41>\n"),
+    (144, "161602<C1>8383FF: TEXT ETX 1\nunit <41>\n"),
+    (145, "161602<C1>83C2FF: FAILED\n"),
+    (2047, "<16>04: EOT\n"),
+    (2048, "<16>04: NOISE\n"),
+];
+
+/// The text with each of its parts in angle brackets this many times.
+fn repeated(alloc: Global, text: &str, count: usize) -> Result<String, AllocError> {
+    let mut all = String::new(alloc);
+    for piece in text.split('<') {
+        let (part, rest) = piece.split_once('>').unwrap_or(("", piece));
+        for _ in 0..count {
+            all.push_str(part)?;
+        }
+        all.push_str(rest)?;
+    }
+    Ok(all)
+}
+
+/// Whether a long transmission is heard as its row says.
+fn is_long_right(alloc: Global, (count, row): &(usize, &str)) -> Result<bool, Fail> {
+    is_right(alloc, &repeated(alloc, row, *count)?, false)
+}
 
 #[test]
 fn units_have_144_characters_and_transmissions_2048_octets(rt: HostRuntime) -> Result<(), Fail> {
-    let alloc = rt.alloc();
-    for (count, check) in UNITS {
-        let sent = format!(in alloc; "161602{}83{}FF", "C1".repeat(alloc, *count)?, check)?;
-        let shown = if *count <= 144 {
-            format!(in alloc; "TEXT ETX 1\nunit {}\n", "41".repeat(alloc, *count)?)?
-        } else {
-            String::from_str(alloc, "FAILED\n")?
-        };
-        let octets = octets_of(alloc, &sent)?;
-        assert!(rt; is_heard(alloc, &octets, &shown)?, "{count}");
-    }
-    for (count, shown) in [(2047usize, "EOT\n"), (2048, "NOISE\n")] {
-        let sent = format!(in alloc; "{}04", "16".repeat(alloc, count)?)?;
-        let octets = octets_of(alloc, &sent)?;
-        assert!(rt; is_heard(alloc, &octets, shown)?, "{count}");
+    for long in LONG {
+        assert!(rt; is_long_right(rt.alloc(), long)?, "{}", long.1);
     }
     Ok(())
 }
@@ -168,34 +182,36 @@ fn units_have_144_characters_and_transmissions_2048_octets(rt: HostRuntime) -> R
 /// Transmissions of nine octets; what each of their fronts is heard as, from the empty one to the
 /// whole; and how many of their 72 bits, the first ones, make noise of them when one is inverted.
 /// With one of the others inverted they are a text that fails its check.
-const DAMAGED: &[(&str, [&str; 10], usize)] = &[
+const DAMAGED: &[(&[u8], &str, usize)] = &[
+    // A call of the character A.
     (
-        CALL,
-        [
-            "NOISE", "NOISE", "NOISE", "EOT", "EOT", "NOISE", "NOISE", "NOISE", "WHOLE", "WHOLE",
-        ],
+        b"\x16\x16\x04\xff\x16\x16\xc1\x85\xff",
+        "NOISE NOISE NOISE EOT EOT NOISE NOISE NOISE WHOLE WHOLE",
         72,
     ),
+    // The text of the one unit HI with EM.
     (
-        HI,
-        [
-            "NOISE", "NOISE", "NOISE", "FAILED", "FAILED", "FAILED", "FAILED", "FAILED", "WHOLE",
-            "WHOLE",
-        ],
+        b"\x16\x16\x02\xc8\x49\x19\x83\x9b\xff",
+        "NOISE NOISE NOISE FAILED FAILED FAILED FAILED FAILED WHOLE WHOLE",
         24,
     ),
 ];
 
+/// Whether the front of a transmission with this many octets is heard so.
+fn is_front(sent: &[u8], count: usize, name: &str) -> bool {
+    match sent.get(..count) {
+        Some(front) => kind_for(front, sent) == name,
+        None => false,
+    }
+}
+
 #[test]
-fn each_front_of_a_call_and_of_a_text(rt: HostRuntime) -> Result<(), Fail> {
-    for (text, names, _) in DAMAGED {
-        let sent = octets_of(rt.alloc(), text)?;
-        for (count, name) in names.iter().enumerate() {
-            let front = sent.get(..count).ok_or("too long")?;
-            assert!(rt; kind_for(front, &sent) == *name, "{text}, {count}");
+fn each_front_of_a_call_and_of_a_text(rt: HostRuntime) {
+    for (sent, names, _) in DAMAGED {
+        for (count, name) in names.split(' ').enumerate() {
+            assert!(rt; is_front(sent, count, name), "{sent:?}, {count}");
         }
     }
-    Ok(())
 }
 
 // What a transmission of nine octets is heard as with the bit of this number inverted.
@@ -212,13 +228,11 @@ fn kind_without(sent: &[u8], bit: usize) -> &'static str
 }
 
 #[test]
-fn each_bit_of_a_call_and_of_a_text_is_inverted(rt: HostRuntime) -> Result<(), Fail> {
-    for (text, _, noisy) in DAMAGED {
-        let sent = octets_of(rt.alloc(), text)?;
+fn each_bit_of_a_call_and_of_a_text_is_inverted(rt: HostRuntime) {
+    for (sent, _, noisy) in DAMAGED {
         for bit in 0..72usize {
             let name = if bit < *noisy { "NOISE" } else { "FAILED" };
-            assert!(rt; kind_without(&sent, bit) == name, "{bit}");
+            assert!(rt; kind_without(sent, bit) == name, "{sent:?}, {bit}");
         }
     }
-    Ok(())
 }
