@@ -7,6 +7,17 @@ use std::io::{BufReader, Error, ErrorKind, Read};
 use std::test::Fail;
 use test_alloc::{Refusal, Refusing};
 
+/// The text with each of its parts in angle brackets this many times.
+pub(crate) fn repeated(alloc: Global, text: &str, count: usize) -> Result<String, AllocError> {
+    let mut all = String::new(alloc);
+    for piece in text.split('<') {
+        let (part, rest) = piece.split_once('>').unwrap_or(("", piece));
+        all.push_str(&part.repeat(alloc, count)?)?;
+        all.push_str(rest)?;
+    }
+    Ok(all)
+}
+
 /// Returns one octet in each read, as long as octets are left, and counts the reads.
 #[derive(Drop)]
 struct Drip {

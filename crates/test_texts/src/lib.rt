@@ -8,21 +8,13 @@
 #[cfg(test)]
 mod configurations;
 #[cfg(test)]
-mod documents;
-#[cfg(test)]
 mod errors;
 #[cfg(test)]
 mod files;
 #[cfg(test)]
-mod growths;
-#[cfg(test)]
 mod inputs;
 #[cfg(test)]
-mod lengths;
-#[cfg(test)]
 mod naming;
-#[cfg(test)]
-mod refusals;
 #[cfg(test)]
 mod scripts;
 #[cfg(test)]

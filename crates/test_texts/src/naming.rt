@@ -41,57 +41,15 @@ pub(crate) fn is_due(
     print(alloc, call, input, &mut out).err() == error && out.as_slice() == printed.as_bytes()
 }
 
-/// An input, its output, and the error after that.
-type Row = (&'static str, &'static str, Option<NamingError>);
+/// A call, its input, its output, and the error after that.
+type Row = (Call, &'static str, &'static str, Option<NamingError>);
 
-/// The place of the first row with another result.
-fn first_wrong(alloc: Global, call: Call, rows: &[Row]) -> Option<usize> {
-    for (place, (input, printed, error)) in rows.iter().enumerate() {
-        if !is_due(alloc, call, input, printed, *error) {
-            return Some(place);
-        }
-    }
-    None
-}
+/// The error of a text that is not hexadecimal, and of one in line 4 or in line 2.
+const WRONG: Option<NamingError> = Some(NamingError::NotHexadecimal);
 
-/// Transmissions with their names, and text that is not hexadecimal.
-const NAMED: &[Row] = &[
-    ("161610b0ff", "ACK0\n", None),
-    ("16 16 10 B0 FF", "ACK0\n", None),
-    ("", "NOISE\n", None),
-    ("16 16 04 FF 16 16 C1 85 FF", "CALL A\n", None),
-    ("16 16 02 C8 49 19 83 9B FF", "TEXT ETX 1\n", None),
-    ("16 16 02 85 FF", "FAILED\n", None),
-    ("zz", "", Some(NamingError::NotHexadecimal)),
-    ("16 1", "", Some(NamingError::NotHexadecimal)),
-    ("é0", "", Some(NamingError::NotHexadecimal)),
-];
+const WRONG_AT_4: Option<NamingError> = Some(NamingError::NotHexadecimalAt { line: 4 });
 
-#[test]
-fn worked_transmissions(rt: HostRuntime) {
-    assert_eq!(rt; first_wrong(rt.alloc(), Call::Name, NAMED), None);
-}
-
-/// The error in line 4.
-const WRONG: Option<NamingError> = Some(NamingError::NotHexadecimalAt { line: 4 });
-
-/// Names are printed in the order of the lines. Blank lines have no name but are counted, and the
-/// last line feed may be missing. The lines before a wrong one are printed, and those after it are
-/// not. The first of two carriage returns belongs to the line.
-const LINES: &[Row] = &[
-    (
-        "16 16 10 B0 FF\n\n16 16 10 30 FF\r\n   \n \r\n16 16 04 FF 16 16 C1 85 FF\n16 04\r",
-        "ACK0\nNOISE\nCALL A\nEOT\n",
-        None,
-    ),
-    ("16 04\n\n   \n16 0\n16 10 B0\n", "EOT\n", WRONG),
-    ("16 04\n\n\n16 04\r\r\n", "EOT\n", WRONG),
-];
-
-#[test]
-fn names_of_standard_input(rt: HostRuntime) {
-    assert_eq!(rt; first_wrong(rt.alloc(), Call::Names, LINES), None);
-}
+const WRONG_AT_2: Option<NamingError> = Some(NamingError::NotHexadecimalAt { line: 2 });
 
 /// A trace that `station` wrote, and a line of hexadecimal text in between, which is read as such.
 const TRACE: &str = "+1 control heard CALL A 161604ff1616c185ff
@@ -113,29 +71,64 @@ ACK0
 +
 + \n";
 
-/// The names in it.
-const NAMED_TRACE: &[Row] = &[(TRACE, "CALL A\nTEXT ETX 1\nACK0\n", None)];
-
-/// The units of texts, some without characters and some without EM. In traces, a line without the
-/// sign is still read as hexadecimal text.
-const SHOWN: &[Row] = &[
+const ROWS: &[Row] = &[
+    // Transmissions with their names, and text that is not hexadecimal.
+    (Call::Name, "161610b0ff", "ACK0\n", None),
+    (Call::Name, "16 16 10 B0 FF", "ACK0\n", None),
+    (Call::Name, "", "NOISE\n", None),
+    (Call::Name, "16 16 04 FF 16 16 C1 85 FF", "CALL A\n", None),
     (
+        Call::Name,
+        "16 16 02 C8 49 19 83 9B FF",
+        "TEXT ETX 1\n",
+        None,
+    ),
+    (Call::Name, "16 16 02 85 FF", "FAILED\n", None),
+    (Call::Name, "zz", "", WRONG),
+    (Call::Name, "16 1", "", WRONG),
+    (Call::Name, "é0", "", WRONG),
+    // Names are printed in the order of the lines. Blank lines have no name but are counted, and
+    // the last line feed may be missing. The lines before a wrong one are printed, and those after
+    // it are not. The first of two carriage returns belongs to the line.
+    (
+        Call::Names,
+        "16 16 10 B0 FF\n\n16 16 10 30 FF\r\n   \n \r\n16 16 04 FF 16 16 C1 85 FF\n16 04\r",
+        "ACK0\nNOISE\nCALL A\nEOT\n",
+        None,
+    ),
+    (
+        Call::Names,
+        "16 04\n\n   \n16 0\n16 10 B0\n",
+        "EOT\n",
+        WRONG_AT_4,
+    ),
+    (Call::Names, "16 04\n\n\n16 04\r\r\n", "EOT\n", WRONG_AT_4),
+    // The units of texts, some without characters and some without EM. In traces, a line without
+    // the sign is still read as hexadecimal text.
+    (
+        Call::Show,
         "16 16 02 C8 49 19 1F 07 19 83 1A FF\n16 16 02 83 83 FF",
         "TEXT ETX 2\nunit 4849 EM\nunit - EM\nTEXT ETX 1\nunit -\n",
         None,
     ),
-    (TRACE, SHOWN_TRACE, None),
+    (Call::Show, TRACE, SHOWN_TRACE, None),
     (
+        Call::Show,
         "+2 silence\n3000 silence\n",
         "+2 silence\n",
-        Some(NamingError::NotHexadecimalAt { line: 2 }),
+        WRONG_AT_2,
     ),
+    (Call::Names, TRACE, "CALL A\nTEXT ETX 1\nACK0\n", None),
 ];
 
 #[test]
-fn units_of_texts_and_traces(rt: HostRuntime) {
-    assert_eq!(rt; first_wrong(rt.alloc(), Call::Show, SHOWN), None);
-    assert_eq!(rt; first_wrong(rt.alloc(), Call::Names, NAMED_TRACE), None);
+fn transmissions_lines_and_traces(rt: HostRuntime) {
+    for (call, input, printed, error) in ROWS {
+        assert!(rt;
+            is_due(rt.alloc(), *call, input, printed, *error),
+            "{input}"
+        );
+    }
 }
 
 /// The first of these numbers of successful writes after which a failing one is not reported.
@@ -163,14 +156,17 @@ const BROKEN: &[&[u8]] = &[
     b"16 04\n16 16 10 30 FF\n16 04",
 ];
 
-/// The lines before a read that fails are printed, and the part of a line is not.
+/// Whether the lines before a read that fails are printed, and the part of a line is not.
+fn is_broken(alloc: Global, text: &'static [u8]) -> bool {
+    let mut out = Vec::new(alloc);
+    let kind = Some(ErrorKind::Interrupted);
+    let answer = names(alloc, &mut Broken { text, kind }, &mut out);
+    answer == Err(NamingError::Input) && out.as_slice() == b"EOT\nNOISE\n".as_slice()
+}
+
 #[test]
 fn failing_read(rt: HostRuntime) {
     for text in BROKEN {
-        let mut out = Vec::new(rt.alloc());
-        let kind = Some(ErrorKind::Interrupted);
-        let answer = names(rt.alloc(), &mut Broken { text: *text, kind }, &mut out);
-        assert!(rt; answer == Err(NamingError::Input));
-        assert!(rt; out.as_slice() == b"EOT\nNOISE\n".as_slice());
+        assert!(rt; is_broken(rt.alloc(), *text), "{text:?}");
     }
 }

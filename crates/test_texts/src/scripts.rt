@@ -1,5 +1,6 @@
 //! Scripts that are read, lines that are not events, and the longest lines and scripts.
 
+use crate::inputs::repeated;
 use bsc_input::MAX_INPUT;
 use bsc_script::{ScriptError, read_script};
 use std::alloc::{AllocError, Global};
@@ -30,62 +31,54 @@ fn each_growth_of_a_script_is_refused_in_turn(rt: HostRuntime) -> Result<(), Fai
     Ok(())
 }
 
-/// Whether the text is a script of this many events, or, if that is None, its line of this number
-/// is told as the first that is not an event.
-fn is_read(alloc: Global, text: &[u8], events: Option<usize>, line: u64) -> bool {
-    match (read_script(alloc, text), events) {
-        (Ok(script), Some(count)) => script.steps().len() == count,
-        (Err(ScriptError::NotAnEvent { line: told }), None) => told == line,
-        _ => false,
+/// How often parts of a text are repeated, the text, and the number of events of the script that it
+/// is, or the number of the first line that is not an event.
+type Read = (usize, &'static str, Result<usize, u64>);
+
+/// Texts that are as long as an input may be, or of which a line is as long as it may be, and a text
+/// with a wrong line after an empty line and before another one.
+const READ: &[Read] = &[
+    (174_762, "<carry\n>", Ok(174_762)),
+    (MAX_INPUT - 1, "#<A>", Ok(0)),
+    (MAX_INPUT - 11, "offer-at 0 <A>", Ok(1)),
+    (MAX_INPUT - 12, "offer-for 0 <A>", Ok(1)),
+    (MAX_INPUT - 13, "offer-to 0 0 <A>", Ok(1)),
+    (2048, "heard <5A>", Ok(1)),
+    (2049, "heard <5A>", Err(1)),
+    (2048, "heard-each - <5A>", Ok(1)),
+    (2049, "heard-each - <5A>", Err(1)),
+    (524_000, "heard-each< ->", Ok(1)),
+    (MAX_INPUT - 6, "heard <A>", Err(1)),
+    (MAX_INPUT, "<A>", Err(1)),
+    (1, "# a comment\n\ncarry\nready\ncarry \n", Err(4)),
+];
+
+const AFTER_A_MILLION: &Read = &(1_000_000, "<carry\n>carry 0", Err(1_000_001));
+
+/// Whether the text is read so.
+fn is_read(alloc: Global, text: &str, expected: Result<usize, u64>) -> bool {
+    match read_script(alloc, text.as_bytes()) {
+        Ok(script) => expected == Ok(script.steps().len()),
+        Err(ScriptError::NotAnEvent { line }) => expected == Err(line),
+        Err(ScriptError::Memory) => false,
     }
 }
 
-/// The first wrong line is reported, with an empty line before it and a wrong one after it.
-#[test]
-fn the_first_wrong_line_is_told(rt: HostRuntime) {
-    let text = b"# a comment\n\ncarry\nready\ncarry \n".as_slice();
-    assert!(rt; is_read(rt.alloc(), text, None, 4));
-}
-
-/// The beginning of a text, the part that follows it, how often, and how many events that are; None
-/// if its one line is not one.
-type Long = (&'static str, &'static str, usize, Option<usize>);
-
-/// Texts that are as long as an input may be, or of which a line is as long as it may be.
-const LONG: &[Long] = &[
-    ("", "carry\n", 174_762, Some(174_762)),
-    ("#", "A", MAX_INPUT - 1, Some(0)),
-    ("offer-at 0 ", "A", MAX_INPUT - 11, Some(1)),
-    ("offer-for 0 ", "A", MAX_INPUT - 12, Some(1)),
-    ("offer-to 0 0 ", "A", MAX_INPUT - 13, Some(1)),
-    ("heard ", "5A", 2048, Some(1)),
-    ("heard ", "5A", 2049, None),
-    ("heard-each - ", "5A", 2048, Some(1)),
-    ("heard-each - ", "5A", 2049, None),
-    ("heard-each", " -", 524_000, Some(1)),
-    ("heard ", "A", MAX_INPUT - 6, None),
-    ("", "A", MAX_INPUT, None),
-];
-
-/// Whether the text is read as expected.
-fn is_long(alloc: Global, (start, part, count, events): &Long) -> Result<bool, AllocError> {
-    let parts = part.repeat(alloc, *count)?;
-    let text = format!(in alloc; "{start}{parts}")?;
-    Ok(is_read(alloc, text.as_bytes(), *events, 1))
+/// Whether the text is read so with its parts repeated.
+fn is_long_read(alloc: Global, (count, text, expected): &Read) -> Result<bool, AllocError> {
+    Ok(is_read(alloc, &repeated(alloc, text, *count)?, *expected))
 }
 
 #[test]
-fn long_lines_are_read(rt: HostRuntime) -> Result<(), Fail> {
-    for long in LONG {
-        assert!(rt; is_long(rt.alloc(), long)?, "{}{}", long.0, long.1);
+fn long_texts_and_wrong_lines(rt: HostRuntime) -> Result<(), Fail> {
+    for read in READ {
+        assert!(rt; is_long_read(rt.alloc(), read)?, "{}", read.1);
     }
     Ok(())
 }
 
 #[test]
 fn a_wrong_line_is_told_after_a_million(rt: HostRuntime) -> Result<(), Fail> {
-    let lines = "carry\n".repeat(rt.alloc(), 1_000_000)?;
-    let text = format!(in rt.alloc(); "{lines}carry 0")?;
-    assert!(rt; is_read(rt.alloc(), text.as_bytes(), None, 1_000_001));
+    assert!(rt; is_long_read(rt.alloc(), AFTER_A_MILLION)?);
     Ok(())
 }

@@ -1,105 +1,155 @@
-//! Names of large inputs, with enough memory: an input of any length, lines of the greatest length,
-//! and the longest text.
+//! Names of large inputs with enough memory, as an input of any length, lines of the greatest
+//! length and the longest text; and growths that are refused: each one in turn, all from each one
+//! on, and all above each size.
 
-use crate::naming::{Call, is_due};
+use crate::inputs::repeated;
+use crate::naming::Call::{Name, Names, Show};
+use crate::naming::{Call, is_due, print};
 use bsc_input::MAX_INPUT;
 use bsc_naming::NamingError;
 use std::alloc::{AllocError, Global};
 use std::test::Fail;
+use test_alloc::{Refusal, Refusing};
+
+/// A call, how often the parts of its input and of its output are repeated, both, and the error.
+type Row = (Call, usize, &'static str, &'static str, Option<NamingError>);
+
+/// The number of pairs of digits in a line of the greatest length.
+const PAIRS: usize = MAX_INPUT / 2;
 
 /// The error of a second line that is too long.
 const TOO_LONG: Option<NamingError> = Some(NamingError::TooLongAt { line: 2 });
 
-/// What follows half of the greatest length in pairs of digits, the output, and the error.
-const LENGTHS: &[(&str, &str, Option<NamingError>)] = &[
-    ("", "EOT\nNOISE\n", None),
-    ("\n16 04", "EOT\nNOISE\nEOT\n", None),
-    (" ", "EOT\n", TOO_LONG),
-    ("\r\n16 04", "EOT\n", TOO_LONG),
-    ("zz\n16 04", "EOT\n", TOO_LONG),
+/// The error after millions of blank lines and another one.
+const AFTER_BLANKS: Option<NamingError> = Some(NamingError::NotHexadecimalAt { line: 3_000_002 });
+
+/// The longest text that is sent, if its parts are repeated 144 times. Each of its seven units is
+/// 144 times A, EM, the ending character and the check; the even number of A adds nothing to the
+/// check.
+const SEVEN_UNITS: &str =
+    "161602<C1>191F86<C1>191F86<C1>191F86<C1>191F86<C1>191F86<C1>191F86<C1>19831AFF";
+
+const LONG_LINES: &[Row] = &[
+    // A line of the greatest length is named, and a longer one is refused after the line before it.
+    (Name, PAIRS, "<16>", "NOISE\n", None),
+    (Names, PAIRS, "16 04\n<16>", "EOT\nNOISE\n", None),
+    (
+        Names,
+        PAIRS,
+        "16 04\n<16>\n16 04",
+        "EOT\nNOISE\nEOT\n",
+        None,
+    ),
+    (Names, PAIRS, "16 04\n<16> ", "EOT\n", TOO_LONG),
+    (Names, PAIRS, "16 04\n<16>\r\n16 04", "EOT\n", TOO_LONG),
+    (Names, PAIRS, "16 04\n<16>zz\n16 04", "EOT\n", TOO_LONG),
+    // A line of a trace is named and shown, and without octets it is shown as it stands.
+    (Names, PAIRS - 2, "+0 <16>", "NOISE\n", None),
+    (Show, PAIRS - 2, "+0 <16>", "+0\n", None),
+    (Show, MAX_INPUT - 3, "+0 <z>", "+0 <z>\n", None),
+    // The longest text is named, and its units are shown.
+    (Name, 144, SEVEN_UNITS, "TEXT ETX 7\n", None),
+    (
+        Show,
+        144,
+        SEVEN_UNITS,
+        "TEXT ETX 7\nunit <41> EM\nunit <41> EM\nunit <41> EM\nunit <41> EM\nunit <41> EM\n\
+        unit <41> EM\nunit <41> EM\n",
+        None,
+    ),
 ];
 
-/// Calls, what comes before pairs of digits, the number of the pairs, and the output.
-const WORDS: &[(Call, &str, usize, &str)] = &[
-    (Call::Name, "", MAX_INPUT / 2, "NOISE\n"),
-    (Call::Names, "+0 ", MAX_INPUT / 2 - 2, "NOISE\n"),
-    (Call::Show, "+0 ", MAX_INPUT / 2 - 2, "+0\n"),
-];
+/// A line after millions of blank lines is named, and the lines are counted.
+const BLANKS: &Row = &(Names, 3_000_000, "<\n>16 04\nx", "EOT\n", AFTER_BLANKS);
 
-/// A line of the greatest length is named, and a longer one is refused after the line before it.
+/// Each line of an input of 5,500,000 octets has its name printed.
+const MANY_LINES: &Row = &(Names, 500_000, "<161610B0FF\n>", "<ACK0\n>", None);
+
+/// Whether a call prints the output of its row, with the error of the row after it.
+fn is_long_due(alloc: Global, row: &Row) -> Result<bool, AllocError> {
+    let (call, count, input, printed, error) = *row;
+    let input = repeated(alloc, input, count)?;
+    let printed = repeated(alloc, printed, count)?;
+    Ok(is_due(alloc, call, &input, &printed, error))
+}
+
 #[test]
-fn a_line_may_have_a_mebibyte(rt: HostRuntime) -> Result<(), Fail> {
-    let alloc = rt.alloc();
-    let pairs = "16".repeat(alloc, MAX_INPUT / 2)?;
-    for (after, printed, error) in LENGTHS {
-        let input = format!(in alloc; "16 04\n{pairs}{after}")?;
-        assert!(rt; is_due(alloc, Call::Names, &input, printed, *error));
-    }
-    for (call, before, count, printed) in WORDS {
-        let pairs = "16".repeat(alloc, *count)?;
-        let input = format!(in alloc; "{before}{pairs}")?;
-        assert!(rt; is_due(alloc, *call, &input, printed, None), "{printed}");
+fn long_lines_are_named(rt: HostRuntime) -> Result<(), Fail> {
+    for row in LONG_LINES {
+        assert!(rt; is_long_due(rt.alloc(), row)?, "{}", row.2);
     }
     Ok(())
 }
 
-/// Whether the line after millions of blank lines is named. The lines of an input are counted.
-fn has_name_after_blanks(alloc: Global) -> Result<bool, AllocError> {
-    let blanks = "\n".repeat(alloc, 3_000_000)?;
-    let input = format!(in alloc; "{blanks}16 04\nx")?;
-    let error = NamingError::NotHexadecimalAt { line: 3_000_002 };
-    Ok(is_due(alloc, Call::Names, &input, "EOT\n", Some(error)))
-}
-
-/// Whether each line of an input of 5,500,000 octets has its name printed.
-fn has_each_name(alloc: Global) -> Result<bool, AllocError> {
-    let input = "161610B0FF\n".repeat(alloc, 500_000)?;
-    let names = "ACK0\n".repeat(alloc, 500_000)?;
-    Ok(is_due(alloc, Call::Names, &input, &names, None))
-}
-
-/// Whether a line of a trace without octets is shown as it stands, if it has as many octets as a
-/// line may have.
-fn keeps_longest_line(alloc: Global) -> Result<bool, AllocError> {
-    let letters = "z".repeat(alloc, MAX_INPUT - 3)?;
-    let line = format!(in alloc; "+0 {letters}")?;
-    let shown = format!(in alloc; "{line}\n")?;
-    Ok(is_due(alloc, Call::Show, &line, &shown, None))
+#[test]
+fn a_line_after_millions_is_named(rt: HostRuntime) -> Result<(), Fail> {
+    assert!(rt; is_long_due(rt.alloc(), BLANKS)?);
+    Ok(())
 }
 
 #[test]
 fn an_input_of_five_mebibytes_has_each_name(rt: HostRuntime) -> Result<(), Fail> {
-    assert!(rt; has_each_name(rt.alloc())?);
+    assert!(rt; is_long_due(rt.alloc(), MANY_LINES)?);
     Ok(())
 }
 
-#[test]
-fn a_line_after_millions_and_the_longest_one_are_printed(rt: HostRuntime) -> Result<(), Fail> {
-    assert!(rt; has_name_after_blanks(rt.alloc())?);
-    assert!(rt; keeps_longest_line(rt.alloc())?);
-    Ok(())
+/// A call, the step of the sizes above which growths are refused, the input and the output. One
+/// request for an input is for 8,192 octets.
+type Growing = (Call, usize, &'static str, &'static str);
+
+const GROWING: &[Growing] = &[
+    (Call::Name, 1, "16 16 02 C8 49 19 83 9B FF", "TEXT ETX 1\n"),
+    // One of these four transmissions is noise.
+    (
+        Call::Names,
+        512,
+        "16 16 10 B0 FF\n16 16 10 30 FF\n16 16 04 FF 16 16 C1 85 FF\n16 04\n",
+        "ACK0\nNOISE\nCALL A\nEOT\n",
+    ),
+    // Two transmissions without a text, and between them a text of two units.
+    (
+        Call::Show,
+        512,
+        "16 04\n16 16 02 C8 49 19 1F 07 19 83 1A FF\n16 04",
+        "EOT\nTEXT ETX 2\nunit 4849 EM\nunit - EM\nEOT\n",
+    ),
+];
+
+/// Whether the output before out of memory is right: a beginning of the text but not all of it;
+/// names are printed in whole lines, units need not be.
+fn is_front(call: Call, printed: &[u8], text: &[u8]) -> bool {
+    let is_whole = match call {
+        Call::Name | Call::Names => matches!(printed.last(), None | Some(b'\n')),
+        Call::Show => true,
+    };
+    is_whole && printed.len() < text.len() && text.starts_with(printed)
 }
 
-/// Whether the longest text that is sent is named, and its units are shown. Each of its seven units
-/// is 144 times A, EM, the ending character and the check; the even number of A adds nothing to the
-/// check.
-fn is_longest_due(alloc: Global) -> Result<bool, AllocError> {
-    let unit = "C1".repeat(alloc, 144)?;
-    let first = format!(in alloc; "{unit}191F86")?;
-    let six = first.as_str().repeat(alloc, 6)?;
-    let input = format!(in alloc; "161602{six}{unit}19831AFF")?;
-    let chars = "41".repeat(alloc, 144)?;
-    let line = format!(in alloc; "unit {chars} EM\n")?;
-    let units = line.as_str().repeat(alloc, 7)?;
-    let shown = format!(in alloc; "TEXT ETX 7\n{units}")?;
-    Ok(
-        is_due(alloc, Call::Name, &input, "TEXT ETX 7\n", None)
-            && is_due(alloc, Call::Show, &input, &shown, None),
-    )
+/// Whether the result is right: out of memory after a beginning of the text if a growth was
+/// refused, and the whole text otherwise.
+fn is_due_or_refused(alloc: Global, refusing: &Refusing<Global>, row: &Growing) -> bool {
+    let (call, _, input, text) = *row;
+    let mut out = Vec::new(alloc);
+    let answer = print(refusing, call, input, &mut out);
+    let is_refused = refusing.refused() > 0;
+    match answer {
+        Ok(()) => !is_refused && out.as_slice() == text.as_bytes(),
+        Err(NamingError::Memory) => is_refused && is_front(call, &out, text.as_bytes()),
+        Err(_) => false,
+    }
 }
 
 #[test]
-fn each_unit_of_the_longest_text_is_shown(rt: HostRuntime) -> Result<(), Fail> {
-    assert!(rt; is_longest_due(rt.alloc())?);
+fn each_growth_is_refused(rt: HostRuntime) -> Result<(), Fail> {
+    let alloc = Refusing::new(rt.alloc());
+    for row in GROWING {
+        let above = Refusal::Above { octets: row.1 };
+        for refusal in [Refusal::Nth, Refusal::From, above] {
+            for number in alloc.in_turn(refusal, 4..99) {
+                number?;
+                assert!(rt; is_due_or_refused(rt.alloc(), &alloc, row), "{}", row.2);
+            }
+        }
+    }
     Ok(())
 }
