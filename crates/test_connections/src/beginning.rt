@@ -1,7 +1,6 @@
 //! How connections begin, also to hosts with several addresses, and the errors if they cannot.
 
-use crate::machine::Machine;
-use crate::meeting::{Untold, begin, bound, patience, peers, reach, settings};
+use crate::meeting::{Machine, Untold, begin, bound, patience, peers, reach, settings};
 use crate::scene::{reads_at, writes_at};
 use bsc_connections::{Awaited, Waiter};
 use bsc_sockets::{ConnectionSettings, Listening, Peers, SocketsError, connect_to_any};
@@ -11,13 +10,14 @@ use std::net::{Ipv4Addr, SocketAddr, SocketAddrV4, TcpListener, TcpStream};
 use std::test::Fail;
 use std::time::{Duration, Instant};
 
-/// The number of connections to the listener at this address.
+/// The number of connections of a station with these settings to the listener at this address.
 pub(crate) fn connections_to<A: Allocator + Copy>(
     rt: &HostRuntime,
     alloc: A,
     address: &str,
+    settings: ConnectionSettings,
 ) -> Result<usize, SocketsError> {
-    let begun = reach(rt, alloc, address, settings())?;
+    let begun = reach(rt, alloc, address, settings)?;
     Ok(begun.connections.len())
 }
 
@@ -68,10 +68,8 @@ fn what_is_no_address_here_is_named(rt: HostRuntime) -> Result<(), Fail> {
     for (address, fault) in NO_ADDRESSES {
         is_told(Listening::bind(&rt, *address), *fault)?;
     }
-    is_told(
-        connections_to(&rt, rt.alloc(), "nothing"),
-        SocketsError::Address,
-    )
+    let begun = connections_to(&rt, rt.alloc(), "nothing", settings());
+    is_told(begun, SocketsError::Address)
 }
 
 /// The address as text.
@@ -100,7 +98,7 @@ pub(crate) fn left(rt: &HostRuntime) -> Result<SocketAddr, SocketsError> {
 fn nobody_there_is_told_at_once(rt: HostRuntime) -> Result<(), Fail> {
     let text = text(rt.alloc(), left(&rt)?)?;
     let start = Instant::now(&rt)?;
-    let begun = connections_to(&rt, rt.alloc(), text.as_str());
+    let begun = connections_to(&rt, rt.alloc(), text.as_str(), settings());
     is_told(begun, SocketsError::NobodyThere)?;
     has_passed(&rt, start, 0)
 }
@@ -127,7 +125,7 @@ fn listens_to<P, Q: Write>(
     let mut begun = begin(rt, alloc, listening, wanted, settings(), &mut Untold)?;
     let begun = &mut *begun;
     let meets = writes_at(near, 0, &[0x16]) && hears(&mut begun.sockets, &mut begun.connections);
-    let third = connections_to(rt, alloc, address);
+    let third = connections_to(rt, alloc, address, settings());
     Ok(meets && third == Err(SocketsError::NobodyThere))
 }
 

@@ -1,15 +1,14 @@
 //! Stations that are asked to end, and those that programs call.
 
-use crate::beginning::{connections_with, has_passed, is_told, left, text};
+use crate::beginning::{connections_to, connections_with, has_passed, is_told, left, text};
 use crate::meeting::{Untold, begin, bound, peer, peers, reach, settings};
-use crate::scene::{Besides, play};
 use bsc_connections::{Awaited, Handled, Pace, Waiter};
 use bsc_sockets::{ConnectionSettings, SocketsError};
 use mio::{Interest, Poll, Token, Waker};
 use std::alloc::Global;
 use std::fs::File;
 use std::io;
-use std::net::{TcpListener, TcpStream};
+use std::net::{SocketAddr, TcpListener, TcpStream};
 use std::os::fd::{AsRawFd, RawFd};
 use std::test::Fail;
 use std::time::Instant;
@@ -47,7 +46,7 @@ fn an_input_that_is_a_device_is_refused(rt: HostRuntime) -> Result<(), Fail> {
     is_told(begun, SocketsError::CannotWatchInput)?;
     // Also where nobody listens, which is found only after that.
     let text = text(rt.alloc(), left(&rt)?)?;
-    let begun = reach(&rt, rt.alloc(), text.as_str(), stopping_with(&input));
+    let begun = connections_to(&rt, rt.alloc(), text.as_str(), stopping_with(&input));
     is_told(begun, SocketsError::CannotWatchInput)?;
     has_passed(&rt, start, 0)
 }
@@ -99,14 +98,6 @@ impl Programs {
     }
 }
 
-/// A call is told once, and two of them once.
-#[test]
-fn a_call_is_told_once(rt: HostRuntime) -> Result<(), Fail> {
-    let script = "calls silence waits:call silence waits:timeout calls calls silence waits:call \
-        silence waits:timeout";
-    play(&rt, (1, settings()), Besides::Programs, script)
-}
-
 /// Settings of a station that serves programs by this descriptor.
 fn serving(descriptor: RawFd) -> ConnectionSettings {
     let mut settings = settings();
@@ -120,20 +111,29 @@ fn waits<R, W, S: Waiter<R, W>>(sockets: &mut S, awaited: Awaited) -> bool {
     sockets.wait() == Ok(awaited)
 }
 
+/// Whether a station that serves programs is called once by one that connects to this address, and
+/// not before.
+fn is_called(
+    rt: &HostRuntime,
+    address: SocketAddr,
+    settings: ConnectionSettings,
+) -> Result<bool, Fail> {
+    let (listening, _) = bound(rt)?;
+    let mut begun = begin(rt, rt.alloc(), listening, peers(0), settings, &mut Untold)?;
+    let sockets = &mut begun.sockets;
+    let is_quiet = waits(sockets, Awaited::TimeOut);
+    let _program = peer(rt, address)?;
+    Ok(is_quiet && waits(sockets, Awaited::Client) && waits(sockets, Awaited::TimeOut))
+}
+
 #[test]
 fn a_program_that_connects_calls(rt: HostRuntime) -> Result<(), Fail> {
     let programs = Programs::new(&rt)?;
     let mut listener = mio::net::TcpListener::bind(&rt, "127.0.0.1:0".parse()?)?;
-    let address = listener.local_addr()?;
     let registry = programs.poll.registry();
     registry.register(&mut listener, Token(1), Interest::READABLE)?;
-    let (listening, _) = bound(&rt)?;
-    let set = serving(programs.descriptor());
-    let mut begun = begin(&rt, rt.alloc(), listening, peers(0), set, &mut Untold)?;
-    let sockets = &mut begun.sockets;
-    assert!(rt; waits(sockets, Awaited::TimeOut));
-    let _program = peer(&rt, address)?;
-    assert!(rt; waits(sockets, Awaited::Client) && waits(sockets, Awaited::TimeOut));
+    let address = listener.local_addr()?;
+    assert!(rt; is_called(&rt, address, serving(programs.descriptor()))?);
     Ok(())
 }
 

@@ -1,15 +1,126 @@
-//! A peer that sends and ends its connection at once.
+//! A peer that sends and ends its connection at once: a station that answers every message, and a
+//! monitor that records what it is told.
 
 use crate::meeting::{QUIET, Untold, begin, bound, peer, peers};
-use crate::watching::{Answers, Records};
+use bsc_bid::Station;
 use bsc_carrier::CarrierError;
-use bsc_connections::{Connection, Framing, Gaps, SocketRecords, attend};
+use bsc_connections::{
+    Connection, Framing, Gaps, LiveError, Monitor, Note, Pace, SocketRecords, attend,
+};
+use bsc_frame::{Heard, MessageBuffer, Reply};
 use bsc_sockets::{Begun, Listening};
 use std::alloc::{AllocError, Global};
 use std::io;
 use std::io::{Read, Write};
 use std::net::{Shutdown, SocketAddr, TcpStream};
 use std::test::Fail;
+
+/// Answers a message with ACK0 and a failed text with NAK, and sends EOT after a silence.
+#[derive(Drop)]
+struct Answers;
+
+impl Station for Answers {
+    ghost use Rattle.std.specs.Prelude.{◌≡◌, ⊤, None, false, refl};
+    ghost use Rattle.bsc_frame.specs.declared.message.Heard.TheVariants.{Noise};
+
+    ghost hears = { λ old heard new sent. heard ≡ Noise → (new ≡ old) × (sent ≡ None) };
+
+    ghost acts = { λ _ _ _. ⊤ };
+
+    ghost holds = { λ _. false };
+
+    fn answer(&mut self, heard: &Heard<'_>, sent: &mut MessageBuffer) {
+        match heard {
+            Heard::Noise => sent.clear(),
+            Heard::Failed => sent.set_reply(Reply::Nak),
+            Heard::Whole(_) => sent.set_reply(Reply::Ack0),
+        }
+    }
+
+    fn act(&mut self, sent: &mut MessageBuffer) {
+        sent.set_eot();
+    }
+
+    fn holds_line(&self) -> bool {
+        false
+    }
+
+    ghost ignores_noise = { λ old new sent hears. hears refl };
+}
+
+/// Records what it is told, and ends the station once that is what has to be told.
+#[derive(Drop)]
+struct Records {
+    /// What it was told: of octets their number, and of a connection its place.
+    told: String,
+
+    /// What has to be told.
+    due: &'static str,
+
+    has_ended: bool,
+}
+
+impl Records {
+    /// Has been told nothing of this yet.
+    fn new(alloc: Global, due: &'static str) -> Records {
+        Records {
+            told: String::new(alloc),
+            due,
+            has_ended: false,
+        }
+    }
+}
+
+/// Records a note.
+fn tell(told: &mut String, note: &Note<'_>) {
+    let _ = match *note {
+        Note::Heard { connection, octets } => {
+            let count = octets.len();
+            write!(told, "heard {connection} {count}; ")
+        }
+        Note::Silence => write!(told, "silence; "),
+        Note::Sent { octets } => {
+            let count = octets.len();
+            write!(told, "sent {count}; ")
+        }
+        Note::Closed {
+            connection,
+            why: Some(why),
+            ..
+        } => write!(told, "closed {connection}, {why}; "),
+        Note::Closed { connection, .. } => write!(told, "closed {connection}; "),
+        _ => write!(told, "something else; "),
+    };
+}
+
+impl Monitor<Answers> for Records {
+    ghost use Rattle.std.specs.Prelude.{true};
+    ghost use Rattle.bsc_connections.specs.declared.awaited.Pace.TheVariants.{AtOnce};
+
+    ghost has_ended = { λ records. records.has_ended };
+
+    ghost admits = { λ _ _ _ _. true };
+
+    ghost paces = { λ _. AtOnce };
+
+    ghost is_told = { λ _ _ _ _ _. Unit {0} };
+
+    fn note(&mut self, _station: &Answers, note: Note<'_>) -> Result<bool, LiveError> {
+        tell(&mut self.told, &note);
+        if self.told.as_str() == self.due {
+            self.has_ended = true;
+        }
+        Ok(!self.has_ended)
+    }
+
+    fn admits(&self, _station: &Answers, _connection: usize, _octets: &[u8]) -> bool {
+        true
+    }
+
+    fn pace(&self) -> Pace {
+        Pace::AtOnce
+    }
+}
 
 /// A peer that has connected to this address, sent these octets, and ended its connection so.
 fn ended(
@@ -86,15 +197,14 @@ fn what_a_peer_sent_before_it_ended_is_heard(rt: HostRuntime) -> Result<(), Fail
 /// the end within a record.
 #[test]
 fn records_of_each_length_are_heard(rt: HostRuntime) -> Result<(), Fail> {
-    let mut octets = Vec::new(rt.alloc());
-    octets.extend_from_slice(&[8, 0])?;
-    octets.extend_from_slice(&[0x55; 2_048])?;
-    octets.extend_from_slice(&[0, 1, 0x55, 8, 1])?;
+    let mut octets = [0x55; 2_055];
+    octets[..2].copy_from_slice(&[8, 0]);
+    octets[2_050..].copy_from_slice(&[0, 1, 0x55, 8, 1]);
     let due = "heard 0 2048; heard 0 1; closed 0, the length of a record is wrong; ";
     hears::<SocketRecords>(&rt, &octets, Shutdown::Write, due)?;
     let due = "closed 0, the input ended within a record; ";
     hears::<SocketRecords>(&rt, &[0], Shutdown::Write, due)?;
-    let refused = SocketRecords::write(&mut octets, &[]);
+    let refused = SocketRecords::write(&mut Vec::<u8>::new(rt.alloc()), &[]);
     assert!(rt; refused == Err(CarrierError::Length));
     Ok(())
 }

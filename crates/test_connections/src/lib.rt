@@ -14,13 +14,9 @@ mod ending;
 #[cfg(test)]
 mod loopback;
 #[cfg(test)]
-mod machine;
-#[cfg(test)]
 mod meeting;
 #[cfg(test)]
 mod patience;
-#[cfg(test)]
-mod places;
 #[cfg(test)]
 mod records;
 #[cfg(test)]
@@ -31,7 +27,5 @@ mod scene;
 mod sockets;
 #[cfg(test)]
 mod waits;
-#[cfg(test)]
-mod watching;
 #[cfg(test)]
 mod written;

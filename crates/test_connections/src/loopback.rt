@@ -213,10 +213,8 @@ fn connected(alloc: Global, count: u8, accepted: u16) -> Result<Done, LoopbackEr
         done: &done,
         accepted,
     };
-    match connect(&machine, alloc, usize::from(count)) {
-        Ok(_) => Ok(done.get()),
-        Err(error) => Err(error),
-    }
+    connect(&machine, alloc, usize::from(count))?;
+    Ok(done.get())
 }
 
 /// Whether this many connections are made, and both ends of each are set to send their octets at
@@ -224,15 +222,7 @@ fn connected(alloc: Global, count: u8, accepted: u16) -> Result<Done, LoopbackEr
 fn is_set_up(alloc: Global, count: u8) -> bool {
     let (connections, ends) = (u32::from(count), 2 * u32::from(count));
     match connected(alloc, count, NEAR) {
-        Ok(done) => {
-            let [listeners, connected, at_once, reads, writes, others] = done;
-            listeners == 1
-                && connected == connections
-                && at_once == ends
-                && reads == ends
-                && writes == ends
-                && others == 0
-        }
+        Ok(done) => done.as_slice() == [1, connections, ends, ends, ends, 0].as_slice(),
         Err(_) => false,
     }
 }

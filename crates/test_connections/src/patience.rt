@@ -1,10 +1,16 @@
-//! How a station waits for its peers, how long, and what is reported meanwhile.
+//! How a station waits for its peers, how long, and what is reported meanwhile; and peers and
+//! newcomers at each of as many places as there may be.
 
 use crate::beginning::has_passed;
 use crate::calls::input;
-use crate::machine::Machine;
-use crate::meeting::{allowed, begin, bound, passes, peer, peers, peers_of, settings};
-use bsc_sockets::{Peers, Reception, SocketsError};
+use crate::meeting::{
+    MOST, Machine, QUIET, Times, allowed, begin, bound, passes, peer, peers, peers_of, settings,
+};
+use crate::scene::{reads, reads_at, writes_at};
+use bsc_connections::{Awaited, Waiter};
+use bsc_sockets::{ConnectionSettings, Listening, Peers, Reception, SocketsError};
+use std::alloc::Global;
+use std::io::{Read, Write};
 use std::net::{SocketAddr, TcpStream};
 use std::os::fd::AsRawFd;
 use std::test::Fail;
@@ -13,12 +19,12 @@ use std::time::{Duration, Instant};
 /// Records what is reported, a word for each report with its numbers, and lets something happen
 /// with each of them.
 #[derive(Drop)]
-pub(crate) struct Reports<'a> {
+struct Reports<'a> {
     machine: &'a Machine<'a>,
     address: SocketAddr,
 
     /// The peers that have connected, in order.
-    pub(crate) far: Vec<TcpStream>,
+    far: Vec<TcpStream>,
 
     /// The letters of what happens with each report that is still to come: `c`, another peer
     /// connects after 5 milliseconds; `l`, all that are there leave, and another one connects; `h`,
@@ -27,12 +33,12 @@ pub(crate) struct Reports<'a> {
     script: &'static [u8],
 
     /// What was reported.
-    pub(crate) told: String,
+    told: String,
 }
 
 impl<'a> Reports<'a> {
     /// Nothing is reported yet of a station at this address.
-    pub(crate) fn new(
+    fn new(
         machine: &'a Machine<'a>,
         address: SocketAddr,
         far: Vec<TcpStream>,
@@ -178,30 +184,54 @@ const CASES: &[Case] = &[
     ),
 ];
 
-/// Whether a station waits as the case says.
-fn goes(rt: &HostRuntime, case: &Case) -> Result<bool, Fail> {
-    let ((wanted, come), patience, network, script, least, why, told) = *case;
-    let (listening, address) = bound(rt)?;
-    let (input, other) = input(rt)?;
-    drop(other);
-    let machine = Machine::new(rt, &[]);
-    let far = peers_of(rt, rt.alloc(), address, come)?;
-    let mut reports = Reports::new(&machine, address, far, script);
+/// The number of connections of a station that waits for these peers, or why it ends.
+fn connections_of(
+    machine: &Machine<'_>,
+    listening: Listening,
+    wanted: Peers,
+    settings: ConnectionSettings,
+    reports: &mut Reports<'_>,
+) -> Result<usize, SocketsError> {
+    let begun = begin(
+        machine,
+        machine.rt.alloc(),
+        listening,
+        wanted,
+        settings,
+        reports,
+    )?;
+    Ok(begun.connections.len())
+}
+
+/// Whether a station with these settings waits as the case says.
+fn waits(rt: &HostRuntime, case: &Case, settings: ConnectionSettings) -> Result<bool, Fail> {
+    let ((wanted, come), patience, _, script, least, why, told) = *case;
     let wanted = Peers {
         patience: Duration::from_millis(patience),
         ..peers(wanted)
     };
+    let (listening, address) = bound(rt)?;
+    let machine = Machine::new(rt, &[]);
+    let far = peers_of(rt, rt.alloc(), address, come)?;
+    let mut reports = Reports::new(&machine, address, far, script);
+    let start = Instant::now(rt)?;
+    let ended = connections_of(&machine, listening, wanted, settings, &mut reports);
+    has_passed(rt, start, least)?;
+    let told_all = reports.told.as_str();
+    Ok(ended == Err(why) && told_all.starts_with(told) && !told_all.contains("refused 39; "))
+}
+
+/// Whether a station waits as the case says. Its input has ended, and it ends with it if that is
+/// due.
+fn goes(rt: &HostRuntime, case: &Case) -> Result<bool, Fail> {
     let mut settings = settings();
-    settings.allowed = allowed(network)?;
-    if why == SocketsError::Stopped {
+    settings.allowed = allowed(case.2)?;
+    let (input, other) = input(rt)?;
+    drop(other);
+    if case.5 == SocketsError::Stopped {
         settings.stops_with = Some(input.as_raw_fd());
     }
-    let start = Instant::now(rt)?;
-    let alloc = rt.alloc();
-    let begun = begin(&machine, alloc, listening, wanted, settings, &mut reports);
-    has_passed(rt, start, least)?;
-    let is_told = reports.told.as_str().starts_with(told);
-    Ok(begun.err() == Some(why) && is_told && !reports.told.as_str().contains("refused 39; "))
+    waits(rt, case, settings)
 }
 
 #[test]
@@ -214,24 +244,119 @@ fn a_station_waits_as_long_as_it_is_patient(rt: HostRuntime) -> Result<(), Fail>
     Ok(())
 }
 
-/// Of two peers the first goes before the second connects. Another peer is waited for, and takes
-/// the place.
+/// What is reported if of two peers the first goes before the second connects: another peer is
+/// waited for, and takes the place.
+const ANEW: &str = "listens; waits 0 2; joined 0 0; waits 1 2; joined 1 0; left 0 true; waits 1 2; \
+    joined 0 1; ";
+
 #[test]
 fn a_peer_that_has_gone_is_waited_for_anew(rt: HostRuntime) -> Result<(), Fail> {
-    let (listening, address) = bound(&rt)?;
-    let machine = Machine::new(&rt, &[]);
-    let far = peers_of(&rt, rt.alloc(), address, 1)?;
-    let mut reports = Reports::new(&machine, address, far, b"--l--c");
     let mut settings = settings();
     settings.allowed = allowed("127.0.0.1")?;
     let two = Peers {
         keeps_listening: false,
         ..peers(2)
     };
-    let begun = begin(&rt, rt.alloc(), listening, two, settings, &mut reports)?;
-    assert_eq!(rt; begun.connections.len(), 2);
-    let due = "listens; waits 0 2; joined 0 0; waits 1 2; joined 1 0; left 0 true; waits 1 2; \
-        joined 0 1; ";
-    assert_eq!(rt; reports.told.as_str(), due);
+    let (listening, address) = bound(&rt)?;
+    let machine = Machine::new(&rt, &[]);
+    let far = peers_of(&rt, rt.alloc(), address, 1)?;
+    let mut reports = Reports::new(&machine, address, far, b"--l--c");
+    let connections = connections_of(&machine, listening, two, settings, &mut reports);
+    assert!(rt; connections == Ok(2) && reports.told.as_str() == ANEW);
+    Ok(())
+}
+
+/// Whether the peer of a place is named there, what it sends is heard, a gap ends after that, and
+/// what the station sends arrives at the peer.
+fn is_at<R: Read, W: Write, S: Waiter<R, W>>(
+    sockets: &mut S,
+    connections: &mut [(R, W)],
+    place: usize,
+    peer: &mut TcpStream,
+) -> Result<bool, Fail> {
+    let is_named = sockets.peer(place) == Some(peer.local_addr()?);
+    peer.write_all(b"here")?;
+    let is_told = sockets.wait()? == Awaited::Octets { connection: place };
+    let is_read = reads_at(connections, place, b"here");
+    sockets.nothing_left(place);
+    sockets.begin_gap(place);
+    let gap = sockets.wait()? == Awaited::Gap { connection: place };
+    let is_written = writes_at(connections, place, b"too") && reads(peer, b"too");
+    Ok(is_named && is_told && is_read && gap && is_written)
+}
+
+/// Whether this peer, which has connected, is told of and takes this place.
+fn takes<R: Read + Drop, W: Write + Drop, S: Waiter<R, W>>(
+    sockets: &mut S,
+    connections: &mut Vec<(R, W)>,
+    place: usize,
+    newcomer: &mut TcpStream,
+) -> Result<bool, Fail> {
+    if sockets.wait()? != Awaited::Newcomer || place >= connections.len() {
+        return Ok(false);
+    }
+    let Some(joined) = sockets.join(place) else {
+        return Ok(false);
+    };
+    drop(connections.remove(place));
+    connections.insert(place, joined)?;
+    is_at(sockets, connections, place, newcomer)
+}
+
+/// The number of places, from the first one on, at which a peer is heard and answered, and then a
+/// newcomer that takes the place.
+fn taken<R: Read + Drop, W: Write + Drop, S: Waiter<R, W>>(
+    rt: &HostRuntime,
+    (address, far): (SocketAddr, &mut [TcpStream]),
+    sockets: &mut S,
+    connections: &mut Vec<(R, W)>,
+) -> Result<usize, Fail> {
+    let mut newcomers = Vec::new(rt.alloc());
+    for first in far.iter_mut() {
+        let place = newcomers.len();
+        if !is_at(sockets, connections, place, first)? {
+            break;
+        }
+        let mut newcomer = peer(rt, address)?;
+        if !takes(sockets, connections, place, &mut newcomer)? {
+            break;
+        }
+        newcomers.push(newcomer)?;
+    }
+    Ok(newcomers.len())
+}
+
+/// What has to be reported of this many peers, which join one after another.
+fn due_of(alloc: Global, count: usize) -> Result<String, Fail> {
+    let mut due = String::from_str(alloc, "listens; ")?;
+    for number in 0..count {
+        write!(due, "waits {number} {count}; joined {number} {number}; ")?;
+    }
+    Ok(due)
+}
+
+/// The number of places that newcomers take at a station at which as many peers as there may be
+/// have connected.
+fn taken_at(
+    rt: &HostRuntime,
+    (listening, address): (Listening, SocketAddr),
+    reports: &mut Reports<'_>,
+) -> Result<usize, Fail> {
+    let set = Times { gap: 2, ..QUIET }.settings();
+    let mut begun = begin(rt, rt.alloc(), listening, peers(MOST), set, reports)?;
+    let begun = &mut *begun;
+    let peers = (address, reports.far.as_mut_slice());
+    taken(rt, peers, &mut begun.sockets, &mut begun.connections)
+}
+
+#[test]
+fn newcomers_take_each_of_64_places(rt: HostRuntime) -> Result<(), Fail> {
+    let due = due_of(rt.alloc(), MOST)?;
+    let (listening, address) = bound(&rt)?;
+    let machine = Machine::new(&rt, &[]);
+    let far = peers_of(&rt, rt.alloc(), address, MOST)?;
+    let mut reports = Reports::new(&machine, address, far, b"");
+    let taken = taken_at(&rt, (listening, address), &mut reports)?;
+    assert!(rt; taken == MOST && reports.told.as_str() == due.as_str());
     Ok(())
 }

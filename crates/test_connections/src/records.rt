@@ -277,12 +277,10 @@ fn cable<'a>(
     second: &'a [u8],
     failing: Failing,
 ) -> Result<Cable<MemoryStream<'a>>, AllocError> {
-    let mut control_ends = Vec::new(alloc);
-    let mut terminal_ends = Vec::new(alloc);
-    control_ends.push(end(SYN, 0, failing))?;
-    control_ends.push(end(SYN, 2, failing))?;
-    terminal_ends.push(end(first, 1, failing))?;
-    terminal_ends.push(end(second, 3, failing))?;
+    let control_ends = [end(SYN, 0, failing), end(SYN, 2, failing)];
+    let terminal_ends = [end(first, 1, failing), end(second, 3, failing)];
+    let control_ends = Vec::from_array(alloc, control_ends)?;
+    let terminal_ends = Vec::from_array(alloc, terminal_ends)?;
     Ok(Cable::new(control_ends, terminal_ends))
 }
 

@@ -3,10 +3,10 @@
 use crate::beginning::{connections_to, text};
 use crate::meeting::{MOST, QUIET, Untold, begin, bound, peer, peers, peers_of, settings};
 use bsc_connections::{Awaited, Waiter};
-use bsc_sockets::{Sockets, SocketsError};
+use bsc_sockets::{Listening, Sockets, SocketsError};
 use std::alloc::{Allocator, Global};
 use std::io::{Read, Write};
-use std::net::SocketAddr;
+use std::net::{SocketAddr, TcpStream};
 use std::test::Fail;
 use test_alloc::{Refusal, Refusing};
 
@@ -47,7 +47,8 @@ fn each_growth_at_the_one_that_connects(rt: HostRuntime) -> Result<(), Fail> {
     let alloc = Refusing::new(rt.alloc());
     for request in alloc.in_turn(Refusal::Nth, 7..15) {
         request?;
-        is_told(&alloc, connections_to(&rt, &alloc, text.as_str()))?;
+        let begun = connections_to(&rt, &alloc, text.as_str(), settings());
+        is_told(&alloc, begun)?;
     }
     Ok(())
 }
@@ -110,19 +111,30 @@ fn told_of<R, W, S: Waiter<R, W>>(sockets: &mut S) -> Result<usize, Fail> {
     Ok(count)
 }
 
-/// All peers have sent something, and another one has connected, when the station waits first.
+/// How many of these peers, which all have sent something, and a newcomer a station is told of that
+/// has not waited yet.
+fn told_at(
+    rt: &HostRuntime,
+    alloc: &Refusing<Global>,
+    (listening, address): (Listening, SocketAddr),
+    far: &mut [TcpStream],
+) -> Result<usize, Fail> {
+    let set = QUIET.settings();
+    let mut begun = begin(rt, alloc, listening, peers(MOST), set, &mut Untold)?;
+    for peer in far.iter_mut() {
+        peer.write_all(b"here")?;
+    }
+    let _newcomer = peer(rt, address)?;
+    alloc.refuse_from(1);
+    told_of(&mut begun.sockets)
+}
+
 #[test]
 fn a_wait_for_64_peers_and_another_needs_no_growth(rt: HostRuntime) -> Result<(), Fail> {
     let alloc = Refusing::new(rt.alloc());
     let (listening, address) = bound(&rt)?;
     let mut far = peers_of(&rt, rt.alloc(), address, MOST)?;
-    let set = QUIET.settings();
-    let mut begun = begin(&rt, &alloc, listening, peers(MOST), set, &mut Untold)?;
-    for peer in far.iter_mut() {
-        peer.write_all(b"here")?;
-    }
-    let _newcomer = peer(&rt, address)?;
-    alloc.refuse_from(1);
-    assert!(rt; told_of(&mut begun.sockets)? == 65 && alloc.refused() == 0);
+    let told = told_at(&rt, &alloc, (listening, address), far.as_mut_slice())?;
+    assert!(rt; told == 65 && alloc.refused() == 0);
     Ok(())
 }

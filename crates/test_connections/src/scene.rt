@@ -2,8 +2,7 @@
 //! system, and can be moved.
 
 use crate::calls::{Programs, input};
-use crate::machine::Machine;
-use crate::meeting::{Untold, begin, bound, peer, peers};
+use crate::meeting::{Machine, Untold, begin, bound, peer, peers};
 use crate::waits::wait_goes;
 use bsc_connections::{Awaited, Handled, Pace, Waiter};
 use bsc_sockets::{ConnectionSettings, Listening, SocketsError};
@@ -370,6 +369,35 @@ pub(crate) enum Besides {
     Programs,
 }
 
+/// Plays a script at a new station with these settings, which waits for this many peers, with the
+/// other end of its input and the programs that it serves.
+fn play_with(
+    rt: &HostRuntime,
+    wanted: (usize, ConnectionSettings),
+    (input, programs): (&TcpStream, &Programs),
+    script: &str,
+) -> Result<(), Fail> {
+    let (listening, address) = bound(rt)?;
+    let first = peer(rt, address)?;
+    let machine = Machine::with_far(rt, &first, &[]);
+    let mut scene = Scene {
+        rt,
+        machine: &machine,
+        address,
+        first: &first,
+        later: Vec::new(rt.alloc()),
+        input,
+        programs,
+    };
+    for _ in 1..wanted.0 {
+        scene.comes();
+    }
+    match first_wrong_at(&machine, listening, wanted, &mut scene, script)? {
+        Some(place) => Err(Fail::new(format_args!("word {place} of {script}"))),
+        None => Ok(()),
+    }
+}
+
 /// Plays a script at a new station with these settings, which waits for this many peers. The first
 /// one connects in any case.
 pub(crate) fn play(
@@ -386,24 +414,5 @@ pub(crate) fn play(
         Besides::Input => settings.stops_with = Some(own.as_raw_fd()),
         Besides::Programs => settings.serves = Some(programs.descriptor()),
     }
-    let (listening, address) = bound(rt)?;
-    let first = peer(rt, address)?;
-    let machine = Machine::with_far(rt, &first, &[]);
-    let mut scene = Scene {
-        rt,
-        machine: &machine,
-        address,
-        first: &first,
-        later: Vec::new(rt.alloc()),
-        input: &other,
-        programs: &programs,
-    };
-    for _ in 1..count {
-        scene.comes();
-    }
-    let wanted = (count, settings);
-    match first_wrong_at(&machine, listening, wanted, &mut scene, script)? {
-        Some(place) => Err(Fail::new(format_args!("word {place} of {script}"))),
-        None => Ok(()),
-    }
+    play_with(rt, (count, settings), (&other, &programs), script)
 }

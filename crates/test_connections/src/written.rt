@@ -1,7 +1,6 @@
 //! What is written while the system has no room for it.
 
-use crate::machine::Machine;
-use crate::meeting::{SHORT, Times, Untold, begin, bound, peer, peers};
+use crate::meeting::{Machine, SHORT, Times, Untold, begin, bound, peer, peers};
 use bsc_sockets::{Listening, SocketsError};
 use std::alloc::{AllocError, Global};
 use std::io::Write;
@@ -72,17 +71,21 @@ fn written_to<N: Net + Clock>(
     Ok(writes(machine, &mut begun.connections, octets))
 }
 
-/// The far end reads only while a write waits.
+/// Whether these octets are written in order to a far end that reads only while a write waits.
+fn are_written(rt: &HostRuntime, octets: &[u8]) -> Result<bool, Fail> {
+    let (listening, address) = bound(rt)?;
+    let far = peer(rt, address)?;
+    far.set_nonblocking(true)?;
+    let machine = Machine::with_far(rt, &far, octets);
+    match written_to(&machine, rt.alloc(), listening, &machine, octets)? {
+        Some(written) => Ok(is_read(&machine, written)),
+        None => Ok(false),
+    }
+}
+
 #[test]
 fn what_waits_for_room_is_written_in_order(rt: HostRuntime) -> Result<(), Fail> {
-    let (listening, address) = bound(&rt)?;
-    let far = peer(&rt, address)?;
-    far.set_nonblocking(true)?;
     let octets = counting(rt.alloc())?;
-    let machine = Machine::with_far(&rt, &far, &octets);
-    let Some(written) = written_to(&machine, rt.alloc(), listening, &machine, &octets)? else {
-        return Err("not written".into());
-    };
-    assert!(rt; is_read(&machine, written));
+    assert!(rt; are_written(&rt, &octets)?);
     Ok(())
 }
