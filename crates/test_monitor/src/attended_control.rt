@@ -1,7 +1,8 @@
 //! A control station attended over a scripted connection. The octets are those of docs/PROTOCOL.md.
 
 use crate::fakes::{
-    Counting, HEXADECIMAL, Scripted, Taking, Told, attend_station, connections, control_watch,
+    Counting, HEXADECIMAL, Scripted, TAKING, Taking, Told, attend_station, connection,
+    control_watch,
 };
 use crate::stations::{control_of, sending_control};
 use bsc_connections::{Connection, LiveError, SocketRecords};
@@ -177,7 +178,7 @@ fn attend_control(
     errors: &mut Vec<u8>,
 ) -> Result<(), LiveError> {
     let (_, trace, (rounds, idle_rounds), octets, steps, _, _) = *attended;
-    let mut connections = connections(alloc, octets)?;
+    let mut connections = connection(alloc, Told { fails: &[], octets }, TAKING)?;
     let records = HEXADECIMAL;
     let limits = Limits {
         rounds,
@@ -188,14 +189,19 @@ fn attend_control(
     attend_and_last(control, &mut connections, &mut Scripted { steps }, watch)
 }
 
+/// The control station of a line of two terminals, with the record HI for terminal 0 or without it.
+fn control_for(alloc: Global, sends: bool) -> Result<Box<Control<Global>>, Fail> {
+    if sends {
+        sending_control(alloc)
+    } else {
+        control_of(alloc, TWO_TERMINALS)
+    }
+}
+
 /// Whether a control station that is attended in this way prints what it should.
 fn prints(alloc: Global, attended: &Attended) -> Result<bool, Fail> {
     let (sends, _, _, _, _, printed, traced) = *attended;
-    let mut control = if sends {
-        sending_control(alloc)?
-    } else {
-        control_of(alloc, TWO_TERMINALS)?
-    };
+    let mut control = control_for(alloc, sends)?;
     let (mut out, mut trace) = (Vec::new(alloc), Vec::new(alloc));
     attend_control(alloc, &mut control, attended, &mut out, &mut trace)?;
     write_report(alloc, None, &*control, &mut out)?;

@@ -1,12 +1,11 @@
 //! A terminal attended over a scripted connection. The octets are those of docs/PROTOCOL.md.
 
 use crate::fakes::{
-    HEXADECIMAL, Scripted, TAKING, Taking, Told, attend_station, connection, connections,
-    terminal_watch,
+    HEXADECIMAL, Scripted, TAKING, Taking, Told, attend_station, connection, terminal_watch,
 };
-use crate::stations::sending_terminal;
+use crate::stations::terminal_of;
 use bsc_carrier::CarrierError;
-use bsc_connections::{Connection, LiveError, SocketRecords};
+use bsc_connections::LiveError;
 use bsc_monitor::{LineTerminal, Printing, RecordLines, Tracing, write_report};
 use bsc_print::Form;
 use std::alloc::Global;
@@ -57,12 +56,13 @@ const TEXT: Printing = Printing {
     trace: Tracing::Off,
 };
 
-const WHOLE: Attended = (
-    ALL,
-    TO_TERMINAL,
-    b"",
-    "to 0: 4849\nfrom 0: offered 1, known 1\nto 0: spooled 1\n  4849\n",
-    "+1 control heard CALL A 161604ff1616c185ff
+const ATTENDED: &[Attended] = &[
+    (
+        ALL,
+        TO_TERMINAL,
+        b"",
+        "to 0: 4849\nfrom 0: offered 1, known 1\nto 0: spooled 1\n  4849\n",
+        "+1 control heard CALL A 161604ff1616c185ff
 +2 terminal 0 sent TEXT ETX 1 161602c84919839bff
 +3 control heard ACK1 16161031ff
 +4 terminal 0 sent EOT 161604ff
@@ -73,11 +73,8 @@ const WHOLE: Attended = (
 +9 control heard EOT 161604ff
 +10 connection 0 closed
 ",
-    None,
-);
-
-const ATTENDED: &[Attended] = &[
-    WHOLE,
+        None,
+    ),
     // Without a trace, only faults of the connection are told.
     (
         TEXT,
@@ -103,33 +100,29 @@ const ATTENDED: &[Attended] = &[
     ),
 ];
 
-/// A connection of a terminal.
-type Ends = Connection<Told, Taking, SocketRecords>;
-
-/// Attends a terminal in this way over these connections. Returns the fault for which its
-/// connection was closed, if there was one.
+/// Attends a terminal in this way over a connection with these ends. Returns the fault for which
+/// the connection was closed, if there was one.
 fn attend_terminal<W: Write>(
     alloc: Global,
     terminal: &mut LineTerminal<Global>,
-    attended: &Attended,
-    connections: &mut [Ends],
+    (printing, steps): (Printing, &'static [u8]),
+    (told, taking): (Told, Taking),
     (out, trace): (&mut W, &mut Vec<u8>),
 ) -> Result<Option<CarrierError>, LiveError> {
-    let (printing, _, steps, _, _, _) = *attended;
+    let mut ends = connection(alloc, told, taking)?;
     let mut watch = terminal_watch(alloc, terminal, printing, out, trace)?;
-    let mut waiter = Scripted { steps };
-    attend_station(terminal, connections, &mut waiter, &mut watch)?;
+    attend_station(terminal, &mut ends, &mut Scripted { steps }, &mut watch)?;
     Ok(watch.closed())
 }
 
 /// Whether a terminal that is attended in this way prints what it should.
 fn prints(alloc: Global, attended: &Attended) -> Result<bool, Fail> {
-    let (printing, octets, _, printed, traced, why) = *attended;
-    let mut terminal = sending_terminal(alloc)?;
+    let (printing, octets, steps, printed, traced, why) = *attended;
+    let mut terminal = terminal_of(alloc, b"HI\n")?;
     let (mut out, mut trace) = (Vec::new(alloc), Vec::new(alloc));
-    let mut ends = connections(alloc, octets)?;
     let streams = (&mut out, &mut trace);
-    let closed = attend_terminal(alloc, &mut terminal, attended, &mut ends, streams)?;
+    let ends = (Told { fails: &[], octets }, TAKING);
+    let closed = attend_terminal(alloc, &mut terminal, (printing, steps), ends, streams)?;
     write_report(alloc, Some(printing.records.form), &*terminal, &mut out)?;
     let is_printed = out.as_slice() == printed.as_bytes();
     Ok(closed == why && is_printed && trace.as_slice() == traced.as_bytes())
@@ -152,11 +145,12 @@ const REFUSED_END: &[u8] = b"+5 control heard CALL a 161604ff16166185ff
 
 /// Whether a terminal ends with `Unprinted` over this output, and sends nothing after the text.
 fn refuses<W: Write>(alloc: Global, out: &mut W) -> Result<bool, Fail> {
-    let mut terminal = sending_terminal(alloc)?;
+    let mut terminal = terminal_of(alloc, b"HI\n")?;
     let mut trace = Vec::new(alloc);
-    let mut ends = connections(alloc, TO_TERMINAL)?;
     let streams = (out, &mut trace);
-    let ended = attend_terminal(alloc, &mut terminal, &WHOLE, &mut ends, streams);
+    let octets = TO_TERMINAL;
+    let ends = (Told { fails: &[], octets }, TAKING);
+    let ended = attend_terminal(alloc, &mut terminal, (ALL, b""), ends, streams);
     Ok(matches!(ended, Err(LiveError::Unprinted)) && trace.ends_with(REFUSED_END))
 }
 
@@ -207,16 +201,16 @@ fn fails(
     is_broken: bool,
     traced: &str,
 ) -> Result<bool, Fail> {
-    let mut terminal = sending_terminal(alloc)?;
+    let mut terminal = terminal_of(alloc, b"HI\n")?;
     let (mut out, mut trace) = (Vec::<u8>::new(alloc), Vec::new(alloc));
-    let octets = TO_TERMINAL;
     let taking = Taking {
         is_broken,
         ..TAKING
     };
-    let mut ends = connection(alloc, Told { fails, octets }, taking)?;
     let streams = (&mut out, &mut trace);
-    attend_terminal(alloc, &mut terminal, &WHOLE, &mut ends, streams)?;
+    let octets = TO_TERMINAL;
+    let ends = (Told { fails, octets }, taking);
+    attend_terminal(alloc, &mut terminal, (ALL, b""), ends, streams)?;
     Ok(trace.ends_with(traced.as_bytes()))
 }
 

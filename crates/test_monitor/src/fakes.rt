@@ -178,14 +178,6 @@ pub(crate) fn connection(
     }
 }
 
-/// A connection over these octets, without a fault.
-pub(crate) fn connections(
-    alloc: Global,
-    octets: &'static [u8],
-) -> Result<Vec<Connection<Told, Taking, SocketRecords>>, LiveError> {
-    connection(alloc, Told { fails: &[], octets }, TAKING)
-}
-
 /// Attends a station over these connections until its monitor ends it.
 pub(crate) fn attend_station<S: Station, M: Monitor<S>>(
     station: &mut S,

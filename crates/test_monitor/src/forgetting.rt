@@ -1,6 +1,6 @@
 //! What stations forget: at least 1,024 records at once, and no fewer than are left.
 
-use crate::stations::{add, card, control_of, offer_for, quiet_terminal};
+use crate::stations::{add, card, control_of, offer_for, terminal_of};
 use bsc_bid::KeptSender;
 use bsc_control::Control;
 use bsc_monitor::{Forgets, LineTerminal, Party};
@@ -10,7 +10,9 @@ use test_fixtures::configurations::{THREE_ADDRESSES, TWO_TERMINALS};
 
 /// How many records have arrived, how many of these are to be forgotten, once or twice, and how
 /// many are forgotten after that.
-const ROWS: &[(usize, &[usize], usize)] = &[
+type Row = (usize, &'static [usize], usize);
+
+const ROWS: &[Row] = &[
     (1_023, &[1_023], 0),
     (1_024, &[1_024], 1_024),
     (1_024, &[1_023], 0),
@@ -48,16 +50,27 @@ fn forgotten_of<S: Forgets>(station: &mut S, counts: &[usize]) -> Option<(usize,
     Some((records.len(), records.forgotten()))
 }
 
+/// Whether a control station forgets as many records as the row says.
+fn control_forgets(alloc: Global, row: &Row) -> Result<bool, Fail> {
+    let (arrived, counts, forgotten) = *row;
+    let mut control = control_of(alloc, TWO_TERMINALS)?;
+    let is_full = add(&mut control, 0, b"HI", arrived).is_some();
+    Ok(is_full && forgotten_of(&mut *control, counts) == Some((arrived, forgotten)))
+}
+
+/// Whether a terminal forgets as many records as the row says.
+fn terminal_forgets(alloc: Global, row: &Row) -> Result<bool, Fail> {
+    let (arrived, counts, forgotten) = *row;
+    let mut terminal = terminal_of(alloc, b"")?;
+    let is_full = add_to_terminal(&mut terminal, arrived).is_some();
+    Ok(is_full && forgotten_of(&mut *terminal, counts) == Some((arrived, forgotten)))
+}
+
 #[test]
 fn stations_forget_many_records_at_once(rt: HostRuntime) -> Result<(), Fail> {
-    for (arrived, counts, forgotten) in ROWS {
-        let due = Some((*arrived, *forgotten));
-        let mut control = control_of(rt.alloc(), TWO_TERMINALS)?;
-        assert!(rt; add(&mut control, 0, b"HI", *arrived).is_some());
-        assert!(rt; forgotten_of(&mut *control, *counts) == due);
-        let mut terminal = quiet_terminal(rt.alloc())?;
-        assert!(rt; add_to_terminal(&mut terminal, *arrived).is_some());
-        assert!(rt; forgotten_of(&mut *terminal, *counts) == due);
+    for row in ROWS {
+        let is_right = control_forgets(rt.alloc(), row)? && terminal_forgets(rt.alloc(), row)?;
+        assert!(rt; is_right, "{}", row.0);
     }
     Ok(())
 }
@@ -94,17 +107,25 @@ fn forgotten_on(control: &Control<Global>, (terminal, select): (usize, usize)) -
 /// How many records are offered, and how many are forgotten if all but 100 are known.
 const KNOWN: &[(usize, usize)] = &[(1_123, 0), (1_124, 1_024), (3_000, 2_900)];
 
+/// Whether a control station forgets this many of the records of each channel.
+fn forgets_known(alloc: Global, count: usize, forgotten: usize) -> Result<bool, Fail> {
+    let mut control = control_of(alloc, THREE_ADDRESSES)?;
+    for channel in CHANNELS {
+        offer_and_recall(alloc, &mut control, *channel, count)?;
+    }
+    control.forget_known();
+    for channel in CHANNELS {
+        if forgotten_on(&control, *channel) != Some(forgotten) {
+            return Ok(false);
+        }
+    }
+    Ok(true)
+}
+
 #[test]
 fn a_control_station_forgets_what_is_known(rt: HostRuntime) -> Result<(), Fail> {
     for (count, forgotten) in KNOWN {
-        let mut control = control_of(rt.alloc(), THREE_ADDRESSES)?;
-        for channel in CHANNELS {
-            offer_and_recall(rt.alloc(), &mut control, *channel, *count)?;
-        }
-        control.forget_known();
-        for channel in CHANNELS {
-            assert!(rt; forgotten_on(&control, *channel) == Some(*forgotten));
-        }
+        assert!(rt; forgets_known(rt.alloc(), *count, *forgotten)?, "{count}");
     }
     Ok(())
 }

@@ -1,4 +1,5 @@
-//! The stations of the tests, each with a store, and a monitor that prints at once.
+//! Two stations that exchange their records, each with a store and a monitor that prints at once,
+//! and are begun again from their stores.
 
 ghost use Rattle.std.specs.Prelude.{◌≡◌, ◌<◌, IfOk};
 
@@ -17,7 +18,7 @@ use test_fixtures::configurations::THREE_ADDRESSES;
 use test_memory::Memory;
 
 /// Returns the configuration of the tests.
-pub(crate) fn line(alloc: Global) -> Result<Config, Fail> {
+fn line(alloc: Global) -> Result<Config, Fail> {
     Ok(read_config(alloc, THREE_ADDRESSES.as_bytes())?)
 }
 
@@ -62,8 +63,8 @@ impl<S> Monitor<S> for Quiet {
 
 /// A station whose records are kept in memory.
 #[derive(Drop)]
-pub(crate) struct Kept<S: Drop> {
-    pub(crate) station: S,
+struct Kept<S: Drop> {
+    station: S,
     watch: Quiet,
     keeper: Keeper<Memory>,
 }
@@ -89,7 +90,7 @@ impl<S: Station + Party + Sends + Drop> Kept<S> {
     }
 
     /// Hears these octets, and returns whether the wire has an answer that may be sent.
-    pub(crate) fn hear(&mut self, octets: &[u8], wire: &mut Wire) -> Result<bool, LiveError> {
+    fn hear(&mut self, octets: &[u8], wire: &mut Wire) -> Result<bool, LiveError> {
         let is_sent = self.station.hear(octets, wire);
         let connection = 0;
         self.note(Note::Heard { connection, octets })?;
@@ -97,7 +98,7 @@ impl<S: Station + Party + Sends + Drop> Kept<S> {
     }
 
     /// Acts on a silence, and returns whether the wire has something that may be sent.
-    pub(crate) fn silence(&mut self, wire: &mut Wire) -> Result<bool, LiveError> {
+    fn silence(&mut self, wire: &mut Wire) -> Result<bool, LiveError> {
         let is_sent = self.station.silence(wire);
         self.note(Note::Silence)?;
         Ok(is_sent)
@@ -113,28 +114,23 @@ impl<S: Station + Party + Sends + Drop> Kept<S> {
     }
 
     /// Keeps a record that is offered to this selection address of this terminal, and returns it.
-    pub(crate) fn offer(
-        &mut self,
-        terminal: usize,
-        select: usize,
-        new: Record,
-    ) -> Result<Record, StoreFault> {
+    fn offer(&mut self, terminal: usize, select: usize, new: Record) -> Result<Record, StoreFault> {
         self.keeper.offer(terminal, select, new)
     }
 
     /// Returns why a step was not kept.
-    pub(crate) fn fault(&self) -> Option<StoreFault> {
+    fn fault(&self) -> Option<StoreFault> {
         self.keeper.fault()
     }
 
     /// Ends the process of the station, and returns what outlives it.
-    pub(crate) fn into_store(self) -> Memory {
+    fn into_store(self) -> Memory {
         self.keeper.into_store()
     }
 }
 
 /// Returns the control station of the line, made again from its store.
-pub(crate) fn control(
+fn control(
     alloc: Global,
     config: &Config,
     store: Memory,
@@ -146,7 +142,7 @@ pub(crate) fn control(
 }
 
 /// Returns terminal 0 of the line, made again from its store.
-pub(crate) fn terminal(
+fn terminal(
     alloc: Global,
     config: &Config,
     store: Memory,
@@ -161,7 +157,142 @@ pub(crate) fn terminal(
 }
 
 /// The record with this number, 0 to 999.
-pub(crate) fn record(number: usize) -> Result<Record, Fail> {
+fn record(number: usize) -> Result<Record, Fail> {
     let digit = |unit: usize| b'0' + (number / unit % 10) as u8;
     Ok(Record::read(&[digit(100), digit(10), digit(1)], 80)?)
+}
+
+/// How many records each channel carries.
+const RECORDS: usize = 12;
+
+/// The control station and a terminal.
+#[derive(Drop)]
+struct Stations {
+    control: Box<Kept<Control<Global>>>,
+    terminal: Box<Kept<LineTerminal<Global>>>,
+}
+
+/// Returns the line whose stations begin with these stores.
+fn line_of(alloc: Global, config: &Config, stores: (Memory, Memory)) -> Result<Stations, Fail> {
+    let (outward, inward) = stores;
+    Ok(Stations {
+        control: control(alloc, config, outward)?,
+        terminal: terminal(alloc, config, inward)?,
+    })
+}
+
+/// Keeps all records for a selection address of terminal 0. Each is given back.
+fn offer_all<S: Station + Party + Sends + Drop>(
+    station: &mut Kept<S>,
+    select: usize,
+) -> Result<(), Fail> {
+    for number in 0..RECORDS {
+        let given_back = station.offer(0, select, record(number)?)?;
+        if given_back.chars() != record(number)?.chars() {
+            return Err(Fail::new("another record"));
+        }
+    }
+    Ok(())
+}
+
+/// Returns the line whose stations begin with all records to send in their stores.
+fn line_to_send(alloc: Global, config: &Config) -> Result<Stations, Fail> {
+    let mut line = line_of(alloc, config, (Memory::new(alloc), Memory::new(alloc)))?;
+    offer_all(&mut *line.control, 0)?;
+    offer_all(&mut *line.control, 1)?;
+    offer_all(&mut *line.terminal, 0)?;
+    line_of(alloc, config, stores_left_by(line))
+}
+
+/// Whether a station has received all records of the channel with this number, each once and in
+/// order.
+fn has_all<S: Party>(station: &S, number: usize) -> Result<bool, Fail> {
+    if number >= station.spools() {
+        return Ok(false);
+    }
+    let records = station.received(number).records;
+    for place in 0..records.len() {
+        if records.chars(place) != record(place)?.chars() {
+            return Ok(false);
+        }
+    }
+    Ok(records.len() == RECORDS)
+}
+
+/// Whether all records of the line have arrived.
+fn arrived(line: &Stations) -> Result<bool, Fail> {
+    let is_outward = has_all(&line.terminal.station, 0)? && has_all(&line.terminal.station, 1)?;
+    Ok(is_outward && has_all(&line.control.station, 0)?)
+}
+
+/// Lets the control station act on a silence, and each station hear what the other one sends.
+fn exchange(line: &mut Stations) -> Result<(), Fail> {
+    let (mut wire, mut answer) = (Wire::new(), Wire::new());
+    let mut is_sent = line.control.silence(&mut wire)?;
+    for _ in 0..200u8 {
+        if !is_sent || !line.terminal.hear(&wire, &mut answer)? {
+            return Ok(());
+        }
+        wire = Wire::new();
+        is_sent = line.control.hear(&answer, &mut wire)?;
+        answer = Wire::new();
+    }
+    Ok(())
+}
+
+/// Ends the processes of both stations. Returns what outlives them.
+fn stores_left_by(line: Stations) -> (Memory, Memory) {
+    let Stations { control, terminal } = line;
+    (
+        Box::into_inner(control).into_store(),
+        Box::into_inner(terminal).into_store(),
+    )
+}
+
+/// Lets the stations exchange what they have to send, and returns whether all records have arrived.
+fn exchanges(line: &mut Stations) -> Result<bool, Fail> {
+    for _ in 0..100u8 {
+        exchange(line)?;
+    }
+    arrived(line)
+}
+
+/// A record that was not kept as known would arrive twice.
+#[test]
+fn all_records_arrive_and_are_there_when_both_begin_again(rt: HostRuntime) -> Result<(), Fail> {
+    let config = line(rt.alloc())?;
+    let mut line = line_to_send(rt.alloc(), &config)?;
+    assert!(rt; exchanges(&mut line)?);
+    let mut again = line_of(rt.alloc(), &config, stores_left_by(line))?;
+    assert!(rt; arrived(&again)? && exchanges(&mut again)?);
+    Ok(())
+}
+
+/// The fault with which an offer for an address of terminal 0 fails at a store with so many commits
+/// left, if the keeper has it too.
+fn fault_of(
+    alloc: Global,
+    config: &Config,
+    left: u32,
+    select: usize,
+) -> Result<Option<StoreFault>, Fail> {
+    let record = record(9)?;
+    let mut store = Memory::new(alloc);
+    store.left = left;
+    let mut station = control(alloc, config, store)?;
+    let fault = station.offer(0, select, record).err();
+    Ok(if station.fault() == fault {
+        fault
+    } else {
+        None
+    })
+}
+
+/// A store that is full, and an address that is not there.
+#[test]
+fn an_offer_is_refused_by_name(rt: HostRuntime) -> Result<(), Fail> {
+    let config = line(rt.alloc())?;
+    assert!(rt; fault_of(rt.alloc(), &config, 0, 0)? == Some(StoreFault::Full));
+    assert!(rt; fault_of(rt.alloc(), &config, 9, 2)? == Some(StoreFault::Refused));
+    Ok(())
 }

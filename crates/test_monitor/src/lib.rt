@@ -10,13 +10,9 @@ mod attended_control;
 #[cfg(test)]
 mod attended_terminal;
 #[cfg(test)]
-mod beginning;
-#[cfg(test)]
 mod fakes;
 #[cfg(test)]
 mod forgetting;
-#[cfg(test)]
-mod kept_exchanges;
 #[cfg(test)]
 mod kept_stations;
 #[cfg(test)]

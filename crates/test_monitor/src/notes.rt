@@ -1,19 +1,60 @@
-//! The lines of a trace, and what is said of trust, for the notes that a watch receives.
+//! The lines printed while a station begins, the lines of a trace, and what is said of trust, for
+//! the notes that a watch receives.
 
-use crate::beginning::address;
 use crate::fakes::{HEXADECIMAL, control_watch, tell_each, trust_of};
 use crate::stations::control_of;
 use bsc_carrier::CarrierError;
 use bsc_connections::{LiveError, Note, Refusal};
 use bsc_control::Control;
-use bsc_monitor::{Limits, Printing, Tracing, write_trust};
+use bsc_monitor::{Beginning, Limits, Printing, Tracing, write_trust};
+use bsc_print::PrintError;
+use bsc_progress::{Meter, Unmetered};
 use std::alloc::Global;
 use std::io::Write;
-use std::net::SocketAddr;
+use std::net::{Ipv4Addr, SocketAddr, SocketAddrV4};
 use std::test::Fail;
 use test_fixtures::Full;
 use test_fixtures::configurations::TWO_TERMINALS;
 use test_fixtures::octets::{ACK1, CALL_POLL_A, ENQ, EOT, NOISE, TEXT_HI};
+
+/// The address at which a station listens, and that of its peer.
+fn address() -> SocketAddr {
+    SocketAddr::V4(SocketAddrV4::new(Ipv4Addr::LOCALHOST, 2_780))
+}
+
+const LINES: &[u8] = b"listening at 127.0.0.1:2780
+serving programs at 127.0.0.1:2780
+waiting for terminals: 1 of 12 connected
+waiting for the control station
+connection 3 from 127.0.0.1:2780 joined
+connection 3 from 127.0.0.1:2780 closed
+refused 127.0.0.1:2780: its address is not allowed
+";
+
+/// The octets of the same lines with their times, `+0 `.
+const TRACED: usize = LINES.len() + 7 * 3;
+
+/// Writes each of the lines.
+fn tell_lines<W: Write>(lines: Beginning, out: &mut W) -> Result<(), PrintError> {
+    lines.write_listening(address(), out)?;
+    lines.write_serving(address(), out)?;
+    lines.write_waiting(1, 12, out)?;
+    lines.write_waiting_for_control(out)?;
+    lines.write_joined(3, address(), out)?;
+    lines.write_left(3, Some(address()), out)?;
+    lines.write_refused(address(), out)
+}
+
+/// In a trace each line has a time.
+#[test]
+fn a_station_says_where_it_is_and_for_what_it_waits(rt: HostRuntime) -> Result<(), Fail> {
+    let (mut out, mut traced) = (Vec::new(rt.alloc()), Vec::new(rt.alloc()));
+    tell_lines(Beginning { trace: false }, &mut out)?;
+    tell_lines(Beginning { trace: true }, &mut traced)?;
+    assert!(rt; out.as_slice() == LINES && traced.len() == TRACED);
+    assert!(rt; !Unmetered.is_due());
+    Ok(())
+}
 
 /// Notes of a peer with this address, if it is known.
 fn notes_of_peer(peer: Option<SocketAddr>) -> [Note<'static>; 4] {
@@ -90,7 +131,7 @@ const TRACE: &[u8] = b"+1 silence
 fn tell<W: Write>(
     alloc: Global,
     control: &Control<Global>,
-    (trace, asked, time_out): (Tracing, u64, u64),
+    (trace, asked, time_out): Settings,
     notes: &[&[Note<'_>]],
     errors: &mut W,
 ) -> Result<(), LiveError> {
@@ -111,16 +152,29 @@ fn tell<W: Write>(
     Ok(())
 }
 
-const ALL: (Tracing, u64, u64) = (Tracing::All, 0, 1_000);
+/// How notes are told: the trace, how often the clock was read, and the time-out.
+type Settings = (Tracing, u64, u64);
+
+const ALL: Settings = (Tracing::All, 0, 1_000);
+
+/// Whether this text is told of these notes at a control station.
+fn is_told(
+    alloc: Global,
+    settings: Settings,
+    notes: &[&[Note<'_>]],
+    text: &[u8],
+) -> Result<bool, Fail> {
+    let control = control_of(alloc, TWO_TERMINALS)?;
+    let mut told = Vec::new(alloc);
+    tell(alloc, &control, settings, notes, &mut told)?;
+    Ok(told.as_slice() == text)
+}
 
 #[test]
 fn a_trace_has_a_line_for_each_note(rt: HostRuntime) -> Result<(), Fail> {
-    let control = control_of(rt.alloc(), TWO_TERMINALS)?;
-    let mut trace = Vec::new(rt.alloc());
     let (strangers, peers) = (notes_of_peer(None), notes_of_peer(Some(address())));
     let notes: &[&[Note<'static>]] = &[NOTES, &strangers, &peers];
-    tell(rt.alloc(), &control, ALL, notes, &mut trace)?;
-    assert!(rt; trace.as_slice() == TRACE);
+    assert!(rt; is_told(rt.alloc(), ALL, notes, TRACE)?);
     Ok(())
 }
 
@@ -131,34 +185,6 @@ fn a_line_of_a_trace_that_is_not_taken_is_told(rt: HostRuntime) -> Result<(), Fa
     for left in 0..NOTES.len() {
         let told = tell(rt.alloc(), &control, ALL, &[NOTES], &mut Full { left });
         assert!(rt; matches!(told, Err(LiveError::Output)), "{left}");
-    }
-    Ok(())
-}
-
-/// Times of a clock, and the line of a silence after each.
-const TIMES: &[(u64, &str)] = &[
-    (65_535, "+65536 silence\n"),
-    (4_294_967_295, "+4294967296 silence\n"),
-    (
-        18_446_744_073_709_551_614,
-        "+18446744073709551615 silence\n",
-    ),
-];
-
-#[test]
-fn a_line_of_a_trace_has_its_time_after_years(rt: HostRuntime) -> Result<(), Fail> {
-    let control = control_of(rt.alloc(), TWO_TERMINALS)?;
-    for (asked, line) in TIMES {
-        let mut trace = Vec::new(rt.alloc());
-        let settings = (Tracing::All, *asked, 1_000);
-        tell(
-            rt.alloc(),
-            &control,
-            settings,
-            &[&[Note::Silence]],
-            &mut trace,
-        )?;
-        assert!(rt; trace.as_slice() == line.as_bytes(), "{line}");
     }
     Ok(())
 }
@@ -202,37 +228,46 @@ const WITHHELD_REPLY: &[Note<'static>] = &[
     REPLIED,
 ];
 
-/// What happens at a control station with a time-out of so many milliseconds, and what is told
-/// without a trace.
-const TIMED: &[(&[Note<'static>], u64, &str)] = &[
-    (LATE_ANSWER, 3, ""),
+const SILENCE: &[Note<'static>] = &[Note::Silence];
+
+/// What happens at a control station, and what is told of it: a line of a trace has its time after
+/// years, and without a trace what is late is told. The times are those of the clock.
+const TIMED: &[(Settings, &[Note<'static>], &str)] = &[
+    ((Tracing::All, 65_535, 1_000), SILENCE, "+65536 silence\n"),
     (
+        (Tracing::All, 4_294_967_295, 1_000),
+        SILENCE,
+        "+4294967296 silence\n",
+    ),
+    (
+        (Tracing::All, 18_446_744_073_709_551_614, 1_000),
+        SILENCE,
+        "+18446744073709551615 silence\n",
+    ),
+    ((Tracing::Off, 0, 3), LATE_ANSWER, ""),
+    (
+        (Tracing::Off, 0, 2),
         LATE_ANSWER,
-        2,
         "not trusted: an answer took longer than the time-out\n",
     ),
-    (LATE_REPLY, 3, ""),
+    ((Tracing::Off, 0, 3), LATE_REPLY, ""),
     (
+        (Tracing::Off, 0, 2),
         LATE_REPLY,
-        2,
         "not trusted: a reply was sent later than the time-out\n",
     ),
     (
+        (Tracing::Off, 0, 2),
         WITHHELD_REPLY,
-        2,
         "a transmission was withheld: it would have been late\n",
     ),
 ];
 
-/// The times are those of the clock.
 #[test]
-fn what_is_late_is_told(rt: HostRuntime) -> Result<(), Fail> {
-    let control = control_of(rt.alloc(), TWO_TERMINALS)?;
-    for (notes, time_out, wanted) in TIMED {
-        let mut told = Vec::new(rt.alloc());
-        let settings = (Tracing::Off, 0, *time_out);
-        tell(rt.alloc(), &control, settings, &[*notes], &mut told)?;
-        assert!(rt; told.as_slice() == wanted.as_bytes(), "{time_out}");
+fn lines_have_their_times_and_what_is_late_is_told(rt: HostRuntime) -> Result<(), Fail> {
+    for (settings, notes, text) in TIMED {
+        let is_right = is_told(rt.alloc(), *settings, &[*notes], text.as_bytes())?;
+        assert!(rt; is_right, "{text}");
     }
     Ok(())
 }

@@ -46,18 +46,25 @@ fn is_refused(alloc: Global, control: &Control<Global>) -> bool {
     print_some(alloc, LINES, control, &mut [0; 2], 2, &mut Full { left: 1 }).is_err()
 }
 
+/// Whether the records are printed in turns.
+fn are_printed(alloc: Global, control: &Control<Global>) -> bool {
+    let mut printed = [0; 2];
+    for (most, left, text) in TURNS {
+        let mut out = Vec::new(alloc);
+        let told = print_turn(alloc, control, &mut printed, *most, &mut out);
+        if told != Some(*left) || out.as_slice() != text.as_bytes() {
+            return false;
+        }
+    }
+    true
+}
+
 #[test]
 fn records_are_printed_in_turns(rt: HostRuntime) -> Result<(), Fail> {
     let mut control = control_of(rt.alloc(), TWO_TERMINALS)?;
-    assert!(rt; add(&mut control, 0, b"A", 2).is_some());
-    assert!(rt; add(&mut control, 1, b"B", 3).is_some());
-    let mut printed = [0; 2];
-    for (most, left, text) in TURNS {
-        let mut out = Vec::new(rt.alloc());
-        let told = print_turn(rt.alloc(), &control, &mut printed, *most, &mut out);
-        assert!(rt; told == Some(*left) && out.as_slice() == text.as_bytes());
-    }
-    assert!(rt; is_refused(rt.alloc(), &control));
+    let is_full = add(&mut control, 0, b"A", 2).is_some()
+        && add(&mut control, 1, b"B", 3).is_some();
+    assert!(rt; is_full && are_printed(rt.alloc(), &control) && is_refused(rt.alloc(), &control));
     Ok(())
 }
 

@@ -4,7 +4,7 @@ ghost use Rattle.std.specs.Prelude.{◌≡◌};
 
 use bsc_bid::Setup;
 use bsc_block::Record;
-use bsc_config::{Config, read_config};
+use bsc_config::read_config;
 use bsc_control::Control;
 use bsc_monitor::{
     LineTerminal, new_control, new_terminal, offer_at_terminal, offer_for_terminal, read_records,
@@ -27,30 +27,15 @@ fn offer_at(
     Ok(offer_at_terminal(terminal, records)?)
 }
 
-/// Terminal 0 of a line, with the records of this text to send.
-fn terminal_of(
-    alloc: Global,
-    config: &Config,
-    text: &[u8],
-) -> Result<Box<LineTerminal<Global>>, Fail> {
+/// Terminal 0 of a line of two, with the records of this text to send.
+pub(crate) fn terminal_of(alloc: Global, text: &[u8]) -> Result<Box<LineTerminal<Global>>, Fail> {
+    let config = read_config(alloc, TWO_TERMINALS.as_bytes())?;
     if config.terminals() == 0 {
         return Err(Fail::new("no terminal"));
     }
-    let mut terminal = Box::new(alloc, new_terminal(alloc, config, 0))?;
+    let mut terminal = Box::new(alloc, new_terminal(alloc, &config, 0))?;
     offer_at(alloc, &mut terminal, config.setup(), text)?;
     Ok(terminal)
-}
-
-/// Terminal 0 of a line of two, with the record HI to send.
-pub(crate) fn sending_terminal(alloc: Global) -> Result<Box<LineTerminal<Global>>, Fail> {
-    let config = read_config(alloc, TWO_TERMINALS.as_bytes())?;
-    terminal_of(alloc, &config, b"HI\n")
-}
-
-/// Terminal 0 of a line of two, with nothing to send.
-pub(crate) fn quiet_terminal(alloc: Global) -> Result<Box<LineTerminal<Global>>, Fail> {
-    let config = read_config(alloc, TWO_TERMINALS.as_bytes())?;
-    terminal_of(alloc, &config, b"")
 }
 
 /// The control station of the line that a document describes, with nothing to send.
