@@ -7,10 +7,6 @@
 #[cfg(test)]
 mod faults;
 #[cfg(test)]
-mod growths;
-#[cfg(test)]
 mod ladders;
 #[cfg(test)]
 mod pictures;
-#[cfg(test)]
-mod sizes;
