@@ -12,13 +12,9 @@ mod control;
 #[cfg(test)]
 mod ends;
 #[cfg(test)]
-mod forgetting;
-#[cfg(test)]
 mod growths;
 #[cfg(test)]
 mod hearing;
-#[cfg(test)]
-mod lengths;
 #[cfg(test)]
 mod most;
 #[cfg(test)]
@@ -29,5 +25,3 @@ mod receivers;
 mod settings;
 #[cfg(test)]
 mod tributary;
-#[cfg(test)]
-mod turns;
