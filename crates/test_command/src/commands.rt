@@ -1,6 +1,6 @@
 //! Words and standard input of the command, and its texts and statuses.
 
-use crate::cases::answer_to;
+use crate::cases::run;
 use crate::machine::SILENT;
 use crate::record::Record;
 use crate::session::play;
@@ -44,26 +44,8 @@ $ run none.toml script.txt
 $ station none.toml --terminal 0 --connect h:1
 ! bscline: cannot read none.toml: no such file
 asks nothing
-";
-
-#[test]
-fn words_give_texts_and_a_status(rt: HostRuntime) -> Result<(), Fail> {
-    play(rt.alloc(), COMMANDS)
-}
-
-/// The words could not be read.
-#[test]
-fn words_without_memory_are_no_usage(rt: HostRuntime) -> Result<(), Fail> {
-    let (alloc, mut input) = (rt.alloc(), b"16 04".as_slice());
-    let (fault, record) = (Fault::OutOfMemory, Record::new(alloc));
-    let answer = answer_to(alloc, Err(fault), &mut input, SILENT, &record)?;
-    assert!(rt; answer.is("", "bscline: out of memory\n", 1));
-    Ok(())
-}
-
-/// The names of traces, what is drawn of them in the width of the terminal, and the faults.
-const TRACES: &str = "\
 $ chart --ascii -
+// The names of traces, what is drawn of them in the width of the terminal, and the faults.
 < +5 silence
 >     time control            0|       5 :. silence ........:
 $ chart trace.txt --ascii
@@ -92,8 +74,18 @@ $ chart --ascii broken
 ";
 
 #[test]
-fn named_traces(rt: HostRuntime) -> Result<(), Fail> {
-    play(rt.alloc(), TRACES)
+fn words_and_named_traces_give_texts_and_a_status(rt: HostRuntime) -> Result<(), Fail> {
+    play(rt.alloc(), COMMANDS)
+}
+
+/// The words could not be read.
+#[test]
+fn words_without_memory_are_no_usage(rt: HostRuntime) -> Result<(), Fail> {
+    let (record, mut input) = (Record::new(rt.alloc()), b"16 04".as_slice());
+    let words = Err(Fault::OutOfMemory);
+    let status = run(rt.alloc(), words, &mut input, SILENT, &record)?;
+    assert!(rt; status == 1 && record.has_printed("", "bscline: out of memory\n"));
+    Ok(())
 }
 
 /// Options that contradict one another or do not fit the configuration.
@@ -126,16 +118,8 @@ $ store k arrived x
 usage CHANNEL takes T or T.S
 $ store k release 0 4294967296
 usage COUNT takes a number, 0 to 4294967295
-";
-
-#[test]
-fn contradicting_options_are_refused(rt: HostRuntime) -> Result<(), Fail> {
-    play(rt.alloc(), OPTIONS)
-}
-
-/// What is wrong with a text or a record is found before connections are made.
-const EARLY: &str = "\
 $ station line.toml --terminal 0 --connect h:1 --offer none.txt
+// What is wrong with a text or a record is found before connections are made.
 ! bscline: cannot read none.txt: no such file
 asks nothing
 $ station line.toml --terminal 0 --connect h:1 --offer -
@@ -145,6 +129,6 @@ asks nothing
 ";
 
 #[test]
-fn all_is_read_and_checked_before_connections_are_made(rt: HostRuntime) -> Result<(), Fail> {
-    play(rt.alloc(), EARLY)
+fn options_and_offers_are_checked_before_connections_are_made(rt: HostRuntime) -> Result<(), Fail> {
+    play(rt.alloc(), OPTIONS)
 }

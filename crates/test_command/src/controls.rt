@@ -1,8 +1,5 @@
 //! Control stations by their words, over scripted connections.
 
-use crate::cases::ask;
-use crate::machine::{SILENT, Scene};
-use crate::record::Record;
 use crate::session::play;
 use std::test::Fail;
 
@@ -44,56 +41,9 @@ steps t
 sent 11
 # +0 silence|+0 control sent CALL c 161604ff1616e385ff|+0 connection 0 closed
 status 4
-";
-
-#[test]
-fn a_control_station_that_listens_goes_on_when_its_peer_closes(
-    rt: HostRuntime,
-) -> Result<(), Fail> {
-    play(rt.alloc(), ENDS)
-}
-
-/// Options of a control station whose terminals answer EOT to each call, and how many octets it
-/// sends. Without limits there are two idle rounds.
-const ROUNDS: &[(&str, usize)] = &[
-    ("", 55),
-    ("--rounds 1", 33),
-    ("--idle-rounds 1", 33),
-    ("--rounds 2 --idle-rounds 3", 55),
-    ("--rounds 9 --idle-rounds 3", 77),
-    ("--rounds 300 --idle-rounds 18446744073709551615", 6611),
-    ("--rounds 18446744073709551615 --idle-rounds 300", 6611),
-];
-
-/// What it prints.
-const IDLE_PRINTED: &str = "from 0: spooled 0\nto 0: offered 0, known 0\nfrom 1: spooled 0\n\
-    to 1: offered 0, known 0\nslowest answer: 0% of the time-out\ntrusted\n";
-
-/// Each call has eleven octets; the answer to the one after the last round is heard.
-#[test]
-fn a_control_station_ends_after_exactly_its_rounds(rt: HostRuntime) -> Result<(), Fail> {
-    let scene = Scene {
-        hears: "eot",
-        times: 601,
-        steps: "t",
-        ..SILENT
-    };
-    for (options, sent) in ROUNDS {
-        let (alloc, record) = (rt.alloc(), Record::new(rt.alloc()));
-        let words = format!(in alloc;
-            "station line.toml --control --listen h:1 --shared {options}"
-        )?;
-        let answer = ask(alloc, &words, "", scene, &record)?;
-        assert!(rt; answer.is(IDLE_PRINTED, "", 0), "{options}");
-        assert!(rt; record.sent.get() == *sent, "{options}");
-    }
-    Ok(())
-}
-
-/// The last call is answered, also when each transmission ends at a gap; and a station that is
-/// asked to end does so after its visit.
-const LAST_CALLS: &str = "\
 $ station line.toml --control --listen h:1 --shared --rounds 1 --trace --trace
+// The last call is answered, also when each transmission ends at a gap; and a station that is
+// asked to end does so after its visit.
 hears eot eot eot eot eot
 steps trrr
 > from 0: spooled 0|to 0: offered 0, known 0|from 1: spooled 0|to 1: offered 0, known 0
@@ -118,8 +68,45 @@ sent 22
 ";
 
 #[test]
-fn the_last_call_of_a_control_station_is_answered(rt: HostRuntime) -> Result<(), Fail> {
-    play(rt.alloc(), LAST_CALLS)
+fn a_control_station_goes_on_when_its_peer_closes_and_ends_after_its_last_call(
+    rt: HostRuntime,
+) -> Result<(), Fail> {
+    play(rt.alloc(), ENDS)
+}
+
+/// A control station whose terminals answer EOT to each call, with these options, and how many
+/// octets it sends.
+macro_rules! rounds {
+    ($options:literal, $sent:literal) => {
+        concat!(
+            "$ station line.toml --control --listen h:1 --shared ",
+            $options,
+            "\nhears eot\ntimes 601\nsteps t\n> from 0: spooled 0|to 0: offered 0, known 0\n\
+            > from 1: spooled 0|to 1: offered 0, known 0\n\
+            > slowest answer: 0% of the time-out|trusted\nsent ",
+            $sent
+        )
+    };
+}
+
+/// Without limits there are two idle rounds. Each call has eleven octets; the answer to the one
+/// after the last round is heard.
+const ROUNDS: &[&str] = &[
+    rounds!("", "55"),
+    rounds!("--rounds 1", "33"),
+    rounds!("--idle-rounds 1", "33"),
+    rounds!("--rounds 2 --idle-rounds 3", "55"),
+    rounds!("--rounds 9 --idle-rounds 3", "77"),
+    rounds!("--rounds 300 --idle-rounds 18446744073709551615", "6611"),
+    rounds!("--rounds 18446744073709551615 --idle-rounds 300", "6611"),
+];
+
+#[test]
+fn a_control_station_ends_after_exactly_its_rounds(rt: HostRuntime) -> Result<(), Fail> {
+    for sessions in ROUNDS {
+        play(rt.alloc(), *sessions)?;
+    }
+    Ok(())
 }
 
 /// A record arrives from terminal 1: its output, its trace and the progress. If the disk fails, the

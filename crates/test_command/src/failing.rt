@@ -71,16 +71,8 @@ status 7
 keeps 99
 hears call-a text
 > to 0: 4849|to 0: 4849|from 0: offered 0, known 0|to 0: spooled 2
-";
-
-#[test]
-fn a_station_whose_store_fails_has_status_seven(rt: HostRuntime) -> Result<(), Fail> {
-    play(rt.alloc(), FAILING)
-}
-
-/// A work on a store that fails tells why, and does nothing.
-const FAILING_WORKS: &str = "\
 $ store kept offer 0 -
+// A work on a store that fails tells why, and does nothing.
 < ONE|TWO
 > from 0: offered 2
 & station line.toml --terminal 0 --connect h:1 --store kept
@@ -102,8 +94,10 @@ keeps 0
 ";
 
 #[test]
-fn a_work_whose_store_fails_tells_why(rt: HostRuntime) -> Result<(), Fail> {
-    play(rt.alloc(), FAILING_WORKS)
+fn a_station_whose_store_fails_has_status_seven_and_a_work_tells_why(
+    rt: HostRuntime,
+) -> Result<(), Fail> {
+    play(rt.alloc(), FAILING)
 }
 
 /// The terminal acknowledges both records, and prints them once it has ended, once. If it fails

@@ -31,7 +31,7 @@ fn charting(error: ChartError) -> Fault {
 }
 
 /// The fault of a run.
-fn running(error: RunningError) -> Fault {
+pub(crate) fn running(error: RunningError) -> Fault {
     Fault::Running { error }
 }
 
@@ -41,30 +41,43 @@ fn attending(error: AttendingError) -> Fault {
 }
 
 #[test]
-fn faults_are_told_in_a_line(rt: HostRuntime) -> Result<(), Fail> {
-    let path = String::from_str(rt.alloc(), "line.toml")?;
-    let why = Unreadable::NotInADirectory;
-    let faults = [
+fn faults_of_transmissions_and_traces_are_told_in_a_line(rt: HostRuntime) -> Result<(), Fail> {
+    let naming = [
         Fault::from(NamingError::NotHexadecimalAt { line: 7 }),
         Fault::from(NamingError::TooLongAt { line: 7 }),
         Fault::from(NamingError::Memory),
+    ];
+    let lines = "bscline: line 7: not hexadecimal
+bscline: line 7: too long
+bscline: out of memory
+";
+    assert!(rt; are_told(rt.alloc(), &naming, 1, lines));
+    let drawing = [
         charting(ChartError::TooLongAt { line: 7 }),
         charting(ChartError::TooMany),
         charting(ChartError::Output),
         charting(ChartError::Memory),
+    ];
+    let lines = "bscline: line 7: too long
+bscline: more than 5000 arrows or 20000 rows: draw a part with --from and --to
+bscline: output fault
+bscline: out of memory
+";
+    assert!(rt; are_told(rt.alloc(), &drawing, 1, lines));
+    Ok(())
+}
+
+#[test]
+fn faults_of_runs_and_stations_are_told_in_a_line(rt: HostRuntime) -> Result<(), Fail> {
+    let path = String::from_str(rt.alloc(), "line.toml")?;
+    let why = Unreadable::NotInADirectory;
+    let faults = [
         running(RunningError::from(TextError::CannotRead { path, why })),
         running(RunningError::from(LoopbackError::Memory)),
         attending(AttendingError::from(SocketsError::Memory)),
         attending(AttendingError::from(LiveError::Memory)),
     ];
-    let lines = "bscline: line 7: not hexadecimal
-bscline: line 7: too long
-bscline: out of memory
-bscline: line 7: too long
-bscline: more than 5000 arrows or 20000 rows: draw a part with --from and --to
-bscline: output fault
-bscline: out of memory
-bscline: cannot read line.toml: not in a directory
+    let lines = "bscline: cannot read line.toml: not in a directory
 bscline: out of memory
 bscline: out of memory
 bscline: out of memory

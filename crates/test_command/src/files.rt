@@ -9,8 +9,7 @@ use std::io::ErrorKind;
 use test_fixtures::configurations::{THREE_ADDRESSES, TWO_TERMINALS};
 
 /// A record is offered at terminal 0, which is then polled.
-pub(crate) const POLLED: &str =
-    "offer-at 0 HI\nsilence\ncarry\ncarry\ncarry\ncarry\ncarry\ncarry\n";
+const POLLED: &str = "offer-at 0 HI\nsilence\ncarry\ncarry\ncarry\ncarry\ncarry\ncarry\n";
 
 /// The output of `POLLED` on a line of two terminals.
 pub(crate) const POLLED_PRINTED: &str = "control CALL A

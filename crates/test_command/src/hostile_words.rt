@@ -1,10 +1,11 @@
 //! Words, paths and keys with line feeds and with codes that a terminal obeys: each fault is one
 //! line, and the text of wrong usage has its own lines only.
 
-use crate::cases::{answer_of, ask};
-use crate::faults::are_told;
+use crate::cases::run;
+use crate::faults::{are_told, running};
 use crate::machine::SILENT;
 use crate::record::Record;
+use crate::session::play;
 use bsc_attending::AttendingError;
 use bsc_block::RecordError;
 use bsc_command::Fault;
@@ -19,51 +20,51 @@ use std::test::Fail;
 /// ASCII.
 const PATH: &str = "a\n\x1b[31m\\\u{e9}\u{85}\u{202e}b";
 
-/// The faults in whose texts the path is.
-fn path_faults(alloc: Global) -> Result<[Fault; 4], AllocError> {
-    let path = || String::from_str(alloc, PATH);
-    let (why, line) = (Unreadable::NoSuchFile, 2);
-    let error = OfferError::Refused {
-        line,
-        why: RecordError::TooLong,
-    };
-    Ok([
-        Fault::Running {
-            error: RunningError::from(TextError::CannotRead { path: path()?, why }),
-        },
-        Fault::Running {
-            error: RunningError::from(TextError::FileTooLong { path: path()? }),
-        },
-        Fault::Attending {
+/// The lines of the faults in whose texts the path is.
+const LINES: &[&str] = &[
+    "bscline: cannot read a\\n\\x1b[31m\\\\\\xc3\\xa9\\xc2\\x85\\xe2\\x80\\xaeb: no such file\n",
+    "bscline: a\\n\\x1b[31m\\\\\\xc3\\xa9\\xc2\\x85\\xe2\\x80\\xaeb is too long\n",
+    "bscline: a\\n\\x1b[31m\\\\\\xc3\\xa9\\xc2\\x85\\xe2\\x80\\xaeb line 2: record too long\n",
+    "bscline: a\\n\\x1b[31m\\\\\\xc3\\xa9\\xc2\\x85\\xe2\\x80\\xaeb line 2: record too long\n",
+];
+
+/// Returns the fault of the line at this place.
+fn fault_at(alloc: Global, place: usize) -> Result<Fault, AllocError> {
+    let path = String::from_str(alloc, PATH)?;
+    let (line, why) = (2, RecordError::TooLong);
+    let refused = OfferError::Refused { line, why };
+    Ok(match place {
+        0 => {
+            let why = Unreadable::NoSuchFile;
+            running(RunningError::from(TextError::CannotRead { path, why }))
+        }
+        1 => running(RunningError::from(TextError::FileTooLong { path })),
+        2 => Fault::Attending {
             error: AttendingError::Offer {
-                path: path()?,
-                error,
+                path,
+                error: refused,
             },
         },
-        Fault::Storing {
+        _ => Fault::Storing {
             error: StoringError::Offer {
-                path: path()?,
-                error,
+                path,
+                error: refused,
             },
         },
-    ])
+    })
 }
 
 #[test]
 fn a_path_is_within_the_line_of_a_fault(rt: HostRuntime) -> Result<(), Fail> {
-    let faults = path_faults(rt.alloc())?;
-    let lines =
-        "bscline: cannot read a\\n\\x1b[31m\\\\\\xc3\\xa9\\xc2\\x85\\xe2\\x80\\xaeb: no such file
-bscline: a\\n\\x1b[31m\\\\\\xc3\\xa9\\xc2\\x85\\xe2\\x80\\xaeb is too long
-bscline: a\\n\\x1b[31m\\\\\\xc3\\xa9\\xc2\\x85\\xe2\\x80\\xaeb line 2: record too long
-bscline: a\\n\\x1b[31m\\\\\\xc3\\xa9\\xc2\\x85\\xe2\\x80\\xaeb line 2: record too long
-";
-    assert!(rt; are_told(rt.alloc(), &faults, 1, lines));
+    for (place, line) in LINES.iter().enumerate() {
+        let fault = fault_at(rt.alloc(), place)?;
+        assert!(rt; are_told(rt.alloc(), &[fault], 1, line), "{line}");
+    }
     Ok(())
 }
 
-/// Words after the name of the program, and the lines of the text that `clap` gives for them but
-/// the first word and the last line.
+/// Words after the name of the program, and the lines of the text of wrong usage that is told for
+/// them but the first word and the last line. A command of `feed` is one line.
 type Row = (&'static [&'static str], &'static str);
 
 const WORDS: &[Row] = &[
@@ -100,19 +101,28 @@ const WORDS: &[Row] = &[
         "the following required arguments were not provided:\n  <SCRIPT>\n\n\
         Usage: bscline run <CONFIG> <SCRIPT>",
     ),
+    (
+        &["feed", "p:1", "status\nstop"],
+        "COMMAND is more than one line\n\nUsage: bscline feed <ADDRESS> [COMMAND]...",
+    ),
 ];
 
-/// Whether wrong usage with this text is told for these words of a program that was started by this
-/// name.
-fn is_told(alloc: Global, name: &str, words: &[&str], text: &str) -> Result<bool, Fail> {
+/// Returns these words after this name of the program.
+fn words_after(alloc: Global, name: &str, words: &[&str]) -> Result<Vec<String>, AllocError> {
     let mut given = Vec::new(alloc);
     given.push(String::from_str(alloc, name)?)?;
     for word in words {
         given.push(String::from_str(alloc, word)?)?;
     }
+    Ok(given)
+}
+
+/// Whether wrong usage with this text is told for these words.
+fn is_told(alloc: Global, given: Vec<String>, text: &str) -> Result<bool, Fail> {
+    let (record, mut input) = (Record::new(alloc), b"".as_slice());
+    let status = run(alloc, Ok(given), &mut input, SILENT, &record)?;
     let told = format!(in alloc; "error: {text}\n\nFor more information, try '--help'.\n")?;
-    let answer = answer_of(alloc, given, "", SILENT, &Record::new(alloc))?;
-    Ok(answer.is("", &told, 2))
+    Ok(status == 2 && record.has_printed("", &told))
 }
 
 /// A program may be started by any name.
@@ -120,19 +130,22 @@ fn is_told(alloc: Global, name: &str, words: &[&str], text: &str) -> Result<bool
 fn a_word_is_within_its_line(rt: HostRuntime) -> Result<(), Fail> {
     for name in ["bscline", "/usr/bin/other", "ev\x1b[31m\nil"] {
         for (words, text) in WORDS {
-            assert!(rt; is_told(rt.alloc(), name, words, text)?, "{text}");
+            let given = words_after(rt.alloc(), name, words)?;
+            assert!(rt; is_told(rt.alloc(), given, text)?, "{text}");
         }
     }
     Ok(())
 }
 
+/// A key with a line feed and a control sequence.
+const KEY: &str = "\
+$ station - --terminal 0 --connect h:1
+< \"evil\\u001b[31m\\nbscline: forged\" = 1
+! bscline: config: unknown key evil\\x1b[31m\\nbscline: forged
+asks nothing
+";
+
 #[test]
 fn a_key_is_within_its_line(rt: HostRuntime) -> Result<(), Fail> {
-    let alloc = rt.alloc();
-    let words = "station - --terminal 0 --connect h:1";
-    let input = "\"evil\\u001b[31m\\nbscline: forged\" = 1\n";
-    let answer = ask(alloc, words, input, SILENT, &Record::new(alloc))?;
-    let told = "bscline: config: unknown key evil\\x1b[31m\\nbscline: forged\n";
-    assert!(rt; answer.is("", told, 1) && answer.asked.is_none());
-    Ok(())
+    play(rt.alloc(), KEY)
 }

@@ -4,7 +4,7 @@ use crate::session::play;
 use std::test::Fail;
 
 /// A store that is refused, before a connection is made.
-const REFUSED: &str = "\
+const WORKS: &str = "\
 $ station line.toml --terminal 0 --connect h:1 --store none
 ! bscline: store: there is no store
 asks nothing
@@ -14,11 +14,35 @@ asks nothing
 $ station line.toml --terminal 0 --connect h:1 --store control
 ! bscline: store: the store is of another line or another station
 asks nothing
+$ station line.toml --terminal 0 --connect h:1 --store kept
+// What arrived at terminal 0, in both forms, and from the second record on; and works that are
+// refused.
+hears call-A ack1 call-a text eot
+> to 0: 4849|from 0: offered 0, known 0|to 0: spooled 1
+& store kept arrived 0
+> 4849
+& store kept arrived 0.0 --text --from 0
+> HI
+& store kept arrived 0.0 --from 1
+& store new init three.toml --terminal 1
+> terminal 1: store made
+& store kept init line.toml --terminal 0
+! bscline: there is something in the file already
+& store new init line.toml --terminal 2
+! bscline: --terminal names a terminal that is not in CONFIG
+status 2
+& store kept release 0 1
+! bscline: not in doubt
+status 3
+& store kept reconcile other
+! bscline: the stores are not of two ends of one line
 ";
 
 #[test]
-fn a_store_that_is_refused_is_named(rt: HostRuntime) -> Result<(), Fail> {
-    play(rt.alloc(), REFUSED)
+fn a_store_that_is_refused_is_named_and_a_work_says_what_it_did(
+    rt: HostRuntime,
+) -> Result<(), Fail> {
+    play(rt.alloc(), WORKS)
 }
 
 /// Terminal 0 sends two records and receives one. Begun again it sends nothing, and prints only the
@@ -57,10 +81,45 @@ $ station line.toml --control --listen h:1 --store control
 address-in-use
 asks listen h:1 by 2, 15000/3000, gap 50, patience 3000, replace 9000, pause 20, stays
 ! bscline: address in use
+$ station three.toml --terminal 0 --connect h:1 --store three
+// A record arrives at terminal 0 by its second address, and in the next process one by its
+// first. Each is printed once.
+hears call-c text
+> to 0.1: 4849|from 0: offered 0, known 0|to 0.0: spooled 0|to 0.1: spooled 1
+& station three.toml --terminal 0 --connect h:1 --store three
+hears call-a text
+> to 0.0: 4849|from 0: offered 0, known 0|to 0.0: spooled 1|to 0.1: spooled 1
+& store three status
+> from 0: offered 0, known 0, in doubt 0|to 0.0: arrived 1, printed 1|to 0.1: arrived 1, printed 1
+$ store threes offer 0.0 -
+// A record is sent to each address, and one arrives from the last terminal. The next process
+// sends none of them again, and prints only the record that arrives then.
+< HI
+> to 0.0: offered 1
+& store threes offer 0.1 -
+< HI
+> to 0.1: offered 1
+& store threes offer 1 -
+< HI
+> to 1: offered 1
+& station three.toml --control --listen h:1 --shared --idle-rounds 1 --store threes
+hears ack0 ack1 ack0 ack1 eot ack0 ack1 text eot eot eot eot
+steps t
+> from 1: 4849|from 0: spooled 0|to 0.0: offered 1, known 1|to 0.1: offered 1, known 1
+> from 1: spooled 1|to 1: offered 1, known 1|slowest answer: 0% of the time-out|trusted
+& store threes status
+> from 0: arrived 0, printed 0|to 0.0: offered 1, known 1, in doubt 0
+> to 0.1: offered 1, known 1, in doubt 0|from 1: arrived 1, printed 1
+> to 1: offered 1, known 1, in doubt 0
+& station three.toml --control --listen h:1 --shared --idle-rounds 1 --store threes
+hears eot text eot eot eot eot
+steps t
+> from 1: 4849|from 0: spooled 0|to 0.0: offered 1, known 1|to 0.1: offered 1, known 1
+> from 1: spooled 2|to 1: offered 1, known 1|slowest answer: 0% of the time-out|trusted
 ";
 
 #[test]
-fn a_terminal_goes_on_from_its_store(rt: HostRuntime) -> Result<(), Fail> {
+fn a_station_goes_on_from_its_store_on_each_channel(rt: HostRuntime) -> Result<(), Fail> {
     play(rt.alloc(), AGAIN)
 }
 
@@ -113,57 +172,6 @@ fn a_doubt_outlives_its_station(rt: HostRuntime) -> Result<(), Fail> {
     play(rt.alloc(), DOUBTED)
 }
 
-/// A record arrives at terminal 0 by its second address, and in the next process one by its first.
-/// Each is printed once.
-const BY_EACH_ADDRESS: &str = "\
-$ station three.toml --terminal 0 --connect h:1 --store three
-hears call-c text
-> to 0.1: 4849|from 0: offered 0, known 0|to 0.0: spooled 0|to 0.1: spooled 1
-& station three.toml --terminal 0 --connect h:1 --store three
-hears call-a text
-> to 0.0: 4849|from 0: offered 0, known 0|to 0.0: spooled 1|to 0.1: spooled 1
-& store three status
-> from 0: offered 0, known 0, in doubt 0|to 0.0: arrived 1, printed 1|to 0.1: arrived 1, printed 1
-";
-
-#[test]
-fn a_terminal_keeps_the_records_of_each_address(rt: HostRuntime) -> Result<(), Fail> {
-    play(rt.alloc(), BY_EACH_ADDRESS)
-}
-
-/// A record is sent to each address, and one arrives from the last terminal. The next process sends
-/// none of them again, and prints only the record that arrives then.
-const ON_EACH_CHANNEL: &str = "\
-$ store threes offer 0.0 -
-< HI
-> to 0.0: offered 1
-& store threes offer 0.1 -
-< HI
-> to 0.1: offered 1
-& store threes offer 1 -
-< HI
-> to 1: offered 1
-& station three.toml --control --listen h:1 --shared --idle-rounds 1 --store threes
-hears ack0 ack1 ack0 ack1 eot ack0 ack1 text eot eot eot eot
-steps t
-> from 1: 4849|from 0: spooled 0|to 0.0: offered 1, known 1|to 0.1: offered 1, known 1
-> from 1: spooled 1|to 1: offered 1, known 1|slowest answer: 0% of the time-out|trusted
-& store threes status
-> from 0: arrived 0, printed 0|to 0.0: offered 1, known 1, in doubt 0
-> to 0.1: offered 1, known 1, in doubt 0|from 1: arrived 1, printed 1
-> to 1: offered 1, known 1, in doubt 0
-& station three.toml --control --listen h:1 --shared --idle-rounds 1 --store threes
-hears eot text eot eot eot eot
-steps t
-> from 1: 4849|from 0: spooled 0|to 0.0: offered 1, known 1|to 0.1: offered 1, known 1
-> from 1: spooled 2|to 1: offered 1, known 1|slowest answer: 0% of the time-out|trusted
-";
-
-#[test]
-fn a_control_station_keeps_the_records_of_each_channel(rt: HostRuntime) -> Result<(), Fail> {
-    play(rt.alloc(), ON_EACH_CHANNEL)
-}
-
 /// The record that arrives cannot be printed, and is printed when the station begins again. Without
 /// `--sync` a disk that fails is not used, and the progress is shown.
 const UNPRINTED: &str = "\
@@ -188,34 +196,4 @@ shows Events 1
 #[test]
 fn a_record_that_could_not_be_printed_is_printed_again(rt: HostRuntime) -> Result<(), Fail> {
     play(rt.alloc(), UNPRINTED)
-}
-
-/// What arrived at terminal 0, in both forms, and from the second record on; and works that are
-/// refused.
-const WORKS: &str = "\
-$ station line.toml --terminal 0 --connect h:1 --store kept
-hears call-A ack1 call-a text eot
-> to 0: 4849|from 0: offered 0, known 0|to 0: spooled 1
-& store kept arrived 0
-> 4849
-& store kept arrived 0.0 --text --from 0
-> HI
-& store kept arrived 0.0 --from 1
-& store new init three.toml --terminal 1
-> terminal 1: store made
-& store kept init line.toml --terminal 0
-! bscline: there is something in the file already
-& store new init line.toml --terminal 2
-! bscline: --terminal names a terminal that is not in CONFIG
-status 2
-& store kept release 0 1
-! bscline: not in doubt
-status 3
-& store kept reconcile other
-! bscline: the stores are not of two ends of one line
-";
-
-#[test]
-fn a_work_says_what_it_did(rt: HostRuntime) -> Result<(), Fail> {
-    play(rt.alloc(), WORKS)
 }

@@ -30,8 +30,6 @@ mod hostile_words;
 #[cfg(test)]
 mod kept;
 #[cfg(test)]
-mod long_words;
-#[cfg(test)]
 mod machine;
 #[cfg(test)]
 mod pieces;

@@ -3,7 +3,7 @@
 
 use crate::pieces::Pieces;
 use crate::programs::Feeders;
-use crate::record::{Metered, Record, Sending, Tracer};
+use crate::record::{Metered, Record, Sink};
 use crate::wires::End;
 use bsc_attending::{Network, Opened, Reachable, Readiness, Wanted};
 use bsc_carrier::Cable;
@@ -68,7 +68,7 @@ impl Scripted<'_> {
     }
 }
 
-impl<'a> Waiter<Pieces, Sending<'a>> for Scripted<'a> {
+impl<'a> Waiter<Pieces, Sink<'a>> for Scripted<'a> {
     ghost waits = { λ _ _ _. Unit {0} };
 
     ghost handles = { λ _ _ _ _. Unit {0} };
@@ -132,13 +132,16 @@ impl<'a> Waiter<Pieces, Sending<'a>> for Scripted<'a> {
 
     fn nothing_left(&mut self, _connection: usize) {}
 
-    fn join(&mut self, _connection: usize) -> Option<(Pieces, Sending<'a>)> {
-        let reader = Pieces::new(self.later, 1);
-        let record = self.record;
-        Some((reader, Sending { record }))
+    fn join(&mut self, _connection: usize) -> Option<(Pieces, Sink<'a>)> {
+        Some(connection(self.record, self.later, 1))
     }
 
     fn turn_away(&mut self) {}
+}
+
+/// Returns both sides of a connection on which these transmissions come this many times.
+fn connection<'a>(record: &'a Record, hears: &'static str, times: usize) -> (Pieces, Sink<'a>) {
+    (Pieces::new(hears, times), Sink::new(&record.sent, false))
 }
 
 /// What a command hears, and what fails or waits on its machine.
@@ -242,9 +245,6 @@ pub(crate) struct Machine<'a> {
 
     /// Whether it is told in a line of the trace where programs can reach the station.
     pub(crate) serves_traced: bool,
-
-    /// What a station requested of it.
-    pub(crate) asked: Option<Vec<u8>>,
     pub(crate) record: &'a Record,
 }
 
@@ -257,9 +257,8 @@ fn allows(wanted: &Wanted<'_>, number: u8) -> bool {
 }
 
 impl Machine<'_> {
-    /// Returns what a station requests of this machine.
-    fn request(&self, wanted: &Wanted<'_>) -> io::Result<Vec<u8>> {
-        let mut text = Vec::new(self.alloc);
+    /// Writes what a station requests of this machine.
+    fn request<W: Write>(&self, wanted: &Wanted<'_>, text: &mut W) -> io::Result<()> {
         match wanted.place {
             Place::Listen { address } => write!(text, "listen {address}")?,
             Place::Connect { address } => write!(text, "connect {address}")?,
@@ -291,7 +290,7 @@ impl Machine<'_> {
                 text.write_all(flag.as_bytes())?;
             }
         }
-        Ok(text)
+        Ok(())
     }
 }
 
@@ -323,7 +322,7 @@ impl<'a> Cables for Machine<'a> {
 impl<'a> Network for Machine<'a> {
     type Reader = Pieces;
 
-    type Writer = Sending<'a>;
+    type Writer = Sink<'a>;
 
     type Waiter = Scripted<'a>;
 
@@ -331,7 +330,7 @@ impl<'a> Network for Machine<'a> {
 
     type Programs = Feeders<'a>;
 
-    type Trace = Tracer<'a>;
+    type Trace = Sink<'a>;
 
     type Readiness = Rooms<'a>;
 
@@ -340,26 +339,26 @@ impl<'a> Network for Machine<'a> {
     fn open(
         &mut self,
         wanted: &Wanted<'_>,
-    ) -> Result<Opened<Pieces, Sending<'a>, Scripted<'a>>, SocketsError> {
-        self.asked = match self.request(wanted) {
-            Ok(text) => Some(text),
-            Err(_) => return Err(SocketsError::Memory),
-        };
+    ) -> Result<Opened<Pieces, Sink<'a>, Scripted<'a>>, SocketsError> {
+        let record = self.record;
+        if self
+            .request(wanted, &mut Sink::new(&record.asked, false))
+            .is_err()
+        {
+            return Err(SocketsError::Memory);
+        }
         if let Some(refusal) = self.scene.refusal {
             return Err(refusal);
         }
-        let record = self.record;
-        let last = match self.scene.others {
-            Some(_) => wanted.connections.saturating_sub(1),
-            None => 0,
+        let (last, others) = match self.scene.others {
+            Some(others) => (wanted.connections.saturating_sub(1), others),
+            None => (0, ""),
         };
         let mut connections = Vec::new(self.alloc);
         for _ in 0..last {
-            let reader = Pieces::new(self.scene.others.unwrap_or(""), 1);
-            connections.push((reader, Sending { record }))?;
+            connections.push(connection(record, others, 1))?;
         }
-        let reader = Pieces::new(self.scene.hears, self.scene.times);
-        connections.push((reader, Sending { record }))?;
+        connections.push(connection(record, self.scene.hears, self.scene.times))?;
         Ok(Opened {
             waiter: Scripted {
                 steps: self.scene.steps.as_bytes(),
@@ -397,11 +396,8 @@ impl<'a> Network for Machine<'a> {
         Metered { work, record }
     }
 
-    fn trace(&mut self, is_traced: bool) -> Tracer<'a> {
-        Tracer {
-            fails: self.scene.trace_fails && is_traced,
-            record: self.record,
-        }
+    fn trace(&mut self, is_traced: bool) -> Sink<'a> {
+        Sink::new(&self.record.trace, self.scene.trace_fails && is_traced)
     }
 
     fn readiness(&mut self) -> Rooms<'a> {

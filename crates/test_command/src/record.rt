@@ -1,5 +1,6 @@
-//! What a command sends and prints as a trace on a machine made for tests.
+//! What a command prints, tells, requests, sends and traces on a machine made for tests.
 
+use crate::machine::Scene;
 use crate::wires::Wires;
 use bsc_progress::{Counts, Meter, Timer, Work};
 use std::alloc::Global;
@@ -8,11 +9,32 @@ use std::io;
 use std::io::{Error, ErrorKind, Write};
 use test_memory::Memory;
 
-/// What a command sent and what it printed as a trace.
+/// Octets that are written in one place and compared in another.
+pub(crate) type Octets = RefCell<Vec<u8>>;
+
+/// Whether these are the octets of a text.
+pub(crate) fn has(octets: &Octets, text: &str) -> bool {
+    match octets.try_borrow() {
+        Ok(octets) => octets.as_slice() == text.as_bytes(),
+        Err(_) => false,
+    }
+}
+
+/// What became of the commands on a machine.
 #[derive(Drop)]
 pub(crate) struct Record {
-    /// The number of octets that were sent.
-    pub(crate) sent: Cell<usize>,
+    /// What the last command printed, and told on standard error.
+    pub(crate) out: Octets,
+    pub(crate) errors: Octets,
+
+    /// What it requested of the machine for a station; nothing if it requested nothing.
+    pub(crate) asked: Octets,
+
+    /// What all commands sent and traced, and what they told a program that feeds a station, or a
+    /// station that is fed.
+    pub(crate) sent: Octets,
+    pub(crate) trace: Octets,
+    pub(crate) told: Octets,
 
     /// Whether a flush of standard output also syncs it.
     pub(crate) syncs: Cell<bool>,
@@ -22,11 +44,6 @@ pub(crate) struct Record {
 
     /// What was shown of the progress last.
     pub(crate) shown: Cell<Option<(Work, Counts)>>,
-
-    pub(crate) trace: RefCell<Vec<u8>>,
-
-    /// What a program that feeds the station was told.
-    pub(crate) told: RefCell<Vec<u8>>,
 
     /// The connections of a run.
     pub(crate) wires: Wires,
@@ -38,33 +55,51 @@ pub(crate) struct Record {
 impl Record {
     pub(crate) fn new(alloc: Global) -> Record {
         Record {
-            sent: Cell::new(0),
+            out: RefCell::new(Vec::new(alloc)),
+            errors: RefCell::new(Vec::new(alloc)),
+            asked: RefCell::new(Vec::new(alloc)),
+            sent: RefCell::new(Vec::new(alloc)),
+            trace: RefCell::new(Vec::new(alloc)),
+            told: RefCell::new(Vec::new(alloc)),
             syncs: Cell::new(false),
             calls: Cell::new(0),
             shown: Cell::new(None),
-            trace: RefCell::new(Vec::new(alloc)),
-            told: RefCell::new(Vec::new(alloc)),
             wires: Wires::new(alloc),
             memory: RefCell::new(Memory::new(alloc)),
         }
     }
 
-    /// Whether a program that feeds the station was told this.
-    pub(crate) fn has_told(&self, text: &str) -> bool {
-        match self.told.try_borrow() {
-            Ok(octets) => octets.as_slice() == text.as_bytes(),
-            Err(_) => false,
+    /// Forgets what the command before printed, told and requested.
+    pub(crate) fn begin(&self) -> io::Result<()> {
+        self.out.try_borrow_mut()?.clear();
+        self.errors.try_borrow_mut()?.clear();
+        self.asked.try_borrow_mut()?.clear();
+        Ok(())
+    }
+
+    /// Whether the last command printed this, and told this on standard error.
+    pub(crate) fn has_printed(&self, out: &str, errors: &str) -> bool {
+        has(&self.out, out) && has(&self.errors, errors)
+    }
+
+    /// The number of octets that were sent.
+    pub(crate) fn count_sent(&self) -> usize {
+        match self.sent.try_borrow() {
+            Ok(octets) => octets.len(),
+            Err(_) => 0,
         }
     }
 
-    /// The first of these that differs from what is expected.
-    pub(crate) fn difference(&self, sent: usize, trace: &str) -> Option<&'static str> {
-        if self.sent.get() != sent {
-            return Some("the number of octets that were sent");
-        }
-        match self.trace.try_borrow() {
-            Ok(octets) if octets.as_slice() == trace.as_bytes() => None,
-            _ => Some("the trace"),
+    /// Standard output.
+    pub(crate) fn output(&self, scene: &Scene) -> Sink<'_> {
+        let unsynced = match scene.disk_fails {
+            true => Some(&self.syncs),
+            false => None,
+        };
+        Sink {
+            octets: &self.out,
+            fails: scene.output_fails,
+            unsynced,
         }
     }
 }
@@ -95,70 +130,42 @@ impl Meter for Metered<'_> {
     }
 }
 
-/// The sending side of the connection.
+/// A stream into a record: standard output, standard error, the trace, or the sending side of a
+/// connection.
 #[derive(Drop)]
-pub(crate) struct Sending<'a> {
-    pub(crate) record: &'a Record,
+pub(crate) struct Sink<'a> {
+    octets: &'a Octets,
+
+    /// Whether each write fails.
+    fails: bool,
+
+    /// If the disk of the stream fails: whether a flush also syncs it.
+    unsynced: Option<&'a Cell<bool>>,
 }
 
-impl Write for Sending<'_> {
-    fn write(&mut self, octets: &[u8]) -> io::Result<usize> {
-        let sent = self.record.sent.get();
-        self.record.sent.set(sent.saturating_add(octets.len()));
-        Ok(octets.len())
+impl Sink<'_> {
+    /// Returns the stream into these octets, of which each write fails or none.
+    pub(crate) fn new(octets: &Octets, fails: bool) -> Sink<'_> {
+        Sink {
+            octets,
+            fails,
+            unsynced: None,
+        }
     }
-
-    fn flush(&mut self) -> io::Result<()> {
-        Ok(())
-    }
 }
 
-/// The writer for the trace.
-#[derive(Drop)]
-pub(crate) struct Tracer<'a> {
-    /// Whether it fails.
-    pub(crate) fails: bool,
-    pub(crate) record: &'a Record,
-}
-
-impl Write for Tracer<'_> {
+impl Write for Sink<'_> {
     fn write(&mut self, octets: &[u8]) -> io::Result<usize> {
         if self.fails {
-            return Err(Error::from(ErrorKind::BrokenPipe));
+            return Err(Error::from(ErrorKind::StorageFull));
         }
-        self.record.trace.try_borrow_mut()?.write(octets)
+        self.octets.try_borrow_mut()?.write(octets)
     }
 
     fn flush(&mut self) -> io::Result<()> {
-        Ok(())
-    }
-}
-
-/// Standard output.
-#[derive(Drop)]
-pub(crate) struct Output<'a> {
-    pub(crate) octets: Vec<u8>,
-
-    /// Whether it accepts what is printed.
-    pub(crate) takes: bool,
-
-    /// Whether its disk fails.
-    pub(crate) disk_fails: bool,
-    pub(crate) record: &'a Record,
-}
-
-impl Write for Output<'_> {
-    fn write(&mut self, octets: &[u8]) -> io::Result<usize> {
-        if !self.takes {
-            return Err(Error::from(ErrorKind::StorageFull));
+        match self.unsynced {
+            Some(syncs) if syncs.get() => Err(Error::from(ErrorKind::StorageFull)),
+            _ => Ok(()),
         }
-        self.octets.write(octets)
-    }
-
-    fn flush(&mut self) -> io::Result<()> {
-        if self.disk_fails && self.record.syncs.get() {
-            return Err(Error::from(ErrorKind::StorageFull));
-        }
-        Ok(())
     }
 }

@@ -4,37 +4,51 @@
 //! whose stores have what was kept; the words follow on the same line. Each line after it begins
 //! with a mark: `<` for a line of standard input, `>` of standard output, `!` of standard error,
 //! `#` of the trace, and `@` for one that a program is told that feeds the station, or a station
-//! that is fed; a bar divides several of them. `status` is the exit status, unless it is 0 or, with
-//! a line of standard error, 1; `usage` the reason of wrong usage, `asks` what a station requests
-//! of the machine, `sent` how many octets it sends, `shows` how what is shown last of the progress
-//! begins, and `keeps` how many steps more the stores keep. All other marks set the scene. The
-//! trace is compared if one of its lines or `sent` is given.
+//! that is fed; a bar divides several of them. `words` gives more words. After a star a mark has
+//! the number of times that the text comes, in which `^` is how often it came before, as in
+//! `>*64 from ^: 4849`; within a text `{144 A}` is 144 times an A.
+//!
+//! `status` is the exit status, unless it is 0 or, with a line of standard error, 1; `usage` the
+//! reason of wrong usage, `asks` what a station requests of the machine, `sent` how many octets it
+//! sends, `shows` how what is shown last of the progress begins, and `calls` how often it asks to
+//! be called when its output is ready. The trace is compared if one of its lines or `sent` is
+//! given; `polled` and `traced` are the output and the trace of the run of `polled.txt`.
+//!
+//! `offered`, `known`, `arrived` and `printed` say what the stores have of a channel, and `keeps`
+//! how many steps more they keep; `reads` is how many reads of the cable of a run succeed. `widest`
+//! gives the terminals of the widest line on standard input, and `fills` as many line feeds as it
+//! may have. All other marks set the scene, and `//` begins a comment.
 
-use crate::cases::{Answer, ask};
+use crate::cases::run_text;
+use crate::files::{POLLED_PRINTED, POLLED_TRACED};
 use crate::machine::{SILENT, Scene};
-use crate::record::Record;
+use crate::record::{Record, has};
+use crate::stores::keep;
+use bsc_input::MAX_INPUT;
 use bsc_sockets::SocketsError;
-use std::alloc::{AllocError, Global};
+use std::alloc::Global;
 use std::test::Fail;
 
 /// What a command is given, and its expected results.
 #[derive(Drop)]
 struct Step {
+    alloc: Global,
     scene: Scene,
+    words: String,
     input: String,
     out: String,
     errors: String,
     trace: String,
     told: String,
     status: Option<usize>,
-    usage: Option<&'static str>,
     asks: Option<&'static str>,
     sent: Option<usize>,
     shows: Option<&'static str>,
+    calls: Option<usize>,
 }
 
 /// Returns the text before the first of these characters, and the text after it.
-fn split(text: &'static str, at: char) -> (&'static str, &'static str) {
+fn split(text: &str, at: char) -> (&str, &str) {
     match text.split_once(at) {
         Some((before, after)) => (before, after),
         None => (text, ""),
@@ -42,18 +56,44 @@ fn split(text: &'static str, at: char) -> (&'static str, &'static str) {
 }
 
 /// Returns the number in this text.
-fn number(text: &str) -> Result<usize, Fail> {
+pub(crate) fn number(text: &str) -> Result<usize, Fail> {
     match text.parse::<usize>() {
         Ok(number) => Ok(number),
         Err(_) => Err("not a number".into()),
     }
 }
 
-/// Adds these lines.
-fn add(text: &mut String, lines: &str) -> Result<(), AllocError> {
-    for line in lines.split('|') {
-        text.push_str(line)?;
-        text.push('\n')?;
+/// Adds a text in which a bar is a line feed, and `^` how often it came before.
+fn add_plain(text: &mut String, plain: &str, before: usize) -> Result<(), Fail> {
+    for character in plain.chars() {
+        match character {
+            '|' => text.push('\n')?,
+            '^' => write!(text, "{before}")?,
+            _ => text.push(character)?,
+        }
+    }
+    Ok(())
+}
+
+/// Adds a text that may begin with a count, a text that comes as often, and a brace.
+fn add_piece(text: &mut String, piece: &str, before: usize) -> Result<(), Fail> {
+    let Some((group, after)) = piece.split_once('}') else {
+        return add_plain(text, piece, before);
+    };
+    let (count, repeated) = split(group, ' ');
+    for _ in 0..number(count)? {
+        add_plain(text, repeated, before)?;
+    }
+    add_plain(text, after, before)
+}
+
+/// Adds this text of a session this many times, each time with this character at its end.
+pub(crate) fn add(text: &mut String, added: &str, times: usize, end: char) -> Result<(), Fail> {
+    for before in 0..times {
+        for piece in added.split('{') {
+            add_piece(text, piece, before)?;
+        }
+        text.push(end)?;
     }
     Ok(())
 }
@@ -63,6 +103,7 @@ fn set(scene: &mut Scene, mark: &str, rest: &'static str) -> Result<(), Fail> {
     match mark {
         "hears" => scene.hears = rest,
         "times" => scene.times = number(rest)?,
+        "others" => scene.others = Some(rest),
         "later" => scene.later = rest,
         "steps" => scene.steps = rest,
         "says" => scene.says = rest,
@@ -80,9 +121,8 @@ fn set(scene: &mut Scene, mark: &str, rest: &'static str) -> Result<(), Fail> {
 }
 
 /// Has the stores of a machine keep this many steps more and then fail.
-fn fill(record: &Record, steps: usize) -> Result<(), Fail> {
-    let left = u32::try_from(steps).unwrap_or(u32::MAX);
-    record.memory.try_borrow_mut()?.left = left;
+fn limit(record: &Record, steps: usize) -> Result<(), Fail> {
+    record.memory.try_borrow_mut()?.left = u32::try_from(steps).unwrap_or(u32::MAX);
     Ok(())
 }
 
@@ -98,8 +138,9 @@ fn shown(alloc: Global, record: &Record) -> Result<String, Fail> {
     )?)
 }
 
-/// Returns the usage of the command of this name.
-fn usage_of(name: &str) -> &'static str {
+/// Returns the usage of the command with these words.
+fn usage_of(words: &str) -> &'static str {
+    let (name, _) = split(words, ' ');
     match name {
         "chart" => "chart [OPTIONS] [FILE]",
         "run" => "run [OPTIONS] <CONFIG> <SCRIPT>",
@@ -109,86 +150,93 @@ fn usage_of(name: &str) -> &'static str {
     }
 }
 
-/// Whether wrong usage of the command with these words was told with this reason, and nothing was
-/// printed or requested.
-fn is_usage(
-    alloc: Global,
-    words: &'static str,
-    reason: &str,
-    answer: &Answer,
-) -> Result<bool, Fail> {
-    let (name, _) = split(words, ' ');
-    let usage = usage_of(name);
-    let told = format!(in alloc;
-        "error: {reason}\n\nUsage: bscline {usage}\n\nFor more information, try '--help'.\n"
-    )?;
-    Ok(answer.is("", &told, 2) && answer.asked.is_none())
-}
+/// The terminals of the widest line.
+const WIDEST: &str = "[[terminals]]|poll = \"A^\"|select = [\"a^\", \"b^\", \"c^\", \"d^\"]";
 
 impl Step {
     fn new(alloc: Global) -> Step {
         Step {
+            alloc,
             scene: SILENT,
+            words: String::new(alloc),
             input: String::new(alloc),
             out: String::new(alloc),
             errors: String::new(alloc),
             trace: String::new(alloc),
             told: String::new(alloc),
             status: None,
-            usage: None,
             asks: None,
             sent: None,
             shows: None,
+            calls: None,
         }
     }
 
     /// Reads a line of a session.
     fn read(&mut self, line: &'static str, record: &Record) -> Result<(), Fail> {
         let (mark, rest) = split(line, ' ');
+        let (mark, times) = split(mark, '*');
+        let times = if times.is_empty() { 1 } else { number(times)? };
         match mark {
-            "" => {}
-            "<" => add(&mut self.input, rest)?,
-            ">" => add(&mut self.out, rest)?,
-            "!" => add(&mut self.errors, rest)?,
-            "#" => add(&mut self.trace, rest)?,
-            "@" => add(&mut self.told, rest)?,
+            "" | "//" => {}
+            "words" => add(&mut self.words, rest, times, ' ')?,
+            "<" => add(&mut self.input, rest, times, '\n')?,
+            ">" => add(&mut self.out, rest, times, '\n')?,
+            "!" => add(&mut self.errors, rest, times, '\n')?,
+            "#" => add(&mut self.trace, rest, times, '\n')?,
+            "@" => add(&mut self.told, rest, times, '\n')?,
             "status" => self.status = Some(number(rest)?),
-            "usage" => self.usage = Some(rest),
+            "usage" => self.expect_usage(rest)?,
             "asks" => self.asks = Some(rest),
             "sent" => self.sent = Some(number(rest)?),
             "shows" => self.shows = Some(rest),
-            "keeps" => fill(record, number(rest)?)?,
+            "calls" => self.calls = Some(number(rest)?),
+            "polled" => self.out.push_str(POLLED_PRINTED)?,
+            "traced" => self.trace.push_str(POLLED_TRACED)?,
+            "widest" => add(&mut self.input, WIDEST, 64, '\n')?,
+            "fills" => self.fill_input()?,
+            "keeps" => limit(record, number(rest)?)?,
+            "reads" => record.wires.reads.set(number(rest)?),
+            "offered" | "known" | "arrived" | "printed" => {
+                keep(self.alloc, record, mark, rest, times)?;
+            }
             _ => set(&mut self.scene, mark, rest)?,
         }
         Ok(())
     }
 
-    /// Returns the first result of the command with these words that differs from what is expected.
-    fn difference(
-        &self,
-        alloc: Global,
-        words: &'static str,
-        answer: &Answer,
-        record: &Record,
-    ) -> Result<Option<&'static str>, Fail> {
-        if let Some(reason) = self.usage {
-            return match is_usage(alloc, words, reason, answer)? {
-                true => Ok(None),
-                false => Ok(Some("the usage")),
-            };
+    /// Expects that the words are told to be wrong for this reason, and nothing is requested.
+    fn expect_usage(&mut self, reason: &str) -> Result<(), Fail> {
+        let usage = usage_of(&self.words);
+        write!(
+            self.errors,
+            "error: {reason}\n\nUsage: bscline {usage}\n\nFor more information, try '--help'.\n"
+        )?;
+        self.status = Some(2);
+        self.asks = Some("nothing");
+        Ok(())
+    }
+
+    /// Gives as many line feeds on standard input as it may have yet.
+    fn fill_input(&mut self) -> Result<(), Fail> {
+        for _ in self.input.len()..MAX_INPUT {
+            self.input.push('\n')?;
         }
-        let is_told = answer.errors.as_slice() == self.errors.as_bytes();
-        let is_printed = answer.out.as_slice() == self.out.as_bytes();
-        let has_ended = usize::from(answer.status) == self.due_status();
-        let is_shown = self.is_shown(alloc, record)?;
+        Ok(())
+    }
+
+    /// Returns the first result of a command that differs from what is expected.
+    fn difference(&self, status: u8, record: &Record) -> Result<Option<&'static str>, Fail> {
+        let is_shown = self.is_shown(record)?;
         let results = [
-            (is_told, "standard error"),
-            (is_printed, "standard output"),
-            (has_ended, "the exit status"),
+            (has(&record.errors, &self.errors), "standard error"),
+            (has(&record.out, &self.out), "standard output"),
+            (usize::from(status) == self.due_status(), "the exit status"),
             (is_shown, "the progress"),
-            (record.has_told(&self.told), "what a program is told"),
-            (self.is_asked(answer), "what is asked"),
+            (has(&record.told, &self.told), "what a program is told"),
+            (self.is_asked(record), "what is asked"),
             (self.is_traced(record), "the trace or what is sent"),
+            (self.has_called(record), "how often it asks to be called"),
         ];
         for (is_due, what) in &results {
             if !*is_due {
@@ -208,18 +256,18 @@ impl Step {
     }
 
     /// Whether the machine was asked for what it should be.
-    fn is_asked(&self, answer: &Answer) -> bool {
-        match (self.asks, &answer.asked) {
-            (None, _) => true,
-            (Some(asks), Some(asked)) => asked.as_slice() == asks.as_bytes(),
-            (Some(asks), None) => asks == "nothing",
+    fn is_asked(&self, record: &Record) -> bool {
+        match self.asks {
+            None => true,
+            Some("nothing") => has(&record.asked, ""),
+            Some(asks) => has(&record.asked, asks),
         }
     }
 
     /// Whether the progress was shown that should be.
-    fn is_shown(&self, alloc: Global, record: &Record) -> Result<bool, Fail> {
+    fn is_shown(&self, record: &Record) -> Result<bool, Fail> {
         match self.shows {
-            Some(shows) => Ok(shown(alloc, record)?.as_str().starts_with(shows)),
+            Some(shows) => Ok(shown(self.alloc, record)?.as_str().starts_with(shows)),
             None => Ok(true),
         }
     }
@@ -227,9 +275,17 @@ impl Step {
     /// Whether the trace is the one that it should be, and as much was sent.
     fn is_traced(&self, record: &Record) -> bool {
         match self.sent {
-            Some(sent) => record.difference(sent, &self.trace).is_none(),
+            Some(sent) => record.count_sent() == sent && has(&record.trace, &self.trace),
             None if self.trace.is_empty() => true,
-            None => record.difference(record.sent.get(), &self.trace).is_none(),
+            None => has(&record.trace, &self.trace),
+        }
+    }
+
+    /// Whether the station asked to be called as often as it should.
+    fn has_called(&self, record: &Record) -> bool {
+        match self.calls {
+            Some(calls) => record.calls.get() == calls,
+            None => true,
         }
     }
 }
@@ -238,15 +294,16 @@ impl Step {
 fn run(alloc: Global, command: &'static str, record: &Record) -> Result<(), Fail> {
     let mut step = Step::new(alloc);
     let (head, lines) = split(command, '\n');
-    for line in lines.split('\n') {
-        step.read(line, record)?;
-    }
     let words = match head.strip_prefix(" ") {
         Some(words) => words,
         None => head,
     };
-    let answer = ask(alloc, words, &step.input, step.scene, record)?;
-    match step.difference(alloc, words, &answer, record)? {
+    add(&mut step.words, words, 1, ' ')?;
+    for line in lines.split('\n') {
+        step.read(line, record)?;
+    }
+    let status = run_text(alloc, &step.words, &step.input, step.scene, record)?;
+    match step.difference(status, record)? {
         None => Ok(()),
         Some(what) => Err(Fail::new(format_args!("{words}: {what}"))),
     }
@@ -255,16 +312,11 @@ fn run(alloc: Global, command: &'static str, record: &Record) -> Result<(), Fail
 /// Runs the sessions of this text, in which each command must have its results.
 pub(crate) fn play(alloc: Global, sessions: &'static str) -> Result<(), Fail> {
     for session in sessions.split('$') {
-        play_on(alloc, &Record::new(alloc), session)?;
-    }
-    Ok(())
-}
-
-/// Runs the commands of one session in turn on the machine with this record.
-pub(crate) fn play_on(alloc: Global, record: &Record, session: &'static str) -> Result<(), Fail> {
-    for command in session.split('&') {
-        if !command.is_empty() {
-            run(alloc, command, record)?;
+        let record = Record::new(alloc);
+        for command in session.split('&') {
+            if !command.is_empty() {
+                run(alloc, command, &record)?;
+            }
         }
     }
     Ok(())

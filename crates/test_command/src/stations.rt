@@ -31,16 +31,8 @@ steps s
 asks connect h:1 by 1, 3000/3000, gap 50, patience 3000, replace 9000, pause 20, stops
 > from 0: offered 0, known 0|to 0: spooled 0
 sent 0
-";
-
-#[test]
-fn stations_end_as_their_connections_do(rt: HostRuntime) -> Result<(), Fail> {
-    play(rt.alloc(), ENDS)
-}
-
-/// A record was sent and not answered; then also the terminal has given up.
-const CLOSED: &str = "\
 $ station line.toml --terminal 0 --connect h:1 --offer -
+// A record was sent and not answered; then also the terminal has given up.
 < HI
 hears call-A cut
 > from 0: offered 1, known 0|to 0: spooled 0
@@ -53,17 +45,9 @@ steps rrtttttttt
 > from 0: offered 1, known 0, in doubt|to 0: spooled 0
 ! bscline: records in doubt
 status 3
-";
-
-#[test]
-fn what_is_not_delivered_is_told_before_a_closed_connection(rt: HostRuntime) -> Result<(), Fail> {
-    play(rt.alloc(), CLOSED)
-}
-
-/// No connections can be made, or waiting for them fails after a record has arrived: no report is
-/// printed.
-const CUT_SHORT: &str = "\
 $ station line.toml --control --listen h:1
+// No connections can be made, or waiting for them fails after a record has arrived: no report is
+// printed.
 address-in-use
 asks listen h:1 by 2, 15000/3000, gap 50, patience 3000, replace 9000, pause 20, stays, begins
 ! bscline: address in use
@@ -80,11 +64,15 @@ $ station line.toml --control --listen h:1 --shared --offer 0=-
 hears ack0 ack1 eot eot eot eot
 steps trrf
 ! bscline: cannot make the sockets
+$ station line.toml --terminal 0 --listen h:1 --allow ::1 --allow 10.0.0.1/32
+// Of the addresses 10.0.0.1 and 10.0.0.2 only the first one is allowed.
+asks listen h:1 by 1, 3000/3000, gap 50, patience 3000, replace 9000, pause 20, without 2
+> from 0: offered 0, known 0|to 0: spooled 0
 ";
 
 #[test]
-fn a_station_without_connections_tells_why(rt: HostRuntime) -> Result<(), Fail> {
-    play(rt.alloc(), CUT_SHORT)
+fn a_station_ends_as_its_connections_do_and_tells_why(rt: HostRuntime) -> Result<(), Fail> {
+    play(rt.alloc(), ENDS)
 }
 
 /// Without `--trace` only the close of the connection is told, and the progress is shown.
@@ -111,10 +99,29 @@ sent 20
 # +0 control heard ACK1 16161031ff|+0 control heard CALL a 161604ff16166185ff
 # +0 terminal 0 sent ACK0 161610b0ff|+0 control heard TEXT ETX 1 161602c84919839bff
 # +0 terminal 0 sent ACK1 16161031ff|+0 control heard EOT 161604ff|+0 connection 0 closed
+$ station line.toml --terminal 0 --connect h:1 --trace --trace
+// The trace of a terminal fails with what it hears first, and that of a control station with the
+// first silence. Neither sends anything, and no report is printed. Without a trace its lines may
+// be lost.
+hears call-A ack1 call-a text eot
+trace-fails
+! bscline: output fault
+sent 0
+$ station line.toml --control --listen h:1 --shared --trace
+steps t
+trace-fails
+! bscline: output fault
+sent 0
+$ station line.toml --terminal 0 --connect h:1
+hears call-A ack1 call-a text eot
+trace-fails
+> to 0: 4849|from 0: offered 0, known 0|to 0: spooled 1
 ";
 
 #[test]
-fn a_trace_has_idle_polls_if_it_is_asked_for_twice(rt: HostRuntime) -> Result<(), Fail> {
+fn a_trace_is_as_it_is_asked_for_and_ends_its_station_if_it_fails(
+    rt: HostRuntime,
+) -> Result<(), Fail> {
     play(rt.alloc(), TRACES)
 }
 
@@ -145,41 +152,4 @@ sent 20
 #[test]
 fn records_are_acknowledged_after_the_output_is_synced(rt: HostRuntime) -> Result<(), Fail> {
     play(rt.alloc(), DISKS)
-}
-
-/// The trace of a terminal fails with what it hears first, and that of a control station with the
-/// first silence. Neither sends anything, and no report is printed. Without a trace its lines may
-/// be lost.
-const TRACE_FAULTS: &str = "\
-$ station line.toml --terminal 0 --connect h:1 --trace --trace
-hears call-A ack1 call-a text eot
-trace-fails
-! bscline: output fault
-sent 0
-$ station line.toml --control --listen h:1 --shared --trace
-steps t
-trace-fails
-! bscline: output fault
-sent 0
-$ station line.toml --terminal 0 --connect h:1
-hears call-A ack1 call-a text eot
-trace-fails
-> to 0: 4849|from 0: offered 0, known 0|to 0: spooled 1
-";
-
-#[test]
-fn a_trace_that_cannot_be_written_ends_a_station(rt: HostRuntime) -> Result<(), Fail> {
-    play(rt.alloc(), TRACE_FAULTS)
-}
-
-/// Of the addresses 10.0.0.1 and 10.0.0.2 only the first one is allowed.
-const NETWORKS: &str = "\
-$ station line.toml --terminal 0 --listen h:1 --allow ::1 --allow 10.0.0.1/32
-asks listen h:1 by 1, 3000/3000, gap 50, patience 3000, replace 9000, pause 20, without 2
-> from 0: offered 0, known 0|to 0: spooled 0
-";
-
-#[test]
-fn peers_are_admitted_by_their_networks(rt: HostRuntime) -> Result<(), Fail> {
-    play(rt.alloc(), NETWORKS)
 }

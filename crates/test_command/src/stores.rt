@@ -2,9 +2,72 @@
 
 use crate::machine::Machine;
 use crate::record::Record;
+use crate::session::{add, number};
 use bsc_attending::Stores;
+use bsc_block::Record as Card;
+use bsc_frame::Address;
 use bsc_kept::{Change, Channel, Found, Progress, Store, StoreFault};
 use bsc_storing::{Opened, StoreFiles};
+use std::alloc::Global;
+use std::test::Fail;
+
+/// Returns the channel from the terminal with this address, or the one to it.
+fn channel_of(way: &str, address: &str) -> Result<Channel, Fail> {
+    let address = Address::read(address.as_bytes())?;
+    match way {
+        "from" => Ok(Channel::From { terminal: address }),
+        _ => Ok(Channel::To { selection: address }),
+    }
+}
+
+/// Returns the number in this text.
+fn count_of(text: &str) -> Result<u32, Fail> {
+    Ok(u32::try_from(number(text)?).unwrap_or(u32::MAX))
+}
+
+/// Returns the change that a line of a session says: that a record was `offered` or `arrived`, how
+/// many are `known` and in doubt, or how many are `printed`.
+fn change_of(what: &str, line: &str) -> Result<Change, Fail> {
+    let mut words = line.split(' ');
+    let channel = channel_of(words.next().unwrap_or(""), words.next().unwrap_or(""))?;
+    let (first, second) = (words.next().unwrap_or(""), words.next().unwrap_or(""));
+    match what {
+        "offered" => Ok(Change::Offered {
+            channel,
+            record: Card::read(first.as_bytes(), 144)?,
+        }),
+        "arrived" => Ok(Change::Arrived {
+            channel,
+            record: Card::read(first.as_bytes(), 144)?,
+        }),
+        "known" => Ok(Change::Known {
+            channel,
+            known: count_of(first)?,
+            in_doubt: count_of(second)?,
+        }),
+        _ => Ok(Change::Printed {
+            channel,
+            count: count_of(first)?,
+        }),
+    }
+}
+
+/// Keeps what a line of a session says in the stores of a machine, this many times.
+pub(crate) fn keep(
+    alloc: Global,
+    record: &Record,
+    what: &str,
+    line: &str,
+    times: usize,
+) -> Result<(), Fail> {
+    let mut lines = String::new(alloc);
+    add(&mut lines, line, times, '\n')?;
+    for line in lines.lines() {
+        let change = change_of(what, line)?;
+        record.memory.try_borrow_mut()?.commit(&[change])?;
+    }
+    Ok(())
+}
 
 /// A store that is kept in the record of a machine.
 #[derive(Drop)]

@@ -1,8 +1,9 @@
-//! What the command prints for words that ask for help, and tells for wrong ones.
+//! What the command prints for words that ask for help.
 
-use crate::cases::{answer_of, answer_to, words_of};
+use crate::cases::{run, words_of};
 use crate::machine::SILENT;
-use crate::record::Record;
+use crate::record::{Record, has};
+use std::alloc::Global;
 use std::test::Fail;
 
 /// The help of the program.
@@ -193,28 +194,18 @@ const HELPED: &[(&str, &str)] = &[
     ("-V", "bscline 0.2.0\n"),
 ];
 
-/// Nothing is read, and nothing is asked of the machine.
-#[test]
-fn help_is_printed(rt: HostRuntime) -> Result<(), Fail> {
-    let alloc = rt.alloc();
-    for (words, text) in HELPED {
-        let words = words_of(alloc, words)?;
-        let (record, mut input) = (Record::new(alloc), b"16 04".as_slice());
-        let answer = answer_to(alloc, Ok(words), &mut input, SILENT, &record)?;
-        assert!(rt; answer.is(text, "", 0) && answer.asked.is_none(), "{text}");
-        assert_eq!(rt; input.len(), 5);
-    }
-    Ok(())
+/// Whether a command with these words prints this text and reads and requests nothing.
+fn is_helped(alloc: Global, words: &str, text: &str) -> Result<bool, Fail> {
+    let (record, mut input) = (Record::new(alloc), b"16 04".as_slice());
+    let words = words_of(alloc, words)?;
+    let status = run(alloc, Ok(words), &mut input, SILENT, &record)?;
+    Ok(status == 0 && record.has_printed(text, "") && has(&record.asked, "") && input.len() == 5)
 }
 
-/// A command of `feed` is one line.
 #[test]
-fn wrong_words_of_feed_have_their_reason(rt: HostRuntime) -> Result<(), Fail> {
-    let (alloc, mut words) = (rt.alloc(), words_of(rt.alloc(), "feed p:1")?);
-    words.push(String::from_str(alloc, "status\nstop")?)?;
-    let answer = answer_of(alloc, words, "", SILENT, &Record::new(alloc))?;
-    let told = "error: COMMAND is more than one line\n\n\
-        Usage: bscline feed <ADDRESS> [COMMAND]...\n\nFor more information, try '--help'.\n";
-    assert!(rt; answer.is("", told, 2));
+fn help_is_printed(rt: HostRuntime) -> Result<(), Fail> {
+    for (words, text) in HELPED {
+        assert!(rt; is_helped(rt.alloc(), words, text)?, "{words}");
+    }
     Ok(())
 }
