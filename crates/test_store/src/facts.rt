@@ -3,6 +3,7 @@
 use bsc_block::Record;
 use bsc_frame::Address;
 use bsc_kept::{Change, Channel, Found, Store, StoreFault};
+use std::alloc::Global;
 
 /// Returns the address of the terminal of the tests.
 fn address() -> Result<Address, StoreFault> {
@@ -32,33 +33,49 @@ fn record(chars: &str) -> Result<Record, StoreFault> {
     }
 }
 
-/// The change by which a record is offered.
-pub(crate) fn offer(channel: &Channel, chars: &str) -> Result<Change, StoreFault> {
-    let (channel, record) = (*channel, record(chars)?);
-    Ok(Change::Offered { channel, record })
+/// What is kept of a channel: a record that is offered, how many are known and in doubt, a record
+/// that arrives, and how many are printed.
+#[derive(Clone, Copy)]
+pub(crate) enum Fact {
+    Offered(&'static str),
+    Known(u32, u32),
+    Arrived(&'static str),
+    Printed(u32),
 }
 
-/// The change by which this many records are known and in doubt.
-pub(crate) fn know(channel: &Channel, known: u32, in_doubt: u32) -> Change {
-    Change::Known {
-        channel: *channel,
-        known,
-        in_doubt,
+/// Returns the change by which a fact of a channel is kept.
+fn change(channel: Channel, fact: Fact) -> Result<Change, StoreFault> {
+    match fact {
+        Fact::Offered(chars) => {
+            let record = record(chars)?;
+            Ok(Change::Offered { channel, record })
+        }
+        Fact::Known(known, in_doubt) => Ok(Change::Known {
+            channel,
+            known,
+            in_doubt,
+        }),
+        Fact::Arrived(chars) => {
+            let record = record(chars)?;
+            Ok(Change::Arrived { channel, record })
+        }
+        Fact::Printed(count) => Ok(Change::Printed { channel, count }),
     }
 }
 
-/// The change by which a record arrives.
-pub(crate) fn arrive(channel: &Channel, chars: &str) -> Result<Change, StoreFault> {
-    let (channel, record) = (*channel, record(chars)?);
-    Ok(Change::Arrived { channel, record })
-}
-
-/// The change by which this many records are printed.
-pub(crate) fn print(channel: &Channel, count: u32) -> Change {
-    Change::Printed {
-        channel: *channel,
-        count,
+/// Keeps facts of channels in one step.
+pub(crate) fn keep<S: Store>(
+    alloc: Global,
+    store: &mut S,
+    facts: &[(Channel, Fact)],
+) -> Result<(), StoreFault> {
+    let mut step = Vec::new(alloc);
+    for (channel, fact) in facts {
+        if step.push(change(*channel, *fact)?).is_err() {
+            return Err(StoreFault::OutOfMemory);
+        }
     }
+    store.commit(&step)
 }
 
 /// Which records of a channel are meant.

@@ -15,38 +15,64 @@ const OPENED: &[(&str, &str, StoreFault)] = &[
     (".", LINE, StoreFault::Unreachable),
 ];
 
-/// Paths at which a store is made, and the fault.
+/// Paths at which a store is made, and the fault. The last two are no names of files.
 const MADE: &[(&str, StoreFault)] = &[
     ("store_made", StoreFault::Taken),
     ("store_text", StoreFault::Damaged),
     ("store_log", StoreFault::Taken),
     ("store_none/below", StoreFault::Unreachable),
+    (":memory:", StoreFault::Unreachable),
+    ("file:store_named", StoreFault::Unreachable),
 ];
+
+/// Paths at which there is nothing then either.
+const ABSENT: &[&str] = &["store_none", "store_log", ":memory:", "file:store_named"];
 
 /// What may be the log of a store whose file was moved away: it is longer than one that holds
 /// nothing.
 const LOG: &str = "a log of 42 octets, which may hold records";
 
+/// Files and what they hold, which no fault changes.
+const HELD: &[(&str, &str)] = &[
+    ("store_text", "no database, but a text"),
+    ("store_nothing", ""),
+    ("store_log-wal", LOG),
+];
+
+/// Whether the file at a path holds this.
+fn holds(rt: &HostRuntime, path: &str, text: &str) -> Result<bool, Fail> {
+    Ok(fs::read(rt, path)?.as_slice() == text.as_bytes())
+}
+
+/// Returns the first path that is not refused by the name of its fault.
+fn first_accepted(rt: &HostRuntime) -> Option<&'static str> {
+    for (path, line, fault) in OPENED {
+        if within(rt, path, line, Task::Nothing) != Err(*fault) {
+            return Some(*path);
+        }
+    }
+    for (path, fault) in MADE {
+        if create(rt, path) != Err(*fault) {
+            return Some(*path);
+        }
+    }
+    None
+}
+
 #[test]
-fn files_are_refused_by_name(rt: HostRuntime) -> Result<(), Fail> {
+fn files_are_refused_by_name_and_stay(rt: HostRuntime) -> Result<(), Fail> {
     delete(&rt, "store_made");
     create(&rt, "store_made")?;
-    fs::write(&rt, "store_text", "no database, but a text")?;
-    fs::write(&rt, "store_nothing", "")?;
-    fs::write(&rt, "store_log-wal", LOG)?;
-    for (path, line, fault) in OPENED {
-        assert!(rt;
-            within(&rt, path, line, Task::Nothing) == Err(*fault),
-            "{path}"
-        );
+    for (path, text) in HELD {
+        fs::write(&rt, *path, *text)?;
     }
-    assert!(rt; !fs::exists(&rt, "store_none")?);
-    for (path, fault) in MADE {
-        assert!(rt; create(&rt, path) == Err(*fault), "{path}");
+    assert_eq!(rt; first_accepted(&rt), None);
+    for path in ABSENT {
+        assert!(rt; !fs::exists(&rt, *path)?, "{path}");
     }
-    assert_eq!(rt; fs::read(&rt, "store_nothing")?.len(), 0);
-    assert!(rt; !fs::exists(&rt, "store_log")?);
-    assert!(rt; fs::read(&rt, "store_log-wal")?.as_slice() == LOG.as_bytes());
+    for (path, text) in HELD {
+        assert!(rt; holds(&rt, path, text)?, "{path}");
+    }
     assert!(rt; is_in_use(&rt, "store_made")?);
     assert!(rt; within(&rt, "store_made", LINE, Task::Nothing)?);
     for path in ["store_made", "store_text", "store_nothing", "store_log"] {

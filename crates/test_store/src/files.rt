@@ -60,21 +60,21 @@ fn perform<S: Store>(alloc: Global, store: &mut S, task: Task) -> Result<bool, S
     let other = to_terminal()?;
     match task {
         Task::Fill => {
-            fill(store, &one, &other)?;
+            fill(alloc, store, one, other)?;
             Ok(true)
         }
         Task::Read => is_filled(store, &one, &other),
         Task::FillAndRead => {
-            fill(store, &one, &other)?;
+            fill(alloc, store, one, other)?;
             is_filled(store, &one, &other)
         }
-        Task::Refused => is_unchanged(store, &one),
+        Task::Refused => is_unchanged(alloc, store, one),
         Task::Step => {
-            keep_step(store, &one)?;
+            keep_step(alloc, store, one)?;
             Ok(true)
         }
         Task::HasStep(whole) => has_step(store, &one, whole),
-        Task::Many => keeps_many(alloc, store, &one),
+        Task::Many => keeps_many(alloc, store, one),
         Task::Checked => are_checked(store, &one),
         Task::Damaged(number) => is_damaged(store, &one, number),
         Task::Nothing => Ok(true),

@@ -1,23 +1,27 @@
 //! What is kept is read back: from memory, from a file that was closed, and from a copy of one that
-//! was not; and a step that is refused changes nothing.
+//! was not; a step that is refused changes nothing; and a new file has small pages.
 
-use crate::facts::{Side, are_kept, arrive, counts, know, offer, print};
+use crate::facts::{Fact, Side, are_kept, counts, keep};
 use crate::files::{LINE, Task, copied, create, delete, in_memory, within};
-use bsc_kept::{Change, Channel, Store, StoreFault};
+use bsc_kept::{Channel, Store, StoreFault};
 use std::alloc::Global;
+use std::fs;
 use std::rt::HostRuntime;
 use std::test::Fail;
 
 /// Keeps four steps of two channels.
 pub(crate) fn fill<S: Store>(
+    alloc: Global,
     store: &mut S,
-    one: &Channel,
-    other: &Channel,
+    one: Channel,
+    other: Channel,
 ) -> Result<(), StoreFault> {
-    store.commit(&[offer(one, "first")?])?;
-    store.commit(&[offer(one, "")?, offer(one, "third")?])?;
-    store.commit(&[arrive(other, "second")?, know(one, 1, 2)])?;
-    store.commit(&[arrive(other, "")?, print(other, 1)])
+    let (empty, third) = ((one, Fact::Offered("")), (one, Fact::Offered("third")));
+    let (second, last) = ((other, Fact::Arrived("second")), (other, Fact::Arrived("")));
+    keep(alloc, store, &[(one, Fact::Offered("first"))])?;
+    keep(alloc, store, &[empty, third])?;
+    keep(alloc, store, &[second, (one, Fact::Known(1, 2))])?;
+    keep(alloc, store, &[last, (other, Fact::Printed(1))])
 }
 
 /// Whether a store has what `fill` kept, and no more.
@@ -31,12 +35,6 @@ pub(crate) fn is_filled<S: Store>(
     let arrived = are_kept(store, other, Side::Arrived, &["second", ""])?;
     let sent = counts(store, one)? == [3, 1, 2, 0, 0];
     Ok(offered && none && arrived && sent && counts(store, other)? == [0, 0, 0, 2, 1])
-}
-
-#[test]
-fn memory_keeps_what_was_committed(rt: HostRuntime) -> Result<(), Fail> {
-    assert!(rt; in_memory(rt.alloc(), Task::FillAndRead)?);
-    Ok(())
 }
 
 /// The copy has what stands in the files while the store is open, as after a process was killed.
@@ -55,47 +53,75 @@ fn a_file_keeps_what_was_committed(rt: HostRuntime) -> Result<(), Fail> {
 /// How many records are offered in one step.
 const COUNT: u32 = 2_000;
 
-/// Returns the changes by which that many records are offered.
-fn many(alloc: Global, channel: &Channel) -> Result<Vec<Change>, StoreFault> {
-    let mut step = Vec::new(alloc);
-    for _ in 0..COUNT {
-        if step.push(offer(channel, "first")?).is_err() {
-            return Err(StoreFault::OutOfMemory);
-        }
-    }
-    Ok(step)
-}
-
-/// Whether many records are kept in one step, and the last one is found.
+/// Whether that many records are kept in one step, and the last one is found.
 pub(crate) fn keeps_many<S: Store>(
     alloc: Global,
     store: &mut S,
-    channel: &Channel,
+    channel: Channel,
 ) -> Result<bool, StoreFault> {
-    let step = many(alloc, channel)?;
-    store.commit(&step)?;
-    let is_last = store.offered(channel, 0, COUNT - 1)?.is_some();
-    Ok(is_last && counts(store, channel)? == [COUNT, 0, 0, 0, 0])
-}
-
-#[test]
-fn many_records_are_kept_in_one_step(rt: HostRuntime) -> Result<(), Fail> {
-    assert!(rt; in_memory(rt.alloc(), Task::Many)?);
-    Ok(())
+    let mut facts = Vec::new(alloc);
+    for _ in 0..COUNT {
+        if facts.push((channel, Fact::Offered("first"))).is_err() {
+            return Err(StoreFault::OutOfMemory);
+        }
+    }
+    keep(alloc, store, &facts)?;
+    let is_last = store.offered(&channel, 0, COUNT - 1)?.is_some();
+    Ok(is_last && counts(store, &channel)? == [COUNT, 0, 0, 0, 0])
 }
 
 /// Whether a step of which the last change is refused changes nothing, and the next one is kept.
-pub(crate) fn is_unchanged<S: Store>(store: &mut S, channel: &Channel) -> Result<bool, StoreFault> {
-    store.commit(&[offer(channel, "first")?, know(channel, 0, 1)])?;
-    let refused = store.commit(&[offer(channel, "second")?, know(channel, 0, 8)]);
-    let before = counts(store, channel)? == [1, 0, 1, 0, 0];
-    store.commit(&[offer(channel, "second")?])?;
-    let both = are_kept(store, channel, Side::Offered, &["first", "second"])?;
+pub(crate) fn is_unchanged<S: Store>(
+    alloc: Global,
+    store: &mut S,
+    channel: Channel,
+) -> Result<bool, StoreFault> {
+    let (first, second) = (Fact::Offered("first"), Fact::Offered("second"));
+    keep(
+        alloc,
+        store,
+        &[(channel, first), (channel, Fact::Known(0, 1))],
+    )?;
+    let refused = keep(
+        alloc,
+        store,
+        &[(channel, second), (channel, Fact::Known(0, 8))],
+    );
+    let before = counts(store, &channel)? == [1, 0, 1, 0, 0];
+    keep(alloc, store, &[(channel, second)])?;
+    let both = are_kept(store, &channel, Side::Offered, &["first", "second"])?;
     Ok(refused == Err(StoreFault::Refused) && before && both)
 }
 
+/// Some steps of two channels, one step of many records, and one that is refused.
 #[test]
-fn a_refused_step_changes_nothing(rt: HostRuntime) -> Result<(), Fail> {
-    assert!(rt; in_memory(rt.alloc(), Task::Refused)?);
+fn memory_keeps_what_was_committed_and_no_more(rt: HostRuntime) -> Result<(), Fail> {
+    for task in [Task::FillAndRead, Task::Many, Task::Refused] {
+        assert!(rt; in_memory(rt.alloc(), task)?);
+    }
+    Ok(())
+}
+
+/// How many octets a page of the database at this path has, by its header.
+fn page_octets(rt: &HostRuntime, path: &str) -> Result<u32, Fail> {
+    let file = fs::read(rt, path)?;
+    match (file.get(16), file.get(17)) {
+        (Some(high), Some(low)) => Ok(u32::from(*high) * 256 + u32::from(*low)),
+        _ => Err(Fail::new("no header")),
+    }
+}
+
+/// Also where there was an empty file.
+#[test]
+fn a_new_store_has_small_pages(rt: HostRuntime) -> Result<(), Fail> {
+    for is_there in [false, true] {
+        delete(&rt, "store_new");
+        if is_there {
+            fs::write(&rt, "store_new", b"")?;
+        }
+        create(&rt, "store_new")?;
+        assert_eq!(rt; page_octets(&rt, "store_new")?, 512);
+    }
+    delete(&rt, "store_new");
     Ok(())
 }

@@ -20,7 +20,7 @@ mod lines;
 #[cfg(test)]
 mod machine;
 #[cfg(test)]
-mod made;
+mod script;
 #[cfg(test)]
 mod texts;
 #[cfg(test)]

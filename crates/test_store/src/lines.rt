@@ -1,7 +1,6 @@
 //! Stores of lines of each length, and stores of two lines that differ in one thing.
 
-use crate::machine::{no_stores, told};
-use crate::works::{Row, first_wrong};
+use crate::script::{Row, play};
 use std::alloc::Global;
 use std::test::Fail;
 
@@ -19,72 +18,68 @@ fn config(alloc: Global, count: u8) -> Result<String, Fail> {
     Ok(text)
 }
 
-/// What is told of the channels at the last terminal of the longest line.
-const LAST_STATUS: &[Row] = &[
+/// The store of the control station of such a line.
+const OF_EACH_LENGTH: &[Row] = &[
+    "control init - --control => control station: store made\n",
+    "control status => from 0: arrived 0, printed 0\n\
+    to 0.0: offered 0, known 0, in doubt 0\n...",
+];
+
+/// The store of the last terminal of the longest line.
+const OF_THE_LAST: &[Row] = &[
+    "terminal init - --terminal 63 => terminal 63: store made\n",
     "terminal status => from 63: offered 0, known 0, in doubt 0\nto 63.0: arrived 0, printed 0\n\
     to 63.1: arrived 0, printed 0\nto 63.2: arrived 0, printed 0\nto 63.3: arrived 0, printed 0\n",
 ];
 
 #[test]
 fn a_line_of_each_length_has_a_store(rt: HostRuntime) -> Result<(), Fail> {
-    let alloc = rt.alloc();
     for count in 1..=64u8 {
-        let mut machine = no_stores(alloc);
-        let text = config(alloc, count)?;
-        told(alloc, &mut machine, "control init - --control", &text)?;
-        let status = told(alloc, &mut machine, "control status", "")?;
-        assert!(rt; status.as_slice().first() == Some(&b'f'), "{count}");
+        let text = config(rt.alloc(), count)?;
+        play(rt.alloc(), &text, OF_EACH_LENGTH, &[])?;
     }
-    let mut machine = no_stores(alloc);
-    let text = config(alloc, 64)?;
-    told(alloc, &mut machine, "terminal init - --terminal 63", &text)?;
-    assert_eq!(rt; first_wrong(alloc, &mut machine, LAST_STATUS), None);
-    Ok(())
+    let text = config(rt.alloc(), 64)?;
+    play(rt.alloc(), &text, OF_THE_LAST, &[])
 }
 
-/// The full length of a line of one terminal, its polling address and its selection addresses.
-type Line = (u8, &'static str, &'static str);
+/// The configuration of the line of the control station.
+pub(crate) const OWN: &str = "version = 2\nfull = 80\npoll_list = [0]\n\
+    [[terminals]]\npoll = \"A\"\nselect = [\"a\", \"c\"]\n";
 
-/// The line of the control station.
-const LINE: Line = (80, "A", "\"a\", \"c\"");
-
-/// Lines that differ from it in one thing each: the full length, an address, the order of
-/// addresses, and the number of addresses and of terminals.
-const OTHERS: &[Line] = &[
-    (81, "A", "\"a\", \"c\""),
-    (80, "B", "\"a\", \"c\""),
-    (80, "A", "\"a\", \"d\""),
-    (80, "A", "\"c\", \"a\""),
-    (80, "A", "\"a\""),
+/// A part of it, and what stands there in that of another line: in the full length, an address, the
+/// order of addresses, and the number of addresses and of terminals.
+const CHANGES: &[(&str, &str)] = &[
+    ("80", "81"),
+    ("\"A\"", "\"B\""),
+    ("\"c\"", "\"d\""),
+    ("\"a\", \"c\"", "\"c\", \"a\""),
+    (", \"c\"", ""),
     (
-        80,
-        "A",
-        "\"a\", \"c\"]\n[[terminals]]\npoll = \"B\"\nselect = [\"b\"",
+        "\"c\"]",
+        "\"c\"]\n[[terminals]]\npoll = \"B\"\nselect = [\"b\"]",
     ),
 ];
 
-/// Returns the configuration of a line.
-fn config_of(alloc: Global, (full, poll, selects): Line) -> Result<String, Fail> {
-    Ok(format!(in alloc;
-        "version = 2\nfull = {full}\npoll_list = [0]\n\
-        [[terminals]]\npoll = \"{poll}\"\nselect = [{selects}]\n"
-    )?)
+/// Returns the configuration of the line that differs in one part.
+fn changed(alloc: Global, part: &str, other: &str) -> Result<String, Fail> {
+    match OWN.split_once(part) {
+        Some((before, after)) => Ok(format!(in alloc; "{before}{other}{after}")?),
+        None => Err("no such part".into()),
+    }
 }
 
-/// The refusal of two lines.
+/// The stores of both, which are refused.
 const OF_TWO_LINES: &[Row] = &[
+    "control init own.toml --control => control station: store made\n",
+    "terminal init - --terminal 0 => terminal 0: store made\n",
     "control reconcile terminal => refused: the stores are not of two ends of one line",
 ];
 
 #[test]
 fn stores_of_two_lines_are_not_reconciled(rt: HostRuntime) -> Result<(), Fail> {
-    let alloc = rt.alloc();
-    for other in OTHERS {
-        let mut machine = no_stores(alloc);
-        let (own, other) = (config_of(alloc, LINE)?, config_of(alloc, *other)?);
-        told(alloc, &mut machine, "control init - --control", &own)?;
-        told(alloc, &mut machine, "terminal init - --terminal 0", &other)?;
-        assert_eq!(rt; first_wrong(alloc, &mut machine, OF_TWO_LINES), None);
+    for (part, other) in CHANGES {
+        let text = changed(rt.alloc(), part, other)?;
+        play(rt.alloc(), &text, OF_TWO_LINES, &[])?;
     }
     Ok(())
 }

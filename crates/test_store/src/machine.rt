@@ -1,5 +1,8 @@
 //! A machine with stores in memory, of which calls fail, and with files.
 
+use crate::facts;
+use crate::facts::Fact;
+use crate::lines::OWN;
 use bsc_asked::StoreWords;
 use bsc_input::{Files, InputError, Unreadable};
 use bsc_kept::{Change, Channel, Found, Progress, Store, StoreFault};
@@ -12,26 +15,19 @@ use std::io::Write;
 use test_fixtures::Full;
 use test_fixtures::configurations::THREE_ADDRESSES;
 
-/// Which calls of a store fail.
-#[derive(Clone, Copy, PartialEq, Eq)]
-pub(crate) enum Fails {
-    Nothing,
-    Reads,
-    Commits,
-    Closes,
-}
-
-/// A store in memory, of which some calls fail. The table is on the heap: what moves it takes long
-/// to check, what moves a box does not.
+/// A store in memory. The table is on the heap: what moves it takes long to check, what moves a box
+/// does not.
 #[derive(Drop)]
 pub(crate) struct Kept {
     table: Box<TableStore<MemStore>>,
-    fails: Fails,
+
+    /// Which calls fail: `commits`, `reads` or `closes`; or none.
+    fails: &'static str,
 }
 
 impl Kept {
     /// Fails with this fault, if such calls fail.
-    fn call(&self, what: Fails, fault: StoreFault) -> Result<(), StoreFault> {
+    fn call(&self, what: &str, fault: StoreFault) -> Result<(), StoreFault> {
         if self.fails == what {
             return Err(fault);
         }
@@ -57,12 +53,12 @@ impl Store for Kept {
     ghost finds_arrived = { λ _ _ _ _ _ _. Unit {0} };
 
     fn commit(&mut self, step: &[Change]) -> Result<(), StoreFault> {
-        self.call(Fails::Commits, StoreFault::Full)?;
+        self.call("commits", StoreFault::Full)?;
         self.table.commit(step)
     }
 
     fn progress(&mut self, channel: &Channel) -> Result<Progress, StoreFault> {
-        self.call(Fails::Reads, StoreFault::Unreachable)?;
+        self.call("reads", StoreFault::Unreachable)?;
         self.table.progress(channel)
     }
 
@@ -72,7 +68,7 @@ impl Store for Kept {
         mark: i64,
         more: u32,
     ) -> Result<Option<Found>, StoreFault> {
-        self.call(Fails::Reads, StoreFault::Unreachable)?;
+        self.call("reads", StoreFault::Unreachable)?;
         self.table.offered(channel, mark, more)
     }
 
@@ -82,13 +78,13 @@ impl Store for Kept {
         mark: i64,
         more: u32,
     ) -> Result<Option<Found>, StoreFault> {
-        self.call(Fails::Reads, StoreFault::Unreachable)?;
+        self.call("reads", StoreFault::Unreachable)?;
         self.table.arrived(channel, mark, more)
     }
 }
 
 /// A machine with a store at the paths `control` and `terminal`, once they are made, and with the
-/// files `line.toml` and `cards.txt`, and two whose last line is no record.
+/// files `line.toml`, `own.toml` and `cards.txt`, and two whose last line is no record.
 #[derive(Drop)]
 pub(crate) struct Machine {
     alloc: Global,
@@ -96,7 +92,7 @@ pub(crate) struct Machine {
     terminal: Option<Opened<Kept>>,
 
     /// The path of a store, and which of its calls fail.
-    pub(crate) fails: (&'static str, Fails),
+    pub(crate) fails: (&'static str, &'static str),
 }
 
 /// Makes a store in memory, with this text of its line.
@@ -114,8 +110,7 @@ fn store_of(alloc: Global, text: &str) -> Result<Opened<Kept>, StoreFault> {
     let Ok(table) = begun else {
         return Err(StoreFault::OutOfMemory);
     };
-    let fails = Fails::Nothing;
-    let store = Kept { table, fails };
+    let store = Kept { table, fails: "" };
     Ok(Opened { store, line })
 }
 
@@ -125,7 +120,7 @@ pub(crate) fn no_stores(alloc: Global) -> Machine {
         alloc,
         control: None,
         terminal: None,
-        fails: ("", Fails::Nothing),
+        fails: ("", ""),
     }
 }
 
@@ -141,6 +136,7 @@ impl Files for Machine {
     fn read_file(&mut self, path: &str) -> Result<Vec<u8>, InputError> {
         let text = match path {
             "line.toml" => THREE_ADDRESSES,
+            "own.toml" => OWN,
             "cards.txt" => "ONE\nTWO\n\n",
             "wrong.txt" => "ONE\n\x02\n",
             "long.txt" => LONGER,
@@ -170,15 +166,12 @@ impl StoreFiles for Machine {
             return Err(StoreFault::InUse);
         };
         let (failing, fails) = self.fails;
-        opened.store.fails = Fails::Nothing;
-        if path == failing {
-            opened.store.fails = fails;
-        }
+        opened.store.fails = if path == failing { fails } else { "" };
         Ok(opened)
     }
 
     fn close_kept(&mut self, opened: Opened<Kept>) -> Result<(), StoreFault> {
-        let closed = opened.store.call(Fails::Closes, StoreFault::Full);
+        let closed = opened.store.call("closes", StoreFault::Full);
         if opened.line.as_str().starts_with("control station\n") {
             self.control = Some(opened);
         } else {
@@ -200,49 +193,41 @@ impl StoreFiles for Machine {
     }
 }
 
-/// Returns the word of an option, which is the one after it.
-fn value(alloc: Global, word: Option<&str>) -> Result<Option<String>, AllocError> {
+/// Returns the word after this option.
+fn value(words: &'static str, option: &str) -> Option<&'static str> {
+    let (_, rest) = words.split_once(option)?;
+    rest.split(' ').next()
+}
+
+/// Returns a copy of a word.
+fn copy(alloc: Global, word: Option<&str>) -> Result<Option<String>, AllocError> {
     match word {
         Some(word) => Ok(Some(String::from_str(alloc, word)?)),
         None => Ok(None),
     }
 }
 
-/// Returns the words as the command has read them: the path of a store, a work, and up to two words
-/// more. Options may stand anywhere after the work.
-fn words_of(alloc: Global, text: &str) -> Result<StoreWords, AllocError> {
-    let mut rest = text.split(' ');
-    let mut words = StoreWords {
-        file: String::from_str(alloc, rest.next().unwrap_or(""))?,
-        work: String::from_str(alloc, rest.next().unwrap_or(""))?,
-        first: None,
-        second: None,
-        control: false,
-        terminal: None,
-        from: None,
-        text: false,
-    };
-    for _ in 0..text.len() {
-        let Some(word) = rest.next() else {
-            break;
-        };
-        match word {
-            "--control" => words.control = true,
-            "--text" => words.text = true,
-            "--terminal" => words.terminal = value(alloc, rest.next())?,
-            "--from" => words.from = value(alloc, rest.next())?,
-            _ if words.first.is_none() => words.first = value(alloc, Some(word))?,
-            _ => words.second = value(alloc, Some(word))?,
-        }
-    }
-    Ok(words)
+/// Returns the words as the command has read them: the path of a store, a work, up to two words
+/// more, and options.
+fn words_of(alloc: Global, text: &'static str) -> Result<StoreWords, AllocError> {
+    let mut words = text.split(" --").next().unwrap_or("").split(' ');
+    Ok(StoreWords {
+        file: String::from_str(alloc, words.next().unwrap_or(""))?,
+        work: String::from_str(alloc, words.next().unwrap_or(""))?,
+        first: copy(alloc, words.next())?,
+        second: copy(alloc, words.next())?,
+        control: text.contains(" --control"),
+        terminal: copy(alloc, value(text, " --terminal "))?,
+        from: copy(alloc, value(text, " --from "))?,
+        text: text.contains(" --text"),
+    })
 }
 
 /// Does what the words ask for, with this standard input.
 fn done<W: Write>(
     alloc: Global,
     machine: &mut Machine,
-    words: &str,
+    words: &'static str,
     input: &str,
     out: &mut W,
 ) -> Result<(), StoringError> {
@@ -259,7 +244,7 @@ fn done<W: Write>(
 pub(crate) fn told(
     alloc: Global,
     machine: &mut Machine,
-    words: &str,
+    words: &'static str,
     input: &str,
 ) -> Result<Vec<u8>, StoringError> {
     let mut out = Vec::new(alloc);
@@ -273,16 +258,21 @@ pub(crate) fn told(
 }
 
 /// Whether what the words ask for fails because the output does, which takes nothing.
-pub(crate) fn is_unprinted(alloc: Global, machine: &mut Machine, words: &str) -> bool {
+pub(crate) fn is_unprinted(alloc: Global, machine: &mut Machine, words: &'static str) -> bool {
     let mut out = Full { left: 0 };
     let result = done(alloc, machine, words, "", &mut out);
     matches!(result, Err(StoringError::Output))
 }
 
-/// Keeps a step in the store at a path.
-pub(crate) fn keep(machine: &mut Machine, path: &str, step: &[Change]) -> Result<(), StoreFault> {
+/// Keeps a fact of a channel in the store at a path.
+pub(crate) fn keep(
+    machine: &mut Machine,
+    path: &str,
+    channel: Channel,
+    fact: Fact,
+) -> Result<(), StoreFault> {
     let mut opened = machine.open_kept(path)?;
-    let done = opened.store.commit(step);
+    let done = facts::keep(machine.alloc, &mut opened.store, &[(channel, fact)]);
     machine.close_kept(opened)?;
     done
 }
