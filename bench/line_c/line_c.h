@@ -76,8 +76,7 @@ enum hearing { AS_SENT, AS_OCTETS, PADDED };
 void play_polls(size_t terminals, size_t events, enum hearing hearing, int clocked);
 void play_texts(size_t terminals, size_t history, size_t visits, enum hearing hearing, int clocked);
 
-/* A number of random scripts, and one of which the state is printed after each event. */
+/* A number of random scripts. */
 void play_scripts(uint64_t seed, uint64_t scripts, size_t events);
-void trace_script(uint64_t seed, size_t events);
 
 #endif

@@ -32,8 +32,6 @@ int main(int argc, char **argv)
         play_texts(number_of(argv[2]), number_of(argv[3]), number_of(argv[4]), hearing_of(argv[5]), 1);
     } else if (argc == 5 && strcmp(name, "scripts") == 0) {
         play_scripts(number_of(argv[2]), number_of(argv[3]), number_of(argv[4]));
-    } else if (argc == 4 && strcmp(name, "trace") == 0) {
-        trace_script(number_of(argv[2]), number_of(argv[3]));
     } else {
         fprintf(stderr, "line_c: not a workload\n");
         return 1;

@@ -324,17 +324,3 @@ void play_scripts(uint64_t seed, uint64_t scripts, size_t events)
         must(bsc_line_free(&script.played.line));
     }
 }
-
-void trace_script(uint64_t seed, size_t events)
-{
-    static struct script script;
-    char name[24];
-    make(&script, seed);
-    for (size_t event = 0; event < events; event++) {
-        uint64_t digest = new_digest();
-        step(&script, &digest);
-        snprintf(name, sizeof name, "%zu", event);
-        print_left(name, digest, &script.played);
-    }
-    must(bsc_line_free(&script.played.line));
-}

@@ -35,7 +35,6 @@ fn main() -> Result<(), Box<dyn Error>> {
         ["scripts", seed, scripts, events] => {
             scripts::play(seed.parse()?, scripts.parse()?, events.parse()?);
         }
-        ["trace", seed, events] => scripts::trace(seed.parse()?, events.parse()?),
         _ => return Err("not a workload".into()),
     }
     Ok(())

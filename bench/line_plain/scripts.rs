@@ -49,17 +49,6 @@ pub fn play(seed: u64, scripts: u64, events: usize) {
     }
 }
 
-/// Plays one script, and tells after each event what is left.
-pub fn trace(seed: u64, events: usize) {
-    let mut script = Script::new(seed);
-    for number in 0..events {
-        let mut digest = Digest::new();
-        let answer = script.step();
-        digest.event(answer, &script.line);
-        report::print(&number.to_string(), digest, &script.line);
-    }
-}
-
 impl Script {
     fn new(seed: u64) -> Script {
         let mut random = Random::new(seed);

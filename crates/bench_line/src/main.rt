@@ -70,7 +70,6 @@ fn play<R: AllocGlobal + Clock + Eprint + Files, W: Write>(
         "polls" => polls(rt, out, numbers),
         "texts" => texts(rt, out, numbers),
         "scripts" => play_scripts(rt.alloc(), out, numbers),
-        "trace" => trace(rt.alloc(), out, numbers),
         _ => bail!("not a workload"),
     }
 }
@@ -104,13 +103,6 @@ fn play_scripts<W: Write>(alloc: Global, out: &mut W, numbers: &[String]) -> Res
         bail!("not three numbers")
     };
     scripts::play(alloc, out, seed.parse()?, scripts.parse()?, events.parse()?)
-}
-
-fn trace<W: Write>(alloc: Global, out: &mut W, numbers: &[String]) -> Result<()> {
-    let [seed, events] = numbers else {
-        bail!("not two numbers")
-    };
-    scripts::trace(alloc, out, seed.parse()?, events.parse()?)
 }
 
 fn hearing(word: &str) -> Result<Hearing> {

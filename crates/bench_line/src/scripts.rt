@@ -4,8 +4,9 @@ ghost use Rattle.std.specs.Prelude.{◌<◌};
 
 use crate::report;
 use crate::report::Digest;
+use anyhow::bail;
 use bsc_bid::{Setup, Terminal};
-use bsc_control::Way;
+use bsc_control::{SetupError, Way};
 use bsc_frame::{Address, Wire, encode};
 use bsc_line::{Line, LineError, Speaker};
 use std::alloc::{AllocError, Global};
@@ -18,7 +19,7 @@ use test_fixtures::Random;
 struct Script {
     alloc: Global,
     random: Random,
-    line: Line<Global>,
+    line: Box<Line<Global>>,
     full: usize,
 
     /// Out of eight transmissions, this many are not heard as they were sent.
@@ -58,12 +59,6 @@ fn play_one<W: Write>(alloc: Global, out: &mut W, seed: u64, events: usize) -> a
     script.play(out, seed, events)
 }
 
-/// Plays one script, and prints the state after each event.
-pub fn trace<W: Write>(alloc: Global, out: &mut W, seed: u64, events: u64) -> anyhow::Result<()> {
-    let mut script = Script::new(alloc, seed)?;
-    script.trace(out, events)
-}
-
 impl Script {
     fn new(alloc: Global, seed: u64) -> anyhow::Result<Script> {
         let mut random = Random::new(seed);
@@ -87,14 +82,6 @@ impl Script {
         let digest = self.steps(events)?;
         write!(out, "{number}: ")?;
         report::print(out, digest, &self.line)?;
-        Ok(())
-    }
-
-    /// Plays this many events one by one, and prints the state after each.
-    fn trace<W: Write>(&mut self, out: &mut W, events: u64) -> anyhow::Result<()> {
-        for number in 0..events {
-            self.play(out, number, 1)?;
-        }
         Ok(())
     }
 
@@ -369,10 +356,18 @@ fn setup(random: &mut Random) -> anyhow::Result<(usize, Setup)> {
 }
 
 /// A line of one to four terminals, with a poll list of one to six entries.
-fn line(alloc: Global, random: &mut Random, setup: Setup) -> anyhow::Result<Line<Global>> {
+fn line(alloc: Global, random: &mut Random, setup: Setup) -> anyhow::Result<Box<Line<Global>>> {
     let terminals = terminals(alloc, random)?;
     let poll_list = poll_list(alloc, random, terminals.len())?;
-    Ok(Line::new(alloc, setup, &terminals, &poll_list)?)
+    on_heap(alloc, Line::new(alloc, setup, &terminals, &poll_list))
+}
+
+/// Returns what was made, on the heap. What moves a large value takes long to check.
+fn on_heap<T: Drop>(alloc: Global, made: Result<T, SetupError>) -> anyhow::Result<Box<T>> {
+    match Box::new(alloc, made?) {
+        Ok(boxed) => Ok(boxed),
+        Err(_) => bail!("out of memory"),
+    }
 }
 
 fn terminals(alloc: Global, random: &mut Random) -> anyhow::Result<Vec<Terminal>> {
