@@ -1,8 +1,8 @@
 //! Random scripts. No such run is out of memory or stopped by the cable or the output. What it
 //! prints otherwise the contract of `run_line` says.
 
-use crate::watched::{NO_TROUBLE, RunWatch};
-use crate::written::{Case, Written};
+use crate::watched::{NO_TROUBLE, TRACED};
+use crate::written::run_in_memory;
 use bsc_line::LineError;
 use bsc_run::RunError;
 use std::alloc::Global;
@@ -27,29 +27,6 @@ const HEARD: &[&str] = &[
     "160285",
     "00",
 ];
-
-/// The number of events that a run tells, with a trace or without one, if it ends at the end of its
-/// script, or at an event that the line refuses for another reason than lack of memory.
-fn count_told(
-    alloc: Global,
-    config: &str,
-    script: &str,
-    tracing: bool,
-) -> Result<Option<u64>, Fail> {
-    let case = Case::read(alloc, config, script)?;
-    let watch = RunWatch::new(NO_TROUBLE);
-    let mut written = Written::new(alloc, &watch);
-    let is_whole = match case.run(alloc, alloc, &watch, tracing, &mut written)? {
-        Ok(()) => true,
-        Err(RunError::Refused { why, .. }) => why != LineError::Memory,
-        Err(_) => false,
-    };
-    Ok(if is_whole && written.kept.in_order {
-        Some(written.kept.times)
-    } else {
-        None
-    })
-}
 
 /// Events in which nothing is sent. Records have up to the greatest length.
 const MARKS: &[&str] = &[
@@ -82,16 +59,22 @@ fn any_script(alloc: Global, random: &mut Random, events: usize) -> Result<Strin
     let mut text = String::new(alloc);
     let mut is_sent = false;
     for _ in 0..events {
-        if random.below(10) < 3 {
-            write!(text, "{}\n", any_of(random, MARKS))?;
-        } else if !is_sent {
-            is_sent = true;
-            text.push_str("silence\n")?;
-        } else {
-            is_sent = add_turn(random, &mut text)?;
-        }
+        is_sent = add_event(random, &mut text, is_sent)?;
     }
     Ok(text)
+}
+
+/// Adds an event. Returns whether probably something is pending after it.
+fn add_event(random: &mut Random, text: &mut String, is_sent: bool) -> Result<bool, Fail> {
+    if random.below(10) < 3 {
+        write!(text, "{}\n", any_of(random, MARKS))?;
+        return Ok(is_sent);
+    }
+    if is_sent {
+        return add_turn(random, text);
+    }
+    text.push_str("silence\n")?;
+    Ok(true)
 }
 
 /// Adds an event of hearing. Returns whether probably something is pending after it.
@@ -112,17 +95,34 @@ fn add_turn(random: &mut Random, text: &mut String) -> Result<bool, Fail> {
     Ok(random.one_in(2))
 }
 
+/// The number of events that the random script of this seed tells, with a trace or without one, if
+/// it ends at its end, or at an event that the line refuses for another reason than lack of memory.
+fn count_told(alloc: Global, seed: u64) -> Result<Option<u64>, Fail> {
+    let mut random = Random::new(seed);
+    let script = any_script(alloc, &mut random, 30)?;
+    let tries = random.below(3).saturating_add(1);
+    let config = format!(in alloc; "tries = {tries}\n{THREE_ADDRESSES}")?;
+    let plan = if seed % 2 == 0 { TRACED } else { NO_TROUBLE };
+    let ended = run_in_memory(alloc, &config, &script, plan)?;
+    let is_whole = match ended.answer {
+        Ok(()) => true,
+        Err(RunError::Refused { why, .. }) => why != LineError::Memory,
+        Err(_) => false,
+    };
+    Ok(if is_whole && ended.kept.in_order {
+        Some(ended.kept.times)
+    } else {
+        None
+    })
+}
+
 /// Each ends at its end, or at an event that is not possible then. More than half of all events are
 /// possible.
 #[test]
 fn random_scripts_are_undisturbed(rt: HostRuntime) -> Result<(), Fail> {
     let mut performed = 0u64;
     for seed in 1..=4_000u64 {
-        let mut random = Random::new(seed);
-        let script = any_script(rt.alloc(), &mut random, 30)?;
-        let tries = random.below(3).saturating_add(1);
-        let config = format!(in rt.alloc(); "tries = {tries}\n{THREE_ADDRESSES}")?;
-        let told = count_told(rt.alloc(), &config, &script, seed % 2 == 0)?;
+        let told = count_told(rt.alloc(), seed)?;
         assert!(rt; told.is_some(), "{seed}");
         performed = performed.saturating_add(told.unwrap_or(0));
     }

@@ -56,57 +56,50 @@ impl<R: Net> Cables for Machine<'_, R> {
     }
 }
 
-/// What a run writes: its output and its trace.
+/// What a run wrote, how many octets of its input it left, and how it ended.
 #[derive(Drop)]
-struct Texts {
+struct Ran {
     out: Vec<u8>,
     trace: Vec<u8>,
+    left: usize,
+    answer: Result<(), RunningError>,
 }
 
-/// Runs the texts at these two paths, or only checks them. What is left of the input stays there.
+/// Runs the texts at these two paths, or only checks them, with a trace or without one.
 fn run_at<R: Net>(
-    machine: &mut Machine<'_, R>,
-    paths: &str,
+    runtime: &R,
+    alloc: Global,
+    (line, script): (&str, &str),
+    (paths, input): (&str, &str),
     (check, trace): (bool, bool),
-    input: &mut &[u8],
-    texts: &mut Texts,
-) -> Result<Result<(), RunningError>, Fail> {
-    let (config, script) = paths.split_once(' ').ok_or("not two paths")?;
+) -> Ran {
+    let (config, path) = paths.split_once(' ').unwrap_or((paths, ""));
     let words = RunWords {
         config,
-        script,
+        script: path,
         check,
         trace,
         quiet: false,
     };
-    let (alloc, out, trace) = (machine.alloc, &mut texts.out, &mut texts.trace);
-    Ok(run(alloc, words, input, machine, out, trace))
-}
-
-/// What a run of the two files writes.
-fn texts_of<R: Net>(
-    runtime: &R,
-    alloc: Global,
-    (line, script): (&str, &str),
-    options: (bool, bool),
-) -> Result<Texts, Fail> {
     let mut machine = Machine {
         runtime,
         alloc,
         line,
         script,
     };
-    let mut texts = Texts {
-        out: Vec::new(alloc),
-        trace: Vec::new(alloc),
-    };
-    let mut input = b"unread".as_slice();
-    run_at(&mut machine, PATHS, options, &mut input, &mut texts)??;
-    Ok(texts)
+    let (mut out, mut trace) = (Vec::<u8>::new(alloc), Vec::<u8>::new(alloc));
+    let mut input = input.as_bytes();
+    let answer = run(alloc, words, &mut input, &mut machine, &mut out, &mut trace);
+    Ran {
+        out,
+        trace,
+        left: input.len(),
+        answer,
+    }
 }
 
-/// The paths of the two files.
-const PATHS: &str = "line.toml script.txt";
+/// The paths of the two files, and an input that is not read.
+const FILES: (&str, &str) = ("line.toml script.txt", "unread");
 
 /// The events of `examples/lossy_line`, with as many empty lines between them. One bit of the first
 /// text is inverted on its way; an acknowledgement and an ENQ are lost, and the terminal is in doubt;
@@ -149,12 +142,9 @@ const LADDER: &str = "    time control
       36 |                  ^ the doubt from 0 is ended
 ";
 
-#[test]
-fn the_trace_of_an_example_is_drawn(rt: HostRuntime) -> Result<(), Fail> {
-    let config = format!(in rt.alloc(); "tries = 2\n{TWO_TERMINALS}")?;
-    let files = (config.as_str(), LOSSY_LINE);
-    let texts = texts_of(&rt, rt.alloc(), files, (false, true))?;
-    let words = ChartWords {
+/// The words that ask for a ladder of ASCII characters.
+fn ascii_words() -> ChartWords {
+    ChartWords {
         file: None,
         text: false,
         svg: false,
@@ -163,16 +153,16 @@ fn the_trace_of_an_example_is_drawn(rt: HostRuntime) -> Result<(), Fail> {
         width: None,
         from: None,
         to: None,
-    };
-    let mut drawn = Vec::<u8>::new(rt.alloc());
-    draw(
-        rt.alloc(),
-        &words,
-        None,
-        &mut texts.trace.as_slice(),
-        &mut drawn,
-    )?;
-    assert!(rt; drawn.as_slice() == LADDER.as_bytes());
+    }
+}
+
+#[test]
+fn the_trace_of_an_example_is_drawn(rt: HostRuntime) -> Result<(), Fail> {
+    let config = format!(in rt.alloc(); "tries = 2\n{TWO_TERMINALS}")?;
+    let ran = run_at(&rt, rt.alloc(), (&config, LOSSY_LINE), FILES, (false, true));
+    let (mut trace, mut drawn) = (ran.trace.as_slice(), Vec::<u8>::new(rt.alloc()));
+    draw(rt.alloc(), &ascii_words(), None, &mut trace, &mut drawn)?;
+    assert!(rt; ran.answer.is_ok() && drawn.as_slice() == LADDER.as_bytes());
     Ok(())
 }
 
@@ -182,24 +172,37 @@ fn count_delivered(out: &[u8]) -> usize {
     out.windows(30).filter(|part| *part == text).count()
 }
 
-/// The line is run and traced, run, and only checked. Each channel of 64 terminals, 224 in all,
-/// delivers its record.
+/// Whether a line of this many terminals is run, traced and only checked; if there are 64, each
+/// channel delivers its record.
+fn is_run<R: Net>(runtime: &R, alloc: Global, count: usize) -> Result<bool, Fail> {
+    let config = line_of(alloc, count)?;
+    let script = offers_of(alloc, count, if count == 64 { 1000 } else { 9 })?;
+    let files = (config.as_str(), script.as_str());
+    let traced = run_at(runtime, alloc, files, FILES, (false, true));
+    let untraced = run_at(runtime, alloc, files, FILES, (false, false));
+    let checked = run_at(runtime, alloc, files, FILES, (true, true));
+    let is_whole = is_reported(&traced, &untraced) && is_silent(&checked);
+    Ok(is_whole && (count < 64 || count_delivered(&untraced.out) == 224))
+}
+
+/// Whether two runs print the same report, the first of them with a trace.
+fn is_reported(traced: &Ran, untraced: &Ran) -> bool {
+    let is_same = traced.out.as_slice() == untraced.out.as_slice();
+    let is_traced = !traced.trace.is_empty() && untraced.trace.is_empty();
+    let is_ended = traced.answer.is_ok() && untraced.answer.is_ok();
+    is_same && is_traced && is_ended && untraced.out.ends_with(b"trusted\n")
+}
+
+/// Whether a run ended without an error and wrote nothing.
+fn is_silent(ran: &Ran) -> bool {
+    ran.answer.is_ok() && ran.out.is_empty() && ran.trace.is_empty()
+}
+
+/// 64 terminals have 224 channels.
 #[test]
 fn a_line_of_each_number_of_terminals_is_run(rt: HostRuntime) -> Result<(), Fail> {
     for count in 1..=64usize {
-        let config = line_of(rt.alloc(), count)?;
-        let script = offers_of(rt.alloc(), count, if count == 64 { 1000 } else { 9 })?;
-        let files = (config.as_str(), script.as_str());
-        let traced = texts_of(&rt, rt.alloc(), files, (false, true))?;
-        let untraced = texts_of(&rt, rt.alloc(), files, (false, false))?;
-        let checked = texts_of(&rt, rt.alloc(), files, (true, true))?;
-        assert!(rt;
-            untraced.out.ends_with(b"trusted\n") && untraced.trace.is_empty(),
-            "{count}"
-        );
-        assert!(rt; traced.out.as_slice() == untraced.out.as_slice() && !traced.trace.is_empty());
-        assert!(rt; checked.out.is_empty() && checked.trace.is_empty());
-        assert!(rt; count < 64 || count_delivered(&untraced.out) == 224);
+        assert!(rt; is_run(&rt, rt.alloc(), count)?, "{count}");
     }
     Ok(())
 }
@@ -218,37 +221,24 @@ const FAULTS: &[&str] = &[
     "@|- -|CONFIG and SCRIPT cannot both be standard input",
 ];
 
-/// What is printed by a run that fails with this error; None if it does not. Standard input stays
-/// unread if no path asks for it.
-fn printed_at<R: Net>(
+/// Whether a run without a trace prints this and fails with this error. Standard input stays unread
+/// if no path asks for it.
+fn fails<R: Net>(
     runtime: &R,
     alloc: Global,
-    (line, script): (&str, &str),
-    (paths, given): (&str, &str),
-    error: &str,
-) -> Result<Option<Vec<u8>>, Fail> {
-    let mut machine = Machine {
-        runtime,
-        alloc,
-        line,
-        script,
-    };
-    let mut texts = Texts {
-        out: Vec::new(alloc),
-        trace: Vec::new(alloc),
-    };
-    let mut input = given.as_bytes();
-    let answer = run_at(&mut machine, paths, (false, false), &mut input, &mut texts)?;
-    let Err(why) = answer else {
-        return Ok(None);
-    };
-    let is_told = why.to_string(alloc)?.as_str() == error;
-    let is_read = input.len() < given.len();
-    Ok(if is_told && is_read != (given == "unread") {
-        Some(texts.out)
-    } else {
-        None
-    })
+    files: (&str, &str),
+    (paths, input): (&str, &str),
+    (printed, error): (&str, &str),
+) -> Result<bool, Fail> {
+    let ran = run_at(runtime, alloc, files, (paths, input), (false, false));
+    let is_read = ran.left < input.len();
+    if ran.out.as_slice() != printed.as_bytes() || is_read == (input == "unread") {
+        return Ok(false);
+    }
+    match ran.answer {
+        Ok(()) => Ok(false),
+        Err(why) => Ok(why.to_string(alloc)?.as_str() == error),
+    }
 }
 
 #[test]
@@ -256,10 +246,9 @@ fn a_run_names_the_first_fault(rt: HostRuntime) -> Result<(), Fail> {
     for row in FAULTS {
         let (line, told) = row.split_once('|').ok_or("no paths")?;
         let (paths, error) = told.split_once('|').ok_or("no error")?;
-        let line = if line == "@" { TWO_TERMINALS } else { line };
-        let input = (paths, "unread");
-        let printed = printed_at(&rt, rt.alloc(), (line, "?"), input, error)?;
-        assert!(rt; printed.ok_or("another error")?.is_empty(), "{error}");
+        let files = (if line == "@" { TWO_TERMINALS } else { line }, "?");
+        let is_named = fails(&rt, rt.alloc(), files, (paths, "unread"), ("", error))?;
+        assert!(rt; is_named, "{error}");
     }
     Ok(())
 }
@@ -270,15 +259,14 @@ fn a_run_names_the_first_fault(rt: HostRuntime) -> Result<(), Fail> {
 fn a_refused_event_has_its_line_and_the_report(rt: HostRuntime) -> Result<(), Fail> {
     let error = "script line 2: refused: a transmission is pending";
     let script = "silence\nsilence\n";
-    let expected = format!(in rt.alloc(); "control CALL A\n{REPORT}")?;
+    let printed = format!(in rt.alloc(); "control CALL A\n{REPORT}")?;
     for (line, text, input) in [
-        (TWO_TERMINALS, script, (PATHS, "unread")),
+        (TWO_TERMINALS, script, FILES),
         (TWO_TERMINALS, "?", ("line.toml -", script)),
         ("?", script, ("- script.txt", TWO_TERMINALS)),
     ] {
-        let printed = printed_at(&rt, rt.alloc(), (line, text), input, error)?;
-        let printed = printed.ok_or("another error")?;
-        assert!(rt; printed.as_slice() == expected.as_bytes(), "{}", input.0);
+        let is_told = fails(&rt, rt.alloc(), (line, text), input, (&printed, error))?;
+        assert!(rt; is_told, "{}", input.0);
     }
     Ok(())
 }

@@ -1,7 +1,6 @@
 //! A run on the largest line: what the first and the last of 64 terminals send and get.
 
-use crate::watched::{NO_TROUBLE, RunWatch};
-use crate::written::{Written, run_over_sockets};
+use crate::written::run_over_sockets;
 use bsc_line::LineError;
 use bsc_run::RunError;
 use std::alloc::Global;
@@ -87,14 +86,12 @@ fn printed_of_ends(alloc: Global) -> Result<String, Fail> {
 #[test]
 fn the_first_and_the_last_of_64_terminals_exchange_records(rt: HostRuntime) -> Result<(), Fail> {
     let config = config_of_ends(rt.alloc())?;
-    let watch = RunWatch::new(NO_TROUBLE);
-    let mut written = Written::new(rt.alloc(), &watch);
-    let answer = run_over_sockets(&rt, &config, SCRIPT_OF_ENDS, &mut written)?;
+    let ended = run_over_sockets(&rt, &config, SCRIPT_OF_ENDS)?;
     let refused = RunError::Refused {
         line: 18,
         why: LineError::NotInDoubt,
     };
-    assert!(rt; answer == Err(refused));
-    assert!(rt; written.is(&printed_of_ends(rt.alloc())?));
+    let printed = printed_of_ends(rt.alloc())?;
+    assert!(rt; ended.answer == Err(refused) && ended.has_printed(&printed));
     Ok(())
 }

@@ -2,9 +2,9 @@
 //! size.
 
 use crate::runs::REPORT;
-use crate::watched::{NO_TROUBLE, RunWatch};
+use crate::watched::{NO_TROUBLE, Plan, TRACED};
 use crate::worked::{POLLED, WORKED, Worked};
-use crate::written::{Case, Written};
+use crate::written::{Case, Ended};
 use bsc_line::LineError;
 use bsc_run::RunError;
 use std::alloc::Global;
@@ -31,70 +31,89 @@ type Counts = [usize; 3];
 /// How a run ended in which growths may have been refused: as one of these counts, or without
 /// faults. None if no run may end so. If only one growth was refused, what was written before out
 /// of memory is a beginning of what is written without faults.
-fn ending(
-    worked: &Worked,
-    written: &Written<'_>,
-    answer: Result<(), RunError>,
-    is_one: bool,
-) -> Option<Counts> {
-    let (printed, traced) = (&written.out.inner, &written.trace.inner);
-    let is_reported = printed.ends_with(b"trusted\n");
-    let is_front = worked.is_part(printed) && worked.is_traced(traced);
-    match answer {
+fn ending(worked: &Worked, ended: &Ended, is_one: bool) -> Option<Counts> {
+    let is_reported = ended.out.ends_with(b"trusted\n");
+    let is_front = worked.is_part(ended) && worked.is_traced(ended);
+    match ended.answer {
         Err(RunError::Memory) if !is_reported && (!is_one || is_front) => Some([1, 0, 0]),
         Err(
             RunError::Refused {
                 line: 1,
                 why: LineError::Memory,
             },
-        ) if written.is(REPORT) && worked.is_traced(traced) => Some([0, 1, 0]),
+        ) if ended.has_printed(REPORT) && worked.is_traced(ended) => Some([0, 1, 0]),
         Err(RunError::Output | RunError::Socket { .. } | RunError::Memory) => None,
-        _ if worked.is_whole(printed, answer) => Some([0, 0, 0]),
-        _ if is_reported && is_delayed(worked, printed) => Some([0, 0, 1]),
+        _ if worked.is_whole(ended) => Some([0, 0, 0]),
+        _ if is_reported && is_delayed(worked, &ended.out) => Some([0, 0, 1]),
         _ => None,
     }
 }
 
-/// Runs the script with refusals from each number in turn, until no growth is refused. Returns how
+/// Runs a script while growths are refused, and returns how it ended.
+fn run_refused(
+    alloc: Global,
+    worked: &Worked,
+    case: &Case<'_>,
+    refusing: &Refusing,
+    (plan, is_one): (Plan, bool),
+) -> Result<Counts, Fail> {
+    let ended = case.run(alloc, refusing, plan)?;
+    match ending(worked, &ended, is_one) {
+        Some(counts) if refusing.refused() > 0 || counts == [0, 0, 0] => Ok(counts),
+        Some(_) => Err(Fail::new("told without a refusal")),
+        None => Err(Fail::new("something else is told")),
+    }
+}
+
+/// The sums of two counts.
+fn sums(counts: Counts, others: Counts) -> Counts {
+    let ([memory, offers, delays], [more, further, later]) = (counts, others);
+    [
+        memory.saturating_add(more),
+        offers.saturating_add(further),
+        delays.saturating_add(later),
+    ]
+}
+
+/// Runs a script with refusals from each number in turn, until no growth is refused. Returns how
 /// often the run ended in each way.
 fn count_endings(
     alloc: Global,
     worked: &Worked,
+    case: &Case<'_>,
     refusal: Refusal,
-    tracing: bool,
+    plan: Plan,
 ) -> Result<Counts, Fail> {
-    let case = Case::read(alloc, TWO_TERMINALS, worked.script)?;
     let refusing = Refusing::new(alloc);
-    let watch = RunWatch::new(NO_TROUBLE);
+    let how = (plan, refusal == Refusal::Nth);
     let mut counts = [0usize; 3];
     for number in refusing.in_turn(refusal, 1..99_999) {
         number?;
-        let mut written = Written::new(alloc, &watch);
-        let answer = case.run(alloc, &refusing, &watch, tracing, &mut written)?;
-        let ended = ending(worked, &written, answer, refusal == Refusal::Nth);
-        let ended = ended.ok_or("something else is told")?;
-        if refusing.refused() == 0 && ended != [0, 0, 0] {
-            return Err(Fail::new("told without a refusal"));
-        }
-        for (count, more) in counts.iter_mut().zip(&ended) {
-            *count = count.saturating_add(*more);
-        }
+        counts = sums(counts, run_refused(alloc, worked, case, &refusing, how)?);
     }
     Ok(counts)
 }
 
-/// A list of records grows in two allocations: two growths are those of the offer, and two are
-/// those of the spool before the text comes.
+/// Whether so many runs ended in each way. A list of records grows in two allocations: two growths
+/// are those of the offer, and two are those of the spool before the text comes.
+fn are_enough(counts: Counts, refusal: Refusal) -> bool {
+    let [memory, offers, delays] = counts;
+    let is_counted = match refusal {
+        Refusal::Nth => offers == 2 && delays == 2,
+        Refusal::From => offers == 2,
+        Refusal::Above { .. } => true,
+    };
+    memory > 3 && is_counted
+}
+
 #[test]
 fn each_growth_of_a_run_is_refused(rt: HostRuntime) -> Result<(), Fail> {
     for worked in WORKED {
-        for tracing in [false, true] {
+        let case = Case::read(rt.alloc(), TWO_TERMINALS, worked.script)?;
+        for plan in [NO_TROUBLE, TRACED] {
             for refusal in [Refusal::Nth, Refusal::From, Refusal::Above { octets: 8 }] {
-                let counts = count_endings(rt.alloc(), worked, refusal, tracing)?;
-                let [memory, offers, delays] = counts;
-                assert!(rt; memory > 3, "{refusal:?}");
-                assert!(rt; refusal != Refusal::Nth || (offers == 2 && delays == 2));
-                assert!(rt; refusal != Refusal::From || offers == 2);
+                let counts = count_endings(rt.alloc(), worked, &case, refusal, plan)?;
+                assert!(rt; are_enough(counts, refusal), "{refusal:?}");
             }
         }
     }
@@ -150,13 +169,11 @@ trusted
 fn count_printed(alloc: Global, script: &str, printed: &str) -> Result<usize, Fail> {
     let case = Case::read(alloc, TWO_TERMINALS, script)?;
     let refusing = Refusing::new(alloc);
-    let watch = RunWatch::new(NO_TROUBLE);
     let mut count = 0usize;
     for number in refusing.in_turn(Refusal::Nth, 1..99_999) {
         number?;
-        let mut written = Written::new(alloc, &watch);
-        let _ = case.run(alloc, &refusing, &watch, false, &mut written)?;
-        count = count.saturating_add(usize::from(written.is(printed)));
+        let ended = case.run(alloc, &refusing, NO_TROUBLE)?;
+        count = count.saturating_add(usize::from(ended.has_printed(printed)));
     }
     Ok(count)
 }

@@ -1,8 +1,8 @@
 //! What a run tells of its progress, and when the line that shows it is written.
 
-use crate::watched::{NO_TROUBLE, RunWatch};
-use crate::worked::{COUNTED_TWICE, POLLED};
-use crate::written::{Case, Written};
+use crate::watched::{NO_TROUBLE, Plan};
+use crate::worked::{COUNTED_TWICE, POLLED, Worked};
+use crate::written::run_in_memory;
 use bsc_progress::{Counts, Meter, ProgressLine, Timer, Work};
 use std::alloc::Global;
 use std::test::Fail;
@@ -24,10 +24,10 @@ pub(crate) struct Kept {
 }
 
 impl Kept {
-    /// Each time is one to show the progress.
-    pub(crate) fn new() -> Kept {
+    /// It was shown nothing.
+    pub(crate) fn new(due: bool) -> Kept {
         Kept {
-            due: true,
+            due,
             times: 0,
             in_order: true,
             last: None,
@@ -57,6 +57,21 @@ pub(crate) fn counts_of(done: u64, known: u64, arrived: u64, doubts: u64) -> Cou
     }
 }
 
+/// Whether a run tells each of its events, the last one with these counts, or none.
+fn is_told(alloc: Global, worked: &Worked, told: Option<Counts>) -> Result<bool, Fail> {
+    let plan = Plan {
+        due: told.is_some(),
+        ..NO_TROUBLE
+    };
+    let ended = run_in_memory(alloc, TWO_TERMINALS, worked.script, plan)?;
+    let is_last = match told {
+        Some(counts) => ended.kept.times == counts.done,
+        None => true,
+    };
+    let is_ended = ended.answer == worked.answer && ended.kept.in_order;
+    Ok(is_ended && is_last && ended.kept.last == told)
+}
+
 /// The last event of the second script is refused, and is not told.
 #[test]
 fn each_event_is_told_while_it_is_time(rt: HostRuntime) -> Result<(), Fail> {
@@ -64,16 +79,8 @@ fn each_event_is_told_while_it_is_time(rt: HostRuntime) -> Result<(), Fail> {
         (&POLLED, counts_of(8, 1, 1, 0)),
         (&COUNTED_TWICE, counts_of(13, 0, 2, 1)),
     ] {
-        for due in [true, false] {
-            let case = Case::read(rt.alloc(), TWO_TERMINALS, worked.script)?;
-            let watch = RunWatch::new(NO_TROUBLE);
-            let mut written = Written::new(rt.alloc(), &watch);
-            written.kept.due = due;
-            let answer = case.run(rt.alloc(), rt.alloc(), &watch, false, &mut written)?;
-            let kept = &written.kept;
-            assert!(rt; answer == worked.answer && kept.in_order);
-            let told = if due { Some(counts) } else { None };
-            assert!(rt; kept.last == told && (kept.times == counts.done || !due));
+        for told in [Some(counts), None] {
+            assert!(rt; is_told(rt.alloc(), worked, told)?, "{}", worked.script);
         }
     }
     Ok(())

@@ -1,26 +1,23 @@
 //! Runs over sockets with their complete output and trace, and the texts of errors.
 
-use crate::watched::{NO_TROUBLE, RunWatch};
-use crate::worked::{POLLED, WORKED};
-use crate::written::{Written, run_over_sockets};
+use crate::worked::{POLLED, WORKED, Worked};
+use crate::written::run_over_sockets;
 use bsc_line::LineError;
 use bsc_run::RunError;
 use std::alloc::Global;
 use std::test::Fail;
 use test_fixtures::configurations::TWO_TERMINALS;
 
+/// Whether a run prints its trace and its report.
+fn is_printed(rt: &HostRuntime, worked: &Worked) -> Result<bool, Fail> {
+    let ended = run_over_sockets(rt, TWO_TERMINALS, worked.script)?;
+    Ok(worked.is_whole(&ended) && ended.trace.as_slice() == worked.traced.as_bytes())
+}
+
 #[test]
 fn each_worked_run_prints_its_trace_and_its_report(rt: HostRuntime) -> Result<(), Fail> {
     for worked in WORKED {
-        let watch = RunWatch::new(NO_TROUBLE);
-        let mut written = Written::new(rt.alloc(), &watch);
-        let answer = run_over_sockets(&rt, TWO_TERMINALS, worked.script, &mut written)?;
-        assert!(rt;
-            worked.is_whole(&written.out.inner, answer),
-            "{}",
-            worked.script
-        );
-        assert!(rt; written.trace.inner.as_slice() == worked.traced.as_bytes());
+        assert!(rt; is_printed(&rt, worked)?, "{}", worked.script);
     }
     Ok(())
 }
@@ -28,14 +25,12 @@ fn each_worked_run_prints_its_trace_and_its_report(rt: HostRuntime) -> Result<()
 #[test]
 fn an_event_is_refused_after_those_of_a_run(rt: HostRuntime) -> Result<(), Fail> {
     let script = format!(in rt.alloc(); "{}ready 2\n", POLLED.script)?;
-    let watch = RunWatch::new(NO_TROUBLE);
-    let mut written = Written::new(rt.alloc(), &watch);
-    let answer = run_over_sockets(&rt, TWO_TERMINALS, script.as_str(), &mut written)?;
+    let ended = run_over_sockets(&rt, TWO_TERMINALS, script.as_str())?;
     let refused = RunError::Refused {
         line: 9,
         why: LineError::NoSuchTerminal,
     };
-    assert!(rt; written.is(POLLED.printed) && answer == Err(refused));
+    assert!(rt; ended.has_printed(POLLED.printed) && ended.answer == Err(refused));
     Ok(())
 }
 
@@ -70,11 +65,18 @@ const REFUSED: &[&str] = &[
     script line 3: refused: control is not sending",
 ];
 
-/// Whether this is the error.
-fn has_text(alloc: Global, answer: Result<(), RunError>, text: &str) -> Result<bool, Fail> {
-    match answer {
-        Ok(()) => Ok(false),
-        Err(error) => Ok(error.to_string(alloc)?.as_str() == text),
+/// Whether this is the text of the error.
+fn has_text(alloc: Global, error: RunError, text: &str) -> Result<bool, Fail> {
+    Ok(error.to_string(alloc)?.as_str() == text)
+}
+
+/// Whether a script prints this and the report, and its last event is refused with this error.
+fn is_refused(rt: &HostRuntime, script: &str, before: &str, error: &str) -> Result<bool, Fail> {
+    let ended = run_over_sockets(rt, TWO_TERMINALS, script)?;
+    let report = ended.out.as_slice().strip_prefix(before.as_bytes());
+    match ended.answer {
+        Err(why) if report == Some(REPORT.as_bytes()) => has_text(rt.alloc(), why, error),
+        _ => Ok(false),
     }
 }
 
@@ -83,34 +85,24 @@ fn each_refusal_has_its_text_after_the_report(rt: HostRuntime) -> Result<(), Fai
     for row in REFUSED {
         let (script, told) = row.split_once('|').ok_or("no output")?;
         let (before, error) = told.split_once('|').ok_or("no error")?;
-        let watch = RunWatch::new(NO_TROUBLE);
-        let mut written = Written::new(rt.alloc(), &watch);
-        let answer = run_over_sockets(&rt, TWO_TERMINALS, script, &mut written)?;
-        let printed = format!(in rt.alloc(); "{before}{REPORT}")?;
-        assert!(rt;
-            written.is(&printed) && has_text(rt.alloc(), answer, error)?,
-            "{script}"
-        );
+        assert!(rt; is_refused(&rt, script, before, error)?, "{script}");
     }
     Ok(())
 }
 
 #[test]
 fn each_error_has_a_text(rt: HostRuntime) -> Result<(), Fail> {
-    let texts = format!(in rt.alloc();
-        "{}\n{}\n{}\n{}\n",
-        RunError::Output,
-        RunError::Memory,
-        RunError::Socket { line: 3 },
-        RunError::Refused {
-            line: 1,
-            why: LineError::Memory,
-        }
-    )?;
-    assert_eq!(rt;
-        texts.as_str(),
-        "output fault\nout of memory\nscript line 3: socket fault\n\
-        script line 1: refused: out of memory\n"
-    );
+    let refused = RunError::Refused {
+        line: 1,
+        why: LineError::Memory,
+    };
+    for (error, text) in [
+        (RunError::Output, "output fault"),
+        (RunError::Memory, "out of memory"),
+        (RunError::Socket { line: 3 }, "script line 3: socket fault"),
+        (refused, "script line 1: refused: out of memory"),
+    ] {
+        assert!(rt; has_text(rt.alloc(), error, text)?, "{text}");
+    }
     Ok(())
 }

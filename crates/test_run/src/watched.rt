@@ -41,12 +41,20 @@ pub(crate) enum When {
     EverySecond,
 }
 
-/// No call goes wrong.
+/// No call goes wrong, nothing is traced, and it is always time to show the progress.
 pub(crate) const NO_TROUBLE: Plan = Plan {
     part: Part::Writer,
     trouble: Trouble::Failed,
     when: When::At { call: 0 },
     most: usize::MAX,
+    traced: false,
+    due: true,
+};
+
+/// The same, with a trace.
+pub(crate) const TRACED: Plan = Plan {
+    traced: true,
+    ..NO_TROUBLE
 };
 
 impl When {
@@ -58,14 +66,16 @@ impl When {
     }
 }
 
-/// The faults of a run: which calls of which part go wrong, and how. No call moves more than `most`
-/// octets.
+/// How a run is made: which calls of which part go wrong, and how; that no call moves more than
+/// `most` octets; and whether the run is traced, and it is time to show its progress.
 #[derive(Clone, Copy)]
 pub(crate) struct Plan {
     pub(crate) part: Part,
     pub(crate) trouble: Trouble,
     pub(crate) when: When,
     pub(crate) most: usize,
+    pub(crate) traced: bool,
+    pub(crate) due: bool,
 }
 
 /// What was seen of a run: the number of calls that the part of the plan made, how many of them
@@ -80,7 +90,7 @@ pub(crate) struct Seen {
 /// Applies a plan to the calls of a run, and counts them.
 #[derive(Drop)]
 pub(crate) struct RunWatch {
-    plan: Plan,
+    pub(crate) plan: Plan,
     seen: Cell<Seen>,
 }
 

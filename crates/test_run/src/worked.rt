@@ -1,5 +1,6 @@
 //! Runs of two terminals with their complete output and trace.
 
+use crate::written::Ended;
 use bsc_line::LineError;
 use bsc_run::RunError;
 
@@ -166,18 +167,19 @@ not trusted
 pub(crate) const WORKED: &[Worked] = &[POLLED, HEARD, COUNTED_TWICE];
 
 impl Worked {
-    /// Whether these are the output and the answer of a run without faults.
-    pub(crate) fn is_whole(&self, printed: &[u8], answer: Result<(), RunError>) -> bool {
-        printed == self.printed.as_bytes() && answer == self.answer
+    /// Whether a run printed and answered what it does without faults.
+    pub(crate) fn is_whole(&self, ended: &Ended) -> bool {
+        ended.has_printed(self.printed) && ended.answer == self.answer
     }
 
-    /// Whether this is a beginning of the complete output, and not all of it.
-    pub(crate) fn is_part(&self, printed: &[u8]) -> bool {
+    /// Whether a run printed a beginning of the complete output, and not all of it.
+    pub(crate) fn is_part(&self, ended: &Ended) -> bool {
+        let printed = ended.out.as_slice();
         printed.len() < self.printed.len() && self.printed.as_bytes().starts_with(printed)
     }
 
-    /// Whether this is a beginning of the complete trace.
-    pub(crate) fn is_traced(&self, traced: &[u8]) -> bool {
-        self.traced.as_bytes().starts_with(traced)
+    /// Whether the trace of a run is a beginning of the complete one.
+    pub(crate) fn is_traced(&self, ended: &Ended) -> bool {
+        self.traced.as_bytes().starts_with(ended.trace.as_slice())
     }
 }

@@ -1,35 +1,33 @@
 //! Runs over sockets and over connections in memory, and what they write.
 
+ghost use Rattle.std.specs.Prelude.{◌≡◌, length};
+ghost use Rattle.bsc_run.specs.Crossing.{connection_count};
+
 use crate::progress::Kept;
-use crate::watched::{Connections, Part, RunWatch, Watched, watched_writer};
+use crate::watched::{Connections, Part, Plan, RunWatch, Seen, TRACED, watched_writer};
+use bsc_carrier::Cable;
 use bsc_config::{Config, read_config};
 use bsc_loopback::connect;
 use bsc_run::{RunError, run_line};
 use bsc_script::{Script, read_script};
 use std::alloc::{Allocator, Global};
+use std::io::{Read, Write};
 use std::test::Fail;
 
-/// What a run writes, and what it tells of its progress.
+/// What a run wrote and told of its progress, what was seen of its calls, and how it ended.
 #[derive(Drop)]
-pub(crate) struct Written<'a> {
-    pub(crate) out: Watched<'a, Vec<u8>>,
-    pub(crate) trace: Watched<'a, Vec<u8>>,
+pub(crate) struct Ended {
+    pub(crate) out: Vec<u8>,
+    pub(crate) trace: Vec<u8>,
     pub(crate) kept: Kept,
+    pub(crate) seen: Seen,
+    pub(crate) answer: Result<(), RunError>,
 }
 
-impl<'a> Written<'a> {
-    /// Nothing is written yet.
-    pub(crate) fn new(alloc: Global, watch: &'a RunWatch) -> Written<'a> {
-        Written {
-            out: watched_writer(alloc, watch, Part::Writer),
-            trace: watched_writer(alloc, watch, Part::Tracer),
-            kept: Kept::new(),
-        }
-    }
-
+impl Ended {
     /// Whether exactly this was printed.
-    pub(crate) fn is(&self, printed: &str) -> bool {
-        self.out.inner.as_slice() == printed.as_bytes()
+    pub(crate) fn has_printed(&self, text: &str) -> bool {
+        self.out.as_slice() == text.as_bytes()
     }
 }
 
@@ -49,61 +47,70 @@ impl<'a> Case<'a> {
     }
 
     /// Runs the script on a new line of two terminals, over watched connections in memory. The line
-    /// and the output allocate from `stations`.
+    /// allocates from `stations`.
     pub(crate) fn run<E: Allocator + Copy>(
         &self,
         alloc: Global,
         stations: E,
-        watch: &RunWatch,
-        tracing: bool,
-        written: &mut Written<'_>,
-    ) -> Result<Result<(), RunError>, Fail> {
-        let connections = Connections::new(alloc);
-        let mut cable = connections.cable(alloc, watch)?;
-        let (config, script) = (&self.config, &self.script);
-        if config.terminals() != 2 {
+        plan: Plan,
+    ) -> Result<Ended, Fail> {
+        if self.config.terminals() != 2 {
             return Err(Fail::new("not two terminals"));
         }
-        Ok(run_line(
-            stations,
-            config,
-            script,
-            &mut cable,
-            &mut written.out,
-            tracing,
-            &mut written.trace,
-            &mut written.kept,
-        ))
+        let (connections, watch) = (Connections::new(alloc), RunWatch::new(plan));
+        let mut cable = connections.cable(alloc, &watch)?;
+        let (config, script) = (&self.config, &self.script);
+        Ok(run_over(alloc, stations, config, script, &mut cable, &watch))
     }
 }
 
-/// Runs the script of a case on a new line, over sockets.
-fn run_case(
-    rt: &HostRuntime,
+/// Runs a script on a new line, over a cable with a connection for each terminal, and watches what
+/// it writes. The line allocates from `stations`.
+fn run_over<S: Read + Write + Drop, E: Allocator + Copy>(
+    alloc: Global,
+    stations: E,
     config: &Config,
     script: &Script<'_, Global>,
-    written: &mut Written<'_>,
-) -> Result<Result<(), RunError>, Fail> {
-    let mut cable = connect(rt, rt.alloc(), config.terminals())?;
-    Ok(run_line(
-        rt.alloc(),
-        config,
-        script,
-        &mut cable,
-        &mut written.out,
-        true,
-        &mut written.trace,
-        &mut written.kept,
-    ))
+    cable: &mut Cable<S>,
+    watch: &RunWatch,
+) -> Ended
+    requires { connection_count cable.old ≡ length config.now.terminals }
+{
+    let mut out = watched_writer(alloc, watch, Part::Writer);
+    let mut trace = watched_writer(alloc, watch, Part::Tracer);
+    let mut kept = Kept::new(watch.plan.due);
+    let tracing = watch.plan.traced;
+    let answer = run_line(
+        stations, config, script, cable, &mut out, tracing, &mut trace, &mut kept,
+    );
+    Ended {
+        out: out.inner,
+        trace: trace.inner,
+        kept,
+        seen: watch.seen(),
+        answer,
+    }
 }
 
-/// The answer to a run over sockets, with a trace.
+/// Runs a script over connections in memory.
+pub(crate) fn run_in_memory(
+    alloc: Global,
+    config: &str,
+    script: &str,
+    plan: Plan,
+) -> Result<Ended, Fail> {
+    let case = Case::read(alloc, config, script)?;
+    case.run(alloc, alloc, plan)
+}
+
+/// Runs a script over sockets, with a trace.
 pub(crate) fn run_over_sockets(
     rt: &HostRuntime,
     config: &str,
     script: &str,
-    written: &mut Written<'_>,
-) -> Result<Result<(), RunError>, Fail> {
-    let case = Case::read(rt.alloc(), config, script)?;
-    run_case(rt, &case.config, &case.script, written)
+) -> Result<Ended, Fail> {
+    let Case { config, script } = Case::read(rt.alloc(), config, script)?;
+    let mut cable = connect(rt, rt.alloc(), config.terminals())?;
+    let (alloc, watch) = (rt.alloc(), RunWatch::new(TRACED));
+    Ok(run_over(alloc, alloc, &config, &script, &mut cable, &watch))
 }
