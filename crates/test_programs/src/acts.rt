@@ -12,6 +12,7 @@
 //! | `piece P N` | a read or a write of P moves N octets at most from now on |
 //! | `room P N` | program P takes N octets more, and no others |
 //! | `serve N` | all are served N times, and none asks the station to end |
+//! | `stops N` | all are served until one asks the station to end, at most N times |
 //! | `arrive X` | the record X arrives from terminal 0 |
 //! | `told P X` | program P was told exactly X since the last `told P` |
 //! | `lines P N`, `fewer P N` | program P was told N lines, or fewer |
@@ -43,11 +44,16 @@ pub(crate) fn play(alloc: Global, scenes: &[&'static str]) -> Result<(), Fail> {
 /// Plays acts, and returns whether each of them holds.
 pub(crate) fn all_hold(alloc: Global, acts: &str) -> Result<bool, Fail> {
     let world = World::new(alloc)?;
+    all_hold_in(alloc, &world, acts)
+}
+
+/// Plays acts in this world, and returns whether each of them holds.
+fn all_hold_in(alloc: Global, world: &World, acts: &str) -> Result<bool, Fail> {
     let mut station = control(alloc)?;
     let mut serving = on_heap(alloc, Serving::new(alloc, world.scripted()))?;
     for act in acts.split(';') {
         let act = act.strip_prefix(" ").unwrap_or(act);
-        if !holds(&world, &mut serving, &mut station, act)? {
+        if !holds(world, &mut serving, &mut station, act)? {
             return Ok(false);
         }
     }
@@ -78,6 +84,7 @@ fn holds(
     match word {
         "connect" => world.connect(number(rest)?),
         "serve" => return Ok(!is_stopped(serving, station, number(rest)?)?),
+        "stops" => return is_stopped(serving, station, number(rest)?),
         "arrive" => return arrives(station, rest.as_bytes()),
         "away" => return Ok(world.turned_away.get() == number(rest)?),
         "calls" => return Ok(world.calls.get() == number(rest)?),

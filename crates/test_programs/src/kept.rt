@@ -1,7 +1,7 @@
 //! Programs that a station serves which keeps its records.
 
 use crate::stations::{Quiet, control, line};
-use crate::world::{Scripted, World};
+use crate::world::World;
 use bsc_block::Record;
 use bsc_connections::LiveError;
 use bsc_control::Control;
@@ -14,25 +14,23 @@ use std::test::Fail;
 use test_fixtures::on_heap;
 use test_memory::Memory;
 
-/// A control station and what keeps its records.
-#[derive(Drop)]
-struct Kept {
-    station: Box<Control<Global>>,
-    keeper: Keeper<Memory>,
-}
-
-/// Returns the control station of the line, made again from its store.
-fn begun(alloc: Global, store: Memory) -> Result<Box<Kept>, Fail> {
+/// Returns what keeps the records of a control station, which is made again from its store.
+fn begun(
+    alloc: Global,
+    station: &mut Control<Global>,
+    store: Memory,
+) -> Result<Box<Keeper<Memory>>, Fail> {
     let config = line(alloc)?;
-    let mut station = control(alloc)?;
     let own = Own::of(alloc, &config, Owner::Control)?;
-    let keeper = begin_control(alloc, &mut station, own, store, false)?;
-    Ok(Box::new(alloc, Kept { station, keeper })?)
+    on_heap(alloc, begin_control(alloc, station, own, store, false))
 }
 
-/// Serves the programs once.
-fn served(serving: &mut Serving<Scripted<'_>>, kept: &mut Kept) -> Result<bool, LiveError> {
-    serving.serve_kept(&mut *kept.station, &mut kept.keeper, &Quiet)
+/// Serves the programs of a control station once, and returns the result.
+fn served(alloc: Global, world: &World, store: Memory) -> Result<Result<bool, LiveError>, Fail> {
+    let mut station = control(alloc)?;
+    let mut keeper = begun(alloc, &mut station, store)?;
+    let mut serving = on_heap(alloc, Serving::new(alloc, world.scripted()))?;
+    Ok(serving.serve_kept(&mut *station, &mut *keeper, &Quiet))
 }
 
 /// What programs say, each of which is served once, and what each has to be told.
@@ -120,19 +118,22 @@ fn store_of(alloc: Global, is_doubtful: bool, left: u32) -> Result<Memory, Fail>
 fn goes(alloc: Global, case: &Case) -> Result<bool, Fail> {
     let (_, is_doubtful, left, talks, due) = case;
     let world = World::new(alloc)?;
-    let mut kept = begun(alloc, store_of(alloc, *is_doubtful, *left)?)?;
-    let mut serving = on_heap(alloc, Serving::new(alloc, world.scripted()))?;
     world.connect(talks.len());
     for (number, (said, _)) in talks.iter().enumerate() {
         world.at(number)?.say(said)?;
     }
-    let result = served(&mut serving, &mut kept);
+    let store = store_of(alloc, *is_doubtful, *left)?;
+    Ok(served(alloc, &world, store)? == *due && are_told(&world, talks)?)
+}
+
+/// Whether each program was told what it has to be told.
+fn are_told(world: &World, talks: Talks) -> Result<bool, Fail> {
     for (number, (_, told)) in talks.iter().enumerate() {
         if !world.at(number)?.was_told(told)? {
             return Ok(false);
         }
     }
-    Ok(result == *due)
+    Ok(true)
 }
 
 #[test]

@@ -18,28 +18,36 @@ fn is_reached(rt: &HostRuntime, path: &str) -> bool {
     UnixStream::connect(rt, path).is_ok()
 }
 
-/// A station at a path has no address, and its socket file is for its user only and is removed with
-/// the sockets.
+/// Whether a station that listens at this path has no address, and its socket file is for its user
+/// only.
+fn is_own(rt: &HostRuntime, path: &str) -> Result<bool, Fail> {
+    let clients = Clients::listen(rt, rt.alloc(), ServedAt::Path { path })?;
+    let mode = fs::symlink_metadata(rt, path)?.permissions().mode();
+    Ok(clients.address().is_none() && mode & 0o777 == 0o600)
+}
+
+/// The socket file is removed with the sockets.
 #[test]
 fn a_socket_file_is_for_the_user_only_and_removed(rt: HostRuntime) -> Result<(), Fail> {
-    let clients = Clients::listen(&rt, rt.alloc(), ServedAt::Path { path: "own" })?;
-    assert!(rt; clients.address().is_none());
-    let mode = fs::symlink_metadata(&rt, "own")?.permissions().mode();
-    assert!(rt; mode & 0o777 == 0o600);
-    drop(clients);
+    assert!(rt; is_own(&rt, "own")?);
     assert!(rt; fs::symlink_metadata(&rt, "own").is_err());
     Ok(())
 }
 
-/// A socket file that was left is replaced, and while a station listens there the path is in use.
+/// Whether a path is in use while a station listens there, which a program reaches then.
+fn is_in_use(rt: &HostRuntime, path: &str) -> Result<bool, Fail> {
+    let _clients = Clients::listen(rt, rt.alloc(), ServedAt::Path { path })?;
+    let is_first_reached = is_reached(rt, path);
+    let fault = fault_at(rt, path);
+    Ok(is_first_reached && fault == Some(ClientsError::InUse) && is_reached(rt, path))
+}
+
+/// A socket file that was left is replaced.
 #[test]
 fn a_path_is_in_use_while_somebody_listens(rt: HostRuntime) -> Result<(), Fail> {
     drop(UnixListener::bind(&rt, "left")?);
     assert!(rt; !is_reached(&rt, "left"));
-    let _clients = Clients::listen(&rt, rt.alloc(), ServedAt::Path { path: "left" })?;
-    assert!(rt; is_reached(&rt, "left"));
-    assert!(rt; fault_at(&rt, "left") == Some(ClientsError::InUse));
-    assert!(rt; is_reached(&rt, "left"));
+    assert!(rt; is_in_use(&rt, "left")?);
     Ok(())
 }
 
@@ -70,14 +78,18 @@ fn nothing_is_left_beside_a_socket_file(rt: HostRuntime) -> Result<(), Fail> {
     Ok(())
 }
 
+/// The sockets of a station at a path from which the socket file of another one was removed. The
+/// other one has ended.
+fn second_at<'a>(rt: &'a HostRuntime, path: &str) -> Result<Clients<'a, HostRuntime>, Fail> {
+    let _first = Clients::listen(rt, rt.alloc(), ServedAt::Path { path })?;
+    fs::remove_file(rt, path)?;
+    Ok(Clients::listen(rt, rt.alloc(), ServedAt::Path { path })?)
+}
+
 /// A station that ends removes its own socket file, and no other file that stands at its path.
 #[test]
 fn what_another_has_put_at_a_path_is_kept(rt: HostRuntime) -> Result<(), Fail> {
-    let at = ServedAt::Path { path: "path" };
-    let first = Clients::listen(&rt, rt.alloc(), at)?;
-    fs::remove_file(&rt, "path")?;
-    let second = Clients::listen(&rt, rt.alloc(), at)?;
-    drop(first);
+    let second = second_at(&rt, "path")?;
     assert!(rt; is_reached(&rt, "path"));
     fs::remove_file(&rt, "path")?;
     fs::write(&rt, "path", b"kept")?;
@@ -86,15 +98,21 @@ fn what_another_has_put_at_a_path_is_kept(rt: HostRuntime) -> Result<(), Fail> {
     Ok(())
 }
 
+/// Why a station cannot listen at a path while another one replaces the socket file that was left
+/// there, if that file stays there.
+fn fault_while_locked(rt: &HostRuntime) -> Result<Option<ClientsError>, Fail> {
+    let lock = File::create(rt, "held.lock")?;
+    lock.try_lock()?;
+    let fault = fault_at(rt, "held");
+    fs::symlink_metadata(rt, "held")?;
+    Ok(fault)
+}
+
 /// While another station replaces a socket file that was left, the path is in use.
 #[test]
 fn one_station_at_a_time_replaces_a_socket_file(rt: HostRuntime) -> Result<(), Fail> {
     drop(UnixListener::bind(&rt, "held")?);
-    let lock = File::create(&rt, "held.lock")?;
-    lock.try_lock()?;
-    assert!(rt; fault_at(&rt, "held") == Some(ClientsError::InUse));
-    assert!(rt; fs::symlink_metadata(&rt, "held").is_ok());
-    drop(lock);
+    assert!(rt; fault_while_locked(&rt)? == Some(ClientsError::InUse));
     assert!(rt; fault_at(&rt, "held") == None);
     Ok(())
 }
@@ -103,11 +121,11 @@ fn one_station_at_a_time_replaces_a_socket_file(rt: HostRuntime) -> Result<(), F
 /// and neither does one in a folder that is not there.
 #[test]
 fn a_path_at_which_no_station_can_listen_is_told(rt: HostRuntime) -> Result<(), Fail> {
-    let longest = format!(in rt.alloc(); "{:0107}", 0)?;
-    assert!(rt; fault_at(&rt, longest.as_str()) == None);
-    let longer = format!(in rt.alloc(); "{:0108}", 0)?;
-    assert!(rt; fault_at(&rt, longer.as_str()) == Some(ClientsError::CannotListen));
-    assert!(rt; fault_at(&rt, "nowhere/socket") == Some(ClientsError::CannotListen));
+    assert!(rt; fault_at(&rt, &"0".repeat(rt.alloc(), 107)?) == None);
+    let longer = "0".repeat(rt.alloc(), 108)?;
+    for path in [longer.as_str(), "nowhere/socket"] {
+        assert!(rt; fault_at(&rt, path) == Some(ClientsError::CannotListen));
+    }
     let nobody = ServedAt::Path { path: "nobody" };
     assert!(rt; unreached(&rt, nobody) == Some(ClientsError::NobodyThere));
     Ok(())

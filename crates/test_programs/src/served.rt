@@ -1,10 +1,10 @@
 //! Programs that a station serves, without a store.
 
 use crate::acts::{all_hold, is_stopped, play};
-use crate::stations::{control, terminal};
+use crate::stations::terminal;
 use crate::world::World;
 use bsc_serving::Serving;
-use std::alloc::Global;
+use std::alloc::{AllocError, Global};
 use std::test::Fail;
 use test_fixtures::on_heap;
 
@@ -60,37 +60,34 @@ fn programs_are_served(rt: HostRuntime) -> Result<(), Fail> {
     play(rt.alloc(), SERVED)
 }
 
-/// A record of the longest line: 144 characters that are escaped.
-#[test]
-fn the_longest_line_is_told(rt: HostRuntime) -> Result<(), Fail> {
-    let mut acts = String::from_str(rt.alloc(), "connect 1; asks 0 follow from 0\n; arrive ")?;
-    let mut told = String::from_str(rt.alloc(), "; serve 4; told 0 ok\narrived from 0 0 ")?;
+/// The acts in which a record of 144 characters that are escaped arrives, and is told.
+fn longest_line(alloc: Global) -> Result<String, AllocError> {
+    let mut acts = String::from_str(alloc, "connect 1; asks 0 follow from 0\n; arrive ")?;
     for _ in 0..144 {
         acts.push_str("\x07")?;
-        told.push_str("\\x07")?;
     }
-    acts.push_str(told.as_str())?;
+    acts.push_str("; serve 4; told 0 ok\narrived from 0 0 ")?;
+    for _ in 0..144 {
+        acts.push_str("\\x07")?;
+    }
     acts.push_str("\n")?;
-    assert!(rt; all_hold(rt.alloc(), acts.as_str())?);
-    Ok(())
+    Ok(acts)
 }
 
-/// Whether a program that says this many comments and then stops a station is answered before the
-/// station ends.
-fn is_answered(alloc: Global, comments: usize) -> Result<bool, Fail> {
-    let world = World::new(alloc)?;
-    let mut station = control(alloc)?;
-    let mut serving = on_heap(alloc, Serving::new(alloc, world.scripted()))?;
-    world.connect(1);
-    world.at(0)?.say_often(b"#\n", comments)?;
-    world.at(0)?.say(b"stop\n")?;
-    Ok(is_stopped(&mut serving, &mut *station, 9)? && world.at(0)?.was_told(b"ok\n")?)
+#[test]
+fn the_longest_line_is_told(rt: HostRuntime) -> Result<(), Fail> {
+    let acts = longest_line(rt.alloc())?;
+    assert!(rt; all_hold(rt.alloc(), &acts)?);
+    Ok(())
 }
 
 #[test]
 fn a_stop_is_answered_in_whichever_step_it_comes(rt: HostRuntime) -> Result<(), Fail> {
     for comments in 0..40 {
-        assert!(rt; is_answered(rt.alloc(), comments)?, "{comments}");
+        let acts = format!(in rt.alloc();
+            "connect 1; often 0 {comments} #\n; say 0 stop\n; stops 9; told 0 ok\n"
+        )?;
+        assert!(rt; all_hold(rt.alloc(), &acts)?, "{comments}");
     }
     Ok(())
 }
@@ -102,13 +99,18 @@ release from 0 0\nstatus\n";
 const TOLD: &[u8] = b"ok 0\nok 1\nfault the station does not send on it\nok\nok\nok\n\
 fault not in doubt\nfrom 0: offered 2, known 0\nto 0.0: spooled 0\nto 0.1: spooled 0\nok\n";
 
+/// Serves the programs of a terminal 20 times. Returns whether none asks it to end.
+fn goes_on(alloc: Global, world: &World) -> Result<bool, Fail> {
+    let mut station = terminal(alloc)?;
+    let mut serving = on_heap(alloc, Serving::new(alloc, world.scripted()))?;
+    Ok(!is_stopped(&mut serving, &mut *station, 20)?)
+}
+
 #[test]
 fn commands_at_a_terminal(rt: HostRuntime) -> Result<(), Fail> {
     let world = World::new(rt.alloc())?;
-    let mut station = terminal(rt.alloc())?;
-    let mut serving = on_heap(rt.alloc(), Serving::new(rt.alloc(), world.scripted()))?;
     world.connect(1);
     world.at(0)?.say(SAID)?;
-    assert!(rt; !is_stopped(&mut serving, &mut *station, 20)? && world.at(0)?.was_told(TOLD)?);
+    assert!(rt; goes_on(rt.alloc(), &world)? && world.at(0)?.was_told(TOLD)?);
     Ok(())
 }
