@@ -10,7 +10,7 @@ use bsc_sockets::SocketsError;
 use std::cell::RefCell;
 use std::fs::File;
 use std::net::{Net, TcpListener};
-use std::rt::Files;
+use std::rt::{Files, HostRuntime};
 use std::test::Fail;
 use std::time::{Clock, Duration};
 
@@ -45,6 +45,11 @@ pub(crate) fn opened<R: AllocGlobal + Clock + Eprint + Files<File = File> + Net>
     Ok(opened.connections.len())
 }
 
+/// Whether an attempt to connect to this address comes to this, after this many milliseconds in all.
+fn comes_to(fake: &Fake<'_>, address: &str, due: Result<usize, SocketsError>, time: u64) -> bool {
+    opened(fake, &wanted(Place::Connect { address })) == due && fake.time.get() == time
+}
+
 /// A station connects at once to a peer that listens. If nobody does, it gives up when its patience
 /// has passed, and not before.
 #[test]
@@ -52,18 +57,11 @@ fn a_station_connects_to_the_peer_at_its_address(rt: HostRuntime) -> Result<(), 
     let listener = TcpListener::bind(&rt, "127.0.0.3:0")?;
     let port = listener.local_addr()?.port();
     let text = format!(in rt.alloc(); "127.0.0.3:{port}")?;
-    let place = Place::Connect { address: &text };
     let fake = Fake::new(&rt, NO_FILE);
-    assert!(rt; opened(&fake, &wanted(place)) == Ok(1));
-    assert_eq!(rt; fake.time.get(), 0);
-    assert!(rt; listener.accept().is_ok());
+    assert!(rt; comes_to(&fake, &text, Ok(1), 0) && listener.accept().is_ok());
     drop(listener);
-    assert!(rt; opened(&fake, &wanted(place)) == Err(SocketsError::NobodyThere));
-    assert_eq!(rt; fake.time.get(), 400);
-    let place = Place::Connect {
-        address: "127.0.0.3",
-    };
-    assert!(rt; opened(&fake, &wanted(place)) == Err(SocketsError::Address));
+    assert!(rt; comes_to(&fake, &text, Err(SocketsError::NobodyThere), 400));
+    assert!(rt; comes_to(&fake, "127.0.0.3", Err(SocketsError::Address), 400));
     assert!(rt; fake.has_told(""));
     Ok(())
 }
@@ -146,21 +144,31 @@ fn met(fake: &Fake<'_>, peer: &Late<'_>) -> Result<&'static str, SocketsError> {
     connect_within(fake, Duration::from_millis(350), peer)
 }
 
+/// Whether a station makes these attempts, and they come to what they say.
+fn are_made(host: &HostRuntime, attempts: &Attempts) -> bool {
+    let (takes, misses, is_met, tried) = attempts;
+    let fake = Fake::new(host, NO_FILE);
+    let peer = peer_after(&fake, *takes, *misses);
+    let due = match *is_met {
+        true => Ok("there"),
+        false => Err(SocketsError::NobodyThere),
+    };
+    met(&fake, &peer) == due && peer.has_tried(tried)
+}
+
+/// Whether a station tries 36,000 times in an hour.
+fn is_met_in_an_hour(host: &HostRuntime) -> bool {
+    let fake = Fake::new(host, NO_FILE);
+    let peer = peer_after(&fake, 0, 35_999);
+    connect_within(&fake, Duration::from_secs(3_600), &peer) == Ok("there")
+}
+
 #[test]
 fn a_station_tries_until_its_patience_ends(rt: HostRuntime) -> Result<(), Fail> {
-    for (place, (takes, misses, is_met, tried)) in ATTEMPTS.iter().enumerate() {
-        let fake = Fake::new(&rt, NO_FILE);
-        let peer = peer_after(&fake, *takes, *misses);
-        let due = match *is_met {
-            true => Ok("there"),
-            false => Err(SocketsError::NobodyThere),
-        };
-        assert!(rt; met(&fake, &peer) == due, "{place}");
-        assert!(rt; peer.has_tried(tried), "{place}");
+    for (place, attempts) in ATTEMPTS.iter().enumerate() {
+        assert!(rt; are_made(&rt, attempts), "{place}");
     }
-    let fake = Fake::new(&rt, NO_FILE);
-    let peer = peer_after(&fake, 0, 35_999);
-    assert!(rt; connect_within(&fake, Duration::from_secs(3_600), &peer) == Ok("there"));
+    assert!(rt; is_met_in_an_hour(&rt));
     Ok(())
 }
 
@@ -184,7 +192,8 @@ fn a_station_tries_no_more_after_an_error(rt: HostRuntime) -> Result<(), Fail> {
 fn a_cable_has_its_connections(rt: HostRuntime) -> Result<(), Fail> {
     let (fake, streams) = (Fake::new(&rt, NO_FILE), Streams::new(false));
     let mut machine = streams.machine(&fake);
-    assert!(rt; matches!(&machine.connect(1), Ok(cable) if cable.terminals() == 1));
-    assert!(rt; matches!(&machine.connect(64), Ok(cable) if cable.terminals() == 64));
+    for count in [1, 64] {
+        assert!(rt; matches!(&machine.connect(count), Ok(cable) if cable.terminals() == count));
+    }
     Ok(())
 }

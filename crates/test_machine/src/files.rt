@@ -24,17 +24,21 @@ fn is_read(host: &HostRuntime, path: &str, octets: &[u8]) -> bool {
     }
 }
 
+/// Whether a file of this many octets is read whole.
+fn is_read_whole(host: &HostRuntime, count: usize) -> Result<bool, Fail> {
+    let text = Vec::from_elem(host.alloc(), b'x', count)?;
+    fs::write(host, "text", text.as_slice())?;
+    Ok(is_read(host, "text", text.as_slice()))
+}
+
 #[test]
 fn texts_of_files_are_read_whole(rt: HostRuntime) -> Result<(), Fail> {
     fs::write(&rt, "other", b"other")?;
     for count in [0, 1, 4_096, 70_001, MAX_INPUT] {
-        let text = Vec::from_elem(rt.alloc(), b'x', count)?;
-        fs::write(&rt, "text", text.as_slice())?;
-        assert!(rt; is_read(&rt, "text", text.as_slice()), "{count}");
+        assert!(rt; is_read_whole(&rt, count)?, "{count}");
     }
     assert!(rt; is_read(&rt, "other", b"other"));
-    let longer = Vec::from_elem(rt.alloc(), b'x', MAX_INPUT + 1)?;
-    fs::write(&rt, "text", longer.as_slice())?;
+    assert!(rt; !is_read_whole(&rt, MAX_INPUT + 1)?);
     assert!(rt; read(&rt, "text") == Err(InputError::TooLong));
     Ok(())
 }
@@ -86,19 +90,24 @@ fn traces_are_opened(rt: HostRuntime) -> Result<(), Fail> {
     Ok(())
 }
 
+/// Whether this width is told.
+fn is_width(told: Option<String>, width: Option<&str>) -> bool {
+    match told {
+        Some(told) => width == Some(told.as_str()),
+        None => width.is_none(),
+    }
+}
+
 /// The width is what the environment tells, whatever it is.
 #[test]
 fn the_environment_tells_the_width(rt: HostRuntime) -> Result<(), Fail> {
     let (fake, streams) = (Fake::new(&rt, NO_FILE), Streams::new(false));
-    let mut machine = streams.machine(&fake);
-    for width in ["132", "", "wide"] {
-        fake.columns.set(Some(width));
+    for width in [Some("132"), Some(""), Some("wide"), None] {
+        fake.columns.set(width);
         assert!(rt;
-            matches!(&machine.columns(), Some(told) if told.as_str() == width),
-            "{width}"
+            is_width(streams.machine(&fake).columns(), width),
+            "{width:?}"
         );
     }
-    fake.columns.set(None);
-    assert!(rt; machine.columns().is_none());
     Ok(())
 }

@@ -149,9 +149,13 @@ fn it_is_told_why_a_store_is_refused(rt: HostRuntime) -> Result<(), Fail> {
     let mut machine = streams.machine(&rt);
     assert!(rt; machine.make_kept("deck.db", LINE) == Ok(()));
     assert!(rt; machine.make_kept("deck.db", LINE) == Err(StoreFault::Taken));
-    assert!(rt; machine.open_store("deck.db", LINE).is_ok());
-    assert!(rt; machine.open_store("deck.db", "x").err() == Some(StoreFault::OtherLine));
-    assert!(rt; machine.open_store("none.db", LINE).err() == Some(StoreFault::Missing));
+    for (path, line, fault) in [
+        ("deck.db", LINE, None),
+        ("deck.db", "x", Some(StoreFault::OtherLine)),
+        ("none.db", LINE, Some(StoreFault::Missing)),
+    ] {
+        assert!(rt; machine.open_store(path, line).err() == fault, "{path}");
+    }
     assert!(rt; machine.open_kept("none.db").err() == Some(StoreFault::Missing));
     Ok(())
 }

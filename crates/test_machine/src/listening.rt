@@ -7,6 +7,7 @@ use bsc_options::Place;
 use bsc_peers::{Network, Networks};
 use bsc_sockets::SocketsError;
 use std::net::TcpListener;
+use std::rt::HostRuntime;
 use std::test::Fail;
 
 /// Where the station listens, at a port that the system chooses.
@@ -100,15 +101,19 @@ fn cases() -> [Waits; 3] {
     ]
 }
 
+/// Whether a machine waits as this says, and tells it.
+fn is_told(host: &HostRuntime, waits: &Waits) -> Result<bool, Fail> {
+    let (asked, peers, due, lines) = waits;
+    let fake = Fake::new(host, NO_FILE);
+    fake.due.set(*peers);
+    let is_due = opened(&fake, asked) == *due;
+    Ok(is_due && are_lines(fake.told()?.as_str(), lines))
+}
+
 #[test]
 fn a_station_tells_how_it_waits(rt: HostRuntime) -> Result<(), Fail> {
-    for (asked, peers, due, lines) in cases() {
-        let fake = Fake::new(&rt, NO_FILE);
-        fake.due.set(peers);
-        let result = opened(&fake, &asked);
-        assert!(rt; result == due, "{result:?}");
-        let told = fake.told()?;
-        assert!(rt; are_lines(told.as_str(), lines), "{told}");
+    for waits in &cases() {
+        assert!(rt; is_told(&rt, waits)?, "{}", waits.3);
     }
     Ok(())
 }

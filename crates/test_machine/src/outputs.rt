@@ -34,28 +34,28 @@ fn printed(host: &HostRuntime, syncs: bool, taken: Taken) -> (Result<(), ErrorKi
     (result, fake.opened.get())
 }
 
-/// A regular file, one that cannot be synced, as the null device, a directory, which is no regular
-/// file, and a file that was removed.
-const FILE: Taken = ("taken", "taken");
-
-const NOT_SYNCED: Taken = ("taken", "/dev/null");
-
-const DIRECTORY: Taken = (".", "taken");
-
-const GONE: Taken = ("gone", "gone");
+/// What standard output is, and what comes of a flush that syncs it, and how often it is opened: a
+/// regular file, one that cannot be synced, as the null device, no file, a directory, which is no
+/// regular file, and a file that was removed.
+const SYNCED: &[(Taken, Result<(), ErrorKind>, usize)] = &[
+    (("taken", "taken"), Ok(()), 1),
+    (("taken", "/dev/null"), Err(ErrorKind::InvalidInput), 1),
+    (NO_FILE, Ok(()), 0),
+    ((".", "taken"), Ok(()), 0),
+    (("gone", "gone"), Err(ErrorKind::NotFound), 0),
+];
 
 /// Once it is asked for, a flush opens the file that standard output is, and syncs it; the flush
 /// fails if that does. What is no regular file is not opened. Otherwise nothing is.
 #[test]
 fn a_flush_syncs_a_regular_file_once_it_is_asked_for(rt: HostRuntime) -> Result<(), Fail> {
     fs::write(&rt, "taken", b"")?;
-    assert!(rt; printed(&rt, true, FILE) == (Ok(()), 1));
-    assert!(rt; printed(&rt, true, NOT_SYNCED) == (Err(ErrorKind::InvalidInput), 1));
-    assert!(rt; printed(&rt, true, NO_FILE) == (Ok(()), 0));
-    assert!(rt; printed(&rt, true, DIRECTORY) == (Ok(()), 0));
-    assert!(rt; printed(&rt, true, GONE) == (Err(ErrorKind::NotFound), 0));
-    for taken in [FILE, NOT_SYNCED, NO_FILE, DIRECTORY, GONE] {
-        assert!(rt; printed(&rt, false, taken) == (Ok(()), 0));
+    for (taken, result, opened) in SYNCED {
+        assert!(rt;
+            printed(&rt, true, *taken) == (*result, *opened),
+            "{taken:?}"
+        );
+        assert!(rt; printed(&rt, false, *taken) == (Ok(()), 0), "{taken:?}");
     }
     Ok(())
 }

@@ -31,69 +31,84 @@ fn show<M: Meter>(time: &Cell<u64>, meter: &mut M) {
     }
 }
 
-/// Shows how far the work of a run has come, or that of a station.
-fn show_run(fake: &Fake<'_>, streams: &Streams) {
+/// Whether the line shows how far the work of a run has come, or that of a station.
+fn shows_run(fake: &Fake<'_>, streams: &Streams) -> bool {
     fake.time.set(5_000);
     let mut meter = streams.machine(fake).meter(Some(Work::Events));
     show(&fake.time, &mut meter);
+    fake.has_told(EVENTS)
 }
 
-fn show_station(fake: &Fake<'_>, streams: &Streams) {
+fn shows_station(fake: &Fake<'_>, streams: &Streams) -> bool {
     fake.time.set(5_000);
     let mut timer = streams.machine(fake).timer(Some(Work::Events));
     show(&fake.time, &mut timer);
+    fake.has_told(EVENTS)
+}
+
+/// Whether this is told when the line is cleared.
+fn is_cleared(fake: &Fake<'_>, streams: &Streams, told: &str) -> bool {
+    streams.clear(fake);
+    fake.has_told(told)
 }
 
 /// The line is cleared once, if it is there.
 #[test]
 fn progress_is_cleared_once(rt: HostRuntime) -> Result<(), Fail> {
     let (fake, streams) = (Fake::new(&rt, NO_FILE), Streams::new(true));
-    streams.clear(&fake);
-    assert!(rt; fake.has_told(""));
-    show_run(&fake, &streams);
-    assert!(rt; fake.has_told(EVENTS));
-    streams.clear(&fake);
-    streams.clear(&fake);
-    assert!(rt; fake.has_told(CLEARED));
+    assert!(rt; is_cleared(&fake, &streams, "") && shows_run(&fake, &streams));
+    assert!(rt; is_cleared(&fake, &streams, CLEARED) && is_cleared(&fake, &streams, ""));
     Ok(())
 }
 
-/// A trace goes to standard error. The line of the progress is cleared before it, and before
-/// anything is printed on standard output.
+/// Whether this is told when octets are written that are not flushed.
+fn is_written<W: Write>(fake: &Fake<'_>, output: &mut W, octets: &[u8], told: &str) -> bool {
+    output.write_all(octets).is_ok() && fake.has_told(told)
+}
+
+/// Whether this is told when octets are written and flushed.
+fn tells<W: Write>(fake: &Fake<'_>, output: &mut W, octets: &[u8], told: &str) -> bool {
+    output.write_all(octets).is_ok() && output.flush().is_ok() && fake.has_told(told)
+}
+
+/// Whether a trace goes to standard error, and the line is cleared before it.
+fn is_traced(fake: &Fake<'_>, streams: &Streams) -> bool {
+    let mut trace = streams.machine(fake).trace(true);
+    is_written(fake, &mut trace, b"+0 silence\n", "\r\x1b[K+0 silence\n")
+        && tells(fake, &mut trace, b"+1 silence\n", "+1 silence\n")
+}
+
+/// Whether the line is cleared before lines that are printed on standard output.
+fn is_printed(fake: &Fake<'_>, streams: &Streams) -> bool {
+    let mut output = streams.output(fake);
+    output.write_all(b"ACK0\n").is_ok()
+        && output.write_all(b"EOT\n").is_ok()
+        && fake.has_told(CLEARED)
+        && fake.has_printed(b"ACK0\nEOT\n")
+}
+
 #[test]
 fn progress_is_cleared_before_a_line(rt: HostRuntime) -> Result<(), Fail> {
     let (fake, streams) = (Fake::new(&rt, NO_FILE), Streams::new(true));
-    show_station(&fake, &streams);
-    assert!(rt; fake.has_told(EVENTS));
-    let mut trace = streams.machine(&fake).trace(true);
-    trace.write_all(b"+0 silence\n")?;
-    assert!(rt; fake.has_told("\r\x1b[K+0 silence\n"));
-    trace.write_all(b"+1 silence\n")?;
-    trace.flush()?;
-    assert!(rt; fake.has_told("+1 silence\n"));
-    show_station(&fake, &streams);
-    assert!(rt; fake.has_told(EVENTS));
-    let mut output = streams.output(&fake);
-    output.write_all(b"ACK0\n")?;
-    output.write_all(b"EOT\n")?;
-    assert!(rt; fake.has_told(CLEARED));
-    assert!(rt; fake.has_printed(b"ACK0\nEOT\n"));
+    assert!(rt; shows_station(&fake, &streams) && is_traced(&fake, &streams));
+    assert!(rt; shows_station(&fake, &streams) && is_printed(&fake, &streams));
     Ok(())
 }
 
-/// A line is written when it ends, or when it is flushed.
+/// Whether a line is written when it ends, or when it is flushed.
+fn are_lines(fake: &Fake<'_>, streams: &Streams) -> bool {
+    let mut errors = streams.errors(fake);
+    is_written(fake, &mut errors, b"+0 ", "")
+        && is_written(fake, &mut errors, b"silence", "")
+        && is_written(fake, &mut errors, b"\n+1 ", "+0 silence\n")
+        && tells(fake, &mut errors, b"", "+1 ")
+        && tells(fake, &mut errors, b"", "")
+}
+
 #[test]
 fn a_line_is_written_at_once(rt: HostRuntime) -> Result<(), Fail> {
     let (fake, streams) = (Fake::new(&rt, NO_FILE), Streams::new(false));
-    let mut errors = streams.errors(&fake);
-    errors.write_all(b"+0 ")?;
-    errors.write_all(b"silence")?;
-    assert!(rt; fake.has_told(""));
-    errors.write_all(b"\n+1 ")?;
-    assert!(rt; fake.has_told("+0 silence\n"));
-    errors.flush()?;
-    errors.flush()?;
-    assert!(rt; fake.has_told("+1 "));
+    assert!(rt; are_lines(&fake, &streams));
     Ok(())
 }
 

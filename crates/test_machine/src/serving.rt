@@ -70,6 +70,11 @@ fn addresses() -> [SocketAddr; 3] {
     ]
 }
 
+/// Returns the address that stands in a line after this start.
+fn address_after(line: &str, start: &str) -> Option<SocketAddr> {
+    line.strip_prefix(start)?.trim_end().parse().ok()
+}
+
 /// Returns whether programs reach a station of this machine by a host, of whose addresses the
 /// station can listen at the second one only, and at the first one of which nobody listens later.
 /// It is told where they do after this start of a line, which is one of the trace if `trace`.
@@ -85,11 +90,7 @@ fn are_served(fake: &Fake<'_>, trace: bool, start: &str) -> io::Result<bool> {
     let Ok(mut reachable) = machine.serve(at, trace) else {
         return Ok(false);
     };
-    let told = fake.told()?;
-    let Some(address) = told.strip_prefix(start) else {
-        return Ok(false);
-    };
-    let Ok(served) = address.trim_end().parse() else {
+    let Some(served) = address_after(fake.told()?.as_str(), start) else {
         return Ok(false);
     };
     fake.hosts.set(Some([closed, served]));
