@@ -73,8 +73,7 @@ fn is_at_front(record: &[u8; 2], chars: &[u8; 144], len: usize) -> bool {
 
 // Whether a terminal and a control station were made.
 fn make(alloc: Global, control: &mut Handle, terminal: &mut Handle) -> bool {
-    let made = bsc_terminal_new(alloc, terminal, &SETTINGS, &addresses());
-    made == DONE && bsc_control_new(alloc, control, &SETTINGS, &[addresses()], &[0]) == DONE
+    make_terminal(alloc, terminal) && make_control(alloc, control)
 }
 
 // Whether a record is offered at each end.
@@ -115,18 +114,22 @@ fn free(alloc: Global, control: &mut Handle, terminal: &mut Handle) -> bool {
         && bsc_control_free(alloc, control) == NOT_MADE
 }
 
+// Whether the record of each end arrives at the other one.
+fn arrive(alloc: Global, control: &mut Handle, terminal: &mut Handle) -> bool {
+    let is_offered = make(alloc, control, terminal) && offer(alloc, control, terminal);
+    exchange(alloc, control, terminal);
+    exchange(alloc, control, terminal);
+    is_offered
+        && arrived_at_control(alloc, control, terminal)
+        && arrived_at_terminal(alloc, control, terminal)
+}
+
 #[test]
 fn records_arrive_each_way(rt: HostRuntime) {
-    let alloc = rt.alloc();
     let mut control = Handle::new();
     let mut terminal = Handle::new();
-    assert!(rt; make(alloc, &mut control, &mut terminal));
-    assert!(rt; offer(alloc, &mut control, &mut terminal));
-    exchange(alloc, &mut control, &mut terminal);
-    exchange(alloc, &mut control, &mut terminal);
-    assert!(rt; arrived_at_control(alloc, &mut control, &mut terminal));
-    assert!(rt; arrived_at_terminal(alloc, &mut control, &mut terminal));
-    assert!(rt; free(alloc, &mut control, &mut terminal));
+    assert!(rt; arrive(rt.alloc(), &mut control, &mut terminal));
+    assert!(rt; free(rt.alloc(), &mut control, &mut terminal));
 }
 
 // What is kept of a terminal that began again after it had sent a text.
@@ -160,29 +163,30 @@ fn set_flags(alloc: Global, terminal: &mut Handle) -> bool {
         && len == 0
 }
 
+// Whether a terminal is made.
+fn make_terminal(alloc: Global, terminal: &mut Handle) -> bool {
+    bsc_terminal_new(alloc, terminal, &SETTINGS, &addresses()) == DONE
+}
+
+// Whether a terminal knows of one record, and both are freed.
+fn end_terminals(alloc: Global, old: &mut Handle, new: &mut Handle) -> bool {
+    let mut sending = NOTHING_SENT;
+    bsc_terminal_sending(alloc, new, &mut sending) == DONE
+        && sending.known == 1
+        && bsc_terminal_free(alloc, old) == DONE
+        && bsc_terminal_free(alloc, new) == DONE
+}
+
 #[test]
 fn a_terminal_is_made_again(rt: HostRuntime) {
     let alloc = rt.alloc();
     let mut old = Handle::new();
     let mut new = Handle::new();
-    let mut sending = NOTHING_SENT;
-    assert_eq!(rt;
-        bsc_terminal_new(alloc, &mut old, &SETTINGS, &addresses()),
-        DONE
-    );
-    assert_eq!(rt;
-        bsc_terminal_new(alloc, &mut new, &SETTINGS, &addresses()),
-        DONE
-    );
+    assert!(rt; make_terminal(alloc, &mut old) && make_terminal(alloc, &mut new));
     let kept = keep_terminal(alloc, &mut old);
-    assert_eq!(rt; kept.known, 0);
-    assert_eq!(rt; kept.doubt, 1);
-    assert!(rt; recall_terminal(alloc, &mut new, &kept));
-    assert!(rt; set_flags(alloc, &mut new));
-    assert_eq!(rt; bsc_terminal_sending(alloc, &mut new, &mut sending), DONE);
-    assert_eq!(rt; sending.known, 1);
-    assert_eq!(rt; bsc_terminal_free(alloc, &mut old), DONE);
-    assert_eq!(rt; bsc_terminal_free(alloc, &mut new), DONE);
+    assert!(rt; kept.known == 0 && kept.doubt == 1);
+    assert!(rt; recall_terminal(alloc, &mut new, &kept) && set_flags(alloc, &mut new));
+    assert!(rt; end_terminals(alloc, &mut old, &mut new));
 }
 
 // What is kept of a control station that began again after it had sent a text.
@@ -208,25 +212,25 @@ fn recall_control(alloc: Global, control: &mut Handle, kept: &StoredKept) -> boo
         && bsc_control_urgent(alloc, control, 0) == DONE
 }
 
+// Whether a control station is made.
+fn make_control(alloc: Global, control: &mut Handle) -> bool {
+    bsc_control_new(alloc, control, &SETTINGS, &[addresses()], &[0]) == DONE
+}
+
+// Whether a control station is freed.
+fn free_control(alloc: Global, control: &mut Handle) -> bool {
+    bsc_control_free(alloc, control) == DONE
+}
+
 #[test]
 fn a_control_station_is_made_again(rt: HostRuntime) {
     let alloc = rt.alloc();
     let mut old = Handle::new();
     let mut new = Handle::new();
-    let terminals = [addresses()];
-    assert_eq!(rt;
-        bsc_control_new(alloc, &mut old, &SETTINGS, &terminals, &[0]),
-        DONE
-    );
-    assert_eq!(rt;
-        bsc_control_new(alloc, &mut new, &SETTINGS, &terminals, &[0]),
-        DONE
-    );
+    assert!(rt; make_control(alloc, &mut old) && make_control(alloc, &mut new));
     let kept = keep_control(alloc, &mut old);
-    assert_eq!(rt; kept.doubt, 1);
-    assert!(rt; recall_control(alloc, &mut new, &kept));
-    assert_eq!(rt; bsc_control_free(alloc, &mut old), DONE);
-    assert_eq!(rt; bsc_control_free(alloc, &mut new), DONE);
+    assert!(rt; kept.doubt == 1 && recall_control(alloc, &mut new, &kept));
+    assert!(rt; free_control(alloc, &mut old) && free_control(alloc, &mut new));
 }
 
 // Whether records and flags are taken.
@@ -297,47 +301,49 @@ fn begin_again(alloc: Global, line: &mut Handle) -> bool {
         && trusted == 1
 }
 
+// Whether a line is made that carries a record each way.
+fn carry(alloc: Global, line: &mut Handle) -> bool {
+    let made = bsc_line_new(alloc, line, &SETTINGS, &[addresses()], &[0]);
+    let is_begun = made == DONE && offer_on_line(alloc, line) && begin_on_line(alloc, line);
+    go_on(alloc, line);
+    is_begun && arrived_on_line(alloc, line) && records_on_line(alloc, line)
+}
+
+// Whether a line is freed, and is not there then.
+fn free_line(alloc: Global, line: &mut Handle) -> bool {
+    bsc_line_free(alloc, line) == DONE && bsc_line_free(alloc, line) == NOT_MADE
+}
+
 #[test]
 fn a_line_carries_records(rt: HostRuntime) {
-    let alloc = rt.alloc();
     let mut line = Handle::new();
-    assert_eq!(rt;
-        bsc_line_new(alloc, &mut line, &SETTINGS, &[addresses()], &[0]),
-        DONE
-    );
-    assert!(rt; offer_on_line(alloc, &mut line));
-    assert!(rt; begin_on_line(alloc, &mut line));
-    go_on(alloc, &mut line);
-    assert!(rt; arrived_on_line(alloc, &mut line));
-    assert!(rt; records_on_line(alloc, &mut line));
-    assert!(rt; begin_again(alloc, &mut line));
-    assert_eq!(rt; bsc_line_free(alloc, &mut line), DONE);
-    assert_eq!(rt; bsc_line_free(alloc, &mut line), NOT_MADE);
+    assert!(rt; carry(rt.alloc(), &mut line));
+    assert!(rt; begin_again(rt.alloc(), &mut line));
+    assert!(rt; free_line(rt.alloc(), &mut line));
+}
+
+// Whether a terminal is not made twice, and is told from a control station and a line.
+fn is_terminal(alloc: Global, handle: &mut Handle) -> bool {
+    bsc_terminal_new(alloc, handle, &SETTINGS, &addresses()) == ALREADY_MADE
+        && bsc_control_restart(alloc, handle) == OTHER_KIND
+        && bsc_line_silence(alloc, handle) == OTHER_KIND
+        && bsc_control_free(alloc, handle) == OTHER_KIND
+}
+
+// Whether a terminal says nothing if there is too little room.
+fn has_no_room(alloc: Global, terminal: &mut Handle) -> bool {
+    let mut short = [0; 1032];
+    let mut len = 9;
+    bsc_terminal_silence(alloc, terminal, &mut short, &mut len) == NO_ROOM && len == 9
 }
 
 #[test]
 fn what_is_not_there_is_told(rt: HostRuntime) {
     let alloc = rt.alloc();
     let mut handle = Handle::new();
-    let mut short = [0; 1032];
-    let mut len = 9;
     assert_eq!(rt; bsc_terminal_urgent(alloc, &mut handle), NOT_MADE);
-    assert_eq!(rt;
-        bsc_terminal_new(alloc, &mut handle, &SETTINGS, &addresses()),
-        DONE
-    );
-    assert_eq!(rt;
-        bsc_terminal_new(alloc, &mut handle, &SETTINGS, &addresses()),
-        ALREADY_MADE
-    );
-    assert_eq!(rt; bsc_control_restart(alloc, &mut handle), OTHER_KIND);
-    assert_eq!(rt; bsc_line_silence(alloc, &mut handle), OTHER_KIND);
-    assert_eq!(rt; bsc_control_free(alloc, &mut handle), OTHER_KIND);
-    assert_eq!(rt;
-        bsc_terminal_silence(alloc, &mut handle, &mut short, &mut len),
-        NO_ROOM
-    );
-    assert_eq!(rt; len, 9);
+    assert!(rt; make_terminal(alloc, &mut handle) && is_terminal(alloc, &mut handle));
+    assert!(rt; has_no_room(alloc, &mut handle));
     assert_eq!(rt; bsc_terminal_free(alloc, &mut handle), DONE);
 }
 
