@@ -1,5 +1,7 @@
-//! Draws the traces on standard input as pictures. bench/pictures compares what it prints with the
-//! pictures in docs/.
+//! Draws the traces on standard input as pictures, and as pages if their names end with `.html`.
+//! bench/pictures compares what it prints with the pictures in docs/. The other traces, those in
+//! data/, have each shape, fate and mark, each kind of transmission, and texts with a meaning in a
+//! document.
 //!
 //! Each trace comes after a line with `%` and its name, and so does its picture.
 //!
@@ -19,17 +21,19 @@ fn main(rt: HostRuntime) -> Result<()> {
     draw_all(rt.alloc(), &mut rt.reader(), &mut out)
 }
 
-/// The words for a picture.
-const WORDS: ChartWords = ChartWords {
-    file: None,
-    text: false,
-    svg: true,
-    html: false,
-    ascii: false,
-    width: None,
-    from: None,
-    to: None,
-};
+/// Returns the words for a page or for a picture.
+fn words(html: bool) -> ChartWords {
+    ChartWords {
+        file: None,
+        text: false,
+        svg: !html,
+        html,
+        ascii: false,
+        width: None,
+        from: None,
+        to: None,
+    }
+}
 
 /// Draws each trace of the input.
 fn draw_all<R: Read, W: Write>(alloc: Global, input: &mut R, out: &mut W) -> Result<()> {
@@ -58,7 +62,8 @@ fn draw_section<W: Write>(alloc: Global, section: &[u8], out: &mut W) -> Result<
     out.write_all(b"%")?;
     out.write_all(name)?;
     out.write_all(b"\n")?;
-    match draw(alloc, &WORDS, None, &mut trace, out) {
+    let words = words(name.ends_with(b".html"));
+    match draw(alloc, &words, None, &mut trace, out) {
         Ok(()) => Ok(()),
         Err(_) => bail!("a trace is not drawn"),
     }
