@@ -6,7 +6,6 @@ use Rattle.std.proofs.KnownBytes.{Appends-trans}
 use Rattle.std.proofs.Math.Seq.{take-append_seam}
 use Rattle.std.proofs.lemmas.Bool.Decides.{nat_tests}
 use Rattle.std.proofs.lemmas.List.{take-map}
-use Rattle.std.specs.Io.KnownBytes.{Appends}
 use Rattle.std.specs.Prelude.{IfSome}
 use Rattle.std.specs.Str.Lines.{strip_carriage_return}
 use Rattle.bsc_input.specs.Lines.{lines_of, parts_of}
@@ -25,8 +24,8 @@ use Rattle.bsc_chart.specs.Errors.{IsWrongOrPrintError, input_error}
 use Rattle.bsc_chart.specs.Inputs.{DrawsFirst, DrawsInput, HasStopped, ReadsInput, StopsAt}
 use Rattle.bsc_chart.specs.Inputs.{StopsFull, is_misspelt}
 use Rattle.bsc_chart.specs.Inputs.{is_refused, is_wrong, values_at, values_of}
-use Rattle.bsc_chart.specs.Pages.{IsEarlyOf, IsEarlyText, PageValue, blank_page, drawn_at}
-use Rattle.bsc_chart.specs.Pages.{drawn_from, drawn_of, is_full, late_text, page_by, page_of}
+use Rattle.bsc_chart.specs.Pages.{IsEarlyOf, IsEarlyText, IsLateText, PageValue, blank_page, drawn_at}
+use Rattle.bsc_chart.specs.Pages.{drawn_from, drawn_of, is_full, page_by, page_of}
 use Rattle.bsc_chart.specs.Pages.{page_with}
 use Rattle.bsc_chart.specs.declared.error.ChartError.{ChartError}
 use Rattle.bsc_chart.specs.declared.error.ChartError.TheVariants as chart
@@ -335,22 +334,19 @@ module _ (drawing : Drawing) (n : ℕ) (k : PageValue) (a b c : Option (List ℕ
 
 -- the rows of a text were written, and then the picture, if it is one
 pub drawn_end : (drawing : Drawing) (octets : List ℕ) (k : PageValue) (a b c : Option (List ℕ))
-    → ReadsInput drawing octets k a b → Appends b c (late_text drawing.form k)
+    → ReadsInput drawing octets k a b → Writes (IsLateText drawing.form k) b c
     → DrawsInput drawing octets a c
-drawn_end drawing octets k a b c h p =
-    let first = h.drawn.text in
-    let last = late_text drawing.form (page_of drawing (values_of (lines_of octets))) in
-    record {
-      right = h.right;
-      drawn = record {
-        text = first ++ last;
-        kind = record {
-          early = first;
-          is_early = h.drawn.kind;
-          whole = refl;
-        };
-        appended =
-            Appends-trans a b c first last h.drawn.appended
-            (subst (λ q. Appends b c (late_text drawing.form q)) h.kept p);
-      };
-    }
+drawn_end drawing octets k a b c h p = record {
+  right = h.right;
+  drawn = record {
+    text = h.drawn.text ++ p.text;
+    kind = record {
+      early = h.drawn.text;
+      late = p.text;
+      is_early = h.drawn.kind;
+      is_late = subst (λ q. IsLateText drawing.form q p.text) h.kept p.kind;
+      whole = refl;
+    };
+    appended = Appends-trans a b c h.drawn.text p.text h.drawn.appended p.appended;
+  };
+}

@@ -1,13 +1,13 @@
 -- The errors of a part of the work are errors of the whole, and what is written last ends a ladder.
 use Rattle.std.proofs.Common.{ℕ, List, Option, None, Some, Result, Ok, Err}
-use Rattle.std.specs.Io.KnownBytes.{Appends}
 use Rattle.std.specs.Prelude.{IfErr, IfSome, OnOk}
 use Rattle.bsc_input.specs.declared.input.InputError.{InputError}
 use Rattle.bsc_input.specs.declared.input.InputError.TheVariants as input
+use Rattle.bsc_ladder.specs.Texts.{Writes}
 use Rattle.bsc_chart.specs.Asked.{IsEarly}
 use Rattle.bsc_chart.specs.Errors.{IsEndError, IsLineError, IsWrongOrPrintError, input_error}
 use Rattle.bsc_chart.specs.Inputs.{DrawsInput, HasStopped, ReadsInput}
-use Rattle.bsc_chart.specs.Pages.{PageValue, late_text}
+use Rattle.bsc_chart.specs.Pages.{IsLateText, PageValue}
 use Rattle.bsc_chart.specs.declared.drawing.Drawing.{Drawing}
 use Rattle.bsc_chart.specs.declared.error.ChartError.{ChartError}
 use Rattle.bsc_chart.specs.declared.error.ChartError.TheVariants as chart
@@ -77,7 +77,7 @@ end_stopped d (Err error) (Some octets) a b is = end_stop d error octets a b is
 
 pub end_drawn : (d : Drawing) (r : Result (Unit {0}) ChartError) (k : PageValue)
     (given a b c : Option (List ℕ)) → IfSome given (λ octets. ReadsInput d octets k a b)
-    → OnOk r (Appends b c (late_text d.form k))
+    → OnOk r (Writes (IsLateText d.form k) b c)
     → OnOk r (IfSome given (λ octets. DrawsInput d octets a c))
 end_drawn d (Err error) k given a b c h p = tt
 end_drawn d (Ok done) k None a b c h p = tt

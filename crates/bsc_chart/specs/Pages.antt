@@ -5,9 +5,9 @@ use Rattle.std.specs.List.{filter}
 use Rattle.bsc_ladder.specs.Rows.{RowValue}
 use Rattle.bsc_ladder.specs.declared.row.Sign.{Sign}
 use Rattle.bsc_ladder.specs.declared.row.Sign.TheVariants.{Named}
-use Rattle.bsc_picture.specs.Pictures.{svg_text}
+use Rattle.bsc_picture.specs.Pictures.{IsPicture}
 use Rattle.bsc_picture.specs.Rows.{rows_in}
-use Rattle.bsc_summary.specs.Pages.{html_text}
+use Rattle.bsc_summary.specs.Pages.{IsPage}
 use Rattle.bsc_chart.specs.Ladders.{IsLadder, columns_after}
 use Rattle.bsc_chart.specs.Rows.{row_of}
 use Rattle.bsc_chart.specs.declared.pages.Page.{Page}
@@ -124,14 +124,16 @@ abbrev pub IsEarlyText : Drawing → List (List TraceValue) → List ℕ → Typ
 IsEarlyText drawing lines = IsEarlyOf drawing.form (drawn_of drawing lines)
 
 -- What is written after the last line: a picture or a page, of all that was kept.
-abbrev pub late_text : Form → PageValue → List ℕ
-late_text Text page = []
-late_text Svg page = svg_text page.columns page.names page.rows
-late_text Html page = html_text page.columns page.names page.rows
+abbrev pub IsLateText : Form → PageValue → List ℕ → Type 0
+IsLateText Text page = λ text. text ≡ []
+IsLateText Svg page = IsPicture page.columns page.names page.rows
+IsLateText Html page = IsPage page.columns page.names page.rows
 
 -- The ladder of a trace.
 pub record IsChart (drawing : Drawing) (lines : List (List TraceValue)) (text : List ℕ)
     : Type 0 where
   pub early : List ℕ
+  pub late : List ℕ
   pub is_early : IsEarlyText drawing lines early
-  pub whole : text ≡ early ++ late_text drawing.form (page_of drawing lines)
+  pub is_late : IsLateText drawing.form (page_of drawing lines) late
+  pub whole : text ≡ early ++ late

@@ -2,7 +2,6 @@
 ghost use Rattle.std.specs.Prelude.{◌≡◌, ◌≤◌, ℕ, length, Err, false, true, OnOk, IfErr, IfOk};
 ghost use Rattle.std.specs.Prelude.{IfSome, ◌&&◌, ◌∷◌, [], nat_le};
 ghost use Rattle.std.specs.Str.{bytes_eq};
-ghost use Rattle.std.specs.Io.KnownBytes.{Appends};
 ghost use Rattle.bsc_ladder.specs.Texts.{Writes};
 ghost use Rattle.bsc_trace.specs.Lines.{value_in};
 ghost use Rattle.bsc_chart.specs.Errors.{IsDrawError, IsEndError, IsLineError};
@@ -10,7 +9,7 @@ ghost use Rattle.bsc_chart.specs.Errors.{IsWrongOrPrintError, input_error};
 ghost use Rattle.bsc_chart.specs.Inputs.{DrawsInput, HasStopped, ReadsInput, is_wrong, values_at};
 ghost use Rattle.bsc_chart.specs.Inputs.{is_skipped as is_skipped_line, tells_fault as is_fault};
 ghost use Rattle.bsc_chart.specs.Ladders.{IsLadder};
-ghost use Rattle.bsc_chart.specs.Pages.{IsEarlyOf, drawn_at, is_drawn, is_full, late_text, page_by};
+ghost use Rattle.bsc_chart.specs.Pages.{IsEarlyOf, IsLateText, drawn_at, is_drawn, is_full, page_by};
 ghost use Rattle.bsc_chart.specs.Pages.{page_in, page_with, widened};
 
 use crate::pages::{Page, keep, tells_names, widen};
@@ -89,8 +88,8 @@ fn finish<A: Allocator + Copy, W: Write>(
     out: &mut W,
 ) -> Result<(), ChartError>
     requires { length page.now.rows.items ≤ 20000 }
-    ensures ok { OnOk result (Appends (W.contents out.old) (W.contents out.new)
-        (late_text form (page_in page.now))) }
+    ensures ok { OnOk result (Writes (IsLateText form (page_in page.now))
+        (W.contents out.old) (W.contents out.new)) }
     ensures faults { IfErr result IsEndError }
 {
     match form {

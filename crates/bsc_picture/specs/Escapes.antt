@@ -1,5 +1,5 @@
 -- Texts in a document. What a trace tells may have any octets.
-use Rattle.std.specs.Prelude.{◌≡◌, ℕ, ◌==◌, ◌&&◌, ◌||◌, not, Bool, true, List, [], ◌∷◌, codes}
+use Rattle.std.specs.Prelude.{◌≡◌, ℕ, ◌==◌, ◌&&◌, ◌||◌, not, Bool, true, List, [], ◌∷◌, codes, take}
 use Rattle.std.specs.Prelude.{if◌then◌else◌}
 use Rattle.std.specs.Str.{bytes_eq}
 use Rattle.std.specs.List.{flat_map, list_all}
@@ -43,3 +43,7 @@ is_piece text = is_name text || list_all (λ code. not (code == 38)) text
 -- The text of each code is a name, or has no ampersand.
 abbrev pub IsNamed : Type 0
 IsNamed = (code : ℕ) → is_piece (escaped_code code) ≡ true
+
+-- The first characters of a text that are shown.
+abbrev pub shown : List ℕ → List ℕ
+shown chars = take 64 chars

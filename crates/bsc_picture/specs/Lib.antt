@@ -1,5 +1,5 @@
 pub mod Escapes
 pub mod Rows
 pub mod Frames
-pub mod Parts
+pub mod Elements
 pub mod Pictures

@@ -2,17 +2,16 @@
 #![tactic(auto)]
 
 mod arrows;
+mod elements;
 mod escapes;
 mod frame;
 pub mod laws;
-mod parts;
+mod names;
 mod picture;
-mod row_pictures;
+mod row_groups;
 mod rows;
 mod style;
 
-pub use escapes::put_escaped;
-pub use frame::shown_part;
-pub use parts::{put_column_number, put_number};
+pub use escapes::{Chars, shown_part};
 pub use picture::{MAX_ROWS, Picture, write_svg};
 pub use rows::{PictureRow, owned};

@@ -1,14 +1,11 @@
 -- Counts and times of rows, one more row at a time.
-use Rattle.std.proofs.Common.{◌≡◌, ℕ, ◌+◌, List, [], ◌∷◌, ◌++◌, ◌<◌, length, get_or, take, refl, sym, ap, ◌∙◌}
-use Rattle.std.proofs.Common.{zero, suc, add-one, append-nil, append_assoc, arith}
-use Rattle.std.specs.List.{flat_map}
-use Rattle.bsc_ladder.specs.declared.row.Place.{Place}
+use Rattle.std.proofs.Common.{◌≡◌, ℕ, ◌+◌, List, [], ◌∷◌, ◌<◌, length, get_or, take, refl, sym, ap, ◌∙◌}
+use Rattle.std.proofs.Common.{zero, suc, add-one, arith}
 use Rattle.bsc_picture.specs.Rows.{kept_in, rows_in}
 use Rattle.bsc_picture.specs.declared.rows.PictureRow.{PictureRow}
 use Rattle.bsc_summary.specs.Clocks.{ClockValue, clock_after, clock_from, milliseconds_from}
 use Rattle.bsc_summary.specs.Clocks.{with_digit}
 use Rattle.bsc_summary.specs.Counts.{WantedValue, count_of, one_if, wants}
-use Rattle.bsc_summary.specs.Tables.{address_in}
 
 plus_assoc : (a b c : ℕ) → a + b + c ≡ a + (b + c)
 plus_assoc a b c = omega arith
@@ -51,26 +48,6 @@ module _ {A : Type 0} where
       → clock_from c (rows_in (take (i + 1) xs))
       ≡ clock_after (clock_from c (rows_in (take i xs))) (kept_in x)
   clock_more c xs i x h e = rw add-one (clock_suc c xs i x h e)
-
-  addresses_suc : (place : Place) (xs : List (PictureRow A)) (i : ℕ) (x : PictureRow A)
-      → i < length xs → x ≡ get_or xs i x
-      → flat_map (address_in place) (rows_in (take (suc i) xs))
-      ≡ flat_map (address_in place) (rows_in (take i xs)) ++ address_in place (kept_in x)
-  addresses_suc place [] i x h e = absurd (omega arith)
-  addresses_suc place (y ∷ ys) zero x h e =
-      append-nil (address_in place (kept_in y))
-      ∙ ap (λ z. address_in place (kept_in z)) (sym e)
-  addresses_suc place (y ∷ ys) (suc i) x h e =
-      ap (λ l. address_in place (kept_in y) ++ l) (addresses_suc place ys i x (omega arith) e)
-      ∙ sym (append_assoc (address_in place (kept_in y))
-      (flat_map (address_in place) (rows_in (take i ys))) (address_in place (kept_in x)))
-
-  -- the addresses that one more row tells
-  pub addresses_more : (place : Place) (xs : List (PictureRow A)) (i : ℕ) (x : PictureRow A)
-      → i < length xs → x ≡ get_or xs i x
-      → flat_map (address_in place) (rows_in (take (i + 1) xs))
-      ≡ flat_map (address_in place) (rows_in (take i xs)) ++ address_in place (kept_in x)
-  addresses_more place xs i x h e = rw add-one (addresses_suc place xs i x h e)
 
 milliseconds_suc : (n : ℕ) (xs : List ℕ) (i d : ℕ) → i < length xs
     → milliseconds_from n (take (suc i) xs)

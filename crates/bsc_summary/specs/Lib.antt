@@ -1,5 +1,5 @@
 pub mod Counts
 pub mod Clocks
+pub mod Cells
 pub mod Tables
 pub mod Pages
-pub mod Laws

@@ -3,10 +3,10 @@
 //! The transmissions are those of GA27-3004. The summary and the page are this project's own.
 #![tactic(auto)]
 
+mod cells;
 mod clock;
 mod counts;
 mod kinds;
-pub mod laws;
 mod page;
 mod stations;
 mod style;

@@ -1,8 +1,8 @@
 //! A whole page.
 ghost use Rattle.std.specs.Prelude.{◌≤◌, length, OnOk};
-ghost use Rattle.std.specs.Io.KnownBytes.{Appends};
+ghost use Rattle.bsc_ladder.specs.Texts.{Writes};
 ghost use Rattle.bsc_picture.specs.Rows.{rows_in};
-ghost use Rattle.bsc_summary.specs.Pages.{html_text, summary_text};
+ghost use Rattle.bsc_summary.specs.Pages.{IsPage};
 
 use crate::kinds::put_kinds;
 use crate::stations::put_stations;
@@ -12,22 +12,6 @@ use bsc_picture::{Picture, write_svg};
 use bsc_print::{PrintError, put};
 use std::alloc::Allocator;
 use std::io::Write;
-
-/// Writes the tables of a summary.
-fn put_summary<A: Allocator, W: Write>(
-    picture: &Picture<'_, A>,
-    out: &mut W,
-) -> Result<(), PrintError>
-    requires { length picture.now.rows.now ≤ 20000 }
-    ensures { OnOk result (Appends (W.contents out.old) (W.contents out.new)
-        (summary_text picture.now.columns (rows_in picture.now.names.now)
-        (rows_in picture.now.rows.now))) }
-{
-    put_kinds(picture.rows, out)?;
-    put_stations(picture, out)?;
-    put_times(picture.rows, out)?;
-    Ok(())
-}
 
 /// Writes a page as an HTML document, which is also XML: a summary in tables, and under it the
 /// picture of [`write_svg`]. It has no script and refers to nothing else. The tables are of the
@@ -39,12 +23,13 @@ pub fn write_html<A: Allocator + Copy, W: Write>(
     out: &mut W,
 ) -> Result<(), PrintError>
     requires { length picture.now.rows.now ≤ 20000 }
-    ensures { OnOk result (Appends (W.contents out.old) (W.contents out.new)
-        (html_text picture.now.columns (rows_in picture.now.names.now)
-        (rows_in picture.now.rows.now))) }
+    ensures { OnOk result (Writes (IsPage picture.now.columns (rows_in picture.now.names.now)
+        (rows_in picture.now.rows.now)) (W.contents out.old) (W.contents out.new)) }
 {
     put(PAGE_START, out)?;
-    put_summary(picture, out)?;
+    put_kinds(picture.rows, out)?;
+    put_stations(alloc, picture, out)?;
+    put_times(picture.rows, out)?;
     put(LADDER_START, out)?;
     write_svg(alloc, picture, out)?;
     put(PAGE_END, out)?;

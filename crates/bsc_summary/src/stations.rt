@@ -1,128 +1,96 @@
 //! The table of the stations.
-ghost use Rattle.std.specs.Prelude.{OnOk, codes};
+ghost use Rattle.std.specs.Prelude.{◌≡◌, IfOk, OnOk};
 ghost use Rattle.std.specs.Io.KnownBytes.{Appends};
+ghost use Rattle.std.specs.List.{flat_map};
 ghost use Rattle.bsc_ladder.specs.Rows.{row_in};
-ghost use Rattle.bsc_ladder.specs.declared.row.Place.TheVariants.{Control};
 ghost use Rattle.bsc_picture.specs.Rows.{rows_in};
-ghost use Rattle.bsc_summary.specs.Tables.{address_if, address_in, addresses_of, column_line};
-ghost use Rattle.bsc_summary.specs.Tables.{column_lines, station_cells};
-ghost use Rattle.bsc_summary.specs.Tables.{station_line, stations_table};
+ghost use Rattle.bsc_report.specs.Channels.{each_below};
+ghost use Rattle.bsc_summary.specs.Cells.{line};
+ghost use Rattle.bsc_summary.specs.Pages.{stations_table};
+ghost use Rattle.bsc_summary.specs.Tables.{addresses_in, column_line, station_cells};
 
+use crate::cells::{Cell, put_line};
 use crate::counts::{Wanted, count, same_place};
-use crate::kinds::{put_line_start, put_told_cell};
 use crate::style::STATIONS_START;
 use bsc_ladder::{Place, Row};
-use bsc_picture::{Picture, PictureRow, put_column_number, put_escaped, shown_part};
+use bsc_picture::{Picture, PictureRow, shown_part};
 use bsc_print::{PrintError, put};
-use std::alloc::Allocator;
+use itoa::Buffer;
+use std::alloc::{AllocError, Allocator};
 use std::io::Write;
 
-/// Writes the addresses of the station at a place, if they are those of this one.
-fn put_address_if<W: Write>(
-    place: Place,
-    of: Place,
-    text: &[u8],
-    out: &mut W,
-) -> Result<(), PrintError>
-    ensures { OnOk result
-        (Appends (W.contents out.old) (W.contents out.new) (address_if place of text.now)) }
+/// Returns what a row tells of the addresses of the station at a place.
+fn addresses_told<'a>(place: Place, row: &Row<'a>) -> &'a [u8]
+    ensures { result.now ≡ addresses_in place (row_in row.now) }
 {
-    if same_place(place, of) {
-        return put_escaped(shown_part(text), out);
+    let Row::Mark { mark, text, .. } = *row else {
+        return b"";
+    };
+    if same_place(place, mark.place) {
+        return shown_part(text);
     }
-    Ok(())
+    b""
 }
 
-/// Writes what a row tells of the addresses of the station at a place.
-fn put_address<W: Write>(place: Place, row: &Row<'_>, out: &mut W) -> Result<(), PrintError>
-    ensures { OnOk result
-        (Appends (W.contents out.old) (W.contents out.new) (address_in place (row_in row.now))) }
-{
-    match row {
-        Row::Arrow { .. } | Row::Silence { .. } => Ok(()),
-        Row::Mark { mark, text, .. } => put_address_if(place, mark.place, text, out),
-    }
-}
-
-/// Writes the addresses of the station at a place.
-fn put_addresses<A: Allocator, W: Write>(
+/// Returns the addresses of the station at a place.
+fn addresses_of<A: Allocator + Copy>(
+    alloc: A,
     place: Place,
     names: &[PictureRow<A>],
-    out: &mut W,
-) -> Result<(), PrintError>
-    ensures { OnOk result (Appends (W.contents out.old) (W.contents out.new)
-        (addresses_of place (rows_in names.now))) }
+) -> Result<Vec<u8, A>, AllocError>
+    ensures { IfOk result (λ chars.
+        chars.items ≡ flat_map (addresses_in place) (rows_in names.now)) }
 {
+    let mut chars = Vec::new(alloc);
     'names: for name in names {
-        put_address(place, &name.row(), out)?;
+        chars.extend_from_slice(addresses_told(place, &name.row()))?;
     }
-    Ok(())
+    Ok(chars)
 }
 
-/// Writes the rest of the line of the station at a place.
-fn put_cells<A: Allocator, W: Write>(
+/// Writes the line of the station at a place, with this label.
+fn put_station<A: Allocator + Copy, W: Write>(
+    alloc: A,
+    label: &str,
     place: Place,
     picture: &Picture<'_, A>,
     out: &mut W,
 ) -> Result<(), PrintError>
-    ensures { OnOk result (Appends (W.contents out.old) (W.contents out.new)
-        (station_cells place (rows_in picture.now.names.now) (rows_in picture.now.rows.now))) }
+    ensures { OnOk result (Appends (W.contents out.old) (W.contents out.new) (line label.now
+        (station_cells (rows_in picture.now.names.now) (rows_in picture.now.rows.now) place))) }
 {
-    put(b"<td class=\"text\">", out)?;
-    put_addresses(place, picture.names, out)?;
-    put(b"</td>", out)?;
-    put_told_cell(count(Wanted::Sent { place }, picture.rows), out)?;
-    put_told_cell(count(Wanted::Arrived { place }, picture.rows), out)?;
-    put(b"</tr>\n", out)?;
-    Ok(())
-}
-
-/// Writes the line of the control station.
-fn put_control<A: Allocator, W: Write>(
-    picture: &Picture<'_, A>,
-    out: &mut W,
-) -> Result<(), PrintError>
-    ensures { OnOk result (Appends (W.contents out.old) (W.contents out.new)
-        (station_line (codes "control") Control (rows_in picture.now.names.now)
-        (rows_in picture.now.rows.now))) }
-{
-    put_line_start(b"control", out)?;
-    put_cells(Place::Control, picture, out)
-}
-
-/// Writes the line of the station of a column.
-fn put_column<A: Allocator, W: Write>(
-    column: u8,
-    picture: &Picture<'_, A>,
-    out: &mut W,
-) -> Result<(), PrintError>
-    ensures { OnOk result (Appends (W.contents out.old) (W.contents out.new)
-        (column_line (rows_in picture.now.names.now) (rows_in picture.now.rows.now) column)) }
-{
-    put(b"<tr><th scope=\"row\">", out)?;
-    put_column_number(column, out)?;
-    put(b"</th>", out)?;
-    put_cells(Place::Station { column }, picture, out)?;
-    Ok(())
+    let addresses = addresses_of(alloc, place, picture.names)?;
+    let sent = count(Wanted::Sent { place }, picture.rows);
+    let arrived = count(Wanted::Arrived { place }, picture.rows);
+    let cells = [
+        Cell::Addresses { chars: &addresses },
+        Cell::Count { number: sent },
+        Cell::Count { number: arrived },
+    ];
+    put_line(label, &cells, out)
 }
 
 /// Writes the lines of the stations beside the control station.
-fn put_columns<A: Allocator, W: Write>(
+fn put_columns<A: Allocator + Copy, W: Write>(
+    alloc: A,
     picture: &Picture<'_, A>,
     out: &mut W,
 ) -> Result<(), PrintError>
-    ensures { OnOk result (Appends (W.contents out.old) (W.contents out.new)
-        (column_lines (rows_in picture.now.names.now) (rows_in picture.now.rows.now)
+    ensures { OnOk result (Appends (W.contents out.old) (W.contents out.new) (each_below
+        (column_line (rows_in picture.now.names.now) (rows_in picture.now.rows.now))
         picture.now.columns)) }
 {
     'columns: for column in 0..picture.columns {
-        put_column(column, picture, out)?;
+        let mut buffer = Buffer::new();
+        let label = buffer.format(column);
+        put_station(alloc, label, Place::Station { column }, picture, out)?;
     }
     Ok(())
 }
 
 /// Writes the table.
-pub(crate) fn put_stations<A: Allocator, W: Write>(
+pub(crate) fn put_stations<A: Allocator + Copy, W: Write>(
+    alloc: A,
     picture: &Picture<'_, A>,
     out: &mut W,
 ) -> Result<(), PrintError>
@@ -131,8 +99,7 @@ pub(crate) fn put_stations<A: Allocator, W: Write>(
         (rows_in picture.now.rows.now))) }
 {
     put(STATIONS_START, out)?;
-    put_control(picture, out)?;
-    put_columns(picture, out)?;
-    put(b"</table>\n", out)?;
-    Ok(())
+    put_station(alloc, "control", Place::Control, picture, out)?;
+    put_columns(alloc, picture, out)?;
+    put(b"</table>\n", out)
 }

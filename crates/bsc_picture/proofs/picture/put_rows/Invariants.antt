@@ -1,5 +1,5 @@
 -- The rows so far are written.
-use Rattle.std.proofs.Common.{◌≡◌, take}
+use Rattle.std.proofs.Common.{◌≡◌, ◌+◌, ◌*◌, take}
 use Rattle.std.specs.Io.KnownBytes.{Appends}
 use Rattle.bsc_picture.specs.Pictures.{rows_from}
 use Rattle.bsc_picture.specs.Rows.{rows_in}
@@ -8,5 +8,5 @@ use Rattle.bsc_picture.proofs.picture.put_rows.Given as goal
 abbrev pub invariant-rows : goal.invariant-rows
 invariant-rows g l =
     Appends (g.W.Write.contents l.initial.out) (g.W.Write.contents l.out)
-    (rows_from l.columns 0 (rows_in (take l.row-index l.rows)))
-    × (l.number ≡ l.row-index)
+    (rows_from l.columns 96 (rows_in (take l.row-index l.rows)))
+    × (l.y ≡ 96 + 24 * l.row-index)

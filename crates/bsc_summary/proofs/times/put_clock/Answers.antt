@@ -2,7 +2,7 @@
 use Rattle.std.proofs.Common.{subst}
 use Rattle.std.specs.Io.KnownBytes.{Appends}
 use Rattle.std.specs.Prelude.{OnOk}
-use Rattle.bsc_summary.specs.Tables.{times_if}
+use Rattle.bsc_summary.specs.Pages.{times_if}
 use Rattle.bsc_summary.proofs.times.put_clock.Goals as goal
 
 pub returns : goal.returns

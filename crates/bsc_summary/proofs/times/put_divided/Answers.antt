@@ -5,6 +5,6 @@ use Rattle.bsc_summary.proofs.times.put_divided.Goals as goal
 pub returns : goal.returns
 returns g c =
     Appends-trans _ _ _ _ _ (Appends-trans _ _ _ _ _ (Appends-trans _ _ _ _ _ c.in_ok-put.ensures.ok
-    (rw c.silent_tenths-tenths.ensures.value at c.in_ok-put_time_line.ensures))
-    (rw c.silent_tenths-tenths.ensures.value at c.in_ok-put_time_line-2.ensures))
+    (rw c.silent_tenths-tenths.ensures.value at c.in_ok-put_part.ensures))
+    (rw c.silent_tenths-tenths.ensures.value at c.in_ok-put_part-2.ensures))
     c.in_ok-put-2.ensures.ok
