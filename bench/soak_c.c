@@ -1,4 +1,4 @@
-/* Plays the random events of bench/soak over the library for C, and prints the counts that the program test_hostile
+/* Plays the random events of bench/soak over the library for C, and prints the counts that the program bench_soak
  * prints: the same numbers are drawn in the same order, so that a line that does anything else soon leads to other
  * events and other counts. It has to be linked so that the library calls the malloc and realloc below, which refuse
  * memory while the line is starved:

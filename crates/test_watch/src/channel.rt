@@ -13,11 +13,11 @@ use std::alloc::Allocator;
 /// The numbers of records that were offered, that are known to have arrived, and that arrived; and
 /// whether the sending end is in doubt.
 #[derive(Clone, Copy, Default, PartialEq, Eq)]
-pub(crate) struct View {
-    pub(crate) offered: usize,
-    pub(crate) known: usize,
-    pub(crate) spooled: usize,
-    pub(crate) in_doubt: bool,
+pub struct View {
+    pub offered: usize,
+    pub known: usize,
+    pub spooled: usize,
+    pub in_doubt: bool,
 }
 
 /// What was last seen of a channel, and the digests of the records that were offered and of those
@@ -57,10 +57,10 @@ impl Channel {
 
 /// What a line shows of a channel: the records that were offered, and those that arrived.
 #[derive(Drop)]
-pub(crate) struct Shown<'a, A: Allocator> {
-    pub(crate) view: View,
-    pub(crate) offered: &'a Records<A>,
-    pub(crate) spooled: &'a Records<A>,
+pub struct Shown<'a, A: Allocator> {
+    pub view: View,
+    pub offered: &'a Records<A>,
+    pub spooled: &'a Records<A>,
 }
 
 /// The station at the sending end of a channel.
@@ -83,11 +83,7 @@ pub(crate) fn is_channel<A: Allocator>(line: &Line<A>, terminal: usize, way: Way
 }
 
 /// What the line shows of a channel, or None if it has no such channel.
-pub(crate) fn look<A: Allocator>(
-    line: &Line<A>,
-    terminal: usize,
-    way: Way,
-) -> Option<Shown<'_, A>> {
+pub fn look<A: Allocator>(line: &Line<A>, terminal: usize, way: Way) -> Option<Shown<'_, A>> {
     if !is_channel(line, terminal, way) {
         return None;
     }

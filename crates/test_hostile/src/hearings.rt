@@ -1,10 +1,10 @@
 //! Each transmission of an exchange is heard as anything near it, by all terminals or by one, and
 //! then the exchange goes on for 40 events. All rules of a line have to hold after each event.
 
-use crate::tests::exchanges::{
+use crate::exchanges::{
     Exchange, INTERRUPTED, POLLED, SELECTED, SELECTED_TWICE, Sent, transmissions,
 };
-use crate::tests::fixtures::Watched;
+use crate::fixtures::Watched;
 use bsc_line::Event;
 use std::alloc::Global;
 use std::test::Fail;

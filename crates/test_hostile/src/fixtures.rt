@@ -1,8 +1,6 @@
 //! The line of these tests, and the player that watches it.
 
-use crate::broken::Broken;
-use crate::tests::exchanges::Exchange;
-use crate::watch::LineWatch;
+use crate::exchanges::Exchange;
 use bsc_bid::Terminal;
 use bsc_line::{Event, Line, LineError};
 use std::alloc::Global;
@@ -10,6 +8,7 @@ use std::test::Fail;
 use test_alloc::Refusing;
 use test_fixtures::lines::{setup, two_terminals};
 use test_fixtures::on_heap;
+use test_watch::{Broken, LineWatch};
 
 /// A line with a watch on it. Short functions own it and lend it to the functions that play on it.
 /// No memory is refused to the line, so that no offer may fail with `Memory`.

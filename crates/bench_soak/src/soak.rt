@@ -3,12 +3,12 @@
 
 use crate::events::Events;
 use crate::player::Player;
-use crate::tally::{Counted, Tally};
 use anyhow::{Context, Result, bail};
 use std::alloc::Global;
 use std::env;
 use std::rt::Env;
 use test_alloc::Refusing;
+use test_watch::{Counted, Tally};
 
 /// Plays as the command line says, and prints what was counted.
 pub(crate) fn run<R: AllocGlobal + Env + Print>(rt: &R) -> Result<()> {

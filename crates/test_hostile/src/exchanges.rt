@@ -1,11 +1,11 @@
 //! The exchanges in which each transmission is heard as something else, and their transmissions.
 
-use crate::heard::octets_of;
-use crate::tests::fixtures::Watched;
+use crate::fixtures::Watched;
 use bsc_frame::Wire;
 use bsc_line::{Event, Speaker};
 use std::alloc::Global;
 use std::test::Fail;
+use test_watch::octets_of;
 
 /// An exchange: the events before the first silence, each with the number of times that it is
 /// played, and the number of transmissions after it.

@@ -2,17 +2,14 @@
 //! each doubt is released, and it goes on again. All rules of a line have to hold after each event,
 //! and at the end each record that was offered has arrived.
 
-use crate::broken::Broken;
-use crate::channel::look;
-use crate::tests::exchanges::{
-    Exchange, INTERRUPTED, POLLED, SELECTED, SELECTED_TWICE, transmissions,
-};
-use crate::tests::fixtures::Watched;
+use crate::exchanges::{Exchange, INTERRUPTED, POLLED, SELECTED, SELECTED_TWICE, transmissions};
+use crate::fixtures::Watched;
 use bsc_control::Way;
 use bsc_line::Speaker::{Control, Terminal};
 use bsc_line::{Event, Speaker};
 use std::alloc::Global;
 use std::test::Fail;
+use test_watch::{Broken, look};
 
 /// The stations that begin again, in this order.
 const PARTIES: &[&[Speaker]] = &[

@@ -2,9 +2,8 @@
 //! another, and of a line of the most terminals on which much has happened; and the messages of the
 //! rules.
 
-use crate::broken::Broken;
-use crate::tests::exchanges::{HI_AT, POLLED};
-use crate::tests::fixtures::Watched;
+use crate::exchanges::{HI_AT, POLLED};
+use crate::fixtures::Watched;
 use bsc_bid::Terminal;
 use bsc_control::Way;
 use bsc_frame::Address;
@@ -14,6 +13,7 @@ use std::alloc::Global;
 use std::test::Fail;
 use test_fixtures::lines::{two_terminals, two_terminals_by_three};
 use test_fixtures::octets::{EOT, TEXT_HI};
+use test_watch::Broken;
 
 /// Offers HI at terminal 1, at the last terminal of the most, and for the second selection address
 /// of terminal 0.

@@ -2,13 +2,13 @@
 
 use crate::events::{Events, Next, RELEASE};
 use crate::setups::{poll_list, select_counts, setup, terminals};
-use crate::watch::LineWatch;
 use anyhow::Result;
 use bsc_bid::{Setup, Terminal};
 use bsc_line::{Event, Line};
 use std::alloc::{AllocError, Allocator, Global};
 use test_alloc::Refusing;
 use test_fixtures::Random;
+use test_watch::LineWatch;
 
 /// A line, its watch and its events. Short functions own it and lend it to the functions that play.
 #[derive(Drop)]

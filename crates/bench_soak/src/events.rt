@@ -1,6 +1,5 @@
 //! Random events of a line, which are made without access to the line.
 
-use crate::heard::octets_of;
 use crate::spoiling::{Spoiling, any_spoiling, change};
 use bsc_control::Way;
 use bsc_frame::Message;
@@ -9,6 +8,7 @@ use std::alloc::{AllocError, Global};
 use std::mem;
 use test_fixtures::Random;
 use test_fixtures::octets::EOT;
+use test_watch::octets_of;
 
 /// A generator of random events.
 #[derive(Drop)]

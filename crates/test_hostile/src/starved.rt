@@ -1,9 +1,7 @@
 //! An offer may fail with `Memory`, and a station may put the sender of records off, only if memory
 //! was refused during the event.
 
-use crate::broken::Broken;
-use crate::tests::exchanges::HI_AT;
-use crate::watch::LineWatch;
+use crate::exchanges::HI_AT;
 use bsc_line::Event::{CarrySent, Silence};
 use bsc_line::{Event, Line, LineError};
 use std::alloc::{Allocator, Global};
@@ -11,6 +9,7 @@ use std::test::Fail;
 use test_alloc::Refusing;
 use test_fixtures::lines::{setup, two_terminals};
 use test_fixtures::on_heap;
+use test_watch::{Broken, LineWatch};
 
 /// Offers HI for terminal 0.
 const HI_FOR: Event<'static> = Event::OfferFor {

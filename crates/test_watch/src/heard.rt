@@ -56,7 +56,7 @@ impl Kind {
 }
 
 /// The octets that are sent for the message.
-pub(crate) fn octets_of(message: &Message<'_>) -> Wire {
+pub fn octets_of(message: &Message<'_>) -> Wire {
     let mut octets = Wire::new();
     encode(message, &mut octets);
     octets
