@@ -1,5 +1,5 @@
 -- Rows that are kept, as values.
-use Rattle.std.specs.Prelude.{ℕ, List, map}
+use Rattle.std.specs.Prelude.{List, map}
 use Rattle.bsc_ladder.specs.Rows.{RowValue, arrow, mark, silence}
 use Rattle.bsc_picture.specs.declared.rows.PictureRow.{PictureRow}
 use Rattle.bsc_picture.specs.declared.rows.PictureRow.TheVariants as row

@@ -49,7 +49,8 @@ fn put_start<W: Write>(width: usize, height: usize, out: &mut W) -> Result<(), P
     put(b"<svg xmlns=\"http://www.w3.org/2000/svg\"", out)?;
     put_size(width, height, out)?;
     put(STYLE, out)?;
-    put(SHAPES, out)
+    put(SHAPES, out)?;
+    Ok(())
 }
 
 /// Writes the rows of a picture, one below the other.

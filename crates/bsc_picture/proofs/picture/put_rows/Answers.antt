@@ -1,5 +1,5 @@
 -- One more row is written.
-use Rattle.std.proofs.Common.{arith, ◌+◌, ◌*◌}
+use Rattle.std.proofs.Common.{arith}
 use Rattle.std.proofs.KnownBytes.{Appends-trans}
 use Rattle.bsc_picture.proofs.RowTexts.{rows_more}
 use Rattle.bsc_picture.proofs.picture.put_rows.Goals as goal

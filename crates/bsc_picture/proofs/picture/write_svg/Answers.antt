@@ -1,5 +1,5 @@
 -- The parts are written one after another.
-use Rattle.std.proofs.Common.{◌≡◌, ◌++◌, ◌+◌, ◌*◌, ap, codes, length, refl, sym}
+use Rattle.std.proofs.Common.{◌++◌, ◌+◌, codes, refl}
 use Rattle.std.proofs.lemmas.List.{length-map}
 use Rattle.std.proofs.KnownBytes.{Appends-trans}
 use Rattle.bsc_picture.specs.Pictures.{bottom_of, rows_from, stations_markup, svg_start}
