@@ -1,6 +1,6 @@
 -- The cells and lines of a table. Only a cell with addresses has a text of a trace, and that is
 -- escaped, so that it does not end a text or begin a tag or an attribute.
-use Rattle.std.specs.Prelude.{ℕ, ◌/◌, ◌%◌, ◌==◌, List, [], ◌++◌, codes, if◌then◌else◌}
+use Rattle.std.specs.Prelude.{ℕ, ◌/◌, ◌%◌, ◌==◌, List, ◌++◌, codes, if◌then◌else◌}
 use Rattle.std.specs.Fmt.{decimal}
 use Rattle.std.specs.List.{flat_map}
 use Rattle.bsc_picture.specs.Escapes.{escaped}

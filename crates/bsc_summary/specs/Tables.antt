@@ -40,12 +40,17 @@ abbrev pub addresses_in : Place → RowValue → List ℕ
 addresses_in place (mark moment m told) = if same_place place m.place then shown told else []
 addresses_in place row = []
 
--- The station at a place: its addresses, how many transmissions it sent, and how many records
+-- The station at a place with these addresses: how many transmissions it sent, and how many records
 -- arrived at it.
+abbrev pub addressed_cells : List ℕ → List RowValue → Place → List CellValue
+addressed_cells chars rows place =
+    addresses chars ∷ count (count_of (sent place) rows)
+    ∷ count (count_of (arrived place) rows) ∷ []
+
+-- The station at a place, with the addresses that the rows above the columns tell of it.
 abbrev pub station_cells : List RowValue → List RowValue → Place → List CellValue
 station_cells names rows place =
-    addresses (flat_map (addresses_in place) names) ∷ count (count_of (sent place) rows)
-    ∷ count (count_of (arrived place) rows) ∷ []
+    addressed_cells (flat_map (addresses_in place) names) rows place
 
 abbrev pub column_line : List RowValue → List RowValue → ℕ → List ℕ
 column_line names rows column =

@@ -103,5 +103,6 @@ pub(crate) fn put_kinds<A: Allocator, W: Write>(
     put(KINDS_START, out)?;
     put_kinds_of(KINDS, rows, out)?;
     put_kind("all", "", rows, out)?;
-    put(b"</table>\n", out)
+    put(b"</table>\n", out)?;
+    Ok(())
 }

@@ -7,7 +7,8 @@ ghost use Rattle.bsc_picture.specs.Rows.{rows_in};
 ghost use Rattle.bsc_report.specs.Channels.{each_below};
 ghost use Rattle.bsc_summary.specs.Cells.{line};
 ghost use Rattle.bsc_summary.specs.Pages.{stations_table};
-ghost use Rattle.bsc_summary.specs.Tables.{addresses_in, column_line, station_cells};
+ghost use Rattle.bsc_summary.specs.Tables.{addressed_cells, addresses_in, column_line};
+ghost use Rattle.bsc_summary.specs.Tables.{station_cells};
 
 use crate::cells::{Cell, put_line};
 use crate::counts::{Wanted, count, same_place};
@@ -48,6 +49,27 @@ fn addresses_of<A: Allocator + Copy>(
     Ok(chars)
 }
 
+/// Writes the line of the station at a place, with this label and these addresses.
+fn put_addressed<A: Allocator, W: Write>(
+    label: &str,
+    chars: &[u8],
+    place: Place,
+    rows: &[PictureRow<A>],
+    out: &mut W,
+) -> Result<(), PrintError>
+    ensures { OnOk result (Appends (W.contents out.old) (W.contents out.new)
+        (line label.now (addressed_cells chars.now (rows_in rows.now) place))) }
+{
+    let sent = count(Wanted::Sent { place }, rows);
+    let arrived = count(Wanted::Arrived { place }, rows);
+    let cells = [
+        Cell::Addresses { chars },
+        Cell::Count { number: sent },
+        Cell::Count { number: arrived },
+    ];
+    put_line(label, &cells, out)
+}
+
 /// Writes the line of the station at a place, with this label.
 fn put_station<A: Allocator + Copy, W: Write>(
     alloc: A,
@@ -60,14 +82,7 @@ fn put_station<A: Allocator + Copy, W: Write>(
         (station_cells (rows_in picture.now.names.now) (rows_in picture.now.rows.now) place))) }
 {
     let addresses = addresses_of(alloc, place, picture.names)?;
-    let sent = count(Wanted::Sent { place }, picture.rows);
-    let arrived = count(Wanted::Arrived { place }, picture.rows);
-    let cells = [
-        Cell::Addresses { chars: &addresses },
-        Cell::Count { number: sent },
-        Cell::Count { number: arrived },
-    ];
-    put_line(label, &cells, out)
+    put_addressed(label, &addresses, place, picture.rows, out)
 }
 
 /// Writes the lines of the stations beside the control station.

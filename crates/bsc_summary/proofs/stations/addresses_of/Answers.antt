@@ -1,5 +1,5 @@
 -- What one more row tells is added.
-use Rattle.std.proofs.Common.{◌≡◌, ◌++◌, ◌∙◌, ap, rules, sym}
+use Rattle.std.proofs.Common.{◌≡◌, ◌∙◌, ap, rules}
 use Rattle.bsc_picture.specs.Rows.{kept_in}
 use Rattle.bsc_picture.proofs.RowTexts.{texts_more}
 use Rattle.bsc_summary.specs.Tables.{addresses_in}

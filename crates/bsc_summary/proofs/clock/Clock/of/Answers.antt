@@ -1,5 +1,5 @@
 -- One more row is in the clock.
-use Rattle.std.proofs.Common.{ap, ◌∙◌, sym, ◌+◌, ◌*◌, arith}
+use Rattle.std.proofs.Common.{ap, ◌∙◌, sym, arith}
 use Rattle.bsc_picture.specs.Rows.{kept_in}
 use Rattle.bsc_summary.specs.Clocks.{clock_after, clock_in, new_clock}
 use Rattle.bsc_summary.proofs.Sums.{clock_more}
