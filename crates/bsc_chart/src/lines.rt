@@ -9,8 +9,8 @@ ghost use Rattle.bsc_chart.specs.Errors.{IsWrongOrPrintError, input_error};
 ghost use Rattle.bsc_chart.specs.Inputs.{DrawsInput, HasStopped, ReadsInput, is_wrong, values_at};
 ghost use Rattle.bsc_chart.specs.Inputs.{is_skipped as is_skipped_line, tells_fault as is_fault};
 ghost use Rattle.bsc_chart.specs.Ladders.{IsLadder};
-ghost use Rattle.bsc_chart.specs.Pages.{IsEarlyOf, IsLateText, drawn_at, is_drawn, is_full, page_by};
-ghost use Rattle.bsc_chart.specs.Pages.{page_in, page_with, widened};
+ghost use Rattle.bsc_chart.specs.Pages.{IsEarlyOf, IsLateText, drawn_at, is_drawn, is_full};
+ghost use Rattle.bsc_chart.specs.Pages.{page_by, page_in, page_with, widened};
 
 use crate::pages::{Page, keep, tells_names, widen};
 use crate::text::write_line;
