@@ -1,8 +1,6 @@
 -- Rows that are written one after another.
 use Rattle.std.proofs.Common.{◌≡◌, ℕ, ◌+◌, ◌*◌, List, [], ◌∷◌, ◌++◌, ◌<◌, length, get_or, take, sym, ap, ◌∙◌}
 use Rattle.std.proofs.Common.{zero, suc, add-one, append-nil, append_assoc, arith}
-use Rattle.std.specs.List.{flat_map}
-use Rattle.bsc_ladder.specs.Rows.{RowValue}
 use Rattle.bsc_picture.specs.Pictures.{row_group, rows_from}
 use Rattle.bsc_picture.specs.Rows.{kept_in, rows_in}
 use Rattle.bsc_picture.specs.declared.rows.PictureRow.{PictureRow}
@@ -32,22 +30,3 @@ module _ {A : Type 0} where
       → rows_from c y (rows_in (take (i + 1) xs))
       ≡ rows_from c y (rows_in (take i xs)) ++ row_group c (y + 24 * i) (kept_in x)
   rows_more c y xs i x h e = rw add-one (rows_suc c y xs i x h e)
-
-module _ {A X : Type 0} (f : RowValue → List X) where
-  texts_suc : (xs : List (PictureRow A)) (i : ℕ) (x : PictureRow A)
-      → i < length xs → x ≡ get_or xs i x
-      → flat_map f (rows_in (take (suc i) xs))
-      ≡ flat_map f (rows_in (take i xs)) ++ f (kept_in x)
-  texts_suc [] i x h e = absurd (omega arith)
-  texts_suc (y ∷ ys) zero x h e =
-      append-nil (f (kept_in y)) ∙ ap (λ z. f (kept_in z)) (sym e)
-  texts_suc (y ∷ ys) (suc i) x h e =
-      ap (λ l. f (kept_in y) ++ l) (texts_suc ys i x (omega arith) e)
-      ∙ sym (append_assoc (f (kept_in y)) (flat_map f (rows_in (take i ys))) (f (kept_in x)))
-
-  -- what one more row has
-  pub texts_more : (xs : List (PictureRow A)) (i : ℕ) (x : PictureRow A)
-      → i < length xs → x ≡ get_or xs i x
-      → flat_map f (rows_in (take (i + 1) xs))
-      ≡ flat_map f (rows_in (take i xs)) ++ f (kept_in x)
-  texts_more xs i x h e = rw add-one (texts_suc xs i x h e)

@@ -1,9 +1,6 @@
 -- The law of texts in a document.
-use Rattle.bsc_picture.proofs.Plain.{is_named, is_plain_text}
+use Rattle.bsc_picture.proofs.Plain.{is_plain_text}
 use Rattle.bsc_picture.proofs.laws.escapes.Goals as goal
 
 pub returns-clause-plain : goal.returns-clause-plain
 returns-clause-plain c = is_plain_text
-
-pub returns-clause-named : goal.returns-clause-named
-returns-clause-named c = is_named
