@@ -25,7 +25,7 @@ kind_cells kind rows =
     ∷ count (count_of (transmissions kind Turned) rows) ∷ []
 
 -- The line of a kind, if there is a transmission of it.
-abbrev pub kind_if : List RowValue → List ℕ → List ℕ
+unfoldable pub kind_if : List RowValue → List ℕ → List ℕ
 kind_if rows kind =
     if count_of (transmissions kind Any) rows == 0 then [] else line kind (kind_cells kind rows)
 

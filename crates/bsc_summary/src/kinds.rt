@@ -63,6 +63,7 @@ fn put_kind<A: Allocator, W: Write>(
 }
 
 /// Writes the line of a kind, if there is a transmission of it.
+#[tactic(auto, unfolding(crate::specs::Tables::kind_if))]
 fn put_kind_if<A: Allocator, W: Write>(
     kind: &str,
     rows: &[PictureRow<A>],
@@ -103,6 +104,5 @@ pub(crate) fn put_kinds<A: Allocator, W: Write>(
     put(KINDS_START, out)?;
     put_kinds_of(KINDS, rows, out)?;
     put_kind("all", "", rows, out)?;
-    put(b"</table>\n", out)?;
-    Ok(())
+    put(b"</table>\n", out)
 }
