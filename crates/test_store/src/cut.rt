@@ -1,23 +1,20 @@
 //! What is left where a commit was cut off: copies of the files, in the log of which only the first
 //! octets stand, as a process leaves them that was killed as it wrote.
 
-use crate::facts::{Fact, Side, are_kept, counts, keep};
+use crate::facts::{Fact, Side, are_kept, change, counts};
 use crate::files::{LINE, Task, copied, create, delete, within};
 use bsc_kept::{Channel, Store, StoreFault};
-use std::alloc::Global;
 use std::fs;
 use std::rt::HostRuntime;
 use std::test::Fail;
 
 /// Offers two records and keeps that both are in doubt, in one step.
-pub(crate) fn keep_step<S: Store>(
-    alloc: Global,
-    store: &mut S,
-    channel: Channel,
-) -> Result<(), StoreFault> {
-    let (first, second) = (Fact::Offered("first"), Fact::Offered("second"));
-    let doubt = (channel, Fact::Known(0, 2));
-    keep(alloc, store, &[(channel, first), doubt, (channel, second)])
+pub(crate) fn keep_step<S: Store>(store: &mut S, channel: Channel) -> Result<(), StoreFault> {
+    store.commit(&[
+        change(channel, Fact::Offered("first"))?,
+        change(channel, Fact::Known(0, 2))?,
+        change(channel, Fact::Offered("second"))?,
+    ])
 }
 
 /// Whether a store has the whole of that step, or nothing of it.

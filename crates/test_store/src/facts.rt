@@ -3,7 +3,6 @@
 use bsc_block::Record;
 use bsc_frame::Address;
 use bsc_kept::{Change, Channel, Found, Store, StoreFault};
-use std::alloc::Global;
 
 /// Returns the address of the terminal of the tests.
 fn address() -> Result<Address, StoreFault> {
@@ -44,7 +43,7 @@ pub(crate) enum Fact {
 }
 
 /// Returns the change by which a fact of a channel is kept.
-fn change(channel: Channel, fact: Fact) -> Result<Change, StoreFault> {
+pub(crate) fn change(channel: Channel, fact: Fact) -> Result<Change, StoreFault> {
     match fact {
         Fact::Offered(chars) => {
             let record = record(chars)?;
@@ -61,21 +60,6 @@ fn change(channel: Channel, fact: Fact) -> Result<Change, StoreFault> {
         }
         Fact::Printed(count) => Ok(Change::Printed { channel, count }),
     }
-}
-
-/// Keeps facts of channels in one step.
-pub(crate) fn keep<S: Store>(
-    alloc: Global,
-    store: &mut S,
-    facts: &[(Channel, Fact)],
-) -> Result<(), StoreFault> {
-    let mut step = Vec::new(alloc);
-    for (channel, fact) in facts {
-        if step.push(change(*channel, *fact)?).is_err() {
-            return Err(StoreFault::OutOfMemory);
-        }
-    }
-    store.commit(&step)
 }
 
 /// Which records of a channel are meant.

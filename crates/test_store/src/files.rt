@@ -60,17 +60,17 @@ fn perform<S: Store>(alloc: Global, store: &mut S, task: Task) -> Result<bool, S
     let other = to_terminal()?;
     match task {
         Task::Fill => {
-            fill(alloc, store, one, other)?;
+            fill(store, one, other)?;
             Ok(true)
         }
         Task::Read => is_filled(store, &one, &other),
         Task::FillAndRead => {
-            fill(alloc, store, one, other)?;
+            fill(store, one, other)?;
             is_filled(store, &one, &other)
         }
-        Task::Refused => is_unchanged(alloc, store, one),
+        Task::Refused => is_unchanged(store, one),
         Task::Step => {
-            keep_step(alloc, store, one)?;
+            keep_step(store, one)?;
             Ok(true)
         }
         Task::HasStep(whole) => has_step(store, &one, whole),

@@ -1,7 +1,7 @@
 //! What is kept is read back: from memory, from a file that was closed, and from a copy of one that
 //! was not; a step that is refused changes nothing; and a new file has small pages.
 
-use crate::facts::{Fact, Side, are_kept, counts, keep};
+use crate::facts::{Fact, Side, are_kept, change, counts};
 use crate::files::{LINE, Task, copied, create, delete, in_memory, within};
 use bsc_kept::{Channel, Store, StoreFault};
 use std::alloc::Global;
@@ -11,17 +11,23 @@ use std::test::Fail;
 
 /// Keeps four steps of two channels.
 pub(crate) fn fill<S: Store>(
-    alloc: Global,
     store: &mut S,
     one: Channel,
     other: Channel,
 ) -> Result<(), StoreFault> {
-    let (empty, third) = ((one, Fact::Offered("")), (one, Fact::Offered("third")));
-    let (second, last) = ((other, Fact::Arrived("second")), (other, Fact::Arrived("")));
-    keep(alloc, store, &[(one, Fact::Offered("first"))])?;
-    keep(alloc, store, &[empty, third])?;
-    keep(alloc, store, &[second, (one, Fact::Known(1, 2))])?;
-    keep(alloc, store, &[last, (other, Fact::Printed(1))])
+    store.commit(&[change(one, Fact::Offered("first"))?])?;
+    store.commit(&[
+        change(one, Fact::Offered(""))?,
+        change(one, Fact::Offered("third"))?,
+    ])?;
+    store.commit(&[
+        change(other, Fact::Arrived("second"))?,
+        change(one, Fact::Known(1, 2))?,
+    ])?;
+    store.commit(&[
+        change(other, Fact::Arrived(""))?,
+        change(other, Fact::Printed(1))?,
+    ])
 }
 
 /// Whether a store has what `fill` kept, and no more.
@@ -59,36 +65,29 @@ pub(crate) fn keeps_many<S: Store>(
     store: &mut S,
     channel: Channel,
 ) -> Result<bool, StoreFault> {
-    let mut facts = Vec::new(alloc);
+    let mut step = Vec::new(alloc);
     for _ in 0..COUNT {
-        if facts.push((channel, Fact::Offered("first"))).is_err() {
+        if step.push(change(channel, Fact::Offered("first"))?).is_err() {
             return Err(StoreFault::OutOfMemory);
         }
     }
-    keep(alloc, store, &facts)?;
+    store.commit(&step)?;
     let is_last = store.offered(&channel, 0, COUNT - 1)?.is_some();
     Ok(is_last && counts(store, &channel)? == [COUNT, 0, 0, 0, 0])
 }
 
 /// Whether a step of which the last change is refused changes nothing, and the next one is kept.
-pub(crate) fn is_unchanged<S: Store>(
-    alloc: Global,
-    store: &mut S,
-    channel: Channel,
-) -> Result<bool, StoreFault> {
-    let (first, second) = (Fact::Offered("first"), Fact::Offered("second"));
-    keep(
-        alloc,
-        store,
-        &[(channel, first), (channel, Fact::Known(0, 1))],
-    )?;
-    let refused = keep(
-        alloc,
-        store,
-        &[(channel, second), (channel, Fact::Known(0, 8))],
-    );
+pub(crate) fn is_unchanged<S: Store>(store: &mut S, channel: Channel) -> Result<bool, StoreFault> {
+    store.commit(&[
+        change(channel, Fact::Offered("first"))?,
+        change(channel, Fact::Known(0, 1))?,
+    ])?;
+    let refused = store.commit(&[
+        change(channel, Fact::Offered("second"))?,
+        change(channel, Fact::Known(0, 8))?,
+    ]);
     let before = counts(store, &channel)? == [1, 0, 1, 0, 0];
-    keep(alloc, store, &[(channel, second)])?;
+    store.commit(&[change(channel, Fact::Offered("second"))?])?;
     let both = are_kept(store, &channel, Side::Offered, &["first", "second"])?;
     Ok(refused == Err(StoreFault::Refused) && before && both)
 }

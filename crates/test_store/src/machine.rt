@@ -1,7 +1,6 @@
 //! A machine with stores in memory, of which calls fail, and with files.
 
-use crate::facts;
-use crate::facts::Fact;
+use crate::facts::{Fact, change};
 use crate::lines::OWN;
 use bsc_asked::StoreWords;
 use bsc_input::{Files, InputError, Unreadable};
@@ -162,12 +161,15 @@ impl StoreFiles for Machine {
             "none" => return Err(StoreFault::Missing),
             _ => return Err(StoreFault::Damaged),
         };
-        let Some(mut opened) = opened else {
+        let Some(Opened { store, line }) = opened else {
             return Err(StoreFault::InUse);
         };
         let (failing, fails) = self.fails;
-        opened.store.fails = if path == failing { fails } else { "" };
-        Ok(opened)
+        let store = Kept {
+            table: store.table,
+            fails: if path == failing { fails } else { "" },
+        };
+        Ok(Opened { store, line })
     }
 
     fn close_kept(&mut self, opened: Opened<Kept>) -> Result<(), StoreFault> {
@@ -271,8 +273,9 @@ pub(crate) fn keep(
     channel: Channel,
     fact: Fact,
 ) -> Result<(), StoreFault> {
+    let change = change(channel, fact)?;
     let mut opened = machine.open_kept(path)?;
-    let done = facts::keep(machine.alloc, &mut opened.store, &[(channel, fact)]);
+    let done = opened.store.commit(&[change]);
     machine.close_kept(opened)?;
     done
 }
