@@ -230,12 +230,17 @@ fn fails<R: Net>(
     (paths, input): (&str, &str),
     (printed, error): (&str, &str),
 ) -> Result<bool, Fail> {
-    let ran = run_at(runtime, alloc, files, (paths, input), (false, false));
-    let is_read = ran.left < input.len();
-    if ran.out.as_slice() != printed.as_bytes() || is_read == (input == "unread") {
+    let Ran {
+        answer,
+        out,
+        left,
+        ..
+    } = run_at(runtime, alloc, files, (paths, input), (false, false));
+    let is_read = left < input.len();
+    if out.as_slice() != printed.as_bytes() || is_read == (input == "unread") {
         return Ok(false);
     }
-    match ran.answer {
+    match answer {
         Ok(()) => Ok(false),
         Err(why) => Ok(why.to_string(alloc)?.as_str() == error),
     }
