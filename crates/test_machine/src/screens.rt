@@ -61,21 +61,14 @@ fn progress_is_cleared_once(rt: HostRuntime) -> Result<(), Fail> {
     Ok(())
 }
 
-/// Whether this is told when octets are written that are not flushed.
-fn is_written<W: Write>(fake: &Fake<'_>, output: &mut W, octets: &[u8], told: &str) -> bool {
-    output.write_all(octets).is_ok() && fake.has_told(told)
-}
-
-/// Whether this is told when octets are written and flushed.
-fn tells<W: Write>(fake: &Fake<'_>, output: &mut W, octets: &[u8], told: &str) -> bool {
-    output.write_all(octets).is_ok() && output.flush().is_ok() && fake.has_told(told)
-}
-
 /// Whether a trace goes to standard error, and the line is cleared before it.
 fn is_traced(fake: &Fake<'_>, streams: &Streams) -> bool {
     let mut trace = streams.machine(fake).trace(true);
-    is_written(fake, &mut trace, b"+0 silence\n", "\r\x1b[K+0 silence\n")
-        && tells(fake, &mut trace, b"+1 silence\n", "+1 silence\n")
+    let clears = trace.write_all(b"+0 silence\n").is_ok() && fake.has_told("\r\x1b[K+0 silence\n");
+    clears
+        && trace.write_all(b"+1 silence\n").is_ok()
+        && trace.flush().is_ok()
+        && fake.has_told("+1 silence\n")
 }
 
 /// Whether the line is cleared before lines that are printed on standard output.
@@ -98,11 +91,15 @@ fn progress_is_cleared_before_a_line(rt: HostRuntime) -> Result<(), Fail> {
 /// Whether a line is written when it ends, or when it is flushed.
 fn are_lines(fake: &Fake<'_>, streams: &Streams) -> bool {
     let mut errors = streams.errors(fake);
-    is_written(fake, &mut errors, b"+0 ", "")
-        && is_written(fake, &mut errors, b"silence", "")
-        && is_written(fake, &mut errors, b"\n+1 ", "+0 silence\n")
-        && tells(fake, &mut errors, b"", "+1 ")
-        && tells(fake, &mut errors, b"", "")
+    let waits = errors.write_all(b"+0 ").is_ok()
+        && errors.write_all(b"silence").is_ok()
+        && fake.has_told("");
+    waits
+        && errors.write_all(b"\n+1 ").is_ok()
+        && fake.has_told("+0 silence\n")
+        && errors.flush().is_ok()
+        && errors.flush().is_ok()
+        && fake.has_told("+1 ")
 }
 
 #[test]
