@@ -4,9 +4,10 @@ ghost use Rattle.bsc_trace.specs.ReadBack.{SentencesAreReadBack, SilencesAreRead
 ghost use Rattle.bsc_trace.specs.ReadBack.{TextsAreKept, TextsAreReadBack};
 ghost use Rattle.bsc_trace.specs.ReadBack.{TransmissionsAreReadBack};
 
-/// Each line that a run or a live station prints in a trace is read back as what it says: a
-/// transmission with its time, its course, its fate and its octets, a silence with its time, and
-/// any other text with its time, its mark and itself.
+/// The line of a transmission, as a run or a live station prints it in a trace, is read back as the
+/// transmission with its time, its course, its fate and its octets, and that of a silence as a
+/// silence with its time. A line whose text begins with one of the words with which the other texts
+/// begin is read back as that text, with its time and its mark.
 pub fn read_back()
     ensures transmissions { TransmissionsAreReadBack }
     ensures silences { SilencesAreReadBack }

@@ -1,5 +1,5 @@
-//! The rule of refusals and the counts of requests. Every decision of the allocator is made here, on
-//! plain values.
+//! The rule of refusals and the counts of requests. Every decision of the allocator is made here,
+//! on plain values.
 
 /// Which requests are refused. Requests are counted from 1, and sizes are in octets.
 #[derive(Clone, Copy)]

@@ -304,7 +304,7 @@ impl<'a> Cables for Machine<'a> {
         Metered { work, record }
     }
 
-    /// Makes connections of two terminals only: one has no sockets, and for more there is no memory.
+    /// Makes connections of two terminals only: one has no sockets, and more have no memory.
     fn connect(&mut self, count: usize) -> Result<Cable<End<'a>>, LoopbackError> {
         match count {
             2 => {}

@@ -45,7 +45,7 @@ pub(crate) fn opened<R: AllocGlobal + Clock + Eprint + Files<File = File> + Net>
     Ok(opened.connections.len())
 }
 
-/// Whether an attempt to connect to this address comes to this, after this many milliseconds in all.
+/// Whether an attempt to connect to this address comes to this after this many milliseconds.
 fn comes_to(fake: &Fake<'_>, address: &str, due: Result<usize, SocketsError>, time: u64) -> bool {
     opened(fake, &wanted(Place::Connect { address })) == due && fake.time.get() == time
 }

@@ -102,8 +102,8 @@ fn run_at<R: Net>(
 const FILES: (&str, &str) = ("line.toml script.txt", "unread");
 
 /// The events of `examples/lossy_line`, with as many empty lines between them. One bit of the first
-/// text is inverted on its way; an acknowledgement and an ENQ are lost, and the terminal is in doubt;
-/// a call of terminal 1 is not heard, and a text only by it; and the doubt is ended.
+/// text is inverted on its way; an acknowledgement and an ENQ are lost, and the terminal is in
+/// doubt; a call of terminal 1 is not heard, and a text only by it; and the doubt is ended.
 const LOSSY_LINE: &str = "#\noffer-at 0 HI\noffer-for 1 BYE\n\n\n\nsilence\ncarry
 heard 16 16 02 C8 48 19 83 9B FF\ncarry\ncarry\n\n\n\nlose\nsilence\nlose\nsilence\ncarry
 \n\n\nheard-each - 161610\nsilence\ncarry\ncarry\n\n\nheard-each - 161602C2D9451983C4FF

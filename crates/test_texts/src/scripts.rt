@@ -35,8 +35,8 @@ fn each_growth_of_a_script_is_refused_in_turn(rt: HostRuntime) -> Result<(), Fai
 /// is, or the number of the first line that is not an event.
 type Read = (usize, &'static str, Result<usize, u64>);
 
-/// Texts that are as long as an input may be, or of which a line is as long as it may be, and a text
-/// with a wrong line after an empty line and before another one.
+/// Texts that are as long as an input may be, or of which a line is as long as it may be, and a
+/// text with a wrong line after an empty line and before another one.
 const READ: &[Read] = &[
     (174_762, "<carry\n>", Ok(174_762)),
     (MAX_INPUT - 1, "#<A>", Ok(0)),
