@@ -217,10 +217,7 @@ pub(crate) fn write_unanswered<W: Write>(terminal: usize, out: &mut W) -> Result
         (unanswered_line terminal)) }
     ensures err { IfErr result (λ error. error ≡ PrintError.Output) }
 {
-    match write!(out, "terminal {terminal} has not answered\n") {
-        Ok(()) => Ok(()),
-        Err(_) => Err(PrintError::Output),
-    }
+    Ok(write!(out, "terminal {terminal} has not answered\n")?)
 }
 
 /// Writes the line for a time-out.
@@ -229,10 +226,7 @@ fn write_silence<W: Write>(time: u64, out: &mut W) -> Result<(), PrintError>
         (silence_line time)) }
     ensures err { IfErr result (λ error. error ≡ PrintError.Output) }
 {
-    match write!(out, "+{time} silence\n") {
-        Ok(()) => Ok(()),
-        Err(_) => Err(PrintError::Output),
-    }
+    Ok(write!(out, "+{time} silence\n")?)
 }
 
 /// Writes the line for a station that is asked to end.
@@ -241,10 +235,7 @@ fn write_stopped<W: Write>(time: u64, out: &mut W) -> Result<(), PrintError>
         (stopped_line time)) }
     ensures err { IfErr result (λ error. error ≡ PrintError.Output) }
 {
-    match write!(out, "+{time} asked to end\n") {
-        Ok(()) => Ok(()),
-        Err(_) => Err(PrintError::Output),
-    }
+    Ok(write!(out, "+{time} asked to end\n")?)
 }
 
 /// Writes the line for something that was withheld, without a time.
@@ -265,10 +256,7 @@ pub(crate) fn write_distrust<W: Write>(why: Distrust, out: &mut W) -> Result<(),
         (distrust_line why)) }
     ensures err { IfErr result (λ error. error ≡ PrintError.Output) }
 {
-    match write!(out, "not trusted: {why}\n") {
-        Ok(()) => Ok(()),
-        Err(_) => Err(PrintError::Output),
-    }
+    Ok(write!(out, "not trusted: {why}\n")?)
 }
 
 /// Writes the name of the connection with this index, with the address of its peer if it is known.
@@ -295,10 +283,7 @@ fn write_origin<W: Write>(peer: Option<SocketAddr>, out: &mut W) -> Result<(), P
     let Some(peer) = peer else {
         return Ok(());
     };
-    match write!(out, " from {peer}") {
-        Ok(()) => Ok(()),
-        Err(_) => Err(PrintError::Output),
-    }
+    Ok(write!(out, " from {peer}")?)
 }
 
 /// Returns the end of the line for a peer that took a connection.
@@ -338,10 +323,7 @@ fn write_peer<W: Write>(peer: Option<SocketAddr>, out: &mut W) -> Result<(), Pri
     let Some(peer) = peer else {
         return put(b"a peer", out);
     };
-    match write!(out, "{peer}") {
-        Ok(()) => Ok(()),
-        Err(_) => Err(PrintError::Output),
-    }
+    Ok(write!(out, "{peer}")?)
 }
 
 /// Returns why a peer has no connection.

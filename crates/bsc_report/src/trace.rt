@@ -52,10 +52,7 @@ pub fn write_time<W: Write>(time: u64, out: &mut W) -> Result<(), PrintError>
         (time_shown time)) }
     ensures err { IfErr result (λ error. error ≡ PrintError.Output) }
 {
-    match write!(out, "+{time} ") {
-        Ok(()) => Ok(()),
-        Err(_) => Err(PrintError::Output),
-    }
+    Ok(write!(out, "+{time} ")?)
 }
 
 /// Writes the sender of a transmission. After an error a front of it has been written.
@@ -94,10 +91,7 @@ fn write_hearer<W: Write>(hearer: Option<usize>, out: &mut W) -> Result<(), Prin
     let Some(terminal) = hearer else {
         return Ok(());
     };
-    match write!(out, "at {terminal} ") {
-        Ok(()) => Ok(()),
-        Err(_) => Err(PrintError::Output),
-    }
+    Ok(write!(out, "at {terminal} ")?)
 }
 
 /// Writes the start of the line for a transmission: the time, who sent it, what became of it, and
