@@ -109,7 +109,8 @@ fn try_calls(
 }
 
 /// Lets each call of a part go wrong in turn in a run: with a trace, with calls that move all the
-/// octets they are asked to move, and with calls that move one. Returns whether there are enough calls.
+/// octets they are asked to move, and with calls that move one. Returns whether there are enough
+/// calls.
 fn try_part(alloc: Global, worked: &Worked, kind: (Part, Trouble)) -> Result<bool, Fail> {
     let case = Case::read(alloc, TWO_TERMINALS, worked.script)?;
     let traced = try_calls(alloc, worked, &case, kind, (true, usize::MAX))?;
