@@ -1,7 +1,7 @@
 -- What a step of a sender keeps.
-use Rattle.std.proofs.Common.{◌≡◌, ◌⊎◌, inl, inr, ℕ, ◌+◌, ◌<◌, List, length, drop, Some, refl, sym}
-use Rattle.std.proofs.Common.{◌∙◌, ap, subst, arith}
-use Rattle.std.proofs.lemmas.List.{length-set, get_or-set_same, drop-set-lt}
+use Rattle.std.proofs.Common.{◌≡◌, ◌≢◌, ◌⊎◌, inl, inr, ℕ, zero, suc, ◌+◌, ◌<◌, true, false, List}
+use Rattle.std.proofs.Common.{length, drop, Option, None, Some, refl, sym, ◌∙◌, ap, subst, arith}
+use Rattle.std.proofs.lemmas.List.{length-set, get_or-set_same, get_or-set_other, drop-set-lt}
 use Rattle.std.specs.List.{position}
 use Rattle.bsc_frame.specs.declared.message.Message.TheVariants as m
 use Rattle.bsc_bid.specs.Act.{Act}
@@ -11,8 +11,11 @@ use Rattle.bsc_bid.specs.Ready.{IsGoing, IsAtRest}
 use Rattle.bsc_bid.specs.Sender.{SenderStep}
 use Rattle.bsc_control.specs.declared.task.Task.{Task}
 use Rattle.bsc_control.specs.declared.task.Task.TheVariants.{Sending}
-use Rattle.bsc_control.specs.CallOrder.{Call, After, Selection, Interruption, way_at, next_call}
+use Rattle.bsc_control.specs.CallOrder.{Call, After, Selection, Interruption, way_at, due_call}
+use Rattle.bsc_control.specs.CallOrder.{way_from, first_call, is_polled, passed_over, place_further}
+use Rattle.bsc_control.specs.CallOrder.{call_past, next_call}
 use Rattle.bsc_control.specs.Control.{ControlValue, HasEntries, peer_at, peer, current}
+use Rattle.bsc_control.specs.Control.{terminal_of_entry}
 use Rattle.bsc_control.specs.Kept.{outbound_of, phase_of, HasSettings, Keeps, IsCalled}
 use Rattle.bsc_control.specs.Peer.{OutboundValue, PeerValue, no_outbound, no_peer, outbound_at}
 use Rattle.bsc_control.specs.Peer.{with_outbound, outbound_after, is_selectable}
@@ -20,6 +23,7 @@ use Rattle.bsc_control.specs.Table.{act_step, bid_step, next_call_step}
 use Rattle.bsc_control.proofs.Calls.{IsWithoutBid, KeepsSpools, HasShape, shape_of_entries, places}
 use Rattle.bsc_control.proofs.Calls.{places_of_same_list, current_within_peers}
 use Rattle.bsc_control.proofs.Calls.{keeps_spools_next_call_step, next_is_called}
+use Rattle.bsc_control.proofs.Passing.{passed_alike, polled_further, unpolled_here}
 use Rattle.bsc_control.proofs.PeerLists.{value_kept_by_set, map_kept_by_set, holds_after_set}
 use Rattle.bsc_control.proofs.Replacing.{replaced, unchanged_by_replacement}
 use Rattle.bsc_control.proofs.Replacing.{outbounds_kept_by_replacement}
@@ -43,6 +47,12 @@ spools_kept_by_step c s o t =
     value_kept_by_set (λ (p : PeerValue). p.spool) c.peers (current c) t (with_outbound (peer c) s o) no_peer
     refl
 
+polled_by_step : (c : ControlValue) (s : ℕ) (o : OutboundValue) (t : ℕ)
+    → (peer_at (stepped c s o) t).polled ≡ (peer_at c t).polled
+polled_by_step c s o t =
+    value_kept_by_set (λ (p : PeerValue). p.polled) c.peers (current c) t (with_outbound (peer c) s o) no_peer
+    refl
+
 pub keeps_stepped : (c : ControlValue) (s : ℕ) (o : OutboundValue)
     → OutboundKeeps (outbound_of c (current c) s) o → Keeps c (stepped c s o)
 keeps_stepped c s o k =
@@ -53,6 +63,7 @@ keeps_stepped c s o k =
           map_kept_by_set (λ (p : PeerValue). p.terminal) c.peers (current c) (with_outbound (peer c) s o)
           no_peer refl;
       peers = length-set c.peers (current c) (with_outbound (peer c) s o);
+      polled = polled_by_step c s o;
       outbounds = outbounds_kept_by_replacement c (current c) s o;
       offered = unchanged_by_replacement (λ (x : OutboundValue). x.queue.offered) c (current c) s o k.offered;
     }
@@ -121,6 +132,7 @@ keeps_spools_goes_on c s o h keeps goes =
             poll_list = kept.poll_list;
             terminals = kept.terminals;
             peers = kept.peers;
+            polled = kept.polled;
             outbounds = kept.outbounds;
             offered = kept.offered;
           };
@@ -162,6 +174,7 @@ keeps_spools_after a b c k spools f =
             poll_list = l.poll_list ∙ k.poll_list;
             terminals = l.terminals ∙ k.terminals;
             peers = l.peers ∙ k.peers;
+            polled = λ t. l.polled t ∙ k.polled t;
             outbounds = λ t. l.outbounds t ∙ k.outbounds t;
             offered = λ t s. l.offered t s ∙ k.offered t s;
           };
@@ -213,24 +226,76 @@ shape_stepped c s o h =
           (with_outbound (peer c) s o) no_peer refl);
     }
 
--- a bid to selection address s changes nothing that the next call depends on
-next_call_kept_by_step : (c : ControlValue) (s : ℕ) (o : OutboundValue) (after : After)
-    → (after ≡ Selection s) ⊎ (after ≡ Interruption) → next_call (stepped c s o) after
-    ≡ next_call c after
-next_call_kept_by_step c s o after (inl e) =
+-- a bid to selection address s changes nothing that the call that is due depends on
+due_call_kept_by_step : (c : ControlValue) (s : ℕ) (o : OutboundValue) (after : After)
+    → (after ≡ Selection s) ⊎ (after ≡ Interruption)
+    → due_call (stepped c s o) after ≡ due_call c after
+due_call_kept_by_step c s o after (inl e) =
     let above : drop (s + 1) (peer (stepped c s o)).outbounds ≡ drop (s + 1) (peer c).outbounds =
     value_kept_by_set (λ (p : PeerValue). drop (s + 1) p.outbounds) c.peers (current c) (current c)
     (with_outbound (peer c) s o) no_peer
     (drop-set-lt (s + 1) (peer c).outbounds s o (omega arith)) in
-    let same : next_call (stepped c s o) (Selection s) ≡ next_call c (Selection s) =
+    let same : due_call (stepped c s o) (Selection s) ≡ due_call c (Selection s) =
     ap (λ (os : List OutboundValue). record {
       place = c.place;
       way =
           way_at (s + 1) (position is_selectable os);
     }) above in
-    subst (λ (x : After). next_call (stepped c s o) x ≡ next_call c x) (sym e) same
-next_call_kept_by_step c s o after (inr e) =
-    subst (λ (x : After). next_call (stepped c s o) x ≡ next_call c x) (sym e) refl
+    subst (λ (x : After). due_call (stepped c s o) x ≡ due_call c x) (sym e) same
+due_call_kept_by_step c s o after (inr e) =
+    subst (λ (x : After). due_call (stepped c s o) x ≡ due_call c x) (sym e) refl
+
+-- the call that is due after a bid is one of the present entry
+due_at_place : (c : ControlValue) (s : ℕ) (after : After)
+    → (after ≡ Selection s) ⊎ (after ≡ Interruption) → (due_call c after).place ≡ c.place
+due_at_place c s after (inl e) = ap (λ (x : After). (due_call c x).place) e
+due_at_place c s after (inr e) = ap (λ (x : After). (due_call c x).place) e
+
+-- nor does it change the first call of an entry of another terminal
+first_call_kept_by_step : (c : ControlValue) (s : ℕ) (o : OutboundValue) (place : ℕ)
+    → terminal_of_entry c place ≢ current c
+    → first_call (stepped c s o) place ≡ first_call c place
+first_call_kept_by_step c s o place other =
+    ap (λ (p : PeerValue). record { place = place; way = way_from p 0 })
+    (get_or-set_other c.peers (current c) (terminal_of_entry c place) (with_outbound (peer c) s o)
+    no_peer other)
+
+-- nor the call that is made past the entries that are passed over, of which the present one is one
+call_past_kept_by_step : (c : ControlValue) (s : ℕ) (o : OutboundValue) (call : Call)
+    (passed : Option ℕ) → c.place < length c.poll_list → call.place ≡ c.place
+    → passed_over c c.place ≡ passed
+    → call_past (stepped c s o) call passed ≡ call_past c call passed
+call_past_kept_by_step c s o call None within here is = refl
+call_past_kept_by_step c s o call (Some zero) within here is = refl
+call_past_kept_by_step c s o call (Some (suc more)) within here is =
+    let place : ℕ = place_further (length c.poll_list) call.place (suc more) in
+    let there : is_polled c (terminal_of_entry c place) ≡ true =
+    subst (λ (k : ℕ). is_polled c (terminal_of_entry c
+    (place_further (length c.poll_list) k (suc more))) ≡ true) (sym here)
+    (polled_further c c.place (suc more) within is) in
+    let off : is_polled c (current c) ≡ false = unpolled_here c c.place more within is in
+    first_call_kept_by_step c s o place
+    (λ same.
+    let both : true ≡ false = sym there ∙ ap (is_polled c) same ∙ off in
+    cc)
+
+-- so the next call is the same
+next_call_kept_by_step : (c : ControlValue) (s : ℕ) (o : OutboundValue) (after : After)
+    → c.place < length c.poll_list
+    → (after ≡ Selection s) ⊎ (after ≡ Interruption) → next_call (stepped c s o) after
+    ≡ next_call c after
+next_call_kept_by_step c s o after within which =
+    let due : due_call (stepped c s o) after ≡ due_call c after =
+    due_call_kept_by_step c s o after which in
+    let here : (due_call c after).place ≡ c.place = due_at_place c s after which in
+    let passed : passed_over (stepped c s o) (due_call c after).place
+    ≡ passed_over c (due_call c after).place =
+    passed_alike c (stepped c s o) refl (polled_by_step c s o) (due_call c after).place in
+    ap (λ (call : Call). call_past (stepped c s o) call (passed_over (stepped c s o) call.place)) due
+    ∙ ap (call_past (stepped c s o) (due_call c after)) passed
+    ∙ call_past_kept_by_step c s o (due_call c after)
+    (passed_over c (due_call c after).place) within here
+    (ap (passed_over c) (sym here))
 
 -- a call after a bid is the next one
 calls_perform_step : (c : ControlValue) (s : ℕ) (o : OutboundValue) (act : Act) (after : After)
@@ -243,7 +308,7 @@ calls_perform_step c s o (a.Send text) after address h keeps phase which sent = 
 calls_perform_step c s o a.Enq after address h keeps phase which sent = absurd (cc)
 calls_perform_step c s o a.Over after address h keeps phase which sent =
     subst (λ (call : Call). IsCalled (next_call_step (stepped c s o) after).control call address)
-    (next_call_kept_by_step c s o after which)
+    (next_call_kept_by_step c s o after h.entries.place which)
     (next_is_called (stepped c s o) after address (shape_stepped c s o (shape_of_entries c h.entries))
     (without_bid_stepped c s o h keeps phase) sent)
 calls_perform_step c s o a.Quiet after address h keeps phase which sent = absurd (cc)

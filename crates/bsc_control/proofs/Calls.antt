@@ -20,16 +20,20 @@ use Rattle.bsc_control.specs.declared.task.Task.{Task}
 use Rattle.bsc_control.specs.declared.task.Task.TheVariants.{Selecting, Polling}
 use Rattle.bsc_directory.specs.declared.way.Way.{Way}
 use Rattle.bsc_directory.specs.declared.way.Way.TheVariants.{FromTerminal, ToTerminal}
-use Rattle.bsc_control.specs.CallOrder.{After, Start, Selection, Interruption, Poll, way_at}
-use Rattle.bsc_control.specs.CallOrder.{way_from, next_place, next_call}
-use Rattle.bsc_control.specs.Control.{ControlValue, HasEntries, terminals, peer_at, current}
+use Rattle.bsc_control.specs.CallOrder.{Call, After, Start, Selection, Interruption, Poll, way_at}
+use Rattle.bsc_control.specs.CallOrder.{way_from, next_place, due_call, is_polled, passed_over}
+use Rattle.bsc_control.specs.CallOrder.{place_further, call_past, next_call}
+use Rattle.bsc_control.specs.Control.{ControlValue, ControlStep, HasEntries, terminals, peer_at}
+use Rattle.bsc_control.specs.Control.{current}
 use Rattle.bsc_control.specs.Control.{terminal_of_entry, with_peer}
 use Rattle.bsc_control.specs.Kept.{IsSelected, outbound_of, phase_of, HasSettings, IsOrderly, Keeps}
 use Rattle.bsc_control.specs.Kept.{IsCalled}
 use Rattle.bsc_control.specs.Peer.{OutboundValue, PeerValue, no_outbound, no_peer, outbound_at}
 use Rattle.bsc_control.specs.Peer.{is_selectable}
 use Rattle.bsc_control.specs.Table.{poll_call_step, selection_call_step, select_address}
-use Rattle.bsc_control.specs.Table.{way_call_step, next_call_step}
+use Rattle.bsc_control.specs.Table.{way_call_step, make_call_step, call_past_step, rest_step}
+use Rattle.bsc_control.specs.Table.{next_call_step}
+use Rattle.bsc_control.proofs.Passing.{further_within, no_further, passed_within, polled_further}
 use Rattle.bsc_control.proofs.PeerLists.{value_kept_by_set, map_kept_by_set, value_at_set_place}
 
 -- no bid is in progress
@@ -43,14 +47,15 @@ pub record KeepsSpools (old new : ControlValue) : Type 0 where
   pub orderly : IsOrderly new
   pub spools : (t : ℕ) → (peer_at new t).spool ≡ (peer_at old t).spool
 
--- the part of one terminal is replaced by one with the same addresses and sending sides, and the
--- station's place, task and counters change
+-- the part of one terminal is replaced by one with the same addresses and sending sides that is
+-- polled as before, and the station's place, task and counters change
 abbrev pub moved : ControlValue → ℕ → PeerValue → ℕ → Task → ℕ → ℕ → ControlValue
 moved c t p place task failures wacks =
     record (with_peer c t p) { place = place; task = task; failures = failures; wacks = wacks }
 
 pub record IsSamePeer (c : ControlValue) (t : ℕ) (p : PeerValue) : Type 0 where
   pub terminal : p.terminal ≡ (peer_at c t).terminal
+  pub polled : p.polled ≡ (peer_at c t).polled
   pub outbounds : p.outbounds ≡ (peer_at c t).outbounds
 
 pub outbounds_of_same_peer : (c : ControlValue) (t : ℕ) (p : PeerValue) → IsSamePeer c t p → (j : ℕ)
@@ -66,6 +71,7 @@ keeps_moved c t p place task failures wacks same =
       poll_list = refl;
       terminals = map_kept_by_set (λ (x : PeerValue). x.terminal) c.peers t p no_peer same.terminal;
       peers = length-set c.peers t p;
+      polled = λ j. value_kept_by_set (λ (x : PeerValue). x.polled) c.peers t j p no_peer same.polled;
       outbounds = λ j. ap length (outbounds_of_same_peer c t p same j);
       offered =
           λ j s. ap (λ (os : List OutboundValue). (get_or os s no_outbound).queue.offered)
@@ -101,7 +107,7 @@ pub keeps_spools_poll_call_step : (c : ControlValue) (place failures : ℕ) → 
 keeps_spools_poll_call_step c place failures without_bid =
     let t : ℕ = terminal_of_entry c place in
     let p : PeerValue = record (peer_at c t) { receiver = new_receiver true } in
-    let same : IsSamePeer c t p = record { terminal = refl; outbounds = refl } in
+    let same : IsSamePeer c t p = record { terminal = refl; polled = refl; outbounds = refl } in
     record {
       keeps = keeps_moved c t p place (Polling Nothing) failures 0 same;
       orderly =
@@ -134,7 +140,7 @@ pub keeps_spools_selection_call_step : (c : ControlValue) (place s : ℕ) → Is
 keeps_spools_selection_call_step c place s without_bid selected =
     let t : ℕ = terminal_of_entry c place in
     let p : PeerValue = record (peer_at c t) { urgent = false } in
-    let same : IsSamePeer c t p = record { terminal = refl; outbounds = refl } in
+    let same : IsSamePeer c t p = record { terminal = refl; polled = refl; outbounds = refl } in
     record {
       keeps = keeps_moved c t p place (Selecting s false) 0 0 same;
       orderly =
@@ -204,21 +210,84 @@ selected_from c t from without_bid s h =
 
 -- whatever the next call comes after, its way is the polling address or an address for which
 -- records wait
+due_call_is_selectable : (c : ControlValue) (after : After) → IsWithoutBid c → (s : ℕ)
+    → (due_call c after).way ≡ ToTerminal s
+    → IsSelected (peer_at c (terminal_of_entry c (due_call c after).place)) s
+due_call_is_selectable c Start without_bid s h = selected_from c (current c) 0 without_bid s h
+due_call_is_selectable c (Selection k) without_bid s h = selected_from c (current c) (k + 1) without_bid s h
+due_call_is_selectable c Interruption without_bid s h = absurd (cc)
+due_call_is_selectable c (Poll true) without_bid s h = selected_from c (current c) 0 without_bid s h
+due_call_is_selectable c (Poll false) without_bid s h =
+    selected_from c (terminal_of_entry c (next_place c)) 0 without_bid s h
+
+call_past_is_selectable : (c : ControlValue) (call : Call) (passed : Option ℕ) → IsWithoutBid c
+    → ((s : ℕ) → call.way ≡ ToTerminal s
+    → IsSelected (peer_at c (terminal_of_entry c call.place)) s)
+    → (s : ℕ) → (call_past c call passed).way ≡ ToTerminal s
+    → IsSelected (peer_at c (terminal_of_entry c (call_past c call passed).place)) s
+call_past_is_selectable c call None without_bid due s h = due s h
+call_past_is_selectable c call (Some zero) without_bid due s h = due s h
+call_past_is_selectable c call (Some (suc more)) without_bid due s h =
+    selected_from c
+    (terminal_of_entry c (place_further (length c.poll_list) call.place (suc more))) 0 without_bid s
+    h
+
 pub next_call_is_selectable : (c : ControlValue) (after : After) → IsWithoutBid c → (s : ℕ)
     → (next_call c after).way ≡ ToTerminal s
     → IsSelected (peer_at c (terminal_of_entry c (next_call c after).place)) s
-next_call_is_selectable c Start without_bid s h = selected_from c (current c) 0 without_bid s h
-next_call_is_selectable c (Selection k) without_bid s h = selected_from c (current c) (k + 1) without_bid s h
-next_call_is_selectable c Interruption without_bid s h = absurd (cc)
-next_call_is_selectable c (Poll true) without_bid s h = selected_from c (current c) 0 without_bid s h
-next_call_is_selectable c (Poll false) without_bid s h =
-    selected_from c (terminal_of_entry c (next_place c)) 0 without_bid s h
+next_call_is_selectable c after without_bid =
+    call_past_is_selectable c (due_call c after) (passed_over c (due_call c after).place)
+    without_bid (due_call_is_selectable c after without_bid)
+
+-- a call is made past the entries that are passed over, or the station rests
+past_or_at_rest : (P : ControlStep → Type 0) (c : ControlValue) (call : Call)
+    (passed : Option ℕ) → P (rest_step c)
+    → ((more : ℕ) → passed ≡ Some more → P (make_call_step c (call_past c call passed)))
+    → P (call_past_step c call passed)
+past_or_at_rest P c call None rest made = rest
+past_or_at_rest P c call (Some more) rest made = made more refl
+
+-- what holds if the station rests, and if it makes the next call, holds of the next call
+pub by_next_call : (P : ControlStep → Type 0) (c : ControlValue) (after : After)
+    → P (rest_step c) → P (make_call_step c (next_call c after)) → P (next_call_step c after)
+by_next_call P c after rest made =
+    past_or_at_rest P c (due_call c after) (passed_over c (due_call c after).place) rest
+    (λ more is. made)
+
+-- the station comes to rest
+keeps_spools_rest_step : (c : ControlValue) → IsWithoutBid c → KeepsSpools c (rest_step c).control
+keeps_spools_rest_step c without_bid =
+    record {
+      keeps =
+          record {
+            setup = refl;
+            poll_list = refl;
+            terminals = refl;
+            peers = refl;
+            polled = λ t. refl;
+            outbounds = λ t. refl;
+            offered = λ t s. refl;
+          };
+      orderly =
+          record {
+            suits = tt;
+            rests = λ t s unused. without_bid.rests t s;
+            settings =
+                λ t s there. record {
+                  setup = (without_bid.settings t s there).setup;
+                  format = (without_bid.settings t s there).format;
+                };
+          };
+      spools = λ t. refl;
+    }
 
 pub keeps_spools_next_call_step : (c : ControlValue) (after : After) → IsWithoutBid c
     → KeepsSpools c (next_call_step c after).control
 keeps_spools_next_call_step c after without_bid =
-    keeps_spools_way_call_step c (next_call c after).place (next_call c after).way without_bid
-    (next_call_is_selectable c after without_bid)
+    by_next_call (λ (step : ControlStep). KeepsSpools c step.control) c after
+    (keeps_spools_rest_step c without_bid)
+    (keeps_spools_way_call_step c (next_call c after).place (next_call c after).way without_bid
+    (next_call_is_selectable c after without_bid))
 
 -- the next place is a place in the poll list
 pub next_place_within : (c : ControlValue) → c.place < length c.poll_list → next_place c
@@ -232,13 +301,40 @@ next_place_within c within = next_place_in_poll_list (nat_eq (c.place + 1) (leng
         eqb-false (c.place + 1) (length c.poll_list) e in omega (arith, within, differ)
 
 -- the place of the next call is a place in the poll list
+due_call_within : (c : ControlValue) (after : After) → c.place < length c.poll_list
+    → (due_call c after).place < length c.poll_list
+due_call_within c Start within = within
+due_call_within c (Selection s) within = within
+due_call_within c Interruption within = within
+due_call_within c (Poll true) within = within
+due_call_within c (Poll false) within = next_place_within c within
+
+call_past_within : (c : ControlValue) (call : Call) (passed : Option ℕ)
+    → passed_over c call.place ≡ passed → call.place < length c.poll_list
+    → (call_past c call passed).place < length c.poll_list
+call_past_within c call None is within = within
+call_past_within c call (Some zero) is within = within
+call_past_within c call (Some (suc more)) is within =
+    further_within (length c.poll_list) call.place (suc more) within
+    (passed_within c call.place (suc more) (omega (arith, within)) is)
+
 pub next_call_within : (c : ControlValue) (after : After) → c.place < length c.poll_list
     → (next_call c after).place < length c.poll_list
-next_call_within c Start within = within
-next_call_within c (Selection s) within = within
-next_call_within c Interruption within = within
-next_call_within c (Poll true) within = within
-next_call_within c (Poll false) within = next_place_within c within
+next_call_within c after within =
+    call_past_within c (due_call c after) (passed_over c (due_call c after).place) refl
+    (due_call_within c after within)
+
+-- the terminal of a call that is made is polled
+call_past_polled : (c : ControlValue) (call : Call) (passed : Option ℕ) (more : ℕ)
+    → passed_over c call.place ≡ passed → call.place < length c.poll_list → passed ≡ Some more
+    → is_polled c (terminal_of_entry c (call_past c call passed).place) ≡ true
+call_past_polled c call None more is within some = absurd (cc)
+call_past_polled c call (Some zero) more is within some =
+    subst (λ (k : ℕ). is_polled c (terminal_of_entry c k) ≡ true)
+    (no_further (length c.poll_list) call.place within)
+    (polled_further c call.place 0 within is)
+call_past_polled c call (Some (suc k)) more is within some =
+    polled_further c call.place (suc k) within is
 
 -- the present entry is one of the poll list, and each entry names a terminal
 pub record HasPlaces (c : ControlValue) : Type 0 where
@@ -294,10 +390,11 @@ shape_of_entries c h =
 -- a call is sent to the address that it names
 pub call_names_address : (c : ControlValue) (place : ℕ) (way : Way) (address : List ℕ) → HasShape c → place
     < length c.poll_list
+    → is_polled c (terminal_of_entry c place) ≡ true
     → ((s : ℕ) → way ≡ ToTerminal s → IsSelected (peer_at c (terminal_of_entry c place)) s)
     → (way_call_step c place way).sent ≡ Some (m.Call address)
     → IsCalled (way_call_step c place way).control (record { place = place; way = way }) address
-call_names_address c place FromTerminal address shaped within selected sent =
+call_names_address c place FromTerminal address shaped within polled selected sent =
     let t : ℕ = terminal_of_entry c place in
     let p : PeerValue = record (peer_at c t) { receiver = new_receiver true } in
     record {
@@ -310,11 +407,13 @@ call_names_address c place FromTerminal address shaped within selected sent =
                 (terminal_of_peer c t (shaped.places.entries place 0 within));
             its_own = cc;
           };
+      polled =
+          value_kept_by_set (λ (x : PeerValue). x.polled) c.peers t t p no_peer refl ∙ polled;
       task = refl;
       failures = refl;
       wacks = refl;
     }
-call_names_address c place (ToTerminal s) address shaped within selected sent =
+call_names_address c place (ToTerminal s) address shaped within polled selected sent =
     let t : ℕ = terminal_of_entry c place in
     let p : PeerValue = record (peer_at c t) { urgent = false } in
     let outbound : s < length (peer_at c t).outbounds = (selected s refl).there in
@@ -333,6 +432,8 @@ call_names_address c place (ToTerminal s) address shaped within selected sent =
                 (terminal_of_peer c t (shaped.places.entries place 0 within));
             its_own = cc;
           };
+      polled =
+          value_kept_by_set (λ (x : PeerValue). x.polled) c.peers t t p no_peer refl ∙ polled;
       task = refl;
       failures = refl;
       wacks = refl;
@@ -342,6 +443,13 @@ call_names_address c place (ToTerminal s) address shaped within selected sent =
 pub next_is_called : (c : ControlValue) (after : After) (address : List ℕ) → HasShape c → IsWithoutBid c
     → (next_call_step c after).sent ≡ Some (m.Call address)
     → IsCalled (next_call_step c after).control (next_call c after) address
-next_is_called c after address shaped without_bid sent =
+next_is_called c after address shaped without_bid =
+    past_or_at_rest (λ (step : ControlStep). step.sent ≡ Some (m.Call address)
+    → IsCalled step.control (next_call c after) address) c (due_call c after)
+    (passed_over c (due_call c after).place) (λ sent. absurd (cc))
+    (λ more is sent.
     call_names_address c (next_call c after).place (next_call c after).way address shaped
-    (next_call_within c after shaped.places.place) (next_call_is_selectable c after without_bid) sent
+    (next_call_within c after shaped.places.place)
+    (call_past_polled c (due_call c after) (passed_over c (due_call c after).place) more refl
+    (due_call_within c after shaped.places.place) is)
+    (next_call_is_selectable c after without_bid) sent)

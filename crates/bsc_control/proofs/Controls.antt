@@ -1,6 +1,6 @@
 -- A control station stays one.
-use Rattle.std.proofs.Common.{◌≡◌, ℕ, ◌+◌, ◌≤◌, ◌<◌, ◌==◌, ◌||◌, true, List, [], ◌∷◌, ◌++◌, length}
-use Rattle.std.proofs.Common.{drop, Option, refl, sym, ◌∙◌, ap, subst, arith, length-drop}
+use Rattle.std.proofs.Common.{◌≡◌, ℕ, ◌+◌, ◌≤◌, ◌<◌, ◌==◌, ◌||◌, Bool, true, List, [], ◌∷◌, ◌++◌}
+use Rattle.std.proofs.Common.{length, drop, Option, refl, sym, ◌∙◌, ap, subst, arith, length-drop}
 use Rattle.std.proofs.Common.{length-append}
 use Rattle.std.proofs.lemmas.List.{length-set}
 use Rattle.bsc_frame.specs.declared.message.Message.{Message}
@@ -24,7 +24,8 @@ use Rattle.bsc_control.specs.Peer.{with_outbound, offered, sent_forgotten, outbo
 use Rattle.bsc_control.specs.Table.{Hears, ActsOnSilence}
 use Rattle.bsc_directory.specs.Ways.{IsSelection, select_of}
 use Rattle.bsc_control.proofs.Noise.{noise_changes_nothing}
-use Rattle.bsc_control.proofs.Entries.{peer_with_outbound, entries_with_peer}
+use Rattle.bsc_control.proofs.Entries.{peer_with_outbound, peer_with_flag, peer_with_polled}
+use Rattle.bsc_control.proofs.Entries.{entries_with_peer}
 use Rattle.bsc_control.proofs.PeerLists.{map_kept_by_set}
 use Rattle.bsc_control.proofs.Replacing.{replaced, Follows, orderly_replaced, orderly_flags}
 use Rattle.bsc_bid.proofs.Choice.{either_branch}
@@ -201,23 +202,43 @@ pub record StaysControl (old new : ControlValue) : Type 0 where
   pub control : IsControl new
   pub same : terminals new ≡ terminals old
 
--- the urgent flag of a terminal is set
-pub stays_set_urgent : (c : ControlValue) (t : ℕ) → IsControl c → t < length c.peers
-    → StaysControl c (with_peer c t (record (peer_at c t) { urgent = true }))
-stays_set_urgent c t h within =
-    let p : PeerValue = record (peer_at c t) { urgent = true } in
-    let was : IsPeer (peer_at c t) = h.entries.peers t no_peer within in
-    let keeps : KeepsSetup c (with_peer c t p) = keeps_setup_with_peer c t p refl in
+-- the part of a terminal that is left when only its flags change
+pub record IsFlagged (old new : PeerValue) : Type 0 where
+  pub terminal : new.terminal ≡ old.terminal
+  pub receiver : new.receiver ≡ old.receiver
+  pub outbounds : new.outbounds ≡ old.outbounds
+  pub peer : IsPeer old → IsPeer new
+
+pub urgent_is_flagged : (p : PeerValue) → IsFlagged p (record p { urgent = true })
+urgent_is_flagged p =
+    record {
+      terminal = refl;
+      receiver = refl;
+      outbounds = refl;
+      peer = peer_with_flag p true;
+    }
+
+pub polled_is_flagged : (p : PeerValue) (polled : Bool)
+    → IsFlagged p (record p { polled = polled })
+polled_is_flagged p polled =
+    record {
+      terminal = refl;
+      receiver = refl;
+      outbounds = refl;
+      peer = peer_with_polled p polled;
+    }
+
+-- the flags of a terminal change
+pub stays_flagged : (c : ControlValue) (t : ℕ) (p : PeerValue) → IsControl c → t < length c.peers
+    → IsFlagged (peer_at c t) p → StaysControl c (with_peer c t p)
+stays_flagged c t p h within flagged =
+    let keeps : KeepsSetup c (with_peer c t p) = keeps_setup_with_peer c t p flagged.terminal in
     let entries : HasEntries (with_peer c t p) =
-    entries_with_peer c t p (record {
-      terminal = was.terminal;
-      outbounds = was.outbounds;
-      ready = was.ready;
-    }) h.entries in
+    entries_with_peer c t p (flagged.peer (h.entries.peers t no_peer within)) h.entries in
     record {
       control =
           control_kept_by_setup c (with_peer c t p) h keeps entries
-          (orderly_flags c t p refl refl h.orderly);
+          (orderly_flags c t p flagged.receiver flagged.outbounds h.orderly);
       same = keeps.terminals;
     }
 

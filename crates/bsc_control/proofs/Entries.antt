@@ -29,6 +29,11 @@ pub peer_with_flag : (p : PeerValue) (urgent : Bool) → IsPeer p
 peer_with_flag p urgent h =
     record { terminal = h.terminal; outbounds = h.outbounds; ready = h.ready }
 
+pub peer_with_polled : (p : PeerValue) (polled : Bool) → IsPeer p
+    → IsPeer (record p { polled = polled })
+peer_with_polled p polled h =
+    record { terminal = h.terminal; outbounds = h.outbounds; ready = h.ready }
+
 pub entries_with_peer : (c : ControlValue) (t : ℕ) (p : PeerValue) → IsPeer p → HasEntries c
     → HasEntries (with_peer c t p)
 entries_with_peer c t p is h =
@@ -42,7 +47,7 @@ entries_with_peer c t p is h =
 -- the parts of a station that begins again
 pub peer_restarted : (p : PeerValue) (r : ReceiverValue) (os : List OutboundValue) → IsPeer p
     → os ≡ map restarted_outbound p.outbounds
-    → IsPeer (record p { urgent = false; receiver = r; outbounds = os })
+    → IsPeer (record p { polled = true; urgent = false; receiver = r; outbounds = os })
 peer_restarted p r os h is =
     record {
       terminal = h.terminal;

@@ -29,6 +29,7 @@ bare : TerminalValue → PeerValue
 bare t =
     record {
       terminal = t;
+      polled = true;
       urgent = false;
       receiver = new_receiver true;
       spool = record { records = []; room = false; delays = 0 };
@@ -130,6 +131,7 @@ peer_restarted_apart c n t hc hn filled within =
     bare_peer_at c n t filled.begun in
     let terminal : (peer_at n t).terminal ≡ (peer_at c t).terminal =
     ap (λ (x : PeerValue). x.terminal) rest in
+    let polled : (peer_at n t).polled ≡ true = ap (λ (x : PeerValue). x.polled) rest in
     let urgent : (peer_at n t).urgent ≡ false = ap (λ (x : PeerValue). x.urgent) rest in
     let receiver : (peer_at n t).receiver ≡ new_receiver true =
     ap (λ (x : PeerValue). x.receiver) rest in
@@ -143,7 +145,7 @@ peer_restarted_apart c n t hc hn filled within =
     (λ s there. filled.sides t s
     ∙ sym (get_or-map restarted_outbound (peer_at c t).outbounds s no_outbound)) in
     let records : (peer_at n t).spool.records ≡ (peer_at c t).spool.records = filled.arrived t in
-    cc (terminal, urgent, receiver, outbounds, records)
+    cc (terminal, polled, urgent, receiver, outbounds, records)
 
 pub restarted_by_filling : (c n : ControlValue) → IsControl c → IsControl n → IsFilledAs c n
     → apart_from_room n ≡ apart_from_room (restarted c)

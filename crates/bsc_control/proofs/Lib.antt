@@ -1,3 +1,5 @@
+pub mod Positions
+pub mod Passing
 pub mod Calls
 pub mod PeerLists
 pub mod Entries

@@ -1,5 +1,5 @@
 -- What is reached through the peers of a control station, and what remains when it is replaced.
-use Rattle.std.proofs.Common.{◌≡◌, ℕ, ◌<◌, true, List, length, sym, ◌∙◌, ap, subst}
+use Rattle.std.proofs.Common.{◌≡◌, ℕ, ◌<◌, List, length, sym, ◌∙◌, ap, subst}
 use Rattle.std.proofs.lemmas.List.{set-get_or, get_or_read}
 use Rattle.std.specs.Prelude.{slice_index_or, Result, Ok, Err}
 use Rattle.std.specs.Result.{OnOk, OnErr}
@@ -8,7 +8,7 @@ use Rattle.bsc_control.specs.Kept.{IsControl, outbound_of}
 use Rattle.bsc_control.specs.Peer.{OutboundValue, PeerValue, IsOutbound, no_outbound, no_peer}
 use Rattle.bsc_control.specs.Peer.{outbound_at, with_outbound, outbound_released, offered}
 use Rattle.bsc_control.specs.Peer.{offered_to}
-use Rattle.bsc_control.proofs.Controls.{KeepsOutbound, StaysControl, stays_set_urgent}
+use Rattle.bsc_control.proofs.Controls.{KeepsOutbound, IsFlagged, StaysControl, stays_flagged}
 use Rattle.bsc_control.proofs.Controls.{stays_replaced}
 use Rattle.bsc_control.proofs.Replacing.{replaced}
 
@@ -58,16 +58,16 @@ replaced_is c d t s p x h =
     ap (λ (y : PeerValue). with_peer d t (with_outbound y s x)) h.peer
     ∙ ap (λ (y : ControlValue). with_peer y t (with_outbound (peer_at c t) s x)) h.station
 
--- the urgent flag is set
-pub stays_flag : {c d : ControlValue} {t : ℕ} {p : PeerValue} → IsControl c
-    → IsPeerReached c d t p → StaysControl c (with_peer d t (record p { urgent = true }))
-stays_flag {c} {d} {t} {p} h reached =
-    let was : PeerValue = peer_at c t in
-    let same : with_peer d t (record p { urgent = true })
-    ≡ with_peer c t (record was { urgent = true }) =
-    ap (λ (y : PeerValue). with_peer d t (record y { urgent = true })) reached.peer
-    ∙ ap (λ (y : ControlValue). with_peer y t (record was { urgent = true })) reached.station in
-    subst (StaysControl c) (sym same) (stays_set_urgent c t h reached.within)
+-- the flags change as f says
+pub stays_flag : {c d : ControlValue} {t : ℕ} {p : PeerValue} (f : PeerValue → PeerValue)
+    → ((x : PeerValue) → IsFlagged x (f x)) → IsControl c → IsPeerReached c d t p
+    → StaysControl c (with_peer d t (f p))
+stays_flag {c} {d} {t} {p} f flagged h reached =
+    let same : with_peer d t (f p) ≡ with_peer c t (f (peer_at c t)) =
+    ap (λ (y : PeerValue). with_peer d t (f y)) reached.peer
+    ∙ ap (λ (y : ControlValue). with_peer y t (f (peer_at c t))) reached.station in
+    subst (StaysControl c) (sym same)
+    (stays_flagged c t (f (peer_at c t)) h reached.within (flagged (peer_at c t)))
 
 -- the sending side of the address is replaced
 pub stays_reached : {c d : ControlValue} {t s : ℕ} {p : PeerValue} {o x : OutboundValue}
@@ -96,10 +96,12 @@ unchanged_reached {E} {c} {d} {t} {s} {p} {o} (Err e) x reached err =
     ∙ replaced_by_itself c t s
 
 -- what the contracts of the methods say of the result, if the fields e are the station's
-pub urgent_left : (c d e : ControlValue) (t : ℕ) (p : PeerValue) → IsPeerReached c d t p → c ≡ e
-    → with_peer d t (record p { urgent = true })
-    ≡ with_peer e t (record (peer_at e t) { urgent = true })
-urgent_left c d e t p reached same = cc (reached.station, reached.peer, same)
+pub flag_left : (f : PeerValue → PeerValue) (c d e : ControlValue) (t : ℕ) (p : PeerValue)
+    → IsPeerReached c d t p → c ≡ e → with_peer d t (f p) ≡ with_peer e t (f (peer_at e t))
+flag_left f c d e t p reached same =
+    ap (λ (y : PeerValue). with_peer d t (f y)) reached.peer
+    ∙ ap (λ (y : ControlValue). with_peer y t (f (peer_at c t))) reached.station
+    ∙ ap (λ (y : ControlValue). with_peer y t (f (peer_at y t))) same
 
 pub released_left : (c d e : ControlValue) (t s k : ℕ) (p : PeerValue) (o x : OutboundValue)
     (count : ℕ) → IsReached c d t s p o → c ≡ e → s ≡ k → x ≡ outbound_released o count

@@ -69,6 +69,7 @@ control_keeps_itself c =
       poll_list = refl;
       terminals = refl;
       peers = refl;
+      polled = λ t. refl;
       outbounds = λ t. refl;
       offered = λ t s. refl;
     }
@@ -182,6 +183,7 @@ hears_selecting c h s (Some Wack) entries o without_bid selected e =
             poll_list = refl;
             terminals = refl;
             peers = refl;
+            polled = λ t. refl;
             outbounds =
                 λ t. refl;
             offered = λ t k. refl;
@@ -273,7 +275,7 @@ hears_receiving_step c h replied step entries o without_bid e suits grows silent
       urgent =
           if sends_interrupt step.reply then false else (peer c).urgent;
     } in
-    let same : IsSamePeer c t p = record { terminal = refl; outbounds = refl } in
+    let same : IsSamePeer c t p = record { terminal = refl; polled = refl; outbounds = refl } in
     let task : Task = Polling (replied_after replied step.reply) in
     record {
       keeps = keeps_moved c t p c.place task c.failures c.wacks same;
@@ -411,6 +413,7 @@ silent_selecting c s enquired entries o without_bid e selected =
             poll_list = refl;
             terminals = refl;
             peers = refl;
+            polled = λ t. refl;
             outbounds =
                 λ t. refl;
             offered = λ t k. refl;

@@ -95,12 +95,14 @@ pub record IsNewControl (setup : SetupValue) (ts : List TerminalValue) (poll_lis
   pub wacks : c.wacks ≡ 0
   pub peers : All (λ (p : PeerValue). IsNewPeer setup p.terminal p) c.peers
 
--- what stays: the settings, the poll list, the addresses, and the records that were offered
+-- what stays: the settings, the poll list, the addresses, which terminals are polled, and the
+-- records that were offered
 pub record Keeps (old new : ControlValue) : Type 0 where
   pub setup : new.setup ≡ old.setup
   pub poll_list : new.poll_list ≡ old.poll_list
   pub terminals : terminals new ≡ terminals old
   pub peers : length new.peers ≡ length old.peers
+  pub polled : (t : ℕ) → (peer_at new t).polled ≡ (peer_at old t).polled
   pub outbounds : (t : ℕ) → length (peer_at new t).outbounds ≡ length (peer_at old t).outbounds
   pub offered : (t s : ℕ)
       → (outbound_of new t s).queue.offered ≡ (outbound_of old t s).queue.offered
@@ -110,10 +112,11 @@ abbrev pub IsTaskOf : Way → Task → Type 0
 IsTaskOf FromTerminal task = task ≡ Polling Nothing
 IsTaskOf (ToTerminal s) task = task ≡ Selecting s false
 
--- the address of this call is called, with the counters at 0
+-- the address of this call is called, with the counters at 0; its terminal is polled
 pub record IsCalled (c : ControlValue) (call : Call) (address : List ℕ) : Type 0 where
   pub place : c.place ≡ call.place
   pub called : IsAddressOf (terminals c) (current c) call.way address
+  pub polled : (peer c).polled ≡ true
   pub task : IsTaskOf call.way c.task
   pub failures : c.failures ≡ 0
   pub wacks : c.wacks ≡ 0

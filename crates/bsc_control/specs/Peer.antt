@@ -1,7 +1,7 @@
 -- What the control station keeps for one terminal.
-use Rattle.std.specs.Prelude.{◌≡◌, ℕ, Bool, false, not, nat_eq, List, [], ◌∷◌, ◌++◌, length}
-use Rattle.std.specs.Prelude.{slice_index_or, slice_set, replicate, map, All, if◌then◌else◌}
-use Rattle.std.specs.Prelude.{Option}
+use Rattle.std.specs.Prelude.{◌≡◌, ℕ, Bool, true, false, not, nat_eq, List, [], ◌∷◌, ◌++◌}
+use Rattle.std.specs.Prelude.{length, slice_index_or, slice_set, replicate, map, All, Option}
+use Rattle.std.specs.Prelude.{if◌then◌else◌}
 use Rattle.bsc_frame.specs.declared.message.Heard.{Heard}
 use Rattle.bsc_spool.specs.Queue.{QueueValue, waiting, with_forgotten}
 use Rattle.bsc_spool.specs.Spool.{SpoolValue}
@@ -13,17 +13,18 @@ use Rattle.bsc_bid.specs.Sender.{SenderValue, SenderStep, restarted_sender, is_i
 use Rattle.bsc_bid.specs.Sender.{release_step}
 use Rattle.bsc_bid.specs.Setup.{SetupValue}
 use Rattle.bsc_bid.specs.Terminal.{TerminalValue, IsTerminal}
-use Rattle.std.specs.Prelude.{true}
 
 -- the records for one selection address, and the sender of their bids
 pub record OutboundValue : Type 0 where
   pub sender : SenderValue
   pub queue : QueueValue
 
--- a terminal's addresses; whether the control station asks it for the line; the receiver and the
--- spool of what it sends; and the sending side of each of its selection addresses
+-- a terminal's addresses; whether it is polled; whether the control station asks it for the line;
+-- the receiver and the spool of what it sends; and the sending side of each of its selection
+-- addresses
 pub record PeerValue : Type 0 where
   pub terminal : TerminalValue
+  pub polled : Bool
   pub urgent : Bool
   pub receiver : ReceiverValue
   pub spool : SpoolValue
@@ -46,6 +47,7 @@ abbrev pub no_peer : PeerValue
 no_peer =
     record {
       terminal = record { poll = []; selects = [] };
+      polled = true;
       urgent = false;
       receiver = new_receiver true;
       spool = record { records = []; room = false; delays = 0 };
@@ -83,18 +85,20 @@ abbrev pub restarted_outbound : OutboundValue → OutboundValue
 restarted_outbound o = record o { sender = restarted_sender o.sender }
 
 -- what a control station that began again keeps for a terminal: the records that arrived, those
--- that it has to send, and its doubts
+-- that it has to send, and its doubts. It polls every terminal.
 abbrev pub restarted_peer : PeerValue → PeerValue
 restarted_peer p =
     record p {
+      polled = true;
       urgent = false;
       receiver = new_receiver true;
       outbounds = map restarted_outbound p.outbounds;
     }
 
--- nothing to send, nothing received, and the urgent flag down
+-- polled, with nothing to send, nothing received, and the urgent flag down
 pub record IsNewPeer (setup : SetupValue) (terminal : TerminalValue) (p : PeerValue) : Type 0 where
   pub terminal_given : p.terminal ≡ terminal
+  pub is_polled : p.polled ≡ true
   pub not_urgent : p.urgent ≡ false
   pub receiver : p.receiver ≡ new_receiver true
   pub nothing_spooled : p.spool.records ≡ []

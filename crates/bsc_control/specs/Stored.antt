@@ -31,7 +31,7 @@ abbrev pub outbound_answer : OutboundValue → KeptSender → Result (Unit {0}) 
 outbound_answer o k = (recall_step o.sender o.queue k).answer
 
 -- the station after the sending side of this selection address of this terminal recalled what was
--- kept: once a call was made, it is not new
+-- kept: one that is not at rest is not new
 abbrev pub recalled_during : ControlValue → Task → ℕ → ℕ → KeptSender → ControlValue
 recalled_during c AtRest t s k =
     with_peer c t (with_outbound (peer_at c t) s (outbound_recalled (outbound_of c t s) k))
@@ -54,7 +54,7 @@ pub record BecomesRestarted (setup : SetupValue) (o : OutboundValue) : Type 0 wh
   pub restarts : outbound_recalled (offered_side setup o.queue.offered) (kept_of_side o)
       ≡ restarted_outbound o
 
--- what is not known of a terminal's records: its addresses, the urgent flag and the receiver
+-- what is not known of a terminal's records: its addresses, its flags and the receiver
 abbrev pub without_records : PeerValue → PeerValue
 without_records p =
     record p { spool = record { records = []; room = false; delays = 0 }; outbounds = [] }

@@ -27,7 +27,7 @@ use Rattle.bsc_control.specs.Control.{ControlValue, ControlStep, peer, peer_at, 
 use Rattle.bsc_control.specs.Control.{terminal_of_entry, with_peer, with_current, quiet_step}
 use Rattle.bsc_control.specs.Control.{answer_step}
 use Rattle.bsc_control.specs.CallOrder.{Call, After, Start, Selection, Interruption, Poll}
-use Rattle.bsc_control.specs.CallOrder.{next_call}
+use Rattle.bsc_control.specs.CallOrder.{due_call, passed_over, call_past}
 
 -- the selection address of this number
 abbrev pub select_address : TerminalValue → ℕ → List ℕ
@@ -76,9 +76,20 @@ way_call_step c place (ToTerminal s) = selection_call_step c place s
 abbrev pub make_call_step : ControlValue → Call → ControlStep
 make_call_step c call = way_call_step c call.place call.way
 
--- the next call is made
+-- no terminal in the poll list is polled: the station is at rest, with the counters at 0, and sends
+-- nothing
+abbrev pub rest_step : ControlValue → ControlStep
+rest_step c = quiet_step (record c { task = AtRest; failures = 0; wacks = 0 })
+
+-- a call is due, and this many entries are passed over, or no terminal is polled
+abbrev pub call_past_step : ControlValue → Call → Option ℕ → ControlStep
+call_past_step c call None = rest_step c
+call_past_step c call (Some more) = make_call_step c (call_past c call (Some more))
+
+-- the next call is made, if a terminal in the poll list is polled
 abbrev pub next_call_step : ControlValue → After → ControlStep
-next_call_step c after = make_call_step c (next_call c after)
+next_call_step c after =
+    call_past_step c (due_call c after) (passed_over c (due_call c after).place)
 
 -- the outcome of a step of the sender, which left this message; once the bid is over, the next call
 -- is made

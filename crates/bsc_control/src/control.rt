@@ -5,6 +5,7 @@ ghost use Rattle.std.specs.Prelude.{IfOk, IfErr};
 ghost use Rattle.bsc_bid.specs.Sender.{is_in_doubt, release_step};
 ghost use Rattle.bsc_directory.specs.declared.way.Way.{Way as WayValue};
 ghost use Rattle.bsc_directory.specs.Addresses.{IsAddressOf};
+ghost use Rattle.bsc_control.specs.CallOrder.{is_polled};
 ghost use Rattle.bsc_control.specs.Control.{ControlValue, terminals, peer_at, with_peer};
 ghost use Rattle.bsc_control.specs.Control.{restarted};
 ghost use Rattle.bsc_control.specs.Kept.{IsControl, IsNewControl, outbound_of};
@@ -205,6 +206,33 @@ impl<A: Allocator> Control<A> {
         peer.urgent = true;
     }
 
+    /// Says whether a terminal is polled. One that is not is passed over in the call order, and
+    /// keeps its records and doubts; what is under way with it goes on to its end. Once no terminal
+    /// in the poll list is polled and the last poll has ended, the station is at rest, and each of
+    /// its silences looks for one that is polled. Condition: the terminal exists.
+    pub fn set_polled(&mut self, terminal: usize, polled: bool)
+        requires { terminal < length self.old.peers }
+        ensures state { self.new
+            ≡ with_peer self.old terminal
+            (record (peer_at self.old terminal) { polled = polled }) }
+        ensures control { IsControl self.new }
+    {
+        let procedure = &mut self.procedure;
+        let peer = &mut procedure.peers[terminal];
+        peer.polled = polled;
+    }
+
+    /// Whether a terminal is polled. A new station polls each terminal. Condition: the terminal
+    /// exists.
+    pub fn is_polled(&self, terminal: usize) -> bool
+        requires { terminal < length self.now.peers }
+        ensures value { result ≡ is_polled self.now terminal }
+        ensures control { IsControl self.now }
+    {
+        let peer = &self.procedure.peers[terminal];
+        peer.polled
+    }
+
     /// Whether the last block for this address is in doubt, that is, not known to have arrived or
     /// to have been lost. Condition: the way is to a terminal, and the address exists.
     pub fn in_doubt(&self, terminal: usize, way: Way) -> bool
@@ -241,8 +269,8 @@ impl<A: Allocator> Control<A> {
     }
 
     /// Begins again, as after the end of the process: the station is at rest at the first entry of
-    /// the poll list, with its counters at 0 and no urgent flag up, and its next silence makes the
-    /// first call. It keeps its settings, poll list and terminals, the records that it has to send,
+    /// the poll list, with its counters at 0 and no urgent flag up, every terminal is polled, and
+    /// its next silence makes the first call. It keeps its settings, poll list and terminals, the records that it has to send,
     /// its doubts, and the records that arrived; an unanswered block is in doubt.
     pub fn restart(&mut self)
         ensures state { self.new ≡ restarted self.old }
@@ -303,10 +331,10 @@ impl<A: Allocator> Control<A> {
     }
 
     /// Recalls what was kept of the sending side of a selection address, once the records that had
-    /// been offered for it are offered again. The errors are `NotNew` if the station has made a
-    /// call, a block is in doubt, or a record is known to have arrived; then `Known` if more
-    /// records are known than were offered; then `Doubt` if the doubtful block does not have 1 to 7
-    /// records, or more than are not known. All change nothing. Condition: the address exists.
+    /// been offered for it are offered again. The errors are `NotNew` if the station is not at rest,
+    /// a block is in doubt, or a record is known to have arrived; then `Known` if more records are
+    /// known than were offered; then `Doubt` if the doubtful block does not have 1 to 7 records, or
+    /// more than are not known. All change nothing. Condition: the address exists.
     pub fn recall(
         &mut self,
         terminal: usize,

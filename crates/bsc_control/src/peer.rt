@@ -13,13 +13,16 @@ use bsc_spool::Spool;
 use std::alloc::{AllocError, Allocator};
 use std::marker::Model;
 
-/// What the control station keeps for one terminal: its addresses, the urgent flag, the receiver
-/// and the spool of what the terminal sends, and the sending side of each of its selection
-/// addresses.
+/// What the control station keeps for one terminal: its addresses, whether it is polled, the urgent
+/// flag, the receiver and the spool of what the terminal sends, and the sending side of each of its
+/// selection addresses.
 #[derive(Drop)]
 pub(crate) struct Peer<A: Allocator> {
     /// The polling address and the selection addresses of the terminal.
     pub(crate) terminal: Terminal,
+
+    /// Whether the terminal is called. One that is not is passed over in the call order.
+    pub(crate) polled: bool,
 
     /// Whether the next text that is taken from the terminal is answered by a reverse interrupt.
     pub(crate) urgent: bool,
@@ -41,6 +44,7 @@ impl<A: Allocator> Model for Peer<A> {
 
     ghost view = { λ p. record {
       terminal = p.terminal;
+      polled = p.polled;
       urgent = p.urgent;
       receiver = p.receiver;
       spool = p.spool;
@@ -49,6 +53,7 @@ impl<A: Allocator> Model for Peer<A> {
 
     ghost invariant = { λ p. IsPeer (record {
       terminal = p.terminal;
+      polled = p.polled;
       urgent = p.urgent;
       receiver = p.receiver;
       spool = p.spool;
@@ -57,8 +62,8 @@ impl<A: Allocator> Model for Peer<A> {
 }
 
 impl<A: Allocator> Peer<A> {
-    /// Returns the state of a new terminal: nothing to send, nothing received, and the urgent flag
-    /// down. The error means out of memory.
+    /// Returns the state of a new terminal: polled, with nothing to send, nothing received, and the
+    /// urgent flag down. The error means out of memory.
     pub(crate) fn new(alloc: A, setup: Setup, terminal: Terminal) -> Result<Self, AllocError>
     where
         A: Copy,
@@ -71,6 +76,7 @@ impl<A: Allocator> Peer<A> {
         }
         Ok(Peer {
             terminal,
+            polled: true,
             urgent: false,
             receiver: Receiver::new(),
             spool: Spool::new(alloc),
@@ -103,11 +109,12 @@ impl<A: Allocator> Peer<A> {
         reply
     }
 
-    /// Begins again with the records and the doubts: the urgent flag is down, the receiver is as
-    /// new, and no bid is in progress.
+    /// Begins again with the records and the doubts: the terminal is polled, the urgent flag is
+    /// down, the receiver is as new, and no bid is in progress.
     pub(crate) fn restart(&mut self)
         ensures { self.new ≡ restarted_peer self.old }
     {
+        self.polled = true;
         self.urgent = false;
         self.receiver = Receiver::new();
         restart_outbounds(&mut self.outbounds);

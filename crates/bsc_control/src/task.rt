@@ -41,7 +41,7 @@ impl Replied {
 /// What the control station does at present (GA27-3004, polling and selection).
 #[derive(Clone, Copy)]
 pub enum Task {
-    /// It has not made a call yet.
+    /// It has not made a call yet, or no terminal in its poll list is polled.
     AtRest,
 
     /// It called the selection address of this number. `enquired` says that it sent ENQ last, after

@@ -26,7 +26,7 @@ use Rattle.bsc_control.specs.declared.task.Task.{Task}
 use Rattle.bsc_control.specs.declared.task.Task.TheVariants.{AtRest, Selecting, Sending, Polling}
 use Rattle.bsc_control.specs.Peer.{PeerValue, OutboundValue, no_peer, outbound_at}
 use Rattle.bsc_control.specs.Control.{ControlValue, ControlStep, peer, current, with_current}
-use Rattle.bsc_control.specs.CallOrder.{After, Selection, Poll, next_call}
+use Rattle.bsc_control.specs.CallOrder.{After, Selection, Poll}
 use Rattle.bsc_control.specs.Kept.{IsSelected, SuitsTask, AfterHearing}
 use Rattle.bsc_control.specs.Table.{Hears, next_call_step, bid_step, selecting_step, polling_step}
 use Rattle.bsc_control.specs.Table.{task_step, receive_step, is_interrupted, replied_after}
@@ -40,9 +40,9 @@ use Rattle.bsc_line_model.specs.Together.{HasNoBid, NoBids, NoOtherBids, IsFresh
 use Rattle.bsc_line_model.specs.Together.{IsSelecting, IsSending, IsPolling, IsBidMessage, IsInBidUp}
 use Rattle.bsc_line_model.specs.Together.{FliesUp, InTask}
 use Rattle.bsc_line_model.specs.BidLaws.{BidLaws}
-use Rattle.bsc_control.proofs.Calls.{places, current_within_peers, next_call_within_peers}
+use Rattle.bsc_control.proofs.Calls.{places, current_within_peers}
 use Rattle.bsc_line_model.proofs.Stations.{current_terminal_there}
-use Rattle.bsc_line_model.proofs.Calling.{no_bids_after_call}
+use Rattle.bsc_line_model.proofs.Calling.{no_bids_after_next_call}
 use Rattle.bsc_line_model.proofs.SendingDown.{no_call_heard}
 use Rattle.bsc_line_model.proofs.SendingUp.{HasActed, control_acts_as_sender}
 use Rattle.bsc_line_model.proofs.SendingUp.{places_after_sender_step}
@@ -115,8 +115,7 @@ pub together_after_next_call : (c : ControlValue) (ts : List TributaryValue) (af
     → InTask (next_call_step c after).control.task
     (sent_by sp.Control (next_call_step c after).sent) (next_call_step c after).control ts
 together_after_next_call c ts after stations all =
-    no_bids_after_call c ts (next_call c after).place (next_call c after).way
-    (next_call_within_peers c after (places c stations.control.entries)) stations.count all
+    no_bids_after_next_call c ts after (places c stations.control.entries) stations.count all
 
 -- the selected terminal is ready: a bid begins
 pub bid_down_begins : (laws : BidLaws) (c : ControlValue) (ts : List TributaryValue) (s : ℕ)
@@ -191,7 +190,7 @@ selecting_answered laws c ts s t (m.Reply Wack) enquired stations task h =
 selecting_answered laws c ts s t _ enquired stations task h = absurd h.with_pending.1
 
 -- in a poll, a transmission other than EOT goes to the receiver
-receiver_step_in_poll : (c : ControlValue) (replied : Replied) (h : Heard) (rooms : Rooms) → IsNoCall h
+pub receiver_step_in_poll : (c : ControlValue) (replied : Replied) (h : Heard) (rooms : Rooms) → IsNoCall h
     → polling_step c replied h rooms ≡ receive_step c replied
     (heard_step (peer c).receiver (peer c).spool h (peer c).urgent rooms)
 receiver_step_in_poll c replied Failed rooms k = refl

@@ -1,4 +1,5 @@
--- While no bid is in progress, the next call of the control station begins a selection or a poll.
+-- While no bid is in progress, the next call of the control station begins a selection or a poll,
+-- or the station comes to rest.
 use Rattle.std.proofs.Common.{◌≡◌, ◌≢◌, inl, inr, ℕ, ◌<◌, true, false, List, length, refl, sym, ap}
 use Rattle.std.proofs.Common.{subst, get_or-set_other, get_or-set_same}
 use Rattle.bsc_frame.specs.declared.message.Message.TheVariants as m
@@ -8,10 +9,12 @@ use Rattle.bsc_directory.specs.declared.way.Way.{Way}
 use Rattle.bsc_directory.specs.declared.way.Way.TheVariants.{FromTerminal, ToTerminal}
 use Rattle.bsc_control.specs.declared.task.Replied.TheVariants.{Nothing}
 use Rattle.bsc_control.specs.Peer.{PeerValue, no_peer}
-use Rattle.bsc_control.specs.Control.{ControlValue, peer_at, terminal_of_entry, with_peer}
-use Rattle.bsc_control.specs.CallOrder.{Call}
+use Rattle.bsc_control.specs.Control.{ControlValue, ControlStep, peer_at, terminal_of_entry}
+use Rattle.bsc_control.specs.Control.{with_peer}
+use Rattle.bsc_control.specs.CallOrder.{Call, After, next_call}
 use Rattle.bsc_control.specs.Table.{poll_call_step, selection_call_step, make_call_step}
-use Rattle.bsc_control.specs.Table.{select_address}
+use Rattle.bsc_control.specs.Table.{select_address, next_call_step}
+use Rattle.bsc_control.proofs.Calls.{HasPlaces, by_next_call, next_call_within_peers}
 use Rattle.bsc_line_model.specs.declared.transmission.Speaker.TheVariants as sp
 use Rattle.bsc_line_model.specs.Transmission.{sent_by}
 use Rattle.bsc_line_model.specs.Line.{terminal_in}
@@ -104,3 +107,18 @@ no_bids_after_call c ts place FromTerminal there count no_bids =
     no_bids_after_poll_call c ts place 0 there count no_bids
 no_bids_after_call c ts place (ToTerminal s) there count no_bids =
     no_bids_after_selection_call c ts place s there count no_bids
+
+-- the next call, or rest
+pub no_bids_after_next_call : (c : ControlValue) (ts : List TributaryValue) (after : After)
+    → HasPlaces c → length c.peers ≡ length ts → NoBids c ts →
+    InTask (next_call_step c after).control.task
+    (sent_by sp.Control (next_call_step c after).sent) (next_call_step c after).control ts
+no_bids_after_next_call c ts after places count no_bids =
+    by_next_call (λ (step : ControlStep). InTask step.control.task
+    (sent_by sp.Control step.sent) step.control ts) c after
+    (record {
+      silent = λ none. cc;
+      rests = λ t less. record { up = (no_bids t less).up; down = (no_bids t less).down };
+    })
+    (no_bids_after_call c ts (next_call c after).place (next_call c after).way
+    (next_call_within_peers c after places) count no_bids)

@@ -114,7 +114,7 @@ owner_sends ControlMode h = absurd (cc)
 owner_sends (Receiving s) h = absurd (cc)
 
 -- the control station acted on a silence
-nobody_sends : (ts : List TributaryValue) → line_owner ts ≡ None → (t : ℕ) → t < length ts
+pub nobody_sends : (ts : List TributaryValue) → line_owner ts ≡ None → (t : ℕ) → t < length ts
     → (terminal_in ts t).mode ≢ Sending
 nobody_sends ts none t less sends =
     let no : holds (terminal_in ts t).mode ≡ false =

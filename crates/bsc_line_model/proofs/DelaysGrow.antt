@@ -44,6 +44,7 @@ use Rattle.bsc_control.specs.Table.{receive_step, bid_step, act_step as control_
 use Rattle.bsc_control.specs.Table.{next_call_step}
 use Rattle.bsc_control.specs.Table.{way_call_step, after_bid, is_interrupted}
 use Rattle.bsc_control.specs.Table.{rooms_after as rooms_up}
+use Rattle.bsc_control.proofs.Calls.{by_next_call}
 use Rattle.bsc_line_model.proofs.Stations.{same_or_not}
 
 -- a count within 64 bits does not fall, and stays within them
@@ -226,7 +227,10 @@ calls_by_grow c place (ToTerminal s) =
     (record (peer_at c t) { urgent = false }) refl (grows_by_nothing (peer_at c t).spool.delays)
 
 next_call_grows : (c : ControlValue) (after : After) → ControlGrows c (next_call_step c after).control
-next_call_grows c after = calls_by_grow c (next_call c after).place (next_call c after).way
+next_call_grows c after =
+    by_next_call (λ (step : ControlStep). ControlGrows c step.control) c after
+    (record { count = refl; spools = λ t less. grows_by_nothing (peer_at c t).spool.delays })
+    (calls_by_grow c (next_call c after).place (next_call c after).way)
 
 performs_grow : (c : ControlValue) (s : ℕ) (act : Act) (after : After)
     → ControlGrows c (control_acts c s act after).control

@@ -31,10 +31,12 @@ use Rattle.bsc_control.specs.Peer.{PeerValue, OutboundValue, no_peer, no_outboun
 use Rattle.bsc_control.specs.Peer.{with_outbound, outbound_after}
 use Rattle.bsc_control.specs.Control.{ControlValue, ControlStep, peer_at, peer, current}
 use Rattle.bsc_control.specs.Control.{terminal_of_entry}
-use Rattle.bsc_control.specs.CallOrder.{After, Selection, way_from}
+use Rattle.bsc_control.specs.CallOrder.{After, Selection, way_from, passed_over}
 use Rattle.bsc_control.specs.Kept.{IsTaskOf}
 use Rattle.bsc_control.specs.Table.{Hears, task_step, bid_step, make_call_step, after_bid}
-use Rattle.bsc_control.specs.Table.{select_address, rooms_after, after_step}
+use Rattle.bsc_control.specs.Table.{select_address, rooms_after, after_step, call_past_step}
+use Rattle.bsc_control.proofs.Calls.{HasPlaces, current_within_peers}
+use Rattle.bsc_control.proofs.Passing.{passes_none}
 use Rattle.bsc_line_model.specs.Rounds.{block_count}
 use Rattle.bsc_line_model.proofs.BlockCounts.{CutLaws, HasFirstBlock, IsEnd, first_block_of_queue}
 use Rattle.bsc_line_model.proofs.Staying.{ControlStays, control_then, call_stays, sender_stays}
@@ -44,18 +46,19 @@ abbrev pub address_at : TerminalValue → Way → List ℕ
 address_at x FromTerminal = x.poll
 address_at x (ToTerminal s) = select_address x s
 
--- the control station has made this call
+-- the control station has made this call, to a terminal that is polled
 pub record HasCalled (c : ControlValue) (sent : Option Message) (place : ℕ) (way : Way) : Type 0
   where
     pub place_is : c.place ≡ place
     pub task : IsTaskOf way c.task
     pub call : sent ≡ Some (m.Call (address_at (peer c).terminal way))
+    pub polled : (peer c).polled ≡ true
 
 pub call_is : (c : ControlValue) (place : ℕ) (way : Way) → terminal_of_entry c place
-    < length c.peers →
+    < length c.peers → (peer_at c (terminal_of_entry c place)).polled ≡ true →
     HasCalled (make_call_step c (record { place = place; way = way })).control
     (make_call_step c (record { place = place; way = way })).sent place way
-call_is c place FromTerminal there =
+call_is c place FromTerminal there polled =
     let t : ℕ = terminal_of_entry c place in
     record {
       place_is = refl;
@@ -64,8 +67,12 @@ call_is c place FromTerminal there =
           ap (λ (q : PeerValue). Some (m.Call q.terminal.poll))
           (sym (get_or-set_same c.peers t (record (peer_at c t) { receiver = new_receiver true })
           no_peer there));
+      polled =
+          ap (λ (q : PeerValue). q.polled)
+          (get_or-set_same c.peers t (record (peer_at c t) { receiver = new_receiver true })
+          no_peer there) ∙ polled;
     }
-call_is c place (ToTerminal s) there =
+call_is c place (ToTerminal s) there polled =
     let t : ℕ = terminal_of_entry c place in
     record {
       place_is = refl;
@@ -74,6 +81,10 @@ call_is c place (ToTerminal s) there =
           ap (λ (q : PeerValue). Some (m.Call (select_address q.terminal s)))
           (sym (get_or-set_same c.peers t (record (peer_at c t) { urgent = false }) no_peer
           there));
+      polled =
+          ap (λ (q : PeerValue). q.polled)
+          (get_or-set_same c.peers t (record (peer_at c t) { urgent = false }) no_peer there)
+          ∙ polled;
     }
 
 -- a call leaves the sending sides of its terminal unchanged
@@ -98,9 +109,10 @@ pub record IsInBlock (c : ControlValue) (s n : ℕ) (b : SentBlock) : Type 0 whe
   pub rest : block_count (with_known (outbound_at (peer c) s).queue b.count) ≡ n
   pub end : IsEnd b.end n
 
--- and its text was just sent
+-- and its text was just sent, to a terminal that is polled
 pub record SendsDown (c : ControlValue) (sent : Option Message) (place s n : ℕ) : Type 0 where
   pub place_is : c.place ≡ place
+  pub polled : (peer c).polled ≡ true
   pub block : SentBlock
   pub in_block : IsInBlock c s n block
   pub text : sent ≡ Some (m.Text (text_of (outbound_at (peer c) s).queue block))
@@ -113,14 +125,23 @@ stepped_outbound c s step there select =
     no_peer there)
     ∙ get_or-set_same (peer c).outbounds s (outbound_after step) no_outbound select
 
+-- a step of the sender changes no terminal that is polled
+polled_after_step : (c : ControlValue) (s : ℕ) (step : SenderStep) → current c < length c.peers
+    → (peer c).polled ≡ true → (peer (after_step c s step)).polled ≡ true
+polled_after_step c s step there polled =
+    ap (λ (q : PeerValue). q.polled)
+    (get_or-set_same c.peers (current c) (with_outbound (peer c) s (outbound_after step))
+    no_peer there) ∙ polled
+
 -- a block is sent
 pub sends_block : (laws : CutLaws) (c d : ControlValue) (sent : Option Message) (s n : ℕ)
     (x : SenderValue) (q : QueueValue) (alternation : Alternation) (after : After) → current c
-    < length c.peers → s < length (peer c).outbounds → IsQueue q → block_count q ≡ suc n →
+    < length c.peers → s < length (peer c).outbounds → (peer c).polled ≡ true → IsQueue q
+    → block_count q ≡ suc n →
     record { control = d; sent = sent }
     ≡ bid_step c s (sent_next x q alternation (next_block q)) after
     → SendsDown d sent c.place s n × ControlStays (current c) (ToTerminal s) c d
-sends_block laws c d sent s n x q alternation after there select is count row =
+sends_block laws c d sent s n x q alternation after there select polled is count row =
     let h : HasFirstBlock q n = first_block_of_queue laws q n is count in
     let b : SentBlock =
     record { count = h.next.count; end = h.next.end; alternation = alternation } in
@@ -133,6 +154,7 @@ sends_block laws c d sent s n x q alternation after there select is count row =
     × ControlStays (current c) (ToTerminal s) c k.control) (sym exact) (
       record {
         place_is = refl;
+        polled = polled_after_step c s step there polled;
         block = b;
         in_block = record {
           task = refl;
@@ -148,17 +170,18 @@ sends_block laws c d sent s n x q alternation after there select is count row =
 
 -- ACK0 begins the bid
 pub begins_bid_down : (laws : CutLaws) (c d : ControlValue) (sent : Option Message) (s n : ℕ)
-    (enquired : Bool) → current c < length c.peers → s < length (peer c).outbounds → c.task
-    ≡ Selecting s enquired →
+    (enquired : Bool) → current c < length c.peers → s < length (peer c).outbounds
+    → (peer c).polled ≡ true → c.task ≡ Selecting s enquired →
     IsQueue (outbound_at (peer c) s).queue → block_count (outbound_at (peer c) s).queue ≡ suc n
     → Hears c (Whole (m.Reply Ack0)) d sent → SendsDown d sent c.place s n
     × ControlStays (current c) (ToTerminal s) c d
-begins_bid_down laws c d sent s n enquired there select task is count h =
+begins_bid_down laws c d sent s n enquired there select polled task is count h =
     let o : OutboundValue = outbound_at (peer c) s in
     let row : record { control = d; sent = sent }
     ≡ bid_step c s (begin_step o.sender o.queue) (Selection s) = h.row
     ∙ ap (λ (k : Task). task_step c k (Whole (m.Reply Ack0)) (rooms_after c (Whole (m.Reply Ack0)) d)) task in
-    sends_block laws c d sent s n o.sender o.queue Odd (Selection s) there select is count row
+    sends_block laws c d sent s n o.sender o.queue Odd (Selection s) there select polled is count
+    row
 
 -- the expected acknowledgement is heard
 pub ack_step : (x : SenderValue) (q : QueueValue) (b : SentBlock) (alternation : Alternation)
@@ -187,10 +210,11 @@ GoesOnDown c sent place s (suc n) = SendsDown c sent place s n
 
 -- the last block: the next call
 ends_bid : (c d : ControlValue) (sent : Option Message) (s : ℕ) (x : SenderValue) (q : QueueValue)
-    → current c < length c.peers → s < length (peer c).outbounds → block_count q ≡ 0 →
+    → current c < length c.peers → s < length (peer c).outbounds → HasPlaces c
+    → (peer c).polled ≡ true → block_count q ≡ 0 →
     record { control = d; sent = sent } ≡ bid_step c s (over x q Idle) (Selection s)
     → EndsDown d sent c.place s × ControlStays (current c) (ToTerminal s) c d
-ends_bid c d sent s x q there select none row =
+ends_bid c d sent s x q there select entries polled none row =
     let step : SenderStep = over x q Idle in
     let k : ControlValue = after_step c s step in
     let o : outbound_at (peer k) s ≡ outbound_after step = stepped_outbound c s step there select in
@@ -200,6 +224,10 @@ ends_bid c d sent s x q there select none row =
     (sym (length-set c.peers (current c) (with_outbound (peer c) s (outbound_after step))))
     there in
     let r : ControlStep = make_call_step k (record { place = c.place; way = way }) in
+    let still : (peer k).polled ≡ true = polled_after_step c s step there polled in
+    let passed : passed_over k c.place ≡ Some 0 = passes_none k c.place entries.place still in
+    let made : record { control = d; sent = sent } ≡ r =
+    row ∙ ap (call_past_step k (record { place = c.place; way = way })) passed in
     let lists : (peer r.control).outbounds ≡ (peer k).outbounds = call_lists k c.place way named in
     let now : outbound_at (peer r.control) s ≡ outbound_after step =
     ap (λ (os : List OutboundValue). outbound_at (record (peer k) { outbounds = os }) s) lists
@@ -208,11 +236,11 @@ ends_bid c d sent s x q there select none row =
     ap (λ (os : List OutboundValue). way_from (record (peer k) { outbounds = os }) (s + 1))
     (sym lists) in
     subst (λ (z : ControlStep). EndsDown z.control z.sent c.place s
-    × ControlStays (current c) (ToTerminal s) c z.control) (sym row) (
+    × ControlStays (current c) (ToTerminal s) c z.control) (sym made) (
       record {
         called =
             subst (λ (w : Way). HasCalled r.control r.sent c.place w) way_now
-            (call_is k c.place way named);
+            (call_is k c.place way named still);
         idle = ap (λ (z : OutboundValue). z.sender.phase) now;
         rest = ap (λ (z : OutboundValue). block_count z.queue) now ∙ none;
       },
@@ -223,11 +251,11 @@ ends_bid c d sent s x q there select none row =
 
 -- a block is acknowledged
 pub block_known_after_ack : (laws : CutLaws) (c d : ControlValue) (sent : Option Message) (s n : ℕ) (b : SentBlock)
-    → current c < length c.peers → s < length (peer c).outbounds → IsInBlock c s n b
+    → HasPlaces c → s < length (peer c).outbounds → (peer c).polled ≡ true → IsInBlock c s n b
     → IsQueue (with_known (outbound_at (peer c) s).queue b.count) →
     Hears c (Whole (m.Reply (ack b.alternation))) d sent → GoesOnDown d sent c.place s n
     × ControlStays (current c) (ToTerminal s) c d
-block_known_after_ack laws c d sent s n b there select i is h =
+block_known_after_ack laws c d sent s n b entries select polled i is h =
     let o : OutboundValue = outbound_at (peer c) s in
     let w : Heard = Whole (m.Reply (ack b.alternation)) in
     let q : QueueValue = with_known o.queue b.count in
@@ -240,6 +268,9 @@ block_known_after_ack laws c d sent s n b there select i is h =
     (selection_after_ack s b.alternation) in
     by_end b.end row n i.rest i.end
   where
+    there : current c < length c.peers
+    there = current_within_peers c entries
+
     by_end : (end : End) → record { control = d; sent = sent }
         ≡ bid_step c s (accepted (outbound_at (peer c) s).sender
         (with_known (outbound_at (peer c) s).queue b.count) end b.alternation) (Selection s) →
@@ -247,10 +278,10 @@ block_known_after_ack laws c d sent s n b there select i is h =
         → GoesOnDown d sent c.place s k × ControlStays (current c) (ToTerminal s) c d
     by_end Etx row zero rest e =
         ends_bid c d sent s (with_counts (outbound_at (peer c) s).sender 0 0)
-        (with_known (outbound_at (peer c) s).queue b.count) there select rest row
+        (with_known (outbound_at (peer c) s).queue b.count) there select entries polled rest row
     by_end Etx row (suc k) rest e = absurd (omega (arith, e))
     by_end Etb row zero rest e = absurd (omega (arith, e.1))
     by_end Etb row (suc k) rest e =
         sends_block laws c d sent s k (outbound_at (peer c) s).sender
         (with_known (outbound_at (peer c) s).queue b.count) (other b.alternation) (Selection s)
-        there select is rest row
+        there select polled is rest row

@@ -19,7 +19,7 @@ use Rattle.bsc_line_model.specs.declared.event.Event.{Event}
 use Rattle.bsc_line_model.specs.declared.event.Event.TheVariants.{OfferAt, OfferFor, Carry}
 use Rattle.bsc_line_model.specs.declared.event.Event.TheVariants.{CarryEach, CarrySent, Silence}
 use Rattle.bsc_line_model.specs.declared.event.Event.TheVariants.{Ready, UrgentAt, UrgentFor}
-use Rattle.bsc_line_model.specs.declared.event.Event.TheVariants.{Release, Restart}
+use Rattle.bsc_line_model.specs.declared.event.Event.TheVariants.{Polled, Release, Restart}
 use Rattle.bsc_line_model.specs.Line.{LineValue, terminal_at}
 use Rattle.bsc_line_model.specs.Line.{with_terminal}
 use Rattle.bsc_line_model.specs.Terminals.{line_owner}
@@ -27,7 +27,7 @@ use Rattle.bsc_line_model.specs.Hearing.{heard_in, heard_at, octets_in}
 use Rattle.bsc_line_model.specs.Carries.{IsCarriedBy, TerminalActsAlone, ControlActsAlone}
 use Rattle.bsc_line_model.specs.Carries.{OwnerActs}
 use Rattle.bsc_line_model.specs.Offers.{OffersAt, OffersFor, Sets, ready_set, urgent_set_at}
-use Rattle.bsc_line_model.specs.Offers.{urgent_set_for, ReleasesWay}
+use Rattle.bsc_line_model.specs.Offers.{urgent_set_for, polled_set, ReleasesWay}
 use Rattle.bsc_line_model.specs.Runs.{CarriesAs, Does}
 use Rattle.bsc_line_model.specs.Kept.{IsLine}
 use Rattle.bsc_line_model.specs.ChannelSteps.{MovesOne, MovesNothing, MovesAddressed, StepsChannels}
@@ -148,6 +148,13 @@ urgent_for_moves old new t is d =
     (no_move_of_same_peer old t (record (peer_at old.control t) { urgent = true })
     (peer_of_terminal old t is d.0) refl refl)
 
+pub polled_moves : (old new : LineValue) (t : ℕ) (polled : Bool) → IsLine old
+    → Sets old t (polled_set old t polled) (Ok tt) new → MovesNothing old new
+polled_moves old new t polled is d =
+    nothing_moves old new (polled_set old t polled) d.1
+    (no_move_of_same_peer old t (record (peer_at old.control t) { polled = polled })
+    (peer_of_terminal old t is d.0) refl refl)
+
 pub event_moves : (laws : BidLaws) (event : Event) (old new : LineValue) → IsLine old
     → Does event old (Ok tt) new → IsTrue new.trusted → StepsChannels event old new
 event_moves laws (OfferAt t r) old new is d now = offer_at_event old new t r.now d
@@ -168,5 +175,6 @@ event_moves laws Silence old new is d now =
 event_moves laws (Ready t ready) old new is d now = ready_moves old new t ready d
 event_moves laws (UrgentAt t) old new is d now = urgent_at_moves old new t d
 event_moves laws (UrgentFor t) old new is d now = urgent_for_moves old new t is d
+event_moves laws (Polled t polled) old new is d now = polled_moves old new t polled is d
 event_moves laws (Release t way) old new is d now = release_moves old new t way is d
 event_moves laws (Restart party) old new is d now = restart_moves old new party is d

@@ -65,7 +65,7 @@ bid_of_sending_terminal (Polling replied) pending c ts t less there sends k =
     ]
 
 -- a terminal that holds the line sends
-holder_sends : (mode : Mode) → IsTrue (holds mode) → mode ≡ Sends
+pub holder_sends : (mode : Mode) → IsTrue (holds mode) → mode ≡ Sends
 holder_sends Sends h = refl
 holder_sends Control h = absurd (cc)
 holder_sends (Receiving s) h = absurd (cc)

@@ -34,7 +34,6 @@ pub mod QueueSteps
 pub mod Reaching
 pub mod Refusals
 pub mod RunsKeep
-pub mod NeverAtRest
 pub mod HoldingRuns
 pub mod UpMoves
 pub mod NewChannels
@@ -50,7 +49,6 @@ pub mod Selections
 pub mod UpTerminals
 pub mod UpControl
 pub mod Polls
-pub mod Positions
 pub mod VisitWays
 pub mod Visits
 pub mod VisitCounts

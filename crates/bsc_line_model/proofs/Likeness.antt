@@ -337,6 +337,21 @@ flags_like p x for_it ready at_it =
       bids_down = λ k f h. h;
     }
 
+-- whether the terminal is polled
+pub polled_like : (p : PeerValue) (x : TributaryValue) (polled : Bool)
+    → IsLike p x (record p { polled = polled }) x
+polled_like p x polled =
+    record {
+      terminal = refl;
+      outbounds = refl;
+      mode = refl;
+      receiver = refl;
+      rests_up = λ h. h;
+      rests_down = λ k h. h;
+      bids_up = λ f h. h;
+      bids_down = λ k f h. h;
+    }
+
 -- an offer at a terminal
 pub offer_at_like : (laws : BidLaws) (p : PeerValue) (x : TributaryValue) (r : List ℕ) → length r
     ≤ x.queue.format.full → IsLike p x p (record x { queue = with_offered x.queue r })

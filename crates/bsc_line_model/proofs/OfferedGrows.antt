@@ -23,7 +23,7 @@ use Rattle.bsc_line_model.specs.declared.event.Event.{Event}
 use Rattle.bsc_line_model.specs.declared.event.Event.TheVariants.{OfferAt, OfferFor, Carry}
 use Rattle.bsc_line_model.specs.declared.event.Event.TheVariants.{CarryEach, CarrySent, Silence}
 use Rattle.bsc_line_model.specs.declared.event.Event.TheVariants.{Ready, UrgentAt, UrgentFor}
-use Rattle.bsc_line_model.specs.declared.event.Event.TheVariants.{Release, Restart}
+use Rattle.bsc_line_model.specs.declared.event.Event.TheVariants.{Polled, Release, Restart}
 use Rattle.bsc_line_model.specs.Hearing.{heard_in, octets_in, heard_at}
 use Rattle.bsc_line_model.specs.Line.{LineValue, terminal_in, terminal_at, terminal_count, IsWay}
 use Rattle.bsc_line_model.specs.Line.{IsChannel}
@@ -36,7 +36,8 @@ use Rattle.bsc_line_model.specs.ChannelSteps.{MovesOne, MovesNothing}
 use Rattle.bsc_line_model.specs.StepLaws.{offered_on, offered_by}
 use Rattle.bsc_line_model.proofs.Stations.{same_or_not, one_changed}
 use Rattle.bsc_line_model.proofs.EventMoves.{offer_at_event, offer_for_event, ready_moves}
-use Rattle.bsc_line_model.proofs.EventMoves.{urgent_at_moves, urgent_for_moves, silence_moves}
+use Rattle.bsc_line_model.proofs.EventMoves.{urgent_at_moves, urgent_for_moves, polled_moves}
+use Rattle.bsc_line_model.proofs.EventMoves.{silence_moves}
 use Rattle.bsc_line_model.proofs.EventMoves.{release_moves}
 use Rattle.bsc_line_model.proofs.RestartMoves.{restart_moves}
 
@@ -186,6 +187,8 @@ grows_by_offers (UrgentAt u) old new line d t way is =
     nothing_offered old new t way (urgent_at_moves old new u d) is
 grows_by_offers (UrgentFor u) old new line d t way is =
     nothing_offered old new t way (urgent_for_moves old new u line d) is
+grows_by_offers (Polled u polled) old new line d t way is =
+    nothing_offered old new t way (polled_moves old new u polled line d) is
 grows_by_offers (Release u mine) old new line d t way is =
     none_offered old new t way (learn_offered old new u mine t way
     (release_moves old new u mine line d) is)
@@ -268,6 +271,8 @@ same_terminals (UrgentAt t) old new d =
     one_same old new t (record (terminal_at old t) { urgent = true }) d.0 refl
     (ap (λ (l : LineValue). l.terminals) d.1)
 same_terminals (UrgentFor t) old new d = all_same old new (ap (λ (l : LineValue). l.terminals) d.1)
+same_terminals (Polled t polled) old new d =
+    all_same old new (ap (λ (l : LineValue). l.terminals) d.1)
 same_terminals (Release t way) old new d = release_same old new t way d
 same_terminals (Restart Control) old new d =
     all_same old new (ap (λ (l : LineValue). l.terminals) d.1)

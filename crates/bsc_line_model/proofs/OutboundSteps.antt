@@ -32,7 +32,7 @@ use Rattle.bsc_control.specs.Table.{next_call_step, act_step, bid_step, after_bi
 use Rattle.bsc_control.specs.Table.{selecting_step, receive_step, polling_step, task_step}
 use Rattle.bsc_control.specs.Table.{rooms_after, repeated, silence_in, is_interrupted, after_step}
 use Rattle.bsc_control.proofs.Calls.{HasPlaces, places, places_of_same_list, current_within_peers}
-use Rattle.bsc_control.proofs.Calls.{next_call_within_peers}
+use Rattle.bsc_control.proofs.Calls.{by_next_call, next_call_within_peers}
 use Rattle.bsc_line_model.proofs.Stations.{same_or_not}
 use Rattle.bsc_line_model.proofs.QueueSteps.{begin_queue, silence_queue}
 
@@ -72,7 +72,10 @@ calls_queues c place (ToTerminal s) t k there =
 queues_kept_by_next_call : (c : ControlValue) (after : After) (t k : ℕ) → HasPlaces c
     → (outbound_of (next_call_step c after).control t k).queue ≡ (outbound_of c t k).queue
 queues_kept_by_next_call c after t k places =
-    calls_queues c (next_call c after).place (next_call c after).way t k (next_call_within_peers c after places)
+    by_next_call (λ (step : ControlStep). (outbound_of step.control t k).queue
+    ≡ (outbound_of c t k).queue) c after refl
+    (calls_queues c (next_call c after).place (next_call c after).way t k
+    (next_call_within_peers c after places))
 
 -- this queue is the one to selection address s of the present terminal, and is the step's
 pub record IsStepped (c : ControlValue) (s : ℕ) (step : SenderStep) (t k : ℕ)

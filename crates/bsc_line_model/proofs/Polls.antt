@@ -28,7 +28,7 @@ use Rattle.bsc_directory.specs.declared.way.Way.TheVariants.{FromTerminal}
 use Rattle.bsc_directory.specs.Addresses.{IsAddressOf}
 use Rattle.bsc_control.specs.Peer.{PeerValue}
 use Rattle.bsc_control.specs.Control.{ControlValue, peer_at, peer, current, terminals}
-use Rattle.bsc_control.specs.CallOrder.{Poll, way_from, next_place, place_after}
+use Rattle.bsc_control.specs.CallOrder.{way_from, place_after, polled_place}
 use Rattle.bsc_line_model.specs.declared.transmission.Speaker.TheVariants as sp
 use Rattle.bsc_line_model.specs.declared.transmission.Transmission.{Transmission}
 use Rattle.bsc_line_model.specs.declared.error.Stopped.{Stopped}
@@ -40,7 +40,8 @@ use Rattle.bsc_line_model.specs.Terminals.{answer_of}
 use Rattle.bsc_line_model.specs.Together.{HasNoBid, InTask, IsPolling, IsPolledWith, IsInBidUp}
 use Rattle.bsc_line_model.specs.Together.{FliesUp}
 use Rattle.bsc_line_model.specs.Rounds.{block_count, SameDelays}
-use Rattle.bsc_control.proofs.Calls.{current_within_peers, next_call_within_peers}
+use Rattle.bsc_control.proofs.Calls.{current_within_peers}
+use Rattle.bsc_control.proofs.Passing.{polled_place_alike}
 use Rattle.bsc_line_model.proofs.Stations.{same_or_not, terminal_in_directory, at_rest_in}
 use Rattle.bsc_line_model.proofs.Stations.{current_terminal_there}
 use Rattle.bsc_line_model.proofs.SendingDown.{others_in_control, first_answer_is}
@@ -52,7 +53,8 @@ use Rattle.bsc_line_model.proofs.DownSteps.{Answers, answers_nothing}
 use Rattle.bsc_line_model.proofs.DownSteps.{call_names_no_other_terminal}
 use Rattle.bsc_line_model.proofs.UpTerminals.{IsInBlockUp, SendsUp, EndsUp, GoesOnUp, ack_no_call}
 use Rattle.bsc_line_model.proofs.UpTerminals.{hears_ack, hears_poll}
-use Rattle.bsc_line_model.proofs.UpControl.{IsPolled, CallsNext, takes_up, polled_out}
+use Rattle.bsc_line_model.proofs.UpControl.{IsPolled, CallsNext, takes_up, next_polled_place}
+use Rattle.bsc_line_model.proofs.UpControl.{polled_out}
 use Rattle.bsc_line_model.proofs.Walking.{IsGood, good_places, Walks, Stepped, one_step}
 use Rattle.bsc_line_model.proofs.Selections.{VisitLaws, Comes, Calls, known_queue}
 use Rattle.bsc_line_model.proofs.Selections.{current_of_same_place}
@@ -128,14 +130,15 @@ no_bids_at_poll l a replied g task is t less =
 
 -- the polling address is called: the first block, or EOT
 poll_call_is_answered : (laws : VisitLaws) (l new : LineValue) (n : ℕ) → IsGood l → l.control.task
-    ≡ k.Polling Nothing → is_in_doubt (terminal_at l (current l.control)).sender.phase ≡ false
+    ≡ k.Polling Nothing → (peer l.control).polled ≡ true
+    → is_in_doubt (terminal_at l (current l.control)).sender.phase ≡ false
     → block_count (terminal_at l (current l.control)).queue ≡ n →
     let a : List ℕ = (peer l.control).terminal.poll in
     (l.pending ≡ Some (record { speaker = sp.Control; message = msg.Call a })
     → IsCarriedDown (msg.Call a) (λ z. Whole (msg.Call a)) l new
     → IsInPoll new (current l.control) l.control.place n
     × Stays (current l.control) FromTerminal l new)
-poll_call_is_answered laws l new n g task sure count is h =
+poll_call_is_answered laws l new n g task polled sure count is h =
     let c : ControlValue = l.control in
     let e : ℕ = current c in
     let x : TributaryValue = terminal_at l e in
@@ -158,7 +161,13 @@ poll_call_is_answered laws l new n g task sure count is h =
     (g.line.stations.members t less).tributary.bid in
     let named : called_as x.terminal a ≡ Polling = (laws.names.polling x.terminal a).1 own in
     others_quiet_while_one_acts e (msg.Call a) l new c.place n there h
-    (record { place_is = refl; replied = Nothing; task = task; uninterrupted = refl })
+    (record {
+      place_is = refl;
+      polled = polled;
+      replied = Nothing;
+      task = task;
+      uninterrupted = refl;
+    })
     (λ t less differ.
     let quiet : (answer_of l.terminals (λ y. Whole (msg.Call a)) new.terminals t ≡ None)
     × TerminalStays e FromTerminal t (terminal_at l t) (terminal_at new t) =
@@ -262,10 +271,11 @@ next_block_after_ack_up laws l new place n b g polled i h =
     (h.terminals.each e there))
 
 -- the records on the channel from terminal e are delivered, all other channels are unchanged, and
--- the first call of the next entry, by the lists as they are, is pending
+-- the first call of the next entry that is polled, by the lists as they are, is pending
 pub record IsPollDone (e place : ℕ) (old new : LineValue) : Type 0 where
   pub good : IsGood new
-  pub calls : Calls new (place_after old.control.poll_list place) (way_from (peer new.control) 0)
+  pub calls : Calls new (polled_place old.control (place_after old.control.poll_list place))
+      (way_from (peer new.control) 0)
   pub sure : is_in_doubt (terminal_at new e).sender.phase ≡ false
   pub delivered : block_count (terminal_at new e).queue ≡ 0
   pub stays : Stays e FromTerminal old new
@@ -277,10 +287,9 @@ next_entry_after_eot : (l new : LineValue) (place : ℕ) (out : Option Message) 
 next_entry_after_eot l new place out g good polled ends h =
     let c : ControlValue = l.control in
     let e : ℕ = current c in
-    let y : CallsNext new.control h.sent (next_place c)
+    let y : CallsNext new.control h.sent (next_polled_place c)
     × ControlStays e FromTerminal c new.control =
-    polled_out c new.control h.sent place (next_call_within_peers c (Poll false) (good_places l g)) polled
-    h.control in
+    polled_out c new.control h.sent place (good_places l g) polled h.control in
     let after : EndsUp (terminal_at new e) out =
     subst (λ (ts : List TributaryValue). EndsUp (terminal_in ts e) out) (sym h.terminals)
     ends in
@@ -291,7 +300,8 @@ next_entry_after_eot l new place out g good polled ends h =
         pending = h.pending;
         called =
             subst (λ (p : ℕ). HasCalled new.control h.sent p (way_from (peer new.control) 0))
-            (ap (λ (p : ℕ). place_after c.poll_list p) polled.place_is) y.0.called;
+            (ap (λ (p : ℕ). polled_place c (place_after c.poll_list p)) polled.place_is)
+            y.0.called;
       };
       sure = after.idle;
       delivered = after.rest;
@@ -382,8 +392,11 @@ poll_since e place a b c x y =
     record {
       good = y.good;
       calls =
-          subst (λ (list : List ℕ). Calls c (place_after list place) (way_from (peer c.control) 0))
-          x.control.poll_list y.calls;
+          subst (λ (p : ℕ). Calls c p (way_from (peer c.control) 0))
+          (ap (λ (list : List ℕ). polled_place b.control (place_after list place))
+          x.control.poll_list
+          ∙ polled_place_alike a.control b.control x.control.poll_list
+          (λ t. (x.control.peers t).polled) (place_after a.control.poll_list place)) y.calls;
       sure = y.sure;
       delivered = y.delivered;
       stays = stays_then e FromTerminal a b c x y.stays;
@@ -452,7 +465,8 @@ poll_delivers_blocks laws n at more count l new r g h sure visit_ready number is
     one_step at (2 * n + 1 + more) count (record { speaker = sp.Control; message = msg.Call a }) l
     new r calls left w in
     let y : IsInPoll one.mid e c.place n × Stays e FromTerminal l one.mid =
-    poll_call_is_answered laws l one.mid n g h.called.task sure number calls one.carried in
+    poll_call_is_answered laws l one.mid n g h.called.task h.called.polled sure number calls
+    one.carried in
     let cur : current one.mid.control ≡ e =
     current_of_same_place c one.mid.control y.1.control.poll_list y.0.polled.place_is in
     let z : Comes (IsPollDone e c.place one.mid) more r new =

@@ -7,7 +7,7 @@ use Rattle.bsc_line_model.specs.declared.event.Event.{Event}
 use Rattle.bsc_line_model.specs.declared.event.Event.TheVariants.{OfferAt, OfferFor, Carry}
 use Rattle.bsc_line_model.specs.declared.event.Event.TheVariants.{CarryEach, CarrySent, Silence}
 use Rattle.bsc_line_model.specs.declared.event.Event.TheVariants.{Ready, UrgentAt, UrgentFor}
-use Rattle.bsc_line_model.specs.declared.event.Event.TheVariants.{Release, Restart}
+use Rattle.bsc_line_model.specs.declared.event.Event.TheVariants.{Polled, Release, Restart}
 use Rattle.bsc_line_model.specs.Line.{LineValue, IsChannel}
 use Rattle.bsc_line_model.specs.ChannelSteps.{MovesOne, MovesAddressed, StepsChannels}
 use Rattle.bsc_line_model.specs.Headline.{spooled_on, ReachesAddressed}
@@ -68,6 +68,8 @@ reaches (Ready u ready) old new moves t way is =
     inl (ap (λ (c : Channel). c.spooled) (moves t way is))
 reaches (UrgentAt u) old new moves t way is = inl (ap (λ (c : Channel). c.spooled) (moves t way is))
 reaches (UrgentFor u) old new moves t way is =
+    inl (ap (λ (c : Channel). c.spooled) (moves t way is))
+reaches (Polled u polled) old new moves t way is =
     inl (ap (λ (c : Channel). c.spooled) (moves t way is))
 reaches (Release u mine) old new moves t way is =
     inl (all_keep_if_moved_keeps old new u mine Learn moves (ap (λ (c : Channel). c.spooled) moves.this) t way is)

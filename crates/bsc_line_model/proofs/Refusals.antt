@@ -28,14 +28,14 @@ use Rattle.bsc_line_model.specs.Restarts.{restarted, Restarts}
 use Rattle.bsc_line_model.specs.declared.event.Event.TheVariants.{OfferAt, OfferFor, Carry}
 use Rattle.bsc_line_model.specs.declared.event.Event.TheVariants.{CarryEach, CarrySent, Silence}
 use Rattle.bsc_line_model.specs.declared.event.Event.TheVariants.{Ready, UrgentAt, UrgentFor}
-use Rattle.bsc_line_model.specs.declared.event.Event.TheVariants.{Release, Restart}
+use Rattle.bsc_line_model.specs.declared.event.Event.TheVariants.{Polled, Release, Restart}
 use Rattle.bsc_line_model.specs.Hearing.{heard_in, octets_in}
 use Rattle.bsc_line_model.specs.Line.{LineValue, no_terminal, terminal_at, with_terminal}
 use Rattle.bsc_line_model.specs.Line.{with_control}
 use Rattle.bsc_line_model.specs.Terminals.{line_owner}
 use Rattle.bsc_line_model.specs.Carries.{IsCarriedBy, OwnerActs}
 use Rattle.bsc_line_model.specs.Offers.{told, OffersAt, OffersFor, Sets, ReleasesWay, Releases}
-use Rattle.bsc_line_model.specs.Offers.{ready_set, urgent_set_at, urgent_set_for}
+use Rattle.bsc_line_model.specs.Offers.{ready_set, urgent_set_at, urgent_set_for, polled_set}
 use Rattle.bsc_line_model.specs.Runs.{CarriesAs, Carries, CarriesEach, FallsSilent, Does}
 
 -- offers and flags
@@ -163,6 +163,8 @@ nothing_changed Silence old new why d = silence_refused old why new d
 nothing_changed (Ready t ready) old new why d = set_refused old t (ready_set old t ready) why new d
 nothing_changed (UrgentAt t) old new why d = set_refused old t (urgent_set_at old t) why new d
 nothing_changed (UrgentFor t) old new why d = set_refused old t (urgent_set_for old t) why new d
+nothing_changed (Polled t polled) old new why d =
+    set_refused old t (polled_set old t polled) why new d
 nothing_changed (Release t way) old new why d = releases_refused old t way why new d
 nothing_changed (Restart party) old new why d = restart_refused old party why new d
 
@@ -205,6 +207,8 @@ was_trusted Silence old new d now = silence_trusted old new (line_owner old.term
 was_trusted (Ready t ready) old new d now = sym (ap (λ (l : LineValue). l.trusted) d.1) ∙ now
 was_trusted (UrgentAt t) old new d now = sym (ap (λ (l : LineValue). l.trusted) d.1) ∙ now
 was_trusted (UrgentFor t) old new d now = sym (ap (λ (l : LineValue). l.trusted) d.1) ∙ now
+was_trusted (Polled t polled) old new d now =
+    sym (ap (λ (l : LineValue). l.trusted) d.1) ∙ now
 was_trusted (Release t way) old new d now = release_trusted old new t way d now
 was_trusted (Restart party) old new d now =
     sym (ap (λ (l : LineValue). l.trusted) d.1 ∙ restart_trusted old party) ∙ now

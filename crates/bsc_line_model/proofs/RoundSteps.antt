@@ -17,7 +17,7 @@ use Rattle.bsc_line_model.specs.declared.error.Stopped.{Stopped}
 use Rattle.bsc_line_model.specs.Line.{LineValue, terminal_at, terminal_count}
 use Rattle.bsc_line_model.specs.Rounds.{block_count, poll_length, visit_length, entries_length}
 use Rattle.bsc_line_model.specs.Rounds.{is_seen, entry_at}
-use Rattle.bsc_line_model.proofs.Positions.{position_at_front, position_later}
+use Rattle.bsc_control.proofs.Positions.{position_at_front, position_later}
 use Rattle.bsc_line_model.proofs.Stations.{same_or_not}
 use Rattle.bsc_line_model.proofs.Walking.{IsGood, Walks, good_places}
 use Rattle.bsc_line_model.proofs.Selections.{VisitLaws, Comes, Calls}

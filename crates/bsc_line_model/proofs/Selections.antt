@@ -198,8 +198,8 @@ exchange_of_one_block laws at m l new r s n g h visit_ready w =
     let ready : IsOutbound o = outbound_ready l s g select in
     let learnt : GoesOnDown two.mid.control up.sent c.place s n
     × ControlStays e (ToTerminal s) c two.mid.control =
-    block_known_after_ack laws.cuts c two.mid.control up.sent s n b (current_within_peers c (good_places l g))
-    select h.sends.in_block
+    block_known_after_ack laws.cuts c two.mid.control up.sent s n b (good_places l g)
+    select h.sends.polled h.sends.in_block
     (known_queue o.queue o.sender.phase b ready.queue h.sends.in_block.phase ready.counts)
     heard in
     record {
@@ -335,7 +335,7 @@ selection_delivers_blocks laws n at m count l new r s g h ready visit_ready numb
     let begun : SendsDown two.mid.control up.sent c.place s n
     × ControlStays e (ToTerminal s) c two.mid.control =
     begins_bid_down laws.cuts c two.mid.control up.sent s n false
-    (current_within_peers c (good_places l g)) select
+    (current_within_peers c (good_places l g)) select h.called.polled
     h.called.task (outbound_ready l s g select).queue number heard in
     let receives : (terminal_at two.mid e).mode ≡ Receiving s =
     subst (λ (ts : List TributaryValue). (terminal_in ts e).mode ≡ Receiving s) (sym up.terminals)

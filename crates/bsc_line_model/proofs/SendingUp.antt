@@ -27,7 +27,7 @@ use Rattle.bsc_control.specs.declared.task.Task.TheVariants.{Sending}
 use Rattle.bsc_control.specs.Peer.{PeerValue, OutboundValue, no_peer, no_outbound, outbound_at}
 use Rattle.bsc_control.specs.Peer.{with_outbound, outbound_after}
 use Rattle.bsc_control.specs.Control.{ControlValue, ControlStep, peer_at, peer, current}
-use Rattle.bsc_control.specs.CallOrder.{After, Selection, next_call}
+use Rattle.bsc_control.specs.CallOrder.{After, Selection}
 use Rattle.bsc_control.specs.Table.{act_step, bid_step, after_bid, after_step}
 use Rattle.bsc_line_model.specs.declared.transmission.Speaker.TheVariants as sp
 use Rattle.bsc_line_model.specs.declared.transmission.Transmission.{Transmission}
@@ -36,10 +36,9 @@ use Rattle.bsc_line_model.specs.Line.{terminal_in}
 use Rattle.bsc_line_model.specs.Together.{HasNoBid, NoBids, NoOtherBids, RestsUp, RestsDown}
 use Rattle.bsc_line_model.specs.Together.{IsInBidDown, FliesDown, IsSending, InTask}
 use Rattle.bsc_line_model.proofs.Stations.{same_or_not}
-use Rattle.bsc_line_model.proofs.Calling.{no_bids_after_call}
+use Rattle.bsc_line_model.proofs.Calling.{no_bids_after_next_call}
 use Rattle.bsc_line_model.specs.BidLaws.{BidLaws}
 use Rattle.bsc_control.proofs.Calls.{HasPlaces, places, places_of_same_list, current_within_peers}
-use Rattle.bsc_control.proofs.Calls.{next_call_within_peers}
 use Rattle.bsc_line_model.specs.Kept.{AreStations}
 use Rattle.bsc_control.specs.Kept.{SuitsTask, IsInBid}
 
@@ -203,8 +202,7 @@ control_acts_as_sender laws c ts s step after a.Over is h keeps count entries =
     subst (λ (z : Act). IsEnded z step.sender.phase) is h.ended in
     let peers : length d.peers ≡ length ts =
     length-set c.peers (current c) (with_outbound (peer c) s (outbound_after step)) ∙ count in
-    no_bids_after_call d ts (next_call d after).place (next_call d after).way (next_call_within_peers d after entries)
-    peers (no_bids_after c ts s step h at_rest)
+    no_bids_after_next_call d ts after entries peers (no_bids_after c ts s step h at_rest)
 control_acts_as_sender laws c ts s step after a.Quiet is h keeps count entries =
     let x : TributaryValue = terminal_in ts (current c) in
     let d : ControlValue = after_step c s step in

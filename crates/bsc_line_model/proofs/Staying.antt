@@ -21,6 +21,7 @@ IsElsewhere t other e way = t ≡ e → other ≡ way → ⊥
 -- What the control station keeps for terminal t, if at most the channel (e, way) moves.
 pub record PeerStays (e : ℕ) (way : Way) (t : ℕ) (old new : PeerValue) : Type 0 where
   pub terminal : new.terminal ≡ old.terminal
+  pub polled : new.polled ≡ old.polled
   pub urgent : old.urgent ≡ false → new.urgent ≡ false
   pub count : length new.outbounds ≡ length old.outbounds
   pub down : (s : ℕ) → IsElsewhere t (ToTerminal s) e way → outbound_at new s ≡ outbound_at old s
@@ -55,7 +56,14 @@ pub record Stays (e : ℕ) (way : Way) (old new : LineValue) : Type 0 where
 -- A step that moves nothing keeps all of it.
 pub peer_same : (e : ℕ) (way : Way) (t : ℕ) (p : PeerValue) → PeerStays e way t p p
 peer_same e way t p =
-    record { terminal = refl; urgent = λ k. k; count = refl; down = λ s k. refl; up = λ k. refl }
+    record {
+      terminal = refl;
+      polled = refl;
+      urgent = λ k. k;
+      count = refl;
+      down = λ s k. refl;
+      up = λ k. refl;
+    }
 
 pub control_same : (e : ℕ) (way : Way) (c d : ControlValue) → d ≡ c → ControlStays e way c d
 control_same e way c d same =
@@ -91,6 +99,7 @@ peer_then : (e : ℕ) (way : Way) (t : ℕ) (p q r : PeerValue) → PeerStays e 
 peer_then e way t p q r a b =
     record {
       terminal = b.terminal ∙ a.terminal;
+      polled = b.polled ∙ a.polled;
       urgent = λ k. b.urgent (a.urgent k);
       count = b.count ∙ a.count;
       down = λ s k. b.down s k ∙ a.down s k;
@@ -170,6 +179,7 @@ call_stays e way c place FromTerminal there =
     peer_written e way c (poll_call_step c place 0).control t q there
     (record {
       terminal = refl;
+      polled = refl;
       urgent = λ k. k;
       count = refl;
       down = λ s k. refl;
@@ -183,6 +193,7 @@ call_stays e way c place (ToTerminal s) there =
     peer_written e way c (selection_call_step c place s).control t q there
     (record {
       terminal = refl;
+      polled = refl;
       urgent = λ k. refl;
       count = refl;
       down = λ k m. refl;
@@ -199,6 +210,7 @@ sender_stays c s o d there same list =
     peer_written (current c) (ToTerminal s) c d (current c) (with_outbound p s o) there
     (record {
       terminal = refl;
+      polled = refl;
       urgent = λ k. k;
       count = length-set p.outbounds s o;
       down = λ k other.

@@ -19,10 +19,10 @@ use Rattle.bsc_control.specs.declared.task.Task.TheVariants.{Sending}
 use Rattle.bsc_control.specs.Peer.{PeerValue, OutboundValue, outbound_at, with_outbound}
 use Rattle.bsc_control.specs.Peer.{outbound_after}
 use Rattle.bsc_control.specs.Control.{ControlValue, ControlStep, peer_at, peer, current}
-use Rattle.bsc_control.specs.CallOrder.{After, Selection, next_call}
+use Rattle.bsc_control.specs.CallOrder.{After, Selection}
 use Rattle.bsc_control.specs.Kept.{SuitsTask, IsInBid}
 use Rattle.bsc_control.specs.Table.{act_step, bid_step, after_step}
-use Rattle.bsc_control.proofs.Calls.{HasPlaces, places, current_within_peers, next_call_within_peers}
+use Rattle.bsc_control.proofs.Calls.{HasPlaces, places, current_within_peers}
 use Rattle.bsc_line_model.specs.declared.transmission.Speaker.TheVariants as sp
 use Rattle.bsc_line_model.specs.declared.transmission.Transmission.{Transmission}
 use Rattle.bsc_line_model.specs.Transmission.{sent_by}
@@ -39,7 +39,7 @@ use Rattle.bsc_line_model.proofs.RepliesHeard.{reply_heard_whole}
 use Rattle.bsc_frame.specs.declared.reply.Reply.{Reply}
 use Rattle.bsc_control.specs.declared.task.Replied.{Replied}
 use Rattle.bsc_line_model.proofs.Stations.{same_or_not, current_terminal_there}
-use Rattle.bsc_line_model.proofs.Calling.{no_bids_after_call}
+use Rattle.bsc_line_model.proofs.Calling.{no_bids_after_next_call}
 use Rattle.bsc_line_model.proofs.SendingDown.{control_mode_stays, no_call_heard}
 use Rattle.bsc_line_model.proofs.SendingUp.{peer_is, replaced_outbound, other_outbound_kept}
 use Rattle.bsc_line_model.proofs.SendingUp.{no_other_bids_after_step, places_after_sender_step}
@@ -226,8 +226,7 @@ acts_unheard c ts s step after a.Over h task stations entries =
     let peers : length d.peers ≡ length ts =
     length-set c.peers (current c) (with_outbound (peer c) s (outbound_after step))
     ∙ stations.count in
-    no_bids_after_call d ts (next_call d after).place (next_call d after).way
-    (next_call_within_peers d after entries) peers
+    no_bids_after_next_call d ts after entries peers
     (no_bids_after_unheard c ts s step (current_terminal_there c ts stations) h)
 acts_unheard c ts s step after a.Quiet h task stations entries =
     let d : ControlValue = after_step c s step in

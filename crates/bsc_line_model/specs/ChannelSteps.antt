@@ -7,7 +7,7 @@ use Rattle.bsc_line_model.specs.declared.event.Event.{Event}
 use Rattle.bsc_line_model.specs.declared.event.Event.TheVariants.{OfferAt, OfferFor, Carry}
 use Rattle.bsc_line_model.specs.declared.event.Event.TheVariants.{CarryEach, CarrySent, Silence}
 use Rattle.bsc_line_model.specs.declared.event.Event.TheVariants.{Ready, UrgentAt, UrgentFor}
-use Rattle.bsc_line_model.specs.declared.event.Event.TheVariants.{Release, Restart}
+use Rattle.bsc_line_model.specs.declared.event.Event.TheVariants.{Polled, Release, Restart}
 use Rattle.bsc_line_model.specs.Line.{LineValue, IsChannel, channel_of}
 
 -- channel (t, way) makes this move, and all others stay
@@ -44,5 +44,6 @@ StepsChannels Silence old new = MovesNothing old new
 StepsChannels (Ready t ready) old new = MovesNothing old new
 StepsChannels (UrgentAt t) old new = MovesNothing old new
 StepsChannels (UrgentFor t) old new = MovesNothing old new
+StepsChannels (Polled t polled) old new = MovesNothing old new
 StepsChannels (Release t way) old new = MovesOne t way Learn old new
 StepsChannels (Restart party) old new = MovesNothing old new

@@ -96,6 +96,11 @@ abbrev pub urgent_set_for : LineValue → ℕ → LineValue
 urgent_set_for l t =
     with_control l (with_peer l.control t (record (peer_at l.control t) { urgent = true }))
 
+-- whether the control station polls a terminal is set to this
+abbrev pub polled_set : LineValue → ℕ → Bool → LineValue
+polled_set l t polled =
+    with_control l (with_peer l.control t (record (peer_at l.control t) { polled = polled }))
+
 -- the answer of a release, as the line's
 abbrev pub told : Result (Unit {0}) ReleaseError → Result (Unit {0}) LineError
 told (Ok done) = Ok tt

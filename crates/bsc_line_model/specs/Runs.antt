@@ -14,14 +14,14 @@ use Rattle.bsc_line_model.specs.declared.event.Event.{Event}
 use Rattle.bsc_line_model.specs.declared.event.Event.TheVariants.{OfferAt, OfferFor, Carry}
 use Rattle.bsc_line_model.specs.declared.event.Event.TheVariants.{CarryEach, CarrySent, Silence}
 use Rattle.bsc_line_model.specs.declared.event.Event.TheVariants.{Ready, UrgentAt, UrgentFor}
-use Rattle.bsc_line_model.specs.declared.event.Event.TheVariants.{Release, Restart}
+use Rattle.bsc_line_model.specs.declared.event.Event.TheVariants.{Polled, Release, Restart}
 use Rattle.bsc_line_model.specs.Line.{LineValue, terminal_count}
 use Rattle.bsc_line_model.specs.Hearing.{heard_in, heard_at, octets_in}
 use Rattle.bsc_line_model.specs.Kept.{IsLine}
 use Rattle.bsc_line_model.specs.Terminals.{line_owner}
 use Rattle.bsc_line_model.specs.Carries.{IsCarriedBy, IsCarriedDown, OwnerActs}
 use Rattle.bsc_line_model.specs.Offers.{OffersAt, OffersFor, Sets, ready_set, urgent_set_at}
-use Rattle.bsc_line_model.specs.Offers.{urgent_set_for, Releases}
+use Rattle.bsc_line_model.specs.Offers.{urgent_set_for, polled_set, Releases}
 use Rattle.bsc_line_model.specs.Restarts.{Restarts}
 
 -- the pending transmission is heard as `hear` says
@@ -91,6 +91,7 @@ Does Silence old result new = FallsSilent old result new
 Does (Ready t ready) old result new = Sets old t (ready_set old t ready) result new
 Does (UrgentAt t) old result new = Sets old t (urgent_set_at old t) result new
 Does (UrgentFor t) old result new = Sets old t (urgent_set_for old t) result new
+Does (Polled t polled) old result new = Sets old t (polled_set old t polled) result new
 Does (Release t way) old result new = Releases old t way result new
 Does (Restart party) old result new = Restarts old party result new
 

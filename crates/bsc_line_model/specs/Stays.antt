@@ -90,6 +90,13 @@ UrgentForStays =
     IsControl c → c ≡ with_peer l.control t (record (peer_at l.control t) { urgent = true }) →
     IsLine (with_control l c)
 
+-- whether the control station polls a terminal is set
+abbrev pub PolledStays : Type 0
+PolledStays =
+    (l : LineValue) (t : ℕ) (polled : Bool) (c : ControlValue) → IsLine l → t < terminal_count l →
+    IsControl c → c ≡ with_peer l.control t (record (peer_at l.control t) { polled = polled }) →
+    IsLine (with_control l c)
+
 -- the control station's doubt is ended by the count of the records in a terminal's spool, or the
 -- release is refused
 abbrev pub ReleaseToStays : Type 0

@@ -19,7 +19,7 @@ use Rattle.bsc_line_model.specs.declared.event.Event.{Event}
 use Rattle.bsc_line_model.specs.declared.event.Event.TheVariants.{OfferAt, OfferFor, Carry}
 use Rattle.bsc_line_model.specs.declared.event.Event.TheVariants.{CarryEach, CarrySent, Silence}
 use Rattle.bsc_line_model.specs.declared.event.Event.TheVariants.{Ready, UrgentAt, UrgentFor}
-use Rattle.bsc_line_model.specs.declared.event.Event.TheVariants.{Release, Restart}
+use Rattle.bsc_line_model.specs.declared.event.Event.TheVariants.{Polled, Release, Restart}
 use Rattle.bsc_line_model.specs.Line.{LineValue, terminal_at, terminal_count, IsChannel, channel_of}
 use Rattle.bsc_line_model.specs.Hearing.{all_hear}
 use Rattle.bsc_line_model.specs.Terminals.{answer_of}
@@ -52,6 +52,7 @@ offered_by Silence t way = []
 offered_by (Ready u ready) t way = []
 offered_by (UrgentAt u) t way = []
 offered_by (UrgentFor u) t way = []
+offered_by (Polled u polled) t way = []
 offered_by (Release u mine) t way = []
 offered_by (Restart party) t way = []
 

@@ -55,6 +55,12 @@ pub enum Event<'a> {
         terminal: usize,
     },
 
+    /// The control station is set to poll a terminal, or to pass over it.
+    Polled {
+        terminal: usize,
+        polled: bool,
+    },
+
     /// A doubt is ended by the count of the records at the other end.
     Release {
         terminal: usize,

@@ -6,6 +6,7 @@ ghost use Rattle.bsc_line_model.specs.Line.{LineValue};
 ghost use Rattle.bsc_line_model.specs.Stays.{NewLineStays, DownStays, UpStays, SilenceStays};
 ghost use Rattle.bsc_line_model.specs.Stays.{OfferAtStays, ReadyStays, UrgentAtStays};
 ghost use Rattle.bsc_line_model.specs.Stays.{ReleaseFromStays, OfferForStays, UrgentForStays};
+ghost use Rattle.bsc_line_model.specs.Stays.{PolledStays};
 ghost use Rattle.bsc_line_model.specs.Stays.{ReleaseToStays, RestartStays};
 ghost use Rattle.bsc_line_model.specs.EveryRun.{RunsKeepLine};
 ghost use Rattle.bsc_line_model.specs.StepLaws.{EachStepsChannels, EachEventSteps, GrowsByOffers};
@@ -47,6 +48,7 @@ pub fn each_event()
     ensures release_from { ReleaseFromStays }
     ensures offer_for { OfferForStays }
     ensures urgent_for { UrgentForStays }
+    ensures polled { PolledStays }
     ensures release_to { ReleaseToStays }
     ensures restart { RestartStays }
 {

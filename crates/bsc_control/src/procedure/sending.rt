@@ -88,7 +88,7 @@ impl<A: Allocator> Procedure<A> {
         let _ = &self.task;
         match outcome {
             Outcome::Sends => self.task = Task::Sending { select },
-            Outcome::Over if interrupted => self.poll(self.place, 0, sent),
+            Outcome::Over if interrupted => self.call_after_interruption(sent),
             Outcome::Over => self.call_after_selection(select, sent),
             Outcome::Quiet => {}
         }

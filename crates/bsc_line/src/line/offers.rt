@@ -113,4 +113,21 @@ impl<A: Allocator> Line<A> {
         self.control.set_urgent(terminal);
         Ok(())
     }
+
+    /// Sets whether the control station polls a terminal. One that it does not poll is passed over
+    /// in the call order, and keeps its records and doubts; what is under way with it goes on to
+    /// its end. Error: `NoSuchTerminal`.
+    pub fn set_polled(&mut self, terminal: usize, polled: bool) -> Result<(), LineError>
+        ensures does { Does (event.Polled terminal polled) self.old result self.new }
+        ensures steps { StepsAs (event.Polled terminal polled) self.old result self.new }
+        ensures line { IsLine self.new }
+    {
+        self.each_steps();
+        if terminal >= self.control.terminals() {
+            return Err(LineError::NoSuchTerminal);
+        }
+        each_event();
+        self.control.set_polled(terminal, polled);
+        Ok(())
+    }
 }

@@ -79,6 +79,7 @@ impl<A: Allocator> Line<A> {
             Event::Ready { terminal, ready } => self.set_ready(*terminal, *ready),
             Event::UrgentAt { terminal } => self.set_urgent_at(*terminal),
             Event::UrgentFor { terminal } => self.set_urgent_for(*terminal),
+            Event::Polled { terminal, polled } => self.set_polled(*terminal, *polled),
             Event::Release { terminal, way } => self.release(*terminal, *way),
             Event::Restart { party } => self.restart(*party),
         }

@@ -1,8 +1,10 @@
 -- `set_urgent` raises the urgent flag of the terminal only.
 use Rattle.std.proofs.Common.{true, ◌<◌, length, sym, ◌∙◌, ap}
 use Rattle.bsc_directory.specs.Addresses.{numbered}
+use Rattle.bsc_control.specs.Peer.{PeerValue}
+use Rattle.bsc_control.proofs.Controls.{urgent_is_flagged}
 use Rattle.bsc_control.proofs.Entries.{peer_with_flag, entries_with_peer}
-use Rattle.bsc_control.proofs.Reached.{peer_reached, stays_flag, urgent_left}
+use Rattle.bsc_control.proofs.Reached.{peer_reached, stays_flag, flag_left}
 use Rattle.bsc_control.proofs.control.Control.set_urgent.Goals as goal
 
 pub invariant_of-self : goal.invariant_of-self
@@ -11,7 +13,8 @@ invariant_of-self g c =
     rw c.self.view_is c.requires in
     let peer =
     peer_reached c.procedure.view_is within c.peer.view_is c.index_mut-peer.ensures.value in
-    let stays = stays_flag c.self.invariant.0 peer in
+    let stays = stays_flag (λ (p : PeerValue). record p { urgent = true }) urgent_is_flagged
+    c.self.invariant.0 peer in
     (stays.control, c.self.invariant.1 ∙ ap (numbered 0) (sym stays.same))
 
 pub returns-clause-control : goal.returns-clause-control
@@ -31,4 +34,5 @@ returns-clause-state g c =
     rw c.self.view_is c.requires in
     let reached =
     peer_reached c.procedure.view_is within c.peer.view_is c.index_mut-peer.ensures.value in
-    urgent_left _ _ _ c.args.terminal _ reached c.self.view_is
+    flag_left (λ (p : PeerValue). record p { urgent = true }) _ _ _ c.args.terminal _ reached
+    c.self.view_is

@@ -1,0 +1,39 @@
+-- `set_polled` changes whether the terminal is polled only.
+use Rattle.std.proofs.Common.{◌<◌, length, sym, ◌∙◌, ap}
+use Rattle.bsc_directory.specs.Addresses.{numbered}
+use Rattle.bsc_control.specs.Peer.{PeerValue}
+use Rattle.bsc_control.proofs.Controls.{polled_is_flagged}
+use Rattle.bsc_control.proofs.Entries.{peer_with_polled, entries_with_peer}
+use Rattle.bsc_control.proofs.Reached.{peer_reached, stays_flag, flag_left}
+use Rattle.bsc_control.proofs.control.Control.set_polled.Goals as goal
+
+pub invariant_of-self : goal.invariant_of-self
+invariant_of-self g c =
+    let within : c.args.terminal < length c.self.inside.procedure.peers =
+    rw c.self.view_is c.requires in
+    let peer =
+    peer_reached c.procedure.view_is within c.peer.view_is c.index_mut-peer.ensures.value in
+    let stays = stays_flag (λ (p : PeerValue). record p { polled = c.args.polled })
+    (λ (p : PeerValue). polled_is_flagged p c.args.polled)
+    c.self.invariant.0 peer in
+    (stays.control, c.self.invariant.1 ∙ ap (numbered 0) (sym stays.same))
+
+pub returns-clause-control : goal.returns-clause-control
+returns-clause-control g c = (invariant_of-self g c).0
+
+pub invariant_of-peer : goal.invariant_of-peer
+invariant_of-peer g c = peer_with_polled _ c.args.polled c.peer.invariant
+
+pub invariant_of-procedure : goal.invariant_of-procedure
+invariant_of-procedure g c =
+    entries_with_peer _ c.args.terminal _ (peer_with_polled _ c.args.polled c.peer.invariant)
+    c.procedure.invariant
+
+pub returns-clause-state : goal.returns-clause-state
+returns-clause-state g c =
+    let within : c.args.terminal < length c.self.inside.procedure.peers =
+    rw c.self.view_is c.requires in
+    let reached =
+    peer_reached c.procedure.view_is within c.peer.view_is c.index_mut-peer.ensures.value in
+    flag_left (λ (p : PeerValue). record p { polled = c.args.polled }) _ _ _ c.args.terminal _ reached
+    c.self.view_is
