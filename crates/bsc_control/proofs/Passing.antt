@@ -2,7 +2,7 @@
 use Rattle.std.proofs.Common.{◌≡◌, ℕ, zero, suc, ◌+◌, ◌-◌, ◌≤◌, ◌<◌, Bool, true, false, nat_eq, nat_lt}
 use Rattle.std.proofs.Common.{List, [], ◌∷◌, ◌++◌, length, take, drop, get_or, position, Option}
 use Rattle.std.proofs.Common.{option_map, None, Some, refl, sym, ◌∙◌, ap, subst, arith, length-drop}
-use Rattle.std.proofs.Common.{length-append, if◌then◌else◌}
+use Rattle.std.proofs.Common.{length-append, append_assoc, if◌then◌else◌}
 use Rattle.std.proofs.Math.Seq.{drop-cons}
 use Rattle.std.proofs.lemmas.Bool.Decides.{nat_tests}
 use Rattle.std.proofs.lemmas.List.{append-nil, drop_all, get_or_append_left, get_or-append_right}
@@ -202,7 +202,8 @@ entries_from_next list place within = by_last (nat_eq (place + 1) (length list))
         ∙ ap (λ (xs : List ℕ). (xs ++ take place list) ++ get_or list place 0 ∷ []) (sym none)
     by_last false e =
         ap (λ (xs : List ℕ). drop (place + 1) list ++ xs) more
-        ∙ grind arith
+        ∙ sym (append_assoc (drop (place + 1) list) (take place list)
+        (get_or list place 0 ∷ []))
 
 -- one entry further on from the place after it is two further on from it, and so on
 further_from_next : (count place more : ℕ) → place < count → 1 + more < count

@@ -205,7 +205,7 @@ fn first_polled<A: Allocator>(peers: &[Peer<A>], terminals: &[u8]) -> Option<usi
 {
     terminals.iter().position(
         |terminal| -> bool
-            ensures { result ≡ (slice_index_or peers.now terminal.now no_peer).polled }
+            ensures { result ≡ (slice_index_or peers.entry.now terminal.now no_peer).polled }
         {
             match peers.get(usize::from(*terminal)) {
                 Some(peer) => peer.polled,

@@ -54,6 +54,7 @@ pub returns-clause-value : goal.returns-clause-value
 returns-clause-value g c =
     record {
       terminal_given = refl;
+      is_polled = refl;
       not_urgent = refl;
       receiver = c.new-2.ensures;
       nothing_spooled = c.new-3.ensures.records;

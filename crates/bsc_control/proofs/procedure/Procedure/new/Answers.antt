@@ -25,6 +25,7 @@ new_peer_own : (setup : SetupValue) (x : TerminalValue) (p : PeerValue) → IsNe
 new_peer_own setup x p h =
     record {
       terminal_given = refl;
+      is_polled = h.is_polled;
       not_urgent = h.not_urgent;
       receiver = h.receiver;
       nothing_spooled = h.nothing_spooled;
