@@ -6,7 +6,7 @@ use Rattle.bsc_bid.specs.Sender.{is_in_doubt}
 use Rattle.bsc_directory.specs.declared.way.Way.{Way}
 use Rattle.bsc_directory.specs.declared.way.Way.TheVariants.{FromTerminal, ToTerminal}
 use Rattle.bsc_line_model.specs.Line.{IsChannel, channel_of, phase_of}
-use Rattle.bsc_line_model.specs.Rounds.{IsReadyForVisit, entry_at}
+use Rattle.bsc_line_model.specs.Rounds.{IsReadyForVisit, IsPolledEntry, entry_at}
 use Rattle.bsc_line_model.specs.Examples.{record_a, record_b, both_records, before_arrivals}
 use Rattle.bsc_line_model.specs.Examples.{after_arrivals, its_addresses, called_line}
 use Rattle.bsc_line_model.specs.Examples.{NoDoubleLands, NoGapLands, NoOtherLands, NoTwoMove}
@@ -107,10 +107,11 @@ no_doubt_there FromTerminal is = refl
 no_doubt_there (ToTerminal zero) is = refl
 no_doubt_there (ToTerminal (suc s)) is = refl
 
-ready_there : (k : ℕ) → k < 1 → IsReadyForVisit called_line (entry_at called_line k)
-ready_there zero less =
+ready_there : (k : ℕ) → k < 1 → IsPolledEntry called_line k
+    → IsReadyForVisit called_line (entry_at called_line k)
+ready_there zero less polled =
     record { ready = refl; not_urgent_at = refl; not_urgent_for = refl; no_doubt = no_doubt_there }
-ready_there (suc k) less = absurd (omega arith)
+ready_there (suc k) less polled = absurd (omega arith)
 
 pub visit_begins : VisitBegins
 visit_begins = record {
@@ -121,6 +122,7 @@ visit_begins = record {
     called = record { terminal = its_addresses; there = refl; its_own = refl };
     task = refl;
   };
+  polled = refl;
   trusted = refl;
   visit_ready = ready_there;
 }

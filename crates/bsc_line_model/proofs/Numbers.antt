@@ -28,7 +28,7 @@ use Rattle.bsc_directory.specs.declared.way.Way.TheVariants.{FromTerminal, ToTer
 use Rattle.bsc_directory.specs.Addresses.{IsAddressOf, address_for}
 use Rattle.bsc_control.specs.Peer.{OutboundValue, IsPeer, no_peer, no_outbound}
 use Rattle.bsc_control.specs.Control.{peer_at, peer, current, terminals, terminal_of_entry}
-use Rattle.bsc_control.specs.CallOrder.{way_from, first_call, wrapped, place_after}
+use Rattle.bsc_control.specs.CallOrder.{way_from, first_call, wrapped, is_polled, polled_place}
 use Rattle.bsc_control.specs.Kept.{IsTaskOf, outbound_of}
 use Rattle.bsc_line_model.specs.declared.transmission.Speaker.TheVariants as sp
 use Rattle.bsc_line_model.specs.Transmission.{sent_by}
@@ -40,9 +40,11 @@ use Rattle.bsc_line_model.specs.Runs.{Runs}
 use Rattle.bsc_line_model.specs.Rounds.{block_count, poll_length, visit_length, round_length}
 use Rattle.bsc_line_model.specs.Rounds.{entry_at, sent_times, IsReadyForVisit, BeginsVisit}
 use Rattle.bsc_line_model.specs.Rounds.{IsDelivered, SameDelays, IsVisited, IsRoundDone}
+use Rattle.bsc_line_model.specs.Rounds.{IsPolledEntry, next_visit, first_visit}
 use Rattle.bsc_line_model.specs.Rounds.{RunsDeliverVisit, RunsDeliverRound}
 use Rattle.bsc_line_model.specs.Together.{HasNoBid, NoBids, IsSelecting, InTask}
 use Rattle.bsc_control.proofs.Calls.{current_within_peers}
+use Rattle.bsc_control.proofs.Passing.{some_polled}
 use Rattle.bsc_line_model.proofs.OutboundSteps.{selected_outbound_exists}
 use Rattle.bsc_line_model.proofs.Soundness.{peer_has_way}
 use Rattle.bsc_line_model.proofs.Stations.{same_or_not, terminal_in_directory}
@@ -103,7 +105,8 @@ first_visit_ready l t g there c =
     sure (ToTerminal s) = c.sure_down s
 
 begins_next : (l : LineValue) (place : ℕ) → IsGood l → Calls l place (way_from (peer l.control) 0)
-    → ((j : ℕ) → j < length l.control.poll_list → IsReadyForVisitAt l (entry_at l j)) → BeginsVisit l place
+    → ((j : ℕ) → j < length l.control.poll_list → IsPolledEntry l j
+    → IsReadyForVisitAt l (entry_at l j)) → BeginsVisit l place
 begins_next l place g h visit_ready =
     let way : Way = way_from (peer l.control) 0 in
     let address : List ℕ = address_at (peer l.control).terminal way in
@@ -136,8 +139,12 @@ begins_next l place g h visit_ready =
             first own;
         task = subst (λ (w : Way). IsTaskOf w l.control.task) first h.called.task;
       };
+      polled =
+          subst (λ (t : ℕ). is_polled l.control t ≡ true) same h.called.polled;
       trusted = g.trusted;
-      visit_ready = λ j less. first_visit_ready l (entry_at l j) g (entry_names_terminal l j g less) (visit_ready j less);
+      visit_ready = λ j less on_list.
+          first_visit_ready l (entry_at l j) g (entry_names_terminal l j g less)
+          (visit_ready j less on_list);
     }
 
 -- a visit from its beginning
@@ -152,6 +159,7 @@ first_calls l place g b =
     let way : Way = (first_call l.control place).way in
     let calls : Calls l place way =
     calls_where_made l place b.address way g b.called b.pending
+    (subst (λ (t : ℕ). is_polled l.control t ≡ true) (sym same) b.polled)
     (λ s is. called_within l way s g b.called.task is) in
     subst (λ (t : ℕ). Calls l place (way_from (peer_at l.control t) 0)) (sym same) calls
 
@@ -257,24 +265,42 @@ at_end : (n : ℕ) (b : Bool) → nat_eq n n ≡ b → wrapped n n ≡ 0
 at_end n true e = ap (λ (c : Bool). if c then 0 else n) e
 at_end n false e = absurd (grind (arith, nat_tests))
 
+-- a list with a place has a first one
+some_entry : (l : LineValue) (place : ℕ) → place < length l.control.poll_list
+    → 0 < length l.control.poll_list
+some_entry l place within = omega (arith, within)
+
+-- an entry that is polled was polled before
+polled_before : (old new : LineValue) (j : ℕ) → entry_at new j ≡ entry_at old j
+    → ((t : ℕ) → (peer_at new.control t).polled ≡ (peer_at old.control t).polled)
+    → IsPolledEntry new j → IsPolledEntry old j
+polled_before old new j same polled on_list =
+    sym (polled (entry_at old j)) ∙ ap (is_polled new.control) (sym same) ∙ on_list
+
 -- a round begins
-round_begins : (l : LineValue) → IsGood l → BeginsVisit l 0 → IsRoundAt l l 0 []
+round_begins : (l : LineValue) → IsGood l → BeginsVisit l (first_visit l) → IsRoundAt l l 0 []
 round_begins l g b =
     record {
       good = g;
       list = refl;
       count = refl;
+      polled = λ t. refl;
       calls =
-          subst (λ (n : ℕ). Calls l n (way_from (peer l.control) 0))
-          (sym (wrapped_at_zero (length l.control.poll_list) (place_there l 0 g b))) (first_calls l 0 g b);
-      visit_ready = λ j less. visit_ready_at l (entry_at l j) g (entry_names_terminal l j g less) (b.visit_ready j less);
+          subst (λ (n : ℕ). Calls l (polled_place l.control n) (way_from (peer l.control) 0))
+          (sym (wrapped_at_zero (length l.control.poll_list)
+          (some_entry l (first_visit l) (place_there l (first_visit l) g b))))
+          (first_calls l (first_visit l) g b);
+      visit_ready = λ j less on_list.
+          visit_ready_at l (entry_at l j) g (entry_names_terminal l j g less)
+          (b.visit_ready j less on_list);
       visited = λ t inside seen. absurd (cc);
-      passed = λ j less. absurd (omega arith);
+      passed = λ j less on_list. absurd (omega arith);
       fresh = λ t inside seen. refl;
     }
 
 round_done : VisitLaws → (old new : LineValue) (result : Result (Unit {0}) Stopped) → IsLine old
-    → BeginsVisit old 0 → Runs old (sent_times (round_length old)) result new → SameDelays old new
+    → BeginsVisit old (first_visit old) → Runs old (sent_times (round_length old)) result new
+    → SameDelays old new
     → (result ≡ Ok tt) × IsRoundDone old new
 round_done laws old new result line b runs delays =
     let g : IsGood old = good_line old line b.trusted in
@@ -283,14 +309,17 @@ round_done laws old new result line b runs delays =
     runs_walk_without_delays 0 (round_length old) old new result line b.trusted runs delays in
     let x : Comes (λ z. (seen : List ℕ) × IsRoundAt old z n seen) 0 result new =
     round_from laws n 0 0 (round_length old) 0 [] old old new result (round_begins old g b)
-    (omega arith) (omega arith) w in
+    (omega arith)
+    (λ j less. some_polled old.control j (first_visit old) less
+    (place_there old (first_visit old) g b) b.polled)
+    (omega arith) w in
     let done : (result ≡ Ok tt) × ((seen : List ℕ) × IsRoundAt old new n seen) =
     line_after_walk (λ z. (seen : List ℕ) × IsRoundAt old z n seen) new result x in
     let seen : List ℕ = done.1.0 in
     let h : IsRoundAt old new n seen = done.1.1 in
-    let at_start : Calls new 0 (way_from (peer new.control) 0) =
-    subst (λ (p : ℕ). Calls new p (way_from (peer new.control) 0)) (at_end n (nat_eq n n) refl)
-    h.calls in
+    let at_start : Calls new (first_visit old) (way_from (peer new.control) 0) =
+    subst (λ (p : ℕ). Calls new (polled_place old.control p) (way_from (peer new.control) 0))
+    (at_end n (nat_eq n n) refl) h.calls in
     let same : (j : ℕ) → entry_at new j ≡ entry_at old j =
     λ j. ap (λ (list : List ℕ). get_or list j 0) h.list in
     let there : (j : ℕ) → j < n → entry_at old j < terminal_count new =
@@ -298,12 +327,16 @@ round_done laws old new result line b runs delays =
       done.0,
       record {
         delivered =
-            λ j less. delivered_at laws new 0 (entry_at old j) (way_from (peer new.control) 0)
-            h.good at_start (there j less) (h.visit_ready j less)
-            (h.visited (entry_at old j) (entry_names_terminal old j g less) (h.passed j less));
-        next = begins_next new 0 h.good at_start (λ j less.
+            λ j less on_list. delivered_at laws new (first_visit old) (entry_at old j)
+            (way_from (peer new.control) 0)
+            h.good at_start (there j less) (h.visit_ready j less on_list)
+            (h.visited (entry_at old j) (entry_names_terminal old j g less)
+            (h.passed j less on_list));
+        next = begins_next new (first_visit old) h.good at_start (λ j less on_list.
             let within : j < n = subst (λ (list : List ℕ). j < length list) h.list less in
-            subst (λ (t : ℕ). IsReadyForVisitAt new t) (sym (same j)) (h.visit_ready j within));
+            subst (λ (t : ℕ). IsReadyForVisitAt new t) (sym (same j))
+            (h.visit_ready j within
+            (polled_before old new j (same j) h.polled on_list)));
       },
     )
 
@@ -322,7 +355,9 @@ visit_begins laws old new place r g b w =
       calls =
           subst (λ (z : ℕ). Calls old place (way_from (peer_at old.control z) 0)) cur
           (first_calls old place g b);
-      visit_ready = visit_ready_at old e g there (b.visit_ready place (place_there old place g b));
+      visit_ready =
+          visit_ready_at old e g there
+          (b.visit_ready place (place_there old place g b) b.polled);
       done = λ s never. absurd (omega arith);
       blocks_up = refl;
       stays = but_same e old;
@@ -364,11 +399,11 @@ visit_done laws old new place result line b runs delays =
       done.0,
       record {
         delivered =
-            delivered_at laws new (place_after old.control.poll_list place) e
+            delivered_at laws new (next_visit old place) e
             (way_from (peer new.control) 0) h.good h.calls now h.visit_ready
             (record { down = h.down; up = h.up });
         others = λ t way is differ. channel_same e t way old new is.there differ h.stays;
-        next = begins_next new (place_after old.control.poll_list place) h.good h.calls (λ j less.
+        next = begins_next new (next_visit old place) h.good h.calls (λ j less on_list.
             let within : j < length old.control.poll_list =
             subst (λ (list : List ℕ). j < length list) h.stays.poll_list less in
             let inside : entry_at old j < terminal_count old = entry_names_terminal old j g within in
@@ -376,7 +411,8 @@ visit_done laws old new place result line b runs delays =
             (elim (same_or_not (entry_at old j) e) [
               | inl this ↦ subst (λ (t : ℕ). IsReadyForVisitAt new t) (sym this) h.visit_ready
               | inr differ ↦ still_visit_ready e (entry_at old j) old new inside differ h.stays
-                  (visit_ready_at old (entry_at old j) g inside (b.visit_ready j within))
+                  (visit_ready_at old (entry_at old j) g inside (b.visit_ready j within
+                  (polled_before old new j (same j) h.stays.polled on_list)))
             ]));
       },
     )

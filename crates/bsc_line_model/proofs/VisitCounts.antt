@@ -1,5 +1,5 @@
 -- The length of a visit, also if no record waits for its terminal.
-use Rattle.std.proofs.Common.{◌≡◌, ℕ, zero, suc, ◌+◌, ◌<◌, ◌≤◌, List, ◌∷◌, length, drop, sum_by}
+use Rattle.std.proofs.Common.{◌≡◌, ℕ, zero, suc, ◌+◌, ◌<◌, ◌≤◌, true, List, ◌∷◌, length, drop, sum_by}
 use Rattle.std.proofs.Common.{slice_get, Some, refl, sym, ◌∙◌, ap, subst, arith}
 use Rattle.std.proofs.Math.Seq.{drop-cons}
 use Rattle.std.proofs.lemmas.List.{drop_all}
@@ -71,9 +71,10 @@ address_is x (ToTerminal s) a e within =
 pub calls_where_made : (l : LineValue) (place : ℕ) (address : List ℕ) (way : Way) → IsGood l
     → HasMadeCall l.control (record { place = place; way = way }) address → l.pending
     ≡ Some (record { speaker = sp.Control; message = m.Call address }) →
+    (peer l.control).polled ≡ true →
     ((s : ℕ) → way ≡ ToTerminal s → s < length (peer l.control).terminal.selects)
     → Calls l place way
-calls_where_made l place address way g h is within =
+calls_where_made l place address way g h is polled within =
     let e : ℕ = current l.control in
     let there : slice_get (terminals l.control) e ≡ Some (terminal_at l e).terminal =
     terminal_in_directory l.control l.terminals e g.line.stations
@@ -95,5 +96,6 @@ calls_where_made l place address way g h is within =
             call =
                 ap (λ (a : List ℕ). Some (m.Call a))
                 (address_is (peer l.control).terminal way address own within);
+            polled = polled;
           };
     }

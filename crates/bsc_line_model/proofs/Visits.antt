@@ -16,15 +16,16 @@ use Rattle.bsc_directory.specs.declared.way.Way.TheVariants.{FromTerminal, ToTer
 use Rattle.bsc_control.specs.Peer.{PeerValue, OutboundValue, IsPeer, IsOutbound, no_peer}
 use Rattle.bsc_control.specs.Peer.{no_outbound, outbound_at, is_selectable}
 use Rattle.bsc_control.specs.Control.{peer_at, peer, current}
-use Rattle.bsc_control.specs.CallOrder.{way_from, place_after}
+use Rattle.bsc_control.specs.CallOrder.{way_from, place_after, polled_place}
 use Rattle.bsc_control.specs.Kept.{outbound_of}
 use Rattle.bsc_line_model.specs.declared.error.Stopped.{Stopped}
 use Rattle.bsc_line_model.specs.Line.{LineValue, terminal_at}
-use Rattle.bsc_line_model.specs.Rounds.{block_count, selection_length, poll_length}
+use Rattle.bsc_line_model.specs.Rounds.{block_count, selection_length, poll_length, next_visit}
 use Rattle.bsc_line_model.proofs.Stations.{same_or_not}
 use Rattle.bsc_line_model.proofs.BlockCounts.{CutLaws, blocks_of_some_records}
 use Rattle.bsc_line_model.proofs.Staying.{Stays, IsElsewhere}
 use Rattle.bsc_control.proofs.Calls.{current_within_peers}
+use Rattle.bsc_control.proofs.Passing.{polled_place_alike}
 use Rattle.bsc_line_model.proofs.Walking.{IsGood, good_places, Walks}
 use Rattle.bsc_line_model.proofs.Selections.{VisitLaws, Comes, Calls, IsSelectionDone}
 use Rattle.bsc_line_model.proofs.Selections.{selection_delivers_blocks}
@@ -37,6 +38,7 @@ pub record StaysBut (e : ℕ) (old new : LineValue) : Type 0 where
   pub poll_list : new.control.poll_list ≡ old.control.poll_list
   pub count : length new.terminals ≡ length old.terminals
   pub addresses : (t : ℕ) → (peer_at new.control t).terminal ≡ (peer_at old.control t).terminal
+  pub polled : (t : ℕ) → (peer_at new.control t).polled ≡ (peer_at old.control t).polled
   pub lists : (t : ℕ) → length (peer_at new.control t).outbounds
       ≡ length (peer_at old.control t).outbounds
   pub urgent_for : (t : ℕ) → (peer_at old.control t).urgent ≡ false → (peer_at new.control t).urgent
@@ -63,6 +65,7 @@ but_of e way old new h =
       poll_list = h.control.poll_list;
       count = h.terminals.count;
       addresses = λ t. (h.control.peers t).terminal;
+      polled = λ t. (h.control.peers t).polled;
       lists = λ t. (h.control.peers t).count;
       urgent_for = λ t. (h.control.peers t).urgent;
       ready = λ t less. (h.terminals.terminals t less).ready;
@@ -85,6 +88,7 @@ but_same e l =
       poll_list = refl;
       count = refl;
       addresses = λ t. refl;
+      polled = λ t. refl;
       lists = λ t. refl;
       urgent_for =
           λ t z. z;
@@ -98,6 +102,18 @@ but_same e l =
       spooled = λ t s z y. refl;
     }
 
+-- and so is the entry whose visit comes next
+pub polled_place_stays : {e : ℕ} (old new : LineValue) (place : ℕ) → StaysBut e old new
+    → polled_place new.control place ≡ polled_place old.control place
+polled_place_stays old new place h =
+    polled_place_alike old.control new.control h.poll_list h.polled place
+
+next_visit_stays : {e : ℕ} (old new : LineValue) (place : ℕ) → StaysBut e old new
+    → next_visit new place ≡ next_visit old place
+next_visit_stays old new place h =
+    ap (λ (list : List ℕ). polled_place new.control (place_after list place)) h.poll_list
+    ∙ polled_place_stays old new (place_after old.control.poll_list place) h
+
 pub but_then : (e : ℕ) (a b c : LineValue) → StaysBut e a b → StaysBut e b c → StaysBut e a c
 but_then e a b c x y =
     let on : (t : ℕ) → t < length a.terminals → t < length b.terminals =
@@ -106,6 +122,7 @@ but_then e a b c x y =
       poll_list = y.poll_list ∙ x.poll_list;
       count = y.count ∙ x.count;
       addresses = λ t. y.addresses t ∙ x.addresses t;
+      polled = λ t. y.polled t ∙ x.polled t;
       lists = λ t. y.lists t ∙ x.lists t;
       urgent_for = λ t k. y.urgent_for t (x.urgent_for t k);
       ready = λ t less. y.ready t (on t less) ∙ x.ready t less;
@@ -154,7 +171,7 @@ pub record IsVisited (e place from i : ℕ) (start l : LineValue) : Type 0 where
 -- the visit is over
 pub record IsVisitDone (e place : ℕ) (start l : LineValue) : Type 0 where
   pub good : IsGood l
-  pub calls : Calls l (place_after start.control.poll_list place) (way_from (peer l.control) 0)
+  pub calls : Calls l (next_visit start place) (way_from (peer l.control) 0)
   pub visit_ready : IsReadyForVisitAt l e
   pub down : (s : ℕ) → s < length (peer_at l.control e).outbounds
       → block_count (outbound_of l.control e s).queue ≡ 0
@@ -201,8 +218,8 @@ visit_ends e place from i start l new there all v h =
     record {
       good = h.good;
       calls =
-          subst (λ (list : List ℕ). Calls new (place_after list place)
-          (way_from (peer new.control) 0)) v.stays.poll_list h.calls;
+          subst (λ (p : ℕ). Calls new p (way_from (peer new.control) 0))
+          (next_visit_stays start l place v.stays) h.calls;
       visit_ready = record {
         ready = (h.stays.terminals.terminals e there).ready ∙ v.visit_ready.ready;
         urgent_at = (h.stays.terminals.terminals e there).urgent v.visit_ready.urgent_at;
@@ -271,7 +288,7 @@ selection_ends e place from i start l new there v h =
     }
 
 -- an address is called if records wait for it without doubt
-true_or_false : (b : Bool) → (b ≡ true) ⊎ (b ≡ false)
+pub true_or_false : (b : Bool) → (b ≡ true) ⊎ (b ≡ false)
 true_or_false true = inl refl
 true_or_false false = inr refl
 

@@ -2,7 +2,7 @@
 -- and what they deliver.
 use Rattle.std.specs.Prelude.{◌≡◌, ◌≢◌, ◌<◌, ◌+◌, ◌*◌, ◌-◌, ◌^◌, ℕ, zero, suc, Bool, true, false}
 use Rattle.std.specs.Prelude.{IsTrue, nat_eq}
-use Rattle.std.specs.Prelude.{is_some, position, List, [], ◌∷◌, length, sum_by, replicate}
+use Rattle.std.specs.Prelude.{is_some, position, filter, List, [], ◌∷◌, length, sum_by, replicate}
 use Rattle.std.specs.Prelude.{slice_index, Some, Result, Ok, if◌then◌else◌}
 use Rattle.bsc_frame.specs.declared.message.Message.TheVariants as m
 use Rattle.bsc_block.specs.Blocks.{blocks}
@@ -15,7 +15,7 @@ use Rattle.bsc_directory.specs.declared.way.Way.TheVariants.{ToTerminal}
 use Rattle.bsc_directory.specs.Addresses.{IsAddressOf}
 use Rattle.bsc_control.specs.Peer.{OutboundValue}
 use Rattle.bsc_control.specs.Control.{ControlValue, peer_at, terminals, current}
-use Rattle.bsc_control.specs.CallOrder.{Call, first_call, place_after}
+use Rattle.bsc_control.specs.CallOrder.{Call, first_call, place_after, is_polled, polled_place}
 use Rattle.bsc_control.specs.Kept.{IsTaskOf}
 use Rattle.bsc_line_model.specs.declared.transmission.Speaker.TheVariants.{Control}
 use Rattle.bsc_line_model.specs.declared.event.Event.{Event}
@@ -63,9 +63,13 @@ entries_length l seen (t ∷ ts) =
     (if is_seen t seen then 2 else visit_length l t)
     + entries_length l (t ∷ seen) ts
 
+-- the entries of the poll list whose terminals are polled
+abbrev pub polled_entries : LineValue → List ℕ
+polled_entries l = filter (is_polled l.control) l.control.poll_list
+
 -- the transmissions of a round of the poll list
 abbrev pub round_length : LineValue → ℕ
-round_length l = entries_length l [] l.control.poll_list
+round_length l = entries_length l [] (polled_entries l)
 
 -- the terminal that an entry of the poll list names
 abbrev pub entry_at : LineValue → ℕ → ℕ
@@ -86,15 +90,21 @@ pub record HasMadeCall (c : ControlValue) (call : Call) (address : List ℕ) : T
   pub called : IsAddressOf (terminals c) (current c) call.way address
   pub task : IsTaskOf call.way c.task
 
+-- the terminal of this entry is polled
+abbrev pub IsPolledEntry : LineValue → ℕ → Type 0
+IsPolledEntry l place = is_polled l.control (entry_at l place) ≡ true
+
 -- A visit begins: the first call of the entry is pending, which is the one that the call order
--- gives for the records that wait; the line is trusted, and every terminal in the poll list is
--- ready for a visit.
+-- gives for the records that wait; its terminal is polled; the line is trusted, and every terminal
+-- in the poll list that is polled is ready for a visit.
 pub record BeginsVisit (l : LineValue) (place : ℕ) : Type 0 where
   pub address : List ℕ
   pub pending : l.pending ≡ Some (record { speaker = Control; message = m.Call address })
   pub called : HasMadeCall l.control (first_call l.control place) address
+  pub polled : IsPolledEntry l place
   pub trusted : IsTrue l.trusted
-  pub visit_ready : (k : ℕ) → k < length l.control.poll_list → IsReadyForVisit l (entry_at l k)
+  pub visit_ready : (k : ℕ) → k < length l.control.poll_list → IsPolledEntry l k
+      → IsReadyForVisit l (entry_at l k)
 
 -- all records that were offered on a channel arrived, and are known to have arrived
 pub record IsAllDelivered (channel : Channel) : Type 0 where
@@ -122,13 +132,21 @@ pub record SameDelays (old new : LineValue) : Type 0 where
 abbrev pub sent_times : ℕ → List Event
 sent_times n = replicate n CarrySent
 
+-- the entry whose visit comes after that of this one: the next one whose terminal is polled
+abbrev pub next_visit : LineValue → ℕ → ℕ
+next_visit l place = polled_place l.control (place_after l.control.poll_list place)
+
+-- the entry whose visit is the first of a round: the first one whose terminal is polled
+abbrev pub first_visit : LineValue → ℕ
+first_visit l = polled_place l.control 0
+
 -- a visit is done: the records on the channels of the terminal are delivered, the channels of the
--- other terminals are unchanged, and the visit of the next entry begins
+-- other terminals are unchanged, and the visit of the next entry that is polled begins
 pub record IsVisited (old new : LineValue) (place : ℕ) : Type 0 where
   pub delivered : IsDelivered new (entry_at old place)
   pub others : (t : ℕ) (way : Way) → IsChannel old t way → t ≢ entry_at old place →
       channel_of new t way ≡ channel_of old t way
-  pub next : BeginsVisit new (place_after old.control.poll_list place)
+  pub next : BeginsVisit new (next_visit old place)
 
 -- these events are the transmissions of a visit from its beginning, as many as its length, each
 -- heard as it was sent, and no spool is refused room
@@ -143,16 +161,17 @@ abbrev pub DeliversVisit : LineValue → List Event → Result (Unit {0}) Stoppe
 DeliversVisit old events result new =
     (place : ℕ) → IsFairVisit old place events new → (result ≡ Ok tt) × IsVisited old new place
 
--- a round is done: the records on the channels of every terminal in the poll list are delivered,
--- and the next round begins
+-- a round is done: the records on the channels of every terminal in the poll list that is polled
+-- are delivered, and the next round begins
 pub record IsRoundDone (old new : LineValue) : Type 0 where
-  pub delivered : (k : ℕ) → k < length old.control.poll_list → IsDelivered new (entry_at old k)
-  pub next : BeginsVisit new 0
+  pub delivered : (k : ℕ) → k < length old.control.poll_list → IsPolledEntry old k
+      → IsDelivered new (entry_at old k)
+  pub next : BeginsVisit new (first_visit old)
 
 -- these events are the transmissions of a round from its beginning, as many as its length, each
 -- heard as it was sent, and no spool is refused room
 pub record IsFairRound (old : LineValue) (events : List Event) (new : LineValue) : Type 0 where
-  pub begins : BeginsVisit old 0
+  pub begins : BeginsVisit old (first_visit old)
   pub transmissions : events ≡ sent_times (round_length old)
   pub delays : SameDelays old new
 
@@ -178,3 +197,17 @@ SeesLast = (t e : ℕ) (seen : List ℕ) → t ≡ e → is_seen t (e ∷ seen) 
 
 abbrev pub SeesEarlier : Type 0
 SeesEarlier = (t e : ℕ) (seen : List ℕ) → t ≢ e → is_seen t (e ∷ seen) ≡ is_seen t seen
+
+-- if every terminal in the poll list is polled, no entry is passed over, and all are visited in a
+-- round
+abbrev pub IsPolledWhole : LineValue → Type 0
+IsPolledWhole l = (k : ℕ) → k < length l.control.poll_list → IsPolledEntry l k
+
+abbrev pub WholeListIsVisited : Type 0
+WholeListIsVisited =
+    (l : LineValue) → IsPolledWhole l → polled_entries l ≡ l.control.poll_list
+
+abbrev pub WholeListPassesNone : Type 0
+WholeListPassesNone =
+    (l : LineValue) (place : ℕ) → IsPolledWhole l → place < length l.control.poll_list
+    → polled_place l.control place ≡ place

@@ -198,8 +198,9 @@ pub record IsPolling (pending : Option Transmission) (c : ControlValue)
       × IsPolledWith pending replied (peer c) (current c) ts)
       ⊎ IsInBidUp pending (peer c) (current c) (terminal_in ts (current c))
 
--- the control station is at rest, from its start or since it began again: it sent nothing; a
--- terminal may still send, and all channels are sound
+-- the control station is at rest, from its start, since it began again, or since no terminal is
+-- polled: it sent nothing; after it began again a terminal may still send, and all channels are
+-- sound
 pub record IsAtStart (pending : Option Transmission) (c : ControlValue)
     (ts : List TributaryValue) : Type 0 where
   pub silent : speaker_of pending ≢ Some Control

@@ -25,7 +25,8 @@ ghost use Rattle.bsc_line_model.specs.RestartExamples.{NoTextIsHeardLate, NeedsN
 ghost use Rattle.bsc_line_model.specs.Headline.{RunsKeepRecords};
 ghost use Rattle.bsc_line_model.specs.Octets.{AllFairInOctets, FairInOctets};
 ghost use Rattle.bsc_line_model.specs.Rounds.{RunsDeliverVisit, RunsDeliverRound, SeesLast};
-ghost use Rattle.bsc_line_model.specs.Rounds.{SeesEarlier};
+ghost use Rattle.bsc_line_model.specs.Rounds.{SeesEarlier, WholeListIsVisited};
+ghost use Rattle.bsc_line_model.specs.Rounds.{WholeListPassesNone};
 ghost use Rattle.bsc_line_model.specs.Together.{AreSound};
 ghost use Rattle.bsc_line_model.specs.TurnedBits.{TurnedIsFair, TurnedAlikeIsFair};
 ghost use Rattle.bsc_line_model.specs.TurnedBits.{TurnedEachIsFair, TurnedForSomeIsFair};
@@ -167,7 +168,7 @@ pub fn headline()
 
 /// Delivery within a visit: if all transmissions are heard and no spool is refused room, exactly as
 /// many transmissions as the length of the visit deliver all records that wait on the channels of
-/// its terminal, and then the visit of the next entry begins.
+/// its terminal, and then the visit of the next entry begins whose terminal is polled.
 pub fn visit()
     ensures { RunsDeliverVisit }
 {
@@ -177,13 +178,20 @@ pub fn visit()
 
 /// Delivery within a round: if all transmissions are heard and no spool is refused room, exactly as
 /// many transmissions as the length of the round deliver all records that wait on the channels of
-/// every terminal in the poll list, and then the next round begins.
+/// every terminal in the poll list that is polled, and then the next round begins.
 pub fn round()
     ensures { RunsDeliverRound }
 {
     cut_into_blocks();
     own_addresses();
 }
+
+/// If every terminal in the poll list is polled, a round visits each entry of it, and no entry is
+/// passed over.
+pub fn whole_list()
+    ensures visited { WholeListIsVisited }
+    ensures passes { WholeListPassesNone }
+{}
 
 /// Which terminals were visited, entry by entry of the poll list.
 pub fn seen_terminals()

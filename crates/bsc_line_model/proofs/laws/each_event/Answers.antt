@@ -3,7 +3,7 @@ use Rattle.bsc_line_model.proofs.EachEvent.{new_line_stays, setups_kept_by_carry
 use Rattle.bsc_line_model.proofs.EachEvent.{setups_kept_by_carry_up, silence_stays}
 use Rattle.bsc_line_model.proofs.EachEvent.{offer_at_stays, ready_stays, urgent_at_stays}
 use Rattle.bsc_line_model.proofs.EachEvent.{release_from_stays, offer_for_stays, urgent_for_stays}
-use Rattle.bsc_line_model.proofs.EachEvent.{release_to_stays}
+use Rattle.bsc_line_model.proofs.EachEvent.{polled_stays, release_to_stays}
 use Rattle.bsc_line_model.proofs.TerminalRestarts.{restart_stays}
 use Rattle.bsc_line_model.proofs.laws.each_event.Goals as goal
 
@@ -43,6 +43,9 @@ returns-clause-offer_for c = offer_for_stays c.bid_laws.ensures
 
 pub returns-clause-urgent_for : goal.returns-clause-urgent_for
 returns-clause-urgent_for c = urgent_for_stays
+
+pub returns-clause-polled : goal.returns-clause-polled
+returns-clause-polled c = polled_stays
 
 pub returns-clause-release_to : goal.returns-clause-release_to
 returns-clause-release_to c = release_to_stays c.bid_laws.ensures
