@@ -38,6 +38,7 @@ use Rattle.bsc_control.specs.Table.{performed, poll_call_step, polling_step, rec
 use Rattle.bsc_control.specs.Table.{rooms_after, selecting_step, silence_in, task_step}
 use Rattle.bsc_control.specs.Table.{way_call_step}
 use Rattle.bsc_control.specs.Stored.{kept_of_side}
+use Rattle.bsc_control.proofs.Calls.{by_next_call}
 use Rattle.bsc_control.proofs.PeerLists.{value_kept_by_set}
 use Rattle.bsc_keeping.specs.Ends.{kept_at_control}
 use Rattle.bsc_restarts.proofs.Ends.{ReceivedGrows, SentGrows, SentGrowsIf, grown_where, grows_not}
@@ -77,7 +78,9 @@ way_call_stays c place (ToTerminal select) t s =
 
 next_call_stays : (c : ControlValue) (after : After)
     → SidesStay c (next_call_step c after).control
-next_call_stays c after = way_call_stays c (next_call c after).place (next_call c after).way
+next_call_stays c after =
+    by_next_call (λ (step : ControlStep). SidesStay c step.control) c after (λ t s. refl)
+    (way_call_stays c (next_call c after).place (next_call c after).way)
 
 -- an element that knows more takes the place of one
 pub know_at_set : (xs : List OutboundValue) (i j : ℕ) (x : OutboundValue)

@@ -1,11 +1,11 @@
 //! The number of transmissions that a visit of a terminal and a round of the poll list take.
 
-ghost use Rattle.std.specs.Prelude.{◌≡◌, ◌<◌, ◌+◌, if◌then◌else◌};
+ghost use Rattle.std.specs.Prelude.{◌≡◌, ◌<◌, ◌+◌};
 ghost use Rattle.bsc_line_model.specs.Kept.{IsLine};
 ghost use Rattle.bsc_line_model.specs.Line.{terminal_count};
 ghost use Rattle.bsc_line_model.specs.Rounds.{visit_length, round_length};
 ghost use Rattle.bsc_line_model.specs.Rounds.{selection_length as selection, poll_length as poll};
-ghost use Rattle.bsc_line.specs.Counts.{in_u64};
+ghost use Rattle.bsc_line.specs.Counts.{entry_length, in_u64};
 
 use crate::line::Line;
 use bsc_directory::limits::MAX_TERMINALS;
@@ -31,8 +31,8 @@ impl<A: Allocator> Line<A> {
     }
 
     /// Returns the number of transmissions that a round of the poll list takes if all are heard: a
-    /// visit at the first entry of each terminal, and 2 at each later entry of it. The number
-    /// saturates at `u64::MAX`.
+    /// visit at the first entry of each terminal that is polled, and 2 at each later entry of it.
+    /// The number saturates at `u64::MAX`.
     pub fn round(&self) -> u64
         ensures value { result ≡ in_u64 (round_length self.now) }
         ensures line { IsLine self.now }
@@ -49,12 +49,14 @@ impl<A: Allocator> Line<A> {
     }
 
     /// Adds the transmissions of one more entry to this total: a visit of its terminal, or 2 if the
-    /// terminal was visited before.
+    /// terminal was visited before, or none if it is not polled.
     fn with_entry(&self, total: u64, terminal: usize, seen: bool) -> u64
         requires { terminal < terminal_count self.now }
-        ensures { result ≡
-            in_u64 (total + (if seen then 2 else visit_length self.now terminal)) }
+        ensures { result ≡ in_u64 (total + entry_length self.now seen terminal) }
     {
+        if !self.control.is_polled(terminal) {
+            return total;
+        }
         if seen {
             return total.saturating_add(2);
         }

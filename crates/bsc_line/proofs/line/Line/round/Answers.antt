@@ -1,13 +1,15 @@
 -- `round` returns the length of a round.
-use Rattle.std.proofs.Common.{◌≡◌, ◌<◌, ◌≤◌, ◌+◌, ℕ, List, length, drop, get_or, false, true, refl}
+use Rattle.std.proofs.Common.{◌≡◌, ◌<◌, ◌≤◌, ◌+◌, ℕ, List, length, drop, filter, get_or, false, true, refl}
 use Rattle.std.proofs.Common.{sym, ◌∙◌, ap, subst, arith}
 use Rattle.std.proofs.lemmas.List.{drop_all, length-set, get_or-replicate}
 use Rattle.bsc_directory.specs.declared.limits.TheConstants.{MAX_TERMINALS}
+use Rattle.bsc_control.specs.CallOrder.{is_polled}
 use Rattle.bsc_control.specs.Kept.{IsControl}
 use Rattle.bsc_line_model.specs.Line.{LineValue}
 use Rattle.bsc_line_model.specs.Rounds.{entries_length, round_length}
 use Rattle.bsc_line.specs.Counts.{in_u64}
-use Rattle.bsc_line.proofs.Lengths.{seen_before, saturated_from_zero, saturated_with_zero}
+use Rattle.bsc_line.proofs.Lengths.{polled_from, seen_before, saturated_from_zero}
+use Rattle.bsc_line.proofs.Lengths.{saturated_with_zero}
 use Rattle.bsc_line.proofs.Lengths.{entry_added}
 use Rattle.bsc_line.proofs.Lengths.{terminal_of_entry_is_marked}
 use Rattle.bsc_line.proofs.line.Line.round.Goals as goal
@@ -49,7 +51,8 @@ loop-entry-preserved g c =
           c.loop-entry.seen k c.from-terminal.result c.loop-entry.invariant.sized there named
           c.loop-entry.invariant.seen;
       total =
-          entry_added c.args.self.now list k c.loop-entry.total c.with_entry-total.result
+          entry_added c.seen_terminals.ensures.last c.seen_terminals.ensures.earlier
+          c.args.self.now list k c.loop-entry.total c.with_entry-total.result
           c.from-terminal.result (get_or c.loop-entry.seen c.from-terminal.result false) less
           named
           (c.loop-entry.invariant.seen c.from-terminal.result there ∙ refl)
@@ -66,8 +69,10 @@ returns-clause-value g c =
     let count : length c.poll_list-entry-items.result.now ≡ length list =
     ap (λ (ts : List ℕ). length ts) items in
     let all : length list ≤ k = omega (arith, count, c.loop-entry-test.false) in
-    let none : entries_length c.args.self.now (seen_before list k) (drop k list) ≡ 0 =
-    ap (λ (ts : List ℕ). entries_length c.args.self.now (seen_before list k) ts)
+    let none : entries_length c.args.self.now (seen_before list k)
+    (polled_from c.args.self.now list k) ≡ 0 =
+    ap (λ (ts : List ℕ). entries_length c.args.self.now (seen_before list k)
+    (filter (is_polled c.args.self.now.control) ts))
     (drop_all k list all) in
     sym (saturated_with_zero c.loop-entry.total c.loop-entry.invariant.fits)
     ∙ ap (λ (n : ℕ). in_u64 (c.loop-entry.total + n)) (sym none) ∙ c.loop-entry.invariant.total

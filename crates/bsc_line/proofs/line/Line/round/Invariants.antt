@@ -1,9 +1,9 @@
 -- The entries so far have been counted.
-use Rattle.std.proofs.Common.{◌≡◌, ◌<◌, ◌+◌, ◌^◌, ℕ, drop, false, length, get_or}
+use Rattle.std.proofs.Common.{◌≡◌, ◌<◌, ◌+◌, ◌^◌, ℕ, false, length, get_or}
 use Rattle.bsc_directory.specs.declared.limits.TheConstants.{MAX_TERMINALS}
 use Rattle.bsc_line_model.specs.Rounds.{entries_length, round_length, is_seen}
 use Rattle.bsc_line.specs.Counts.{in_u64}
-use Rattle.bsc_line.proofs.Lengths.{seen_before}
+use Rattle.bsc_line.proofs.Lengths.{polled_from, seen_before}
 use Rattle.bsc_line.proofs.line.Line.round.Given as goal
 
 -- the terminals that were visited are marked, and the total so far and the remaining entries make
@@ -16,5 +16,5 @@ invariant-loop-entry g l = record {
       ≡ is_seen t (seen_before l.self.control.poll_list l.entry-index);
   total : in_u64 (l.total + entries_length l.self
       (seen_before l.self.control.poll_list l.entry-index)
-      (drop l.entry-index l.self.control.poll_list)) ≡ in_u64 (round_length l.self);
+      (polled_from l.self l.self.control.poll_list l.entry-index)) ≡ in_u64 (round_length l.self);
 }
