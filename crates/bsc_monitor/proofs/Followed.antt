@@ -32,9 +32,10 @@ use Rattle.bsc_control.specs.Table.{replied_after, is_interrupted, poll_call_ste
 use Rattle.bsc_control.specs.Table.{next_call_step, performed, after_step, bid_step, after_bid}
 use Rattle.bsc_control.specs.Table.{selecting_step, receive_step, polling_step, task_step, repeated}
 use Rattle.bsc_control.specs.Table.{silence_in, rooms_after}
+use Rattle.bsc_control.proofs.Calls.{by_next_call}
 use Rattle.bsc_control.proofs.Steps.{reply_is_no_call}
-use Rattle.bsc_monitor.specs.Visits.{is_begun, calls_anew, polled_in, polled_by, ended_by}
-use Rattle.bsc_monitor.specs.Visits.{FollowsStep}
+use Rattle.bsc_monitor.specs.Visits.{is_at_rest, is_begun, calls_anew, polled_in, polled_by}
+use Rattle.bsc_monitor.specs.Visits.{has_acted, ended_by, FollowsStep}
 
 -- a call of the call order is sent, and repeats none
 way_call_is_sent : (c : ControlValue) (place : ℕ) (way : Way)
@@ -52,17 +53,39 @@ way_call_ends_poll : (polled : Option ℕ) (c : ControlValue) (place : ℕ) (way
 way_call_ends_poll polled c place FromTerminal = refl
 way_call_ends_poll polled c place (ToTerminal s) = refl
 
+way_call_acts : (c : ControlValue) (place : ℕ) (way : Way)
+    → has_acted (way_call_step c place way) ≡ true
+way_call_acts c place FromTerminal = refl
+way_call_acts c place (ToTerminal s) = refl
+
+-- and so is the next call, or the station rests
+next_call_acts : (c : ControlValue) (after : After) → has_acted (next_call_step c after) ≡ true
+next_call_acts c after =
+    by_next_call (λ (step : ControlStep). has_acted step ≡ true) c after refl
+    (way_call_acts c (next_call c after).place (next_call c after).way)
+
+next_call_calls_anew : (c : ControlValue) (after : After)
+    → calls_anew (next_call_step c after).control ≡ true
+next_call_calls_anew c after =
+    by_next_call (λ (step : ControlStep). calls_anew step.control ≡ true) c after refl
+    (way_call_calls_anew c (next_call c after).place (next_call c after).way)
+
+next_call_ends_poll : (polled : Option ℕ) (c : ControlValue) (after : After)
+    → ended_by polled (next_call_step c after) ≡ polled
+next_call_ends_poll polled c after =
+    by_next_call (λ (step : ControlStep). ended_by polled step ≡ polled) c after refl
+    (way_call_ends_poll polled c (next_call c after).place (next_call c after).way)
+
 -- the next call is made after a poll
 follows_next_call_after_poll : (c : ControlValue) (replied : Replied) → c.task ≡ Polling replied
     → FollowsStep c (next_call_step c (Poll (is_interrupted replied)))
 follows_next_call_after_poll c replied e =
-    let call = next_call c (Poll (is_interrupted replied)) in
-    let made = way_call_is_sent c call.place call.way in
+    let after : After = Poll (is_interrupted replied) in
     let polled : polled_by c ≡ Some c.place = ap (λ (t : Task). polled_in t c.place) e in
-    let ended : ended_by (polled_by c) (next_call_step c (Poll (is_interrupted replied)))
-    ≡ Some c.place = way_call_ends_poll (polled_by c) c call.place call.way ∙ polled in
+    let ended : ended_by (polled_by c) (next_call_step c after)
+    ≡ Some c.place = next_call_ends_poll (polled_by c) c after ∙ polled in
     record {
-      quiet = λ none. absurd (let h = made.1 in cc);
+      quiet = λ none. absurd (let both : true ≡ false = sym (next_call_acts c after) ∙ none in cc);
       ended = λ entry. (
         λ is. record { replied = replied; polling = e; place = cc; row = refl },
         λ on. let there = on.place in ended ∙ ap (λ (n : ℕ). Some n) (sym there),
@@ -71,7 +94,7 @@ follows_next_call_after_poll c replied e =
 
 -- no visit ends, and the station does not go on
 follows_while_no_visit_ends : (c : ControlValue) (step : ControlStep)
-    → (step.sent ≡ None → polled_by step.control ≡ polled_by c)
+    → (has_acted step ≡ false → polled_by step.control ≡ polled_by c)
     → ((entry : ℕ) → ended_by (polled_by c) step ≡ Some entry → ⊥)
     → ((replied : Replied) → c.task ≡ Polling replied
     → step ≡ next_call_step c (Poll (is_interrupted replied)) → ⊥)
@@ -94,20 +117,20 @@ no_end_of_any_test false b entry is = cc
 -- no entry is polled before the step
 follows_unpolled : (c : ControlValue) (step : ControlStep) → polled_by c ≡ None
     → ((replied : Replied) → c.task ≡ Polling replied → ⊥)
-    → (step.sent ≡ None → polled_by step.control ≡ None) → FollowsStep c step
+    → (has_acted step ≡ false → polled_by step.control ≡ None) → FollowsStep c step
 follows_unpolled c step unpolled other quiet =
     follows_while_no_visit_ends c step (λ none. quiet none ∙ sym unpolled)
-    (λ entry is. no_end_of_any_test (is_some step.sent) (calls_anew step.control) entry
+    (λ entry is. no_end_of_any_test (has_acted step) (calls_anew step.control) entry
     (subst (λ (p : Option ℕ). ended_by p step ≡ Some entry) unpolled is))
     (λ replied e row. other replied e)
 
 -- a step of the sender, and the act that it leads to
 performs_quiet : (c : ControlValue) (s : ℕ) (outcome : Outcome) (message : Option Message)
-    (after : After) → polled_by c ≡ None → (performed c s outcome message after).sent ≡ None
+    (after : After) → polled_by c ≡ None → has_acted (performed c s outcome message after) ≡ false
     → polled_by (performed c s outcome message after).control ≡ None
 performs_quiet c s o.Sends message after unpolled none = refl
 performs_quiet c s o.Over message after unpolled none =
-    let h = (way_call_is_sent c (next_call c after).place (next_call c after).way).1 in absurd (cc)
+    absurd (let both : true ≡ false = sym (next_call_acts c after) ∙ none in cc)
 performs_quiet c s o.Quiet message after unpolled none = unpolled
 
 follows_bid : (c : ControlValue) (task : Task) (s : ℕ) (step : SenderStep) (after : After)
@@ -123,9 +146,8 @@ follows_call : (c : ControlValue) (task : Task) (after : After) → c.task ≡ t
     → FollowsStep c (next_call_step c after)
 follows_call c task after e unpolled other =
     let is : polled_by c ≡ None = ap (λ (t : Task). polled_in t c.place) e ∙ unpolled in
-    let h = (way_call_is_sent c (next_call c after).place (next_call c after).way).1 in
     follows_unpolled c (next_call_step c after) is (λ replied f. other replied (sym e ∙ f))
-    (λ none. absurd (cc))
+    (λ none. absurd (let both : true ≡ false = sym (next_call_acts c after) ∙ none in cc))
 
 -- something else is sent, or nothing, and the task stays one without a poll
 follows_outside_of_polls : (c : ControlValue) (task : Task) (step : ControlStep) → c.task ≡ task
@@ -179,7 +201,7 @@ replied_not_begun Interrupted Wack = refl
 replied_not_begun Interrupted Rvi = refl
 
 reply_ends_none : (replied : Replied) (r : Option Reply) (first : Bool) (polled : Option ℕ) (entry : ℕ)
-    → (if is_some (option_map m.Reply r)
+    → (if is_some (option_map m.Reply r) || is_at_rest (Polling (replied_after replied r))
     then (if is_begun (Polling (replied_after replied r)) && first then polled else None)
     else None) ≡ Some entry → ⊥
 reply_ends_none replied None first polled entry is = cc
@@ -189,6 +211,20 @@ reply_ends_none replied (Some r) first polled entry is =
     (replied_not_begun replied r) is in
     cc
 
+-- a receiver makes no call, and the poll goes on
+receives_no_call : (c : ControlValue) (replied : Replied) (step : ReceiverStep) (after : After)
+    → receive_step c replied step ≡ next_call_step c after → ⊥
+receives_no_call c replied step after =
+    by_next_call (λ (x : ControlStep). receive_step c replied step ≡ x → ⊥) c after
+    (λ row.
+    let no : Polling (replied_after replied step.reply) ≡ AtRest =
+    ap (λ (x : ControlStep). x.control.task) row in
+    cc)
+    (λ row.
+    let call = next_call c after in
+    let made = way_call_is_sent c call.place call.way in
+    reply_is_no_call step.reply made.0 (ap (λ (x : ControlStep). x.sent) row ∙ made.1))
+
 -- the receiver replies, or keeps silent
 follows_receiving : (c : ControlValue) (replied : Replied) (step : ReceiverStep) → c.task
     ≡ Polling replied → FollowsStep c (receive_step c replied step)
@@ -196,10 +232,7 @@ follows_receiving c replied step e =
     follows_while_no_visit_ends c (receive_step c replied step)
     (λ none. sym (ap (λ (t : Task). polled_in t c.place) e))
     (λ entry is. reply_ends_none replied step.reply (nat_eq c.failures 0) (polled_by c) entry is)
-    (λ other f row.
-    let call = next_call c (Poll (is_interrupted other)) in
-    let made = way_call_is_sent c call.place call.way in
-    reply_is_no_call step.reply made.0 (ap (λ (x : ControlStep). x.sent) row ∙ made.1))
+    (λ other f. receives_no_call c replied step (Poll (is_interrupted other)))
 
 follows_heard : (c : ControlValue) (h : Heard) (replied : Replied) (rooms : Rooms) → c.task
     ≡ Polling replied → FollowsStep c (receive_step c replied
@@ -249,8 +282,7 @@ follows_repeat c e =
     subst (λ (b : Bool). (if b then polled_by c else None) ≡ Some entry) failed is in
     cc)
     (λ replied f row.
-    let call = next_call c (Poll (is_interrupted replied)) in
-    let anew = way_call_calls_anew c call.place call.way in
+    let anew = next_call_calls_anew c (Poll (is_interrupted replied)) in
     let same = ap (λ (x : ControlStep). calls_anew x.control) row in
     cc)
 

@@ -2,7 +2,8 @@
 
 ghost use Rattle.std.specs.Prelude.{◌≡◌, ◌-◌, length, not, true};
 ghost use Rattle.bsc_connections.specs.Notes.{told_by};
-ghost use Rattle.bsc_monitor.specs.Progress.{after_event, after_sent, ends_when_sent, ends_with};
+ghost use Rattle.bsc_monitor.specs.Progress.{after_event, after_act, after_rest, ends_after_act};
+ghost use Rattle.bsc_monitor.specs.Progress.{ends_at_rest, ends_with};
 ghost use Rattle.bsc_monitor.specs.Progress.{begins_after_pause, known_in, pace_after};
 ghost use Rattle.bsc_monitor.specs.Progress.{progress_after, progress_of};
 
@@ -10,7 +11,7 @@ use crate::rounds::{Limits, Rounds};
 use crate::visits::Visits;
 use crate::{station_counts, station_standing};
 use bsc_connections::{Note, Pace};
-use bsc_control::Control;
+use bsc_control::{Control, Task};
 use std::alloc::Allocator;
 
 /// The visits and rounds that a control station has made, and whether it has ended.
@@ -84,7 +85,7 @@ impl Progress {
         ensures { result ≡ begins_after_pause self.now control.now }
     {
         let mut visits = self.visits;
-        match visits.sent(control) {
+        match visits.acted(control) {
             Some(entry) => {
                 let more = station_standing(control).waiting;
                 let known = known_in(control);
@@ -128,29 +129,44 @@ impl Progress {
         ensures ends { result ≡ ends_with self.old control.now (told_by note.now) }
     {
         match note {
-            Note::Sent { .. } => self.count_sent(control),
+            Note::Sent { .. } => self.count_act(control),
             Note::Closed { .. } => {
                 self.closed = !self.listens;
                 self.closed
             }
-            Note::Silence => self.stopped,
+            Note::Silence => {
+                let is_over = self.count_rest(control);
+                self.stopped || is_over
+            }
             Note::Stopped => {
                 let was_stopped = self.stopped;
                 self.stopped = true;
                 was_stopped
             }
-            Note::Heard { .. } | Note::Ignored { .. } | Note::Withheld { .. } => false,
+            Note::Heard { .. } => self.count_rest(control),
+            Note::Ignored { .. } | Note::Withheld { .. } => false,
             Note::Joined { .. } | Note::Refused { .. } | Note::Client => false,
         }
     }
 
-    /// Counts a transmission of the control station. Returns `true` if it has made enough rounds,
-    /// or a visit has ended after it was asked to end.
-    fn count_sent<B: Allocator>(&mut self, control: &Control<B>) -> bool
-        ensures state { self.new ≡ after_sent self.old control.now }
-        ensures ends { result ≡ ends_when_sent self.old control.now }
+    /// Counts that the control station has come to rest, if it has. Returns what `count_act` does.
+    fn count_rest<B: Allocator>(&mut self, control: &Control<B>) -> bool
+        ensures state { self.new ≡ after_rest self.old control.now }
+        ensures ends { result ≡ ends_at_rest self.old control.now }
     {
-        let Some(entry) = self.visits.sent(control) else {
+        match control.task() {
+            Task::AtRest => self.count_act(control),
+            _ => false,
+        }
+    }
+
+    /// Counts a transmission of the control station, or that it has come to rest. Returns `true` if
+    /// it has made enough rounds, or a visit has ended after it was asked to end.
+    fn count_act<B: Allocator>(&mut self, control: &Control<B>) -> bool
+        ensures state { self.new ≡ after_act self.old control.now }
+        ensures ends { result ≡ ends_after_act self.old control.now }
+    {
+        let Some(entry) = self.visits.acted(control) else {
             return false;
         };
         let more = station_standing(control).waiting;

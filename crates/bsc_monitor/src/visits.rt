@@ -7,7 +7,8 @@ use bsc_control::{Control, Replied, Task};
 use std::alloc::Allocator;
 
 /// The visits to the entries: the selections of an entry's terminal for which records wait, and
-/// then its poll. A visit ends when a call after the poll is sent that does not repeat the poll.
+/// then its poll. A visit ends when a call after the poll is sent that does not repeat the poll, or
+/// when the station comes to rest.
 #[derive(Clone, Copy)]
 pub(crate) struct Visits {
     /// The entry whose poll was going on after the last transmission of the control station.
@@ -22,9 +23,9 @@ impl Visits {
         Visits { polled: None }
     }
 
-    /// Takes note that this control station has just sent something. Returns the entry whose visit
-    /// has ended with it.
-    pub fn sent<A: Allocator>(&mut self, control: &Control<A>) -> Option<usize>
+    /// Takes note that this control station has just sent something, or come to rest. Returns the
+    /// entry whose visit has ended with it.
+    pub fn acted<A: Allocator>(&mut self, control: &Control<A>) -> Option<usize>
         ensures state { self.new ≡ visits_of (polled_by control.now) }
         ensures ended { result ≡ visit_ended self.old.polled control.now }
     {
@@ -34,14 +35,15 @@ impl Visits {
     }
 }
 
-/// Whether what the control station has just sent is a call that repeats none.
+/// Whether what the control station has just done is a call that repeats none, or to come to rest.
 fn calls_anew<A: Allocator>(control: &Control<A>) -> bool
     ensures { result ≡ calls_anew control.now }
 {
     let is_begun = match control.task() {
+        Task::AtRest => true,
         Task::Selecting { enquired, .. } => !enquired,
         Task::Polling { replied } => matches!(replied, Replied::Nothing),
-        Task::AtRest | Task::Sending { .. } => false,
+        Task::Sending { .. } => false,
     };
     is_begun && control.failures() == 0
 }
