@@ -23,7 +23,7 @@ use Rattle.bsc_line_model.proofs.Carrying.{line_kept_by_hearing_control}
 use Rattle.bsc_line_model.proofs.Carrying.{line_kept_by_hearing_terminal, line_silent}
 use Rattle.bsc_line_model.proofs.Carrying.{line_kept_by_terminal_silence, line_set}
 use Rattle.bsc_line_model.proofs.Carrying.{line_peer, terminal_full, outbound_full}
-use Rattle.bsc_line_model.proofs.Likeness.{IsLike, flags_like, polled_like}
+use Rattle.bsc_line_model.proofs.Likeness.{IsLike, flags_like, polled_flag_like}
 use Rattle.bsc_line_model.proofs.Likeness.{offer_at_like, offer_for_like, release_from_like}
 use Rattle.bsc_line_model.proofs.Likeness.{release_to_like}
 use Rattle.bsc_line_model.proofs.Making.{new_line}
@@ -149,7 +149,7 @@ pub polled_stays : PolledStays
 polled_stays l t polled c line there is e =
     line_peer l.control c l.terminals l.pending l.trusted l.addressed t _ line
     (peer_of_terminal l t line there) e is
-    (polled_like (peer_at l.control t) (terminal_at l t) polled)
+    (polled_flag_like (peer_at l.control t) (terminal_at l t) polled)
 
 pub release_to_stays : BidLaws → ReleaseToStays
 release_to_stays bids l t s c line there select is e =

@@ -338,9 +338,9 @@ flags_like p x for_it ready at_it =
     }
 
 -- whether the terminal is polled
-pub polled_like : (p : PeerValue) (x : TributaryValue) (polled : Bool)
+pub polled_flag_like : (p : PeerValue) (x : TributaryValue) (polled : Bool)
     → IsLike p x (record p { polled = polled }) x
-polled_like p x polled =
+polled_flag_like p x polled =
     record {
       terminal = refl;
       outbounds = refl;

@@ -1,7 +1,7 @@
 -- A poll in which all is heard: after the call, two transmissions for each block, and EOT, all
 -- records that waited are delivered and known, and the first call of the next entry is pending.
 use Rattle.std.proofs.Common.{◌≡◌, ◌≢◌, ◌⊎◌, inl, inr, ℕ, zero, suc, ◌+◌, ◌*◌, ◌^◌, ◌-◌, ◌<◌}
-use Rattle.std.proofs.Common.{false, List, length, Option, None, Some, Result, refl}
+use Rattle.std.proofs.Common.{false, true, List, length, Option, None, Some, Result, refl}
 use Rattle.std.proofs.Common.{sym, ◌∙◌, ap, subst, arith}
 use Rattle.bsc_frame.specs.declared.message.Message.{Message}
 use Rattle.bsc_frame.specs.declared.message.Message.TheVariants as msg
