@@ -1,7 +1,7 @@
 -- The events of the steps of a script.
 use Rattle.std.specs.Prelude.{ℕ}
 use Rattle.bsc_script.specs.Events.{Event, offer_at, offer_for, carry, lose, heard, heard_each}
-use Rattle.bsc_script.specs.Events.{silence, ready, urgent_at, urgent_for, release}
+use Rattle.bsc_script.specs.Events.{silence, ready, polled, urgent_at, urgent_for, release}
 use Rattle.bsc_script.specs.declared.action.Action.{Action}
 use Rattle.bsc_script.specs.declared.action.Action.TheVariants as act
 use Rattle.bsc_script.specs.declared.action.Step.{Step}
@@ -21,6 +21,7 @@ event_in (act.Heard octets) = heard octets
 event_in (act.HeardEach items) = heard_each items.items
 event_in act.Silence = silence
 event_in (act.Ready t takes) = ready t takes
+event_in (act.Polled t on) = polled t on
 event_in (act.UrgentAt t) = urgent_at t
 event_in (act.UrgentFor t) = urgent_for t
 event_in (act.Release t way) = release t way

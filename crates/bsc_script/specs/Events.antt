@@ -10,8 +10,8 @@ use Rattle.bsc_input.specs.Words.{first_word, after_word, words_of}
 use Rattle.bsc_script.specs.declared.keyword.Keyword.{Keyword}
 use Rattle.bsc_script.specs.declared.keyword.Keyword.TheVariants.{OfferAt, OfferFor, OfferTo, Carry}
 use Rattle.bsc_script.specs.declared.keyword.Keyword.TheVariants.{Lose, Heard, HeardEach, Silence}
-use Rattle.bsc_script.specs.declared.keyword.Keyword.TheVariants.{Ready, Unready, UrgentAt}
-use Rattle.bsc_script.specs.declared.keyword.Keyword.TheVariants.{UrgentFor, Release}
+use Rattle.bsc_script.specs.declared.keyword.Keyword.TheVariants.{Ready, Unready, PollOn, PollOff}
+use Rattle.bsc_script.specs.declared.keyword.Keyword.TheVariants.{UrgentAt, UrgentFor, Release}
 use Rattle.bsc_script.specs.Transmissions.{transmission_of, items_of}
 
 -- What happens on a line. Terminals and selection addresses are numbers, whether or not the line
@@ -33,6 +33,8 @@ pub data Event : Type 0 where
   silence : Event
   -- a terminal starts or stops accepting selections
   ready : ℕ → Bool → Event
+  -- the control station starts or stops polling a terminal
+  polled : ℕ → Bool → Event
   -- a terminal asks the control station for the line
   urgent_at : ℕ → Event
   -- the control station asks a terminal for the line
@@ -53,6 +55,8 @@ event_keyword word =
     if bytes_eq word (codes "silence") then Some Silence else
     if bytes_eq word (codes "ready") then Some Ready else
     if bytes_eq word (codes "unready") then Some Unready else
+    if bytes_eq word (codes "poll-on") then Some PollOn else
+    if bytes_eq word (codes "poll-off") then Some PollOff else
     if bytes_eq word (codes "urgent-at") then Some UrgentAt else
     if bytes_eq word (codes "urgent-for") then Some UrgentFor else
     if bytes_eq word (codes "release") then Some Release else None
@@ -124,6 +128,8 @@ event_with Heard rest = option_map heard (transmission_of rest)
 event_with HeardEach rest = option_map heard_each (items_of (words_of rest))
 event_with Ready rest = option_map (λ t. ready t true) (terminal_of rest)
 event_with Unready rest = option_map (λ t. ready t false) (terminal_of rest)
+event_with PollOn rest = option_map (λ t. polled t true) (terminal_of rest)
+event_with PollOff rest = option_map (λ t. polled t false) (terminal_of rest)
 event_with UrgentAt rest = option_map urgent_at (terminal_of rest)
 event_with UrgentFor rest = option_map urgent_for (terminal_of rest)
 event_with Release rest = release_of rest

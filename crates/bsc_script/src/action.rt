@@ -49,6 +49,12 @@ pub enum Action<'a, A: Allocator> {
         ready: bool,
     },
 
+    /// The control station starts or stops polling a terminal.
+    Polled {
+        terminal: usize,
+        polled: bool,
+    },
+
     /// A terminal asks the control station for the line.
     UrgentAt {
         terminal: usize,

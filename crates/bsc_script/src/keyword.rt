@@ -17,6 +17,8 @@ pub(crate) enum Keyword {
     Silence,
     Ready,
     Unready,
+    PollOn,
+    PollOff,
     UrgentAt,
     UrgentFor,
     Release,
@@ -46,6 +48,10 @@ pub(crate) fn read_keyword(word: &[u8]) -> Option<Keyword>
         Some(Keyword::Ready)
     } else if spells(word, "unready") {
         Some(Keyword::Unready)
+    } else if spells(word, "poll-on") {
+        Some(Keyword::PollOn)
+    } else if spells(word, "poll-off") {
+        Some(Keyword::PollOff)
     } else if spells(word, "urgent-at") {
         Some(Keyword::UrgentAt)
     } else if spells(word, "urgent-for") {

@@ -14,6 +14,7 @@
 //! | `heard-each ITEM ITEM ..` | each terminal hears its item in place of it |
 //! | `silence` | a time-out passes in which nothing is heard |
 //! | `ready T`, `unready T` | terminal T starts or stops accepting selections |
+//! | `poll-on T`, `poll-off T` | the control station starts or stops polling terminal T |
 //! | `urgent-at T`, `urgent-for T` | terminal T, or the control station for it, asks for the line |
 //! | `release T from` | the doubt about the records sent by terminal T is released |
 //! | `release T to`, `release T to S` | the same for those sent to its address 0 or S |

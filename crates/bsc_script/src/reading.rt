@@ -73,6 +73,8 @@ fn action_with<'a, A: Allocator + Copy>(
         Keyword::HeardEach => heard_each(alloc, rest),
         Keyword::Ready => Ok(ready(rest, true)),
         Keyword::Unready => Ok(ready(rest, false)),
+        Keyword::PollOn => Ok(polled(rest, true)),
+        Keyword::PollOff => Ok(polled(rest, false)),
         Keyword::UrgentAt => Ok(urgent_at(rest)),
         Keyword::UrgentFor => Ok(urgent_for(rest)),
         Keyword::Release => Ok(release(rest)),
@@ -210,6 +212,15 @@ fn ready<'a, A: Allocator>(rest: &[u8], ready: bool) -> Option<Action<'a, A>>
 {
     let terminal = terminal_number(rest)?;
     Some(Action::Ready { terminal, ready })
+}
+
+/// Reads `T`, the terminal that the control station starts or stops polling.
+fn polled<'a, A: Allocator>(rest: &[u8], polled: bool) -> Option<Action<'a, A>>
+    ensures { option_map event_in result ≡
+        option_map (λ t. events.polled t polled) (terminal_of rest.now) }
+{
+    let terminal = terminal_number(rest)?;
+    Some(Action::Polled { terminal, polled })
 }
 
 /// Reads `T`, the terminal that asks the control station for the line.

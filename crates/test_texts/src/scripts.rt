@@ -7,16 +7,17 @@ use std::alloc::{AllocError, Global};
 use std::test::Fail;
 use test_alloc::{Refusal, Refusing};
 
-/// A script with 17 events, one of each form.
+/// A script with 19 events, one of each form.
 const SCRIPT: &[u8] = b"# each form\n
 offer-at 0 HI\noffer-for 1\noffer-to 2 9 HI\ncarry\nlose\r\nsilence\nheard 16 04
-heard-each -\nheard-each 1604 - 161610B0FF\nready 1\nunready 63\nurgent-at 999
+heard-each -\nheard-each 1604 - 161610B0FF\nready 1\nunready 63\npoll-on 1
+poll-off 63\nurgent-at 999
 urgent-for 0\nrelease 0 from\nrelease 1 to\nrelease 2 to 3\noffer-at 7";
 
 /// Whether the result is out of memory if a growth was refused, and the script otherwise.
 fn is_read_or_refused(alloc: &Refusing, script: &[u8]) -> bool {
     match read_script(alloc, script) {
-        Ok(script) => alloc.refused() == 0 && script.steps().len() == 17,
+        Ok(script) => alloc.refused() == 0 && script.steps().len() == 19,
         Err(error) => alloc.refused() > 0 && error == ScriptError::Memory,
     }
 }
