@@ -329,8 +329,14 @@ uint32_t bsc_control_release(struct bsc_control *control, size_t terminal, size_
 /* Asks a terminal for the line: the control station replies RVI to the next text that it takes from it. */
 uint32_t bsc_control_urgent(struct bsc_control *control, size_t terminal) BSC_NO_NULL;
 
+/* Sets whether a terminal is polled: it is not if polled is 0. Its entries of the poll list are then passed over, and
+ * nothing is sent to it. It keeps its records and its doubts, and a call of it that has begun goes on to its end. If no
+ * terminal of the poll list is polled, the control station stays quiet, and looks again at each silence. A new one
+ * polls every terminal. */
+uint32_t bsc_control_set_polled(struct bsc_control *control, size_t terminal, uint32_t polled) BSC_NO_NULL;
+
 /* The control station begins again, as after the end of its process, with its records and its doubts. A block that
- * is not answered is in doubt. */
+ * is not answered is in doubt, and every terminal is polled again. */
 uint32_t bsc_control_restart(struct bsc_control *control) BSC_NO_NULL;
 
 /* Tells what is to be kept of what is sent to a selection address of a terminal; as bsc_terminal_kept. */
@@ -342,7 +348,8 @@ uint32_t bsc_control_keep_arrived(struct bsc_control *control, size_t terminal, 
                                   size_t len) BSC_NO_NULL;
 
 /* Recalls what was kept of what is sent to a selection address of a terminal. Answers as bsc_terminal_recall, and
- * BSC_NOT_NEW also if the control station has made a call since it was made or began again. */
+ * BSC_NOT_NEW also if the control station is not at rest, as it is before its first call since it was made or began
+ * again. */
 uint32_t bsc_control_recall(struct bsc_control *control, size_t terminal, size_t select,
                             const struct bsc_kept *kept) BSC_NO_NULL;
 
@@ -398,6 +405,9 @@ uint32_t bsc_line_silence(struct bsc_line *line) BSC_NO_NULL;
 
 /* Sets whether a terminal accepts selections: it does not if ready is 0. */
 uint32_t bsc_line_ready(struct bsc_line *line, size_t terminal, uint32_t ready) BSC_NO_NULL;
+
+/* Sets whether the control station polls a terminal; as bsc_control_set_polled. */
+uint32_t bsc_line_set_polled(struct bsc_line *line, size_t terminal, uint32_t polled) BSC_NO_NULL;
 
 /* A terminal asks the control station for the line, by RVI to the next text that it takes. */
 uint32_t bsc_line_urgent_at(struct bsc_line *line, size_t terminal) BSC_NO_NULL;

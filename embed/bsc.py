@@ -239,6 +239,7 @@ _CALLS = {
     "control_arrived": [_SIZE, _SIZE, *_BUFFER],
     "control_release": [_SIZE, _SIZE, _SIZE],
     "control_urgent": [_SIZE],
+    "control_set_polled": [_SIZE, ctypes.c_uint32],
     "control_restart": [],
     "control_kept": [_SIZE, _SIZE, _AT],
     "control_keep_arrived": [_SIZE, *_OCTETS],
@@ -253,6 +254,7 @@ _CALLS = {
     "line_carry_each": [*_OCTETS, _AT, _SIZE],
     "line_silence": [],
     "line_ready": [_SIZE, ctypes.c_uint32],
+    "line_set_polled": [_SIZE, ctypes.c_uint32],
     "line_urgent_at": [_SIZE],
     "line_urgent_for": [_SIZE],
     "line_release_from": [_SIZE],
@@ -552,6 +554,10 @@ class Control(_OfTerminals, _Station):
         """Asks a terminal for the line: the control station replies RVI to the next text that it takes from it."""
         self._call("urgent", _size(terminal))
 
+    def set_polled(self, terminal: int, polled: bool = True) -> None:
+        """Sets whether a terminal is polled; if not, its entries of the poll list are passed over."""
+        self._call("set_polled", _size(terminal), 1 if polled else 0)
+
     def kept(self, terminal: int, select: int = 0) -> Kept:
         """Tells what is to be kept of what is sent to a selection address of a terminal."""
         return self._kept(_size(terminal), _size(select))
@@ -610,6 +616,10 @@ class Line(_OfTerminals):
     def ready(self, terminal: int, ready: bool = True) -> None:
         """Sets whether a terminal accepts selections."""
         self._call("ready", _size(terminal), 1 if ready else 0)
+
+    def set_polled(self, terminal: int, polled: bool = True) -> None:
+        """Sets whether the control station polls a terminal."""
+        self._call("set_polled", _size(terminal), 1 if polled else 0)
 
     def urgent_at(self, terminal: int) -> None:
         """Has a terminal ask the control station for the line."""

@@ -292,6 +292,10 @@ static uint32_t play(struct bsc_line *line, const char *text, int *turn)
         return bsc_line_ready(line, take_number(&text), 1);
     if (take_word(&text, "unready"))
         return bsc_line_ready(line, take_number(&text), 0);
+    if (take_word(&text, "poll-on"))
+        return bsc_line_set_polled(line, take_number(&text), 1);
+    if (take_word(&text, "poll-off"))
+        return bsc_line_set_polled(line, take_number(&text), 0);
     if (take_word(&text, "urgent-at"))
         return bsc_line_urgent_at(line, take_number(&text));
     if (take_word(&text, "urgent-for"))

@@ -97,6 +97,8 @@ EVENTS: Dict[str, Callable[..., None]] = {
     "heard-each": lambda line, *words: line.carry_each([hearing(word) for word in words]),
     "ready": lambda line, terminal: line.ready(int(terminal)),
     "unready": lambda line, terminal: line.ready(int(terminal), False),
+    "poll-on": lambda line, terminal: line.set_polled(int(terminal)),
+    "poll-off": lambda line, terminal: line.set_polled(int(terminal), False),
     "urgent-at": lambda line, terminal: line.urgent_at(int(terminal)),
     "urgent-for": lambda line, terminal: line.urgent_for(int(terminal)),
     "release": release,

@@ -103,6 +103,32 @@ void test_flags(void)
     bsc_control_free(&control);
 }
 
+/* Whether what was sent last is the call of this address. */
+static int is_call_of(const char *called)
+{
+    uint8_t octets[BSC_MAX_SENT];
+    size_t len = message(BSC_CALL, called, octets);
+    return out_len == len && memcmp(out, octets, len) == 0;
+}
+
+/* Terminal 0 is passed over, then all are, and the control station that began again polls it. */
+void test_polling(void)
+{
+    struct bsc_control control = new_control();
+    EXPECT(BSC_OK, bsc_control_set_polled(&control, 0, 0));
+    EXPECT(BSC_OK, bsc_control_silence(&control, out, sizeof out, &out_len));
+    HOLDS(is_call_of("D0"));
+    EXPECT(BSC_OK, bsc_control_set_polled(&control, 1, 0));
+    EXPECT(BSC_OK, hear_at_control(&control, BSC_EOT));
+    HOLDS(out_len == 0);
+    EXPECT(BSC_OK, bsc_control_silence(&control, out, sizeof out, &out_len));
+    HOLDS(out_len == 0);
+    EXPECT(BSC_OK, bsc_control_restart(&control));
+    EXPECT(BSC_OK, bsc_control_silence(&control, out, sizeof out, &out_len));
+    HOLDS(is_call_of("A0"));
+    bsc_control_free(&control);
+}
+
 void test_events(void)
 {
     struct bsc_line line = new_line();

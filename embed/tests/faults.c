@@ -57,6 +57,7 @@ static void refuse_control(void *handle, uint32_t wanted)
     EXPECT(wanted, bsc_control_arrived(c, 0, 0, out, sizeof out, &number));
     EXPECT(wanted, bsc_control_release(c, 0, 0, 0));
     EXPECT(wanted, bsc_control_urgent(c, 0));
+    EXPECT(wanted, bsc_control_set_polled(c, 0, 0));
     EXPECT(wanted, bsc_control_restart(c));
     EXPECT(wanted, bsc_control_kept(c, 0, 0, &kept));
     EXPECT(wanted, bsc_control_keep_arrived(c, 0, one, 1));
@@ -76,6 +77,7 @@ static void refuse_line(void *handle, uint32_t wanted)
     EXPECT(wanted, bsc_line_carry_each(l, one, 1, lengths, 1));
     EXPECT(wanted, bsc_line_silence(l));
     EXPECT(wanted, bsc_line_ready(l, 0, 0));
+    EXPECT(wanted, bsc_line_set_polled(l, 0, 0));
     EXPECT(wanted, bsc_line_urgent_at(l, 0));
     EXPECT(wanted, bsc_line_urgent_for(l, 0));
     EXPECT(wanted, bsc_line_release_from(l, 0));
@@ -147,6 +149,7 @@ void test_numbers(void)
         EXPECT(BSC_NO_SUCH_TERMINAL, bsc_control_release(&control, n, n, 0));
         EXPECT(BSC_NO_SUCH_ADDRESS, bsc_control_release(&control, 1, n, 0));
         EXPECT(BSC_NO_SUCH_TERMINAL, bsc_control_urgent(&control, n));
+        EXPECT(BSC_NO_SUCH_TERMINAL, bsc_control_set_polled(&control, n, 1));
         EXPECT(BSC_NO_SUCH_TERMINAL, bsc_control_kept(&control, n, n, &kept));
         EXPECT(BSC_NO_SUCH_ADDRESS, bsc_control_kept(&control, 1, n, &kept));
         EXPECT(BSC_NO_SUCH_TERMINAL, bsc_control_keep_arrived(&control, n, one, 1));
@@ -156,6 +159,7 @@ void test_numbers(void)
         EXPECT(BSC_NO_SUCH_TERMINAL, bsc_line_offer_for(&line, n, n, one, 1));
         EXPECT(BSC_NO_SUCH_ADDRESS, bsc_line_offer_for(&line, 1, n, one, 1));
         EXPECT(BSC_NO_SUCH_TERMINAL, bsc_line_ready(&line, n, 1));
+        EXPECT(BSC_NO_SUCH_TERMINAL, bsc_line_set_polled(&line, n, 1));
         EXPECT(BSC_NO_SUCH_TERMINAL, bsc_line_urgent_at(&line, n));
         EXPECT(BSC_NO_SUCH_TERMINAL, bsc_line_urgent_for(&line, n));
         EXPECT(BSC_NO_SUCH_TERMINAL, bsc_line_release_from(&line, n));
@@ -214,6 +218,7 @@ int main(void)
     test_room();
     test_doubts();
     test_flags();
+    test_polling();
     test_events();
     test_side_by_side();
     test_making();

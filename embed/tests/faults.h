@@ -64,6 +64,7 @@ void test_arrived(void);
 void test_room(void);
 void test_doubts(void);         /* events.c */
 void test_flags(void);
+void test_polling(void);
 void test_events(void);
 void test_side_by_side(void);
 void test_making(void);         /* memory.c */

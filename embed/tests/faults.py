@@ -48,6 +48,7 @@ class Faults(unittest.TestCase):
             self.refused(bsc.Error.NO_SUCH_ADDRESS, line.offer_for, 0, b"", huge)
             self.refused(bsc.Error.NO_SUCH_RECORD, line.arrived_from, 0, huge)
             self.refused(bsc.Error.NO_SUCH_TERMINAL, line.ready, huge)
+            self.refused(bsc.Error.NO_SUCH_TERMINAL, line.set_polled, huge)
         with bsc.Terminal(bsc.Setup(), TERMINALS[0]) as terminal:
             for huge in HUGE + [-1]:
                 self.refused(bsc.Error.WRONG_KNOWN, terminal.recall, bsc.Kept(huge, 0))

@@ -1,6 +1,6 @@
--- The urgent flag of a terminal (GA27-3004: reverse interrupt), and the restart of the station,
--- which is this project's own.
-use Rattle.std.specs.Prelude.{◌≡◌, ◌⊎◌, ℕ, true, Result, Ok}
+-- The urgent flag of a terminal (GA27-3004: reverse interrupt), whether it is polled (GA27-3004: poll
+-- list), and the restart of the station, which is this project's own.
+use Rattle.std.specs.Prelude.{◌≡◌, ◌⊎◌, ℕ, Bool, true, Result, Ok}
 use Rattle.bsc_control.specs.Control.{ControlValue, peer_at, restarted, with_peer}
 use Rattle.bsc_interface.specs.declared.fault.Fault.{Fault}
 use Rattle.bsc_control_calls.specs.Addressing.{HasTerminal, LacksTerminal}
@@ -15,6 +15,19 @@ pub record IsAsked (t : ℕ) (c d : ControlValue) (answer : Result (Unit {0}) Fa
 -- after, and the answer.
 abbrev pub SetsUrgent : ℕ → ControlValue → ControlValue → Result (Unit {0}) Fault → Type 0
 SetsUrgent t c d answer = IsAsked t c d answer ⊎ (LacksTerminal c t answer × (d ≡ c))
+
+-- This terminal is polled from now on, or passed over.
+pub record IsSetPolled (t : ℕ) (polled : Bool) (c d : ControlValue)
+    (answer : Result (Unit {0}) Fault) : Type 0 where
+  pub terminal : HasTerminal c t
+  pub done : answer ≡ Ok tt
+  pub state : d ≡ with_peer c t (record (peer_at c t) { polled = polled })
+
+-- A terminal is polled from now on or passed over, if there is such a terminal: its number, whether
+-- it is polled, the station before and after, and the answer.
+abbrev pub SetsPolled : ℕ → Bool → ControlValue → ControlValue → Result (Unit {0}) Fault → Type 0
+SetsPolled t polled c d answer =
+    IsSetPolled t polled c d answer ⊎ (LacksTerminal c t answer × (d ≡ c))
 
 -- The station begins again: the station before and after, and the answer.
 abbrev pub Restarts : ControlValue → ControlValue → Result (Unit {0}) Fault → Type 0

@@ -49,7 +49,7 @@ pub fn keep_arrived(
 
 /// Recalls what was kept of the sending side of a selection address, once the records that had been
 /// offered for it are offered again. The fault is `NoSuchTerminal` or else `NoSuchAddress` if there
-/// is no such address; else `NotNew` if the station has made a call, a block is in doubt, or a
+/// is no such address; else `NotNew` if the station is not at rest, a block is in doubt, or a
 /// record is known to have arrived; else `Known` if more records are known than were offered; else
 /// `Doubt` if the doubtful block does not have 1 to 7 records, or more than are not known.
 pub fn recall(

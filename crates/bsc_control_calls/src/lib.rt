@@ -7,8 +7,8 @@
 //! the order in which they were given, and so are the selection addresses of each.
 //!
 //! Polling and selection by a poll list, time-outs and what a control station answers are those of
-//! GA27-3004. Buffers, numbers of terminals, addresses and records, the urgent flag, doubt and what
-//! is kept are this project's own.
+//! GA27-3004. Buffers, numbers of terminals, addresses and records, whether a terminal is polled, the
+//! urgent flag, doubt and what is kept are this project's own.
 #![tactic(auto)]
 
 mod addressing;
@@ -24,4 +24,4 @@ pub use hearing::{hear, silence};
 pub use keeping::{keep_arrived, kept, recall};
 pub use making::new_control;
 pub use offering::{offer, release, sending};
-pub use running::{restart, set_urgent};
+pub use running::{restart, set_polled, set_urgent};

@@ -1,6 +1,6 @@
-//! The urgent flag of a terminal, and the restart of the station.
+//! The flags of a terminal, and the restart of the station.
 
-ghost use Rattle.bsc_control_calls.specs.Running.{SetsUrgent, Restarts};
+ghost use Rattle.bsc_control_calls.specs.Running.{SetsPolled, SetsUrgent, Restarts};
 
 use crate::addressing::find_terminal;
 use bsc_control::Control;
@@ -18,9 +18,20 @@ pub fn set_urgent(control: &mut Control<Global>, terminal: usize) -> Result<(), 
     Ok(())
 }
 
+/// Sets whether a terminal is polled; if it is not, its entries of the poll list are passed over. A
+/// call of it that is under way goes on, and so does its bid. The fault is `NoSuchTerminal` if there
+/// is no such terminal. (GA27-3004: poll list.)
+pub fn set_polled(control: &mut Control<Global>, terminal: usize, polled: bool) -> Result<(), Fault>
+    ensures { SetsPolled terminal polled control.old control.new result }
+{
+    find_terminal(control, terminal)?;
+    control.set_polled(terminal, polled);
+    Ok(())
+}
+
 /// Begins again, as after the end of the process: the station is at rest at the first entry of the
-/// poll list, with its counters at 0 and no urgent flag up, and its next silence makes the first
-/// call. It keeps its settings, poll list and terminals, the records that it has to send, its
+/// poll list, with its counters at 0, each terminal polled and no urgent flag up, and its next
+/// silence makes the first call. It keeps its settings, poll list and terminals, the records that it has to send, its
 /// doubts, and the records that arrived; an unanswered block is in doubt. There is no fault.
 pub fn restart(control: &mut Control<Global>) -> Result<(), Fault>
     ensures { Restarts control.old control.new result }

@@ -1,6 +1,6 @@
 //! The calls of a control station.
 
-ghost use Rattle.std.specs.Prelude.{◌≡◌};
+ghost use Rattle.std.specs.Prelude.{◌≡◌, nat_eq, not};
 ghost use Rattle.bsc_handle.specs.Handles.{made_in};
 ghost use Rattle.bsc_handle.specs.declared.made.Made.TheVariants.{Control};
 ghost use Rattle.bsc_control_calls.specs.Arrivals.{GetsArrivals, GetsArrived};
@@ -8,7 +8,7 @@ ghost use Rattle.bsc_control_calls.specs.Hearing.{Hears, PassesSilence};
 ghost use Rattle.bsc_control_calls.specs.Keeping.{GetsKept, KeepsArrived, Recalls};
 ghost use Rattle.bsc_control_calls.specs.Making.{IsMade};
 ghost use Rattle.bsc_control_calls.specs.Offering.{GetsSending, Offers, Releases};
-ghost use Rattle.bsc_control_calls.specs.Running.{Restarts, SetsUrgent};
+ghost use Rattle.bsc_control_calls.specs.Running.{Restarts, SetsPolled, SetsUrgent};
 ghost use Rattle.bsc_embed.specs.Calls.{AtControl, Reading};
 ghost use Rattle.bsc_embed.specs.Making.{FreesControl, IsMadeBy};
 
@@ -175,9 +175,23 @@ pub extern "C" fn bsc_control_urgent(alloc: Global, handle: &mut Handle, termina
     at_control!(alloc, handle, control => calls::set_urgent(control, terminal))
 }
 
+/// Sets whether a terminal is polled; if it is not, its entries of the poll list are passed over.
+#[unsafe(no_mangle)]
+pub extern "C" fn bsc_control_set_polled(
+    alloc: Global,
+    handle: &mut Handle,
+    terminal: usize,
+    polled: u32,
+) -> u32
+    ensures { AtControl (SetsPolled terminal (not (nat_eq polled 0))) (Unit {0})
+        (made_in handle.old) (made_in handle.new) result }
+{
+    at_control!(alloc, handle, control => calls::set_polled(control, terminal, polled != 0))
+}
+
 /// Begins again, as after the end of the process: the station is at rest at the first entry of the
-/// poll list, with its counters at 0 and no urgent flag up, and its next silence makes the first
-/// call.
+/// poll list, with its counters at 0, each terminal polled and no urgent flag up, and its next
+/// silence makes the first call.
 #[unsafe(no_mangle)]
 pub extern "C" fn bsc_control_restart(alloc: Global, handle: &mut Handle) -> u32
     ensures { AtControl Restarts (Unit {0}) (made_in handle.old) (made_in handle.new) result }

@@ -7,8 +7,8 @@ ghost use Rattle.bsc_line_calls.specs.Channels.{ArrivalsFrom, ArrivalsTo, Arrive
 ghost use Rattle.bsc_line_calls.specs.Channels.{SendingFrom, SendingTo};
 ghost use Rattle.bsc_line_calls.specs.Events.{Carries, CarriesSent, Loses, OffersAt, OffersFor};
 ghost use Rattle.bsc_line_calls.specs.Events.{PassesSilence, ReleasesFrom, ReleasesTo};
-ghost use Rattle.bsc_line_calls.specs.Events.{RestartsControl, RestartsTerminal, SetsReady};
-ghost use Rattle.bsc_line_calls.specs.Events.{SetsUrgentAt, SetsUrgentFor};
+ghost use Rattle.bsc_line_calls.specs.Events.{RestartsControl, RestartsTerminal, SetsPolled};
+ghost use Rattle.bsc_line_calls.specs.Events.{SetsReady, SetsUrgentAt, SetsUrgentFor};
 ghost use Rattle.bsc_line_calls.specs.Hearings.{CarriesEach};
 ghost use Rattle.bsc_line_calls.specs.Making.{MakesLine};
 ghost use Rattle.bsc_line_calls.specs.Transmissions.{PendingIs, TrustIs};
@@ -151,6 +151,21 @@ pub extern "C" fn bsc_line_ready(
         (made_in handle.new) result }
 {
     at_line!(alloc, handle, line => calls::set_ready(line, terminal, ready != 0))
+}
+
+/// Sets whether the control station polls a terminal; if it does not, it passes over its entries of
+/// the poll list.
+#[unsafe(no_mangle)]
+pub extern "C" fn bsc_line_set_polled(
+    alloc: Global,
+    handle: &mut Handle,
+    terminal: usize,
+    polled: u32,
+) -> u32
+    ensures { AtLine (SetsPolled terminal (not (nat_eq polled 0))) (Unit {0}) (made_in handle.old)
+        (made_in handle.new) result }
+{
+    at_line!(alloc, handle, line => calls::set_polled(line, terminal, polled != 0))
 }
 
 /// Makes a terminal ask the control station for the line, by a reverse interrupt to the next text

@@ -63,6 +63,11 @@ PassesSilence = AsEvent event.Silence
 abbrev pub SetsReady : ℕ → Bool → LineValue → LineValue → Result (Unit {0}) Fault → Type 0
 SetsReady terminal ready = AsEvent (event.Ready terminal ready)
 
+-- The entries of a terminal are called, or passed over (GA27-3004: poll list). That this can change
+-- is this project's own.
+abbrev pub SetsPolled : ℕ → Bool → LineValue → LineValue → Result (Unit {0}) Fault → Type 0
+SetsPolled terminal polled = AsEvent (event.Polled terminal polled)
+
 -- A terminal asks the control station for the line (GA27-3004: reverse interrupt).
 abbrev pub SetsUrgentAt : ℕ → LineValue → LineValue → Result (Unit {0}) Fault → Type 0
 SetsUrgentAt terminal = AsEvent (event.UrgentAt terminal)

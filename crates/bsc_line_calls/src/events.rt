@@ -2,8 +2,8 @@
 
 ghost use Rattle.bsc_line_calls.specs.Events.{Carries, CarriesSent, Loses, OffersAt, OffersFor};
 ghost use Rattle.bsc_line_calls.specs.Events.{PassesSilence, ReleasesFrom, ReleasesTo};
-ghost use Rattle.bsc_line_calls.specs.Events.{RestartsControl, RestartsTerminal, SetsReady};
-ghost use Rattle.bsc_line_calls.specs.Events.{SetsUrgentAt, SetsUrgentFor};
+ghost use Rattle.bsc_line_calls.specs.Events.{RestartsControl, RestartsTerminal, SetsPolled};
+ghost use Rattle.bsc_line_calls.specs.Events.{SetsReady, SetsUrgentAt, SetsUrgentFor};
 
 use bsc_control::Way;
 use bsc_interface::Fault;
@@ -77,6 +77,15 @@ pub fn set_ready(line: &mut Line<Global>, terminal: usize, ready: bool) -> Resul
     ensures { SetsReady terminal ready line.old line.new result }
 {
     line.set_ready(terminal, ready)?;
+    Ok(())
+}
+
+/// Sets whether the control station polls a terminal; if it does not, it passes over its entries of
+/// the poll list. Fault: `NoSuchTerminal`. (GA27-3004, poll list.)
+pub fn set_polled(line: &mut Line<Global>, terminal: usize, polled: bool) -> Result<(), Fault>
+    ensures { SetsPolled terminal polled line.old line.new result }
+{
+    line.set_polled(terminal, polled)?;
     Ok(())
 }
 

@@ -20,7 +20,7 @@ pub use channels::{
 };
 pub use events::{
     carry, carry_sent, lose, offer_at, offer_for, release_from, release_to, restart_control,
-    restart_terminal, set_ready, set_urgent_at, set_urgent_for, silence,
+    restart_terminal, set_polled, set_ready, set_urgent_at, set_urgent_for, silence,
 };
 pub use hearings::{LOST, carry_each};
 pub use making::new_line;
