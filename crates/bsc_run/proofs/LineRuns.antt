@@ -29,7 +29,7 @@ use Rattle.bsc_line_model.proofs.NewChannels.{new_channels}
 use Rattle.bsc_line_model.proofs.Refusals.{nothing_changed}
 use Rattle.bsc_script.specs.Actions.{NumberedEvent}
 use Rattle.bsc_script.specs.Events.{Event as Asked, offer_at, offer_for, carry, lose, heard}
-use Rattle.bsc_script.specs.Events.{heard_each, silence, ready, urgent_at, urgent_for, release}
+use Rattle.bsc_script.specs.Events.{heard_each, silence, ready, polled, urgent_at, urgent_for, release}
 use Rattle.bsc_run.specs.Crossing.{Streams}
 use Rattle.bsc_run.specs.declared.error.RunError.{RunError}
 use Rattle.bsc_run.specs.LineRuns.{asked_for, script_offers, PlaysVisit, PlaysRound}
@@ -71,6 +71,7 @@ may_be (heard_each items) =
     )
 may_be silence = (event.Silence, refl)
 may_be (ready t takes) = (event.Ready t takes, refl)
+may_be (polled t on) = (event.Polled t on, refl)
 may_be (urgent_at t) = (event.UrgentAt t, refl)
 may_be (urgent_for t) = (event.UrgentFor t, refl)
 may_be (release t way) = (event.Release t way, refl)
@@ -133,6 +134,8 @@ module _ {S : Type 0} (streams : Streams S) where
   offers_as_asked silence e l old new c t way = offers_as e event.Silence t way [] c.0 refl
   offers_as_asked (ready u takes) e l old new c t way =
       offers_as e (event.Ready u takes) t way [] c.0 refl
+  offers_as_asked (polled u on) e l old new c t way =
+      offers_as e (event.Polled u on) t way [] c.0 refl
   offers_as_asked (urgent_at u) e l old new c t way =
       offers_as e (event.UrgentAt u) t way [] c.0 refl
   offers_as_asked (urgent_for u) e l old new c t way =

@@ -16,8 +16,8 @@ use Rattle.bsc_line_model.specs.declared.transmission.Transmission.{Transmission
 use Rattle.bsc_line_model.specs.declared.event.Event.{Event}
 use Rattle.bsc_line_model.specs.declared.event.Event.TheVariants.{OfferAt, OfferFor, Carry}
 use Rattle.bsc_line_model.specs.declared.event.Event.TheVariants.{CarryEach, CarrySent, Silence}
-use Rattle.bsc_line_model.specs.declared.event.Event.TheVariants.{Ready, UrgentAt, UrgentFor}
-use Rattle.bsc_line_model.specs.declared.event.Event.TheVariants.{Release, Restart}
+use Rattle.bsc_line_model.specs.declared.event.Event.TheVariants.{Ready, Polled, UrgentAt}
+use Rattle.bsc_line_model.specs.declared.event.Event.TheVariants.{UrgentFor, Release, Restart}
 use Rattle.bsc_line_model.specs.Line.{LineValue, terminal_count, terminal_at}
 use Rattle.bsc_line_model.specs.Transmission.{sent_by}
 use Rattle.bsc_line_model.specs.Hearing.{heard_at}
@@ -56,6 +56,7 @@ count_kept (CarryEach items) old new d = d.carried.terminals.count
 count_kept CarrySent old new d = carried_count d.sent.speaker d.sent.message _ old new d.carried
 count_kept Silence old new d = owner_count (line_owner old.terminals) old new d.acts
 count_kept (Ready t ready) old new d = ap terminal_count d.1 ∙ length-set old.terminals t _
+count_kept (Polled t polled) old new d = ap terminal_count d.1
 count_kept (UrgentAt t) old new d = ap terminal_count d.1 ∙ length-set old.terminals t _
 count_kept (UrgentFor t) old new d = ap terminal_count d.1
 count_kept (Release t way) old new d = release_count old t way new d
@@ -133,6 +134,8 @@ speaker_there CarrySent old new d h =
     carried_there d.sent.speaker d.sent.message _ old new d.carried
 speaker_there Silence old new d h = owner_there (line_owner old.terminals) old new d.acts
 speaker_there (Ready t ready) old new d h =
+    there_by old new.pending old.pending (ap (λ (l : LineValue). l.pending) d.1) h
+speaker_there (Polled t polled) old new d h =
     there_by old new.pending old.pending (ap (λ (l : LineValue). l.pending) d.1) h
 speaker_there (UrgentAt t) old new d h =
     there_by old new.pending old.pending (ap (λ (l : LineValue). l.pending) d.1) h

@@ -15,7 +15,7 @@ use Rattle.bsc_line_model.specs.Rounds.{BeginsVisit, IsVisited, IsRoundDone, Sam
 use Rattle.bsc_line_model.specs.Rounds.{visit_length, round_length}
 use Rattle.bsc_script.specs.Actions.{NumberedEvent}
 use Rattle.bsc_script.specs.Events.{Event as Asked, offer_at, offer_for, carry, lose, heard}
-use Rattle.bsc_script.specs.Events.{heard_each, silence, ready, urgent_at, urgent_for, release}
+use Rattle.bsc_script.specs.Events.{heard_each, silence, ready, polled, urgent_at, urgent_for, release}
 use Rattle.bsc_run.specs.declared.error.RunError.{RunError}
 
 -- The record that an event of a script offers to channel (t, way), if it offers one to it.
@@ -31,6 +31,7 @@ asked_for (heard given) t way = []
 asked_for (heard_each items) t way = []
 asked_for silence t way = []
 asked_for (ready u takes) t way = []
+asked_for (polled u on) t way = []
 asked_for (urgent_at u) t way = []
 asked_for (urgent_for u) t way = []
 asked_for (release u mine) t way = []

@@ -15,7 +15,7 @@ use Rattle.bsc_line_model.specs.Hearing.{octets_in}
 use Rattle.bsc_line_model.specs.Line.{LineValue}
 use Rattle.bsc_line_model.specs.Runs.{Does}
 use Rattle.bsc_script.specs.Events.{Event as Asked, offer_at, offer_for, carry, lose, heard}
-use Rattle.bsc_script.specs.Events.{heard_each, silence, ready, urgent_at, urgent_for, release}
+use Rattle.bsc_script.specs.Events.{heard_each, silence, ready, polled, urgent_at, urgent_for, release}
 use Rattle.bsc_run.specs.declared.error.StepError.{StepError}
 use Rattle.bsc_run.specs.declared.error.StepError.TheVariants.{Refused}
 use Rattle.bsc_run.specs.Crossing.{Streams, Crosses, ItemsCross}
@@ -44,6 +44,7 @@ MayBe (heard_each items) e =
     × (e ≡ event.CarryEach words)
 MayBe silence e = e ≡ event.Silence
 MayBe (ready t takes) e = e ≡ event.Ready t takes
+MayBe (polled t on) e = e ≡ event.Polled t on
 MayBe (urgent_at t) e = e ≡ event.UrgentAt t
 MayBe (urgent_for t) e = e ≡ event.UrgentFor t
 MayBe (release t way) e = e ≡ event.Release t way

@@ -23,7 +23,7 @@ use Rattle.bsc_line_model.specs.declared.event.Event.TheVariants as event
 use Rattle.bsc_line_model.specs.Hearing.{octets_in}
 use Rattle.bsc_line_model.specs.Line.{LineValue}
 use Rattle.bsc_script.specs.Events.{Event as Asked, offer_at, offer_for, carry, lose, heard}
-use Rattle.bsc_script.specs.Events.{heard_each, silence, ready, urgent_at, urgent_for, release}
+use Rattle.bsc_script.specs.Events.{heard_each, silence, ready, polled, urgent_at, urgent_for, release}
 use Rattle.bsc_run.specs.Printed.{who_of}
 
 -- Whether a message was heard that is another than the one that was sent. Two messages are the same
@@ -92,6 +92,8 @@ mark (offer_for t s r) =
 mark silence = silence_shown
 mark (ready t true) = codes "terminal " ++ decimal t ++ codes " is ready"
 mark (ready t false) = codes "terminal " ++ decimal t ++ codes " is not ready"
+mark (polled t true) = codes "terminal " ++ decimal t ++ codes " is polled"
+mark (polled t false) = codes "terminal " ++ decimal t ++ codes " is not polled"
 mark (urgent_at t) = codes "terminal " ++ decimal t ++ codes " asks for the line"
 mark (urgent_for t) = codes "control asks terminal " ++ decimal t ++ codes " for the line"
 mark (release t way) = doubt_of t way ++ codes " is ended"

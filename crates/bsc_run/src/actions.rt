@@ -88,6 +88,15 @@ pub(crate) fn act<
                 trace,
             )
         }
+        Action::Polled { terminal, polled } => {
+            tell(
+                alloc,
+                number,
+                line.set_polled(*terminal, *polled),
+                action,
+                trace,
+            )
+        }
         Action::UrgentAt { terminal } => {
             tell(alloc, number, line.set_urgent_at(*terminal), action, trace)
         }

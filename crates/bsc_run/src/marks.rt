@@ -3,8 +3,8 @@
 ghost use Rattle.std.specs.Prelude.{OnOk, IfErr, IsTrue, is_some};
 ghost use Rattle.std.specs.Io.KnownBytes.{Appends};
 ghost use Rattle.bsc_script.specs.Actions.{event_in};
-ghost use Rattle.bsc_script.specs.Events.{offer_at, offer_for, ready as ready_event, urgent_at};
-ghost use Rattle.bsc_script.specs.Events.{urgent_for};
+ghost use Rattle.bsc_script.specs.Events.{offer_at, offer_for, polled as polled_event};
+ghost use Rattle.bsc_script.specs.Events.{ready as ready_event, urgent_at, urgent_for};
 ghost use Rattle.bsc_run.specs.Traces.{doubt_of, if_traced, mark, mark_line, place_shown};
 ghost use Rattle.bsc_run.specs.Traces.{record_shown};
 
@@ -84,6 +84,18 @@ fn write_ready<W: Write>(terminal: usize, ready: bool, out: &mut W) -> Result<()
     Ok(written?)
 }
 
+/// Writes whether the control station polls a terminal from now on.
+fn write_polled<W: Write>(terminal: usize, polled: bool, out: &mut W) -> Result<(), PrintError>
+    ensures { OnOk result (Appends (W.contents out.old) (W.contents out.new)
+        (mark (polled_event terminal polled))) }
+{
+    let written = match polled {
+        true => write!(out, "terminal {terminal} is polled"),
+        false => write!(out, "terminal {terminal} is not polled"),
+    };
+    Ok(written?)
+}
+
 /// Writes that the doubt about the records from a terminal is meant.
 fn write_doubt_from<W: Write>(terminal: usize, out: &mut W) -> Result<(), PrintError>
     ensures { OnOk result (Appends (W.contents out.old) (W.contents out.new)
@@ -151,6 +163,7 @@ fn write_mark<A: Allocator, B: Allocator, W: Write>(
         Action::Carry | Action::Lose | Action::Heard { .. } | Action::HeardEach { .. } => Ok(()),
         Action::Silence => put(b"silence", out),
         Action::Ready { terminal, ready } => write_ready(*terminal, *ready, out),
+        Action::Polled { terminal, polled } => write_polled(*terminal, *polled, out),
         Action::UrgentAt { terminal } => write_urgent_at(*terminal, out),
         Action::UrgentFor { terminal } => write_urgent_for(*terminal, out),
         Action::Release { terminal, way } => {

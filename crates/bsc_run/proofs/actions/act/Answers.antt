@@ -1,7 +1,7 @@
 -- Shows that each event that sends nothing over the cable is answered as the line answers it.
 use Rattle.std.proofs.Common.{refl}
 use Rattle.bsc_line_model.specs.declared.event.Event.TheVariants as event
-use Rattle.bsc_script.specs.Events.{silence, ready, urgent_at, urgent_for, release}
+use Rattle.bsc_script.specs.Events.{silence, ready, polled, urgent_at, urgent_for, release}
 use Rattle.bsc_run.specs.Crossing.{streams_of}
 use Rattle.bsc_run.proofs.Acting.{acts_as, offers_at, offers_for}
 use Rattle.bsc_run.proofs.actions.act.Goals as goal
@@ -42,6 +42,15 @@ returns-in-Ready-clause-acts g c =
     (g.D.Write.contents c.args.trace.now) (g.D.Write.contents c.tell-in-Ready.new.trace)
     c.set_ready.result c.tell-in-Ready.result (refl, refl) (λ x m. m) c.requires
     c.set_ready.ensures.does c.set_ready.ensures.line (rw c.in-Ready.is at c.tell-in-Ready.ensures.answers))
+
+pub returns-in-Polled-clause-acts : goal.returns-in-Polled-clause-acts
+returns-in-Polled-clause-acts g c =
+    rw c.in-Polled.is
+    (acts_as (streams_of g.S.Write.contents g.S.Read.remaining) c.args.number (polled c.in-Polled.terminal c.in-Polled.polled)
+    (event.Polled c.in-Polled.terminal c.in-Polled.polled) c.args.line.now c.set_polled.new.self c.args.cable.now
+    (g.D.Write.contents c.args.trace.now) (g.D.Write.contents c.tell-in-Polled.new.trace)
+    c.set_polled.result c.tell-in-Polled.result (refl, refl) (λ x m. m) c.requires
+    c.set_polled.ensures.does c.set_polled.ensures.line (rw c.in-Polled.is at c.tell-in-Polled.ensures.answers))
 
 pub returns-in-UrgentAt-clause-acts : goal.returns-in-UrgentAt-clause-acts
 returns-in-UrgentAt-clause-acts g c =
