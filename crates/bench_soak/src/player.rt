@@ -28,7 +28,7 @@ fn watched<'a>(
     terminals: &[Terminal],
     poll_list: &[u8],
 ) -> Result<(LineWatch, Line<&'a Refusing>)> {
-    let watch = LineWatch::new(alloc, setup, terminals)?;
+    let watch = LineWatch::new(alloc, setup, terminals, poll_list)?;
     let line = Line::new(memory, setup, terminals, poll_list)?;
     Ok((watch, line))
 }

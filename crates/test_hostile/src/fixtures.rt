@@ -33,7 +33,7 @@ impl Watched {
         others: &[Terminal],
     ) -> Result<Box<Watched>, Fail> {
         let setup = setup(3)?;
-        let watch = on_heap(alloc, LineWatch::new(alloc, setup, others))?;
+        let watch = on_heap(alloc, LineWatch::new(alloc, setup, others, &[0, 1]))?;
         let line = on_heap(alloc, Line::new(alloc, setup, terminals, &[0, 1]))?;
         let watched = Watched {
             line,

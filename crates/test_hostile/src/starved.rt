@@ -55,7 +55,7 @@ fn seen(
     played: Played,
 ) -> Result<Seen, Fail> {
     let (setup, terminals) = (setup(3)?, two_terminals());
-    let mut watch = on_heap(alloc, LineWatch::new(alloc, setup, &terminals))?;
+    let mut watch = on_heap(alloc, LineWatch::new(alloc, setup, &terminals, &[0, 1]))?;
     starved.refuse_none();
     let mut line = on_heap(alloc, Line::new(starved, setup, &terminals, &[0, 1]))?;
     let before = play_each(&mut watch, memory, &mut line, played.0);

@@ -81,6 +81,28 @@ fn what_happens_unseen_is_told(rt: HostRuntime) -> Result<(), Fail> {
     Ok(())
 }
 
+/// Terminal 1 is polled, or not.
+const POLL_SECOND: Event<'static> = Event::Polled {
+    terminal: 1,
+    polled: true,
+};
+
+const PASS_SECOND: Event<'static> = Event::Polled {
+    terminal: 1,
+    polled: false,
+};
+
+/// The poll of terminal 0 ends, and terminal 1 is called, which is not polled to the watch.
+#[test]
+fn a_call_of_a_terminal_that_is_not_polled_is_told(rt: HostRuntime) -> Result<(), Fail> {
+    let mut watched = Watched::new(rt.alloc())?;
+    watched.begin(&POLLED, 3)?;
+    watched.play_each(&[PASS_SECOND])?;
+    watched.line.run(&[POLL_SECOND])?;
+    assert_eq!(rt; watched.play(&CarrySent).err(), Some(Broken::Order));
+    Ok(())
+}
+
 /// What the watch reports of these events on a line of these terminals if it takes it for one of
 /// others: the first rule that is broken.
 fn told_of(
@@ -196,7 +218,7 @@ fn the_last_of_64_terminals_is_watched_after_many_events(rt: HostRuntime) -> Res
 }
 
 /// The message of each rule.
-const TEXTS: [(Broken, &str); 16] = [
+const TEXTS: [(Broken, &str); 17] = [
     (Broken::Answer, "another answer to the event"),
     (Broken::Trust, "another trust"),
     (Broken::Channel, "a channel is missing"),
@@ -219,6 +241,7 @@ const TEXTS: [(Broken, &str); 16] = [
     (Broken::Message, "no message of its sender is pending"),
     (Broken::Text, "a text carries other records"),
     (Broken::Call, "a call that is not due"),
+    (Broken::Order, "a call out of order"),
 ];
 
 #[test]

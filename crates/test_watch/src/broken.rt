@@ -71,4 +71,9 @@ pub enum Broken {
     /// record waits.
     #[error("a call that is not due")]
     Call,
+
+    /// A call is to another terminal than the next one in the poll list that is polled, and does not
+    /// repeat the last call.
+    #[error("a call out of order")]
+    Order,
 }

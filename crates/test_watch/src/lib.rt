@@ -14,6 +14,7 @@ mod broken;
 mod channel;
 mod heard;
 mod pending;
+mod poll_list;
 mod records;
 mod refusals;
 mod step;

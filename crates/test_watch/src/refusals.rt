@@ -34,6 +34,7 @@ pub(crate) fn due<A: Allocator>(
             None => Ok(()),
         },
         Event::Ready { terminal, .. }
+        | Event::Polled { terminal, .. }
         | Event::UrgentAt { terminal }
         | Event::UrgentFor { terminal }
         | Event::Restart {

@@ -17,6 +17,7 @@ pub(crate) fn take<A: Allocator>(line: &mut Line<A>, event: &Event<'_>) -> Resul
         Event::CarrySent => line.carry_sent(),
         Event::Silence => line.silence(),
         Event::Ready { terminal, ready } => line.set_ready(*terminal, *ready),
+        Event::Polled { terminal, polled } => line.set_polled(*terminal, *polled),
         Event::UrgentAt { terminal } => line.set_urgent_at(*terminal),
         Event::UrgentFor { terminal } => line.set_urgent_for(*terminal),
         Event::Release { terminal, way } => line.release(*terminal, *way),

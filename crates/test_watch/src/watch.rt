@@ -8,6 +8,7 @@ use crate::broken::Broken;
 use crate::channel::{Channel, sender_of};
 use crate::heard::{Hearing, Kind, hear, is_fair, kind_at};
 use crate::pending::{Sent, speaker_of};
+use crate::poll_list::PollList;
 use crate::refusals::{due, may_fail};
 use crate::step::{Effect, effect_of, is_sound};
 use crate::taking::take;
@@ -40,6 +41,8 @@ pub struct LineWatch {
     addressed: Option<(usize, Way)>,
     // The stations that have taken no part since they began.
     aside: Aside,
+    // The terminal that may be called next.
+    poll_list: PollList,
     // What each station that hears the transmission heard.
     hearings: Hearings,
     // The counts of what was seen so far.
@@ -75,11 +78,12 @@ fn hear_each(hearings: &mut Hearings, sent: &[u8], items: &[Option<&[u8]>]) {
 }
 
 impl LineWatch {
-    /// Watches a new line with these settings and terminals.
+    /// Watches a new line with these settings, terminals and poll list.
     pub fn new(
         alloc: Global,
         setup: Setup,
         terminals: &[Terminal],
+        poll_list: &[u8],
     ) -> Result<LineWatch, AllocError> {
         let mut channels = Vec::new(alloc);
         for (number, terminal) in terminals.iter().enumerate() {
@@ -94,6 +98,7 @@ impl LineWatch {
             alike: true,
             addressed: None,
             aside: Aside::all(),
+            poll_list: PollList::new(alloc, poll_list)?,
             hearings: Hearings::new(),
             tally: Tally::new(),
         })
@@ -194,6 +199,7 @@ impl LineWatch {
         self.see_channels(line, event, effect)?;
         self.see_addressed(event, effect);
         self.see_aside(effect);
+        self.see_poll_list(effect);
         self.see_soundness()?;
         self.see_pending(line, effect)
     }

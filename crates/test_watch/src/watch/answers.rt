@@ -86,6 +86,16 @@ impl LineWatch {
         }
     }
 
+    /// Stores which terminals are polled after the event: all of them once the control station has
+    /// begun again.
+    pub(crate) fn see_poll_list(&mut self, effect: Effect) {
+        match effect {
+            Effect::Polled(terminal, polled) => self.poll_list.set(terminal, polled),
+            Effect::Restarted(Speaker::Control) => self.poll_list.restart(),
+            _ => {}
+        }
+    }
+
     /// Checks that what is pending may be pending after the event.
     pub(crate) fn see_pending<A: Allocator>(
         &mut self,
@@ -96,6 +106,7 @@ impl LineWatch {
             let addressed = if self.trusted { self.addressed } else { None };
             let next = read_pending(line, &self.channels, addressed)?;
             self.see_next(effect, &next)?;
+            self.see_order(line, effect)?;
             self.sent = next;
             Ok(())
         } else if is_shown(line, &self.sent) {
@@ -122,11 +133,33 @@ impl LineWatch {
         Ok(())
     }
 
+    /// Checks that a call that the control station sends is of a terminal that is to be called.
+    fn see_order<A: Allocator>(&mut self, line: &Line<A>, effect: Effect) -> Result<(), Broken> {
+        let Some(pending) = line.pending() else {
+            return Ok(());
+        };
+        if pending.speaker != Speaker::Control {
+            return Ok(());
+        }
+        let called = channel_in(&self.channels, &pending.message);
+        let tries = usize::from(self.setup.tries());
+        if self
+            .poll_list
+            .may_send(called, effect == Effect::Silence, tries)
+        {
+            Ok(())
+        } else {
+            Err(Broken::Order)
+        }
+    }
+
     /// Whether this station may send next, after a silence or a transmission.
     fn may_follow(&self, effect: Effect, next: Option<Speaker>) -> bool {
         match (effect, next) {
-            // After a silence some station has to send, and a terminal only if it is addressed and
-            // sends, unless several terminals can be out of control mode.
+            // After a silence some station has to send, unless no terminal in the poll list is
+            // polled; a terminal only if it is addressed and sends, unless several terminals can be
+            // out of control mode.
+            (Effect::Silence, None) => !self.poll_list.is_any_polled(),
             (Effect::Silence, Some(Speaker::Control)) => true,
             (Effect::Silence, Some(Speaker::Terminal(terminal))) => {
                 !self.is_focused() || self.addressed == Some((terminal, Way::FromTerminal))
