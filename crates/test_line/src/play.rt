@@ -90,6 +90,11 @@ fn ready(terminal: usize, ready: bool) -> Event<'static> {
     Event::Ready { terminal, ready }
 }
 
+/// A terminal is polled, or is passed over.
+fn polled(terminal: usize, polled: bool) -> Event<'static> {
+    Event::Polled { terminal, polled }
+}
+
 /// The event of a word. `.` is a silence, and `>` carries what is pending as it was sent.
 fn event_of(word: &str) -> Option<Event<'static>> {
     let event = match word {
@@ -116,6 +121,10 @@ fn event_of(word: &str) -> Option<Event<'static>> {
         "unready0" => ready(0, false),
         "ready63" => ready(63, true),
         "ready64" => ready(64, true),
+        "off0" => polled(0, false),
+        "off1" => polled(1, false),
+        "on0" => polled(0, true),
+        "off64" => polled(64, false),
         "urgent" => Event::UrgentAt { terminal: 0 },
         "ask" => Event::UrgentFor { terminal: 0 },
         "release-from" => release(Way::FromTerminal),
