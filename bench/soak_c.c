@@ -278,11 +278,13 @@ static uint32_t play_offer(int at)
 static uint32_t play_flag(void)
 {
     size_t terminal = one_of(soaked.terminals);
-    uint32_t ready = !one_in(dice, 3);
-    switch (up_to(3)) {
+    uint32_t on = !one_in(dice, 3);
+    switch (up_to(4)) {
     case 0:
-        return bsc_line_ready(&soaked.line, terminal, ready);
+        return bsc_line_ready(&soaked.line, terminal, on);
     case 1:
+        return bsc_line_set_polled(&soaked.line, terminal, on);
+    case 2:
         return bsc_line_urgent_at(&soaked.line, terminal);
     default:
         return bsc_line_urgent_for(&soaked.line, terminal);

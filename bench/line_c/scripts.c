@@ -110,10 +110,12 @@ static void make_record(struct script *script)
 static uint32_t play_flag(struct script *script, size_t terminal)
 {
     struct bsc_line *line = &script->played.line;
-    switch (below(&script->random, 3)) {
+    switch (below(&script->random, 4)) {
     case 0:
         return bsc_line_ready(line, terminal, !one_in(&script->random, 3));
     case 1:
+        return bsc_line_set_polled(line, terminal, !one_in(&script->random, 3));
+    case 2:
         return bsc_line_urgent_at(line, terminal);
     default:
         return bsc_line_urgent_for(line, terminal);

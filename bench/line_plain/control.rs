@@ -14,6 +14,7 @@ struct Outbound {
 /// What it keeps for one terminal.
 struct Peer {
     poll: Address,
+    polled: bool,
     urgent: bool,
     receiver: Receiver,
     spool: Spool,
@@ -70,6 +71,10 @@ impl Control {
         &self.peers[terminal].spool
     }
 
+    pub fn set_polled(&mut self, terminal: usize, polled: bool) {
+        self.peers[terminal].polled = polled;
+    }
+
     pub fn set_urgent(&mut self, terminal: usize) {
         self.peers[terminal].urgent = true;
     }
@@ -81,6 +86,7 @@ impl Control {
         self.tries = 0;
         self.waits = 0;
         for peer in &mut self.peers {
+            peer.polled = true;
             peer.urgent = false;
             peer.receiver = Receiver::new();
             for outbound in &mut peer.outbounds {
@@ -98,8 +104,8 @@ impl Control {
                     let act = self.outbound(select).sender.begin();
                     self.perform(act, select, false)
                 }
-                Reply::Nak => Some(self.call_from(self.place, select + 1)),
-                Reply::Wack => Some(self.enquire(select)),
+                Reply::Nak => self.call_from(self.place, select + 1),
+                Reply::Wack => self.enquire(select),
                 _ => None,
             },
             Task::Sending { select } => {
@@ -108,7 +114,7 @@ impl Control {
                 self.perform(act, select, reply == Reply::Rvi)
             }
             Task::Polling { rvi, .. } => match heard {
-                Heard::Whole(Message::Eot) => Some(self.call_after_poll(rvi)),
+                Heard::Whole(Message::Eot) => self.call_after_poll(rvi),
                 _ => self.receive(heard),
             },
         }
@@ -117,15 +123,15 @@ impl Control {
     /// Acts on a silence, and gives what it sends.
     pub fn silence(&mut self) -> Option<Message> {
         match self.task {
-            Task::AtRest => Some(self.call_from(self.place, 0)),
-            Task::Selecting { select, enquired } => Some(self.fail_selection(select, enquired)),
+            Task::AtRest => self.call_from(self.place, 0),
+            Task::Selecting { select, enquired } => self.fail_selection(select, enquired),
             Task::Sending { select } => {
                 let act = self.outbound(select).sender.silence();
                 self.perform(act, select, false)
             }
             Task::Polling { replied, rvi } => {
                 if replied || self.tries >= self.setup.tries {
-                    return Some(self.call_after_poll(rvi));
+                    return self.call_after_poll(rvi);
                 }
                 let tries = self.tries + 1;
                 Some(self.poll(tries))
@@ -142,14 +148,32 @@ impl Control {
         &mut self.peer().outbounds[select]
     }
 
-    /// Makes the first call of an entry from this selection address on.
-    fn call_from(&mut self, place: usize, from: usize) -> Message {
-        self.place = place;
+    /// Makes the first call of an entry from this selection address on. If its terminal is not
+    /// polled, it makes the first call of the next entry whose terminal is; if there is none, it is
+    /// at rest.
+    fn call_from(&mut self, place: usize, from: usize) -> Option<Message> {
+        let Some(polled) = self.polled_from(place) else {
+            self.task = Task::AtRest;
+            self.tries = 0;
+            self.waits = 0;
+            return None;
+        };
+        self.place = polled;
+        let from = if polled == place { from } else { 0 };
         let outbounds = &self.peer().outbounds;
-        match (from..outbounds.len()).find(|&select| outbounds[select].sender.can_begin()) {
+        let select = (from..outbounds.len()).find(|&select| outbounds[select].sender.can_begin());
+        Some(match select {
             Some(select) => self.select(select),
             None => self.poll(0),
-        }
+        })
+    }
+
+    /// The first place of the poll list, from this one on, whose terminal is polled.
+    fn polled_from(&self, place: usize) -> Option<usize> {
+        let count = self.poll_list.len();
+        (place..count)
+            .chain(0..place)
+            .find(|&at| self.peers[usize::from(self.poll_list[at])].polled)
     }
 
     fn select(&mut self, select: usize) -> Message {
@@ -176,7 +200,7 @@ impl Control {
         Message::Call(peer.poll)
     }
 
-    fn call_after_poll(&mut self, rvi: bool) -> Message {
+    fn call_after_poll(&mut self, rvi: bool) -> Option<Message> {
         let place = if rvi {
             self.place
         } else if self.place + 1 == self.poll_list.len() {
@@ -191,8 +215,11 @@ impl Control {
         let message = match act {
             Act::Send(text) => Message::Text(text),
             Act::Enq => Message::Enq,
-            Act::Over if interrupted => return Some(self.poll(0)),
-            Act::Over => return Some(self.call_from(self.place, select + 1)),
+            Act::Over if interrupted => {
+                let selects = self.peer().outbounds.len();
+                return self.call_from(self.place, selects);
+            }
+            Act::Over => return self.call_from(self.place, select + 1),
             Act::Quiet => return None,
         };
         self.task = Task::Sending { select };
@@ -200,7 +227,7 @@ impl Control {
     }
 
     /// The selected terminal has no room yet.
-    fn enquire(&mut self, select: usize) -> Message {
+    fn enquire(&mut self, select: usize) -> Option<Message> {
         self.tries = 0;
         self.waits += 1;
         if self.waits > u16::from(self.setup.waits) {
@@ -210,17 +237,17 @@ impl Control {
             select,
             enquired: true,
         };
-        Message::Enq
+        Some(Message::Enq)
     }
 
-    fn fail_selection(&mut self, select: usize, enquired: bool) -> Message {
+    fn fail_selection(&mut self, select: usize, enquired: bool) -> Option<Message> {
         self.tries += 1;
         if self.tries > self.setup.tries {
             self.call_from(self.place, select + 1)
         } else if enquired {
-            Message::Enq
+            Some(Message::Enq)
         } else {
-            Message::Call(self.outbound(select).address)
+            Some(Message::Call(self.outbound(select).address))
         }
     }
 
@@ -247,6 +274,7 @@ impl Peer {
         });
         Peer {
             poll: terminal.poll,
+            polled: true,
             urgent: false,
             receiver: Receiver::new(),
             spool: Spool::default(),

@@ -200,6 +200,12 @@ impl Line {
         Ok(())
     }
 
+    pub fn set_polled(&mut self, terminal: usize, polled: bool) -> Result<(), LineError> {
+        self.terminal(terminal)?;
+        self.control.set_polled(terminal, polled);
+        Ok(())
+    }
+
     pub fn set_urgent_at(&mut self, terminal: usize) -> Result<(), LineError> {
         self.terminal(terminal)?.set_urgent();
         Ok(())

@@ -166,12 +166,16 @@ impl Script {
     }
 
     fn flag(&mut self, terminal: usize) -> Result<(), LineError> {
-        match self.random.below(3) {
+        match self.random.below(4) {
             0 => {
                 let ready = !self.random.one_in(3);
                 self.line.set_ready(terminal, ready)
             }
-            1 => self.line.set_urgent_at(terminal),
+            1 => {
+                let polled = !self.random.one_in(3);
+                self.line.set_polled(terminal, polled)
+            }
+            2 => self.line.set_urgent_at(terminal),
             _ => self.line.set_urgent_for(terminal),
         }
     }

@@ -152,13 +152,20 @@ impl Events {
         }))
     }
 
-    /// Makes a terminal ready or not ready, or asks for the line.
+    /// Makes a terminal ready or not ready, polled or not polled, or asks for the line.
     fn flag(&mut self) -> Event<'_> {
         let terminal = self.terminal();
-        let ready = !self.random.one_in(3);
-        match self.random.below(3) {
-            0 => Event::Ready { terminal, ready },
-            1 => Event::UrgentAt { terminal },
+        let on = !self.random.one_in(3);
+        match self.random.below(4) {
+            0 => Event::Ready {
+                terminal,
+                ready: on,
+            },
+            1 => Event::Polled {
+                terminal,
+                polled: on,
+            },
+            2 => Event::UrgentAt { terminal },
             _ => Event::UrgentFor { terminal },
         }
     }
