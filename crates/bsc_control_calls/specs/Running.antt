@@ -1,5 +1,5 @@
--- The urgent flag of a terminal (GA27-3004: reverse interrupt), whether it is polled (GA27-3004: poll
--- list), and the restart of the station, which is this project's own.
+-- The urgent flag of a terminal (GA27-3004: reverse interrupt), whether it is polled (GA27-3004:
+-- poll list), and the restart of the station, which is this project's own.
 use Rattle.std.specs.Prelude.{◌≡◌, ◌⊎◌, ℕ, Bool, true, Result, Ok}
 use Rattle.bsc_control.specs.Control.{ControlValue, peer_at, restarted, with_peer}
 use Rattle.bsc_interface.specs.declared.fault.Fault.{Fault}

@@ -29,7 +29,8 @@ use Rattle.bsc_line_model.proofs.NewChannels.{new_channels}
 use Rattle.bsc_line_model.proofs.Refusals.{nothing_changed}
 use Rattle.bsc_script.specs.Actions.{NumberedEvent}
 use Rattle.bsc_script.specs.Events.{Event as Asked, offer_at, offer_for, carry, lose, heard}
-use Rattle.bsc_script.specs.Events.{heard_each, silence, ready, polled, urgent_at, urgent_for, release}
+use Rattle.bsc_script.specs.Events.{heard_each, silence, ready, polled, urgent_at, urgent_for}
+use Rattle.bsc_script.specs.Events.{release}
 use Rattle.bsc_run.specs.Crossing.{Streams}
 use Rattle.bsc_run.specs.declared.error.RunError.{RunError}
 use Rattle.bsc_run.specs.LineRuns.{asked_for, script_offers, PlaysVisit, PlaysRound}

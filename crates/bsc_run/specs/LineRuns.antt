@@ -12,10 +12,11 @@ use Rattle.bsc_line_model.specs.Headline.{KeepsRecords, spooled_on}
 use Rattle.bsc_line_model.specs.EveryRun.{KeepsLine}
 use Rattle.bsc_line_model.specs.StepLaws.{offered_on}
 use Rattle.bsc_line_model.specs.Rounds.{BeginsVisit, IsVisited, IsRoundDone, SameDelays, entry_at}
-use Rattle.bsc_line_model.specs.Rounds.{visit_length, round_length}
+use Rattle.bsc_line_model.specs.Rounds.{visit_length, round_length, first_visit}
 use Rattle.bsc_script.specs.Actions.{NumberedEvent}
 use Rattle.bsc_script.specs.Events.{Event as Asked, offer_at, offer_for, carry, lose, heard}
-use Rattle.bsc_script.specs.Events.{heard_each, silence, ready, polled, urgent_at, urgent_for, release}
+use Rattle.bsc_script.specs.Events.{heard_each, silence, ready, polled, urgent_at, urgent_for}
+use Rattle.bsc_script.specs.Events.{release}
 use Rattle.bsc_run.specs.declared.error.RunError.{RunError}
 
 -- The record that an event of a script offers to channel (t, way), if it offers one to it.
@@ -69,7 +70,7 @@ PlaysVisit steps events old result new =
 abbrev pub PlaysRound : List NumberedEvent → List Event → LineValue → Result (Unit {0}) RunError
     → LineValue → Type 0
 PlaysRound steps events old result new =
-    BeginsVisit old 0 → AreHeard (round_length old) steps events old new
+    BeginsVisit old (first_visit old) → AreHeard (round_length old) steps events old new
     → (result ≡ Ok tt) × IsRoundDone old new
 
 -- A script that was played, from the step at place i on. The line at that place is one to which the

@@ -23,7 +23,8 @@ use Rattle.bsc_line_model.specs.declared.event.Event.TheVariants as event
 use Rattle.bsc_line_model.specs.Hearing.{octets_in}
 use Rattle.bsc_line_model.specs.Line.{LineValue}
 use Rattle.bsc_script.specs.Events.{Event as Asked, offer_at, offer_for, carry, lose, heard}
-use Rattle.bsc_script.specs.Events.{heard_each, silence, ready, polled, urgent_at, urgent_for, release}
+use Rattle.bsc_script.specs.Events.{heard_each, silence, ready, polled, urgent_at, urgent_for}
+use Rattle.bsc_script.specs.Events.{release}
 use Rattle.bsc_run.specs.Printed.{who_of}
 
 -- Whether a message was heard that is another than the one that was sent. Two messages are the same

@@ -57,12 +57,12 @@ const EXCHANGES: &[&str] = &[
     // Terminals that are not polled are passed over, and keep their records. If there is no other,
     // the control station is at rest.
     "Most|off64|!no such terminal",
-    "Two|off0 at0 to0 at1 . > > > > off1 > . . on0 . > > > > > >|B 1:HI ACK1 1:EOT B - - - a \
-    0:ACK0 HI 0:ACK1 A 0:HI ACK1; from 0: 0/1 HI; to 0.0: 1/1 HI; from 1: 1/1 HI",
+    "Two|off0 at0 to0 at1 . > > > > off1 > > . . on0 . > > > > > >|B 1:HI ACK1 1:EOT B 1:EOT - - \
+    - a 0:ACK0 HI 0:ACK1 A 0:HI ACK1; from 0: 0/1 HI; to 0.0: 1/1 HI; from 1: 1/1 HI",
     // A call goes on to its end, and so does its bid; then the terminal is left.
     "Two|at0 . lose off0 . > > > > >|A - A 0:HI ACK1 0:EOT B 1:EOT; from 0: 1/1 HI",
     "OneTry|to0 . off0 lose . lose .|a - a - B; to 0.0: 0/1",
-    "ByThree|to0 e0.1 . > off0 > > > >|a 0:ACK0 HI 0:ACK1 B 1:EOT B; to 0.0: 1/1 HI; to 0.1: 0/1",
+    "ByThree|to0 e0.1 . > off0 > > > >|a 0:ACK0 HI 0:ACK1 B 1:EOT; to 0.0: 1/1 HI; to 0.1: 0/1",
     "Two|to0 urgent . > off0 > > >|a 0:ACK0 HI 0:RVI B; to 0.0: 1/1 HI",
     // A control station that begins again polls all terminals.
     "Two|off0 off1 . restart .|- - A",

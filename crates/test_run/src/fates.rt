@@ -41,6 +41,8 @@ const MARKS: &[&str] = &[
     "ready 0",
     "ready 0",
     "unready 0",
+    "poll-off 1",
+    "poll-on 1",
     "urgent-at 0",
     "urgent-for 1",
 ];

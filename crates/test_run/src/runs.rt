@@ -52,6 +52,7 @@ const REFUSED: &[&str] = &[
     "heard-each - -||script line 1: refused: nothing sent",
     "silence\nsilence\nlose\n|control CALL A\n|script line 2: refused: a transmission is pending",
     "unready 2||script line 1: refused: no such terminal",
+    "poll-off 2||script line 1: refused: no such terminal",
     "offer-for 999 HI||script line 1: refused: no such terminal",
     "offer-at 0 \
     .................................................................................\

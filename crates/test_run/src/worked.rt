@@ -164,7 +164,44 @@ not trusted
     }),
 };
 
-pub(crate) const WORKED: &[Worked] = &[POLLED, HEARD, COUNTED_TWICE];
+/// Terminal 0 is passed over, then both are, and then terminal 0 is polled.
+const PASSED_OVER: Worked = Worked {
+    script: "poll-off 0
+silence
+poll-off 1
+carry
+carry
+silence
+poll-on 0
+silence
+",
+    printed: "control CALL B
+terminal 1 EOT
+quiet
+quiet
+control CALL A
+from 0: offered 0, known 0, spooled 0
+to 0: offered 0, known 0, spooled 0
+from 1: offered 0, known 0, spooled 0
+to 1: offered 0, known 0, spooled 0
+trusted
+",
+    lines: &[2, 4, 5, 6, 8],
+    traced: "+0 terminal 0 is A, selected as a.
++0 terminal 1 is B, selected as b.
++1 terminal 0 is not polled
++2 silence
++3 terminal 1 is not polled
++4 control heard CALL B 161604ff1616c285ff
++5 terminal 1 heard EOT 161604ff
++6 silence
++7 terminal 0 is polled
++8 silence
+",
+    answer: Ok(()),
+};
+
+pub(crate) const WORKED: &[Worked] = &[POLLED, HEARD, COUNTED_TWICE, PASSED_OVER];
 
 impl Worked {
     /// Whether a run printed and answered what it does without faults.

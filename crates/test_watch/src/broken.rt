@@ -72,8 +72,8 @@ pub enum Broken {
     #[error("a call that is not due")]
     Call,
 
-    /// A call is to another terminal than the next one in the poll list that is polled, and does not
-    /// repeat the last call.
+    /// A call is to another terminal than the next one in the poll list that is polled, and is not
+    /// the last call again.
     #[error("a call out of order")]
     Order,
 }
