@@ -166,7 +166,8 @@ not trusted
 
 /// Terminal 0 is passed over, then both are, and then terminal 0 is polled.
 const PASSED_OVER: Worked = Worked {
-    script: "poll-off 0
+    script: "offer-at 0 HI
+poll-off 0
 silence
 poll-off 1
 carry
@@ -174,29 +175,38 @@ carry
 silence
 poll-on 0
 silence
+carry
+carry
 ",
     printed: "control CALL B
 terminal 1 EOT
 quiet
 quiet
 control CALL A
-from 0: offered 0, known 0, spooled 0
+terminal 0 TEXT ETX 1
+control ACK1
+from 0: offered 1, known 0, spooled 1
+  4849
 to 0: offered 0, known 0, spooled 0
 from 1: offered 0, known 0, spooled 0
 to 1: offered 0, known 0, spooled 0
 trusted
 ",
-    lines: &[2, 4, 5, 6, 8],
+    lines: &[3, 5, 6, 7, 9, 10, 11],
     traced: "+0 terminal 0 is A, selected as a.
 +0 terminal 1 is B, selected as b.
-+1 terminal 0 is not polled
-+2 silence
-+3 terminal 1 is not polled
-+4 control heard CALL B 161604ff1616c285ff
-+5 terminal 1 heard EOT 161604ff
-+6 silence
-+7 terminal 0 is polled
-+8 silence
++1 offered at terminal 0: |HI|
++2 terminal 0 is not polled
++3 silence
++4 terminal 1 is not polled
++5 control heard CALL B 161604ff1616c285ff
++6 terminal 1 heard EOT 161604ff
++7 silence
++8 terminal 0 is polled
++9 silence
++10 control heard CALL A 161604ff1616c185ff
++11 terminal 0 heard TEXT ETX 1 161602c84919839bff
++11 arrived from 0: |HI|
 ",
     answer: Ok(()),
 };
