@@ -270,8 +270,9 @@ impl<A: Allocator> Control<A> {
 
     /// Begins again, as after the end of the process: the station is at rest at the first entry of
     /// the poll list, with its counters at 0 and no urgent flag up, every terminal is polled, and
-    /// its next silence makes the first call. It keeps its settings, poll list and terminals, the records that it has to send,
-    /// its doubts, and the records that arrived; an unanswered block is in doubt.
+    /// its next silence makes the first call. It keeps its settings, poll list and terminals, the
+    /// records that it has to send, its doubts, and the records that arrived; an unanswered block
+    /// is in doubt.
     pub fn restart(&mut self)
         ensures state { self.new ≡ restarted self.old }
         ensures control { IsControl self.new }
@@ -331,10 +332,10 @@ impl<A: Allocator> Control<A> {
     }
 
     /// Recalls what was kept of the sending side of a selection address, once the records that had
-    /// been offered for it are offered again. The errors are `NotNew` if the station is not at rest,
-    /// a block is in doubt, or a record is known to have arrived; then `Known` if more records are
-    /// known than were offered; then `Doubt` if the doubtful block does not have 1 to 7 records, or
-    /// more than are not known. All change nothing. Condition: the address exists.
+    /// been offered for it are offered again. The errors are `NotNew` if the station is not at
+    /// rest, a block is in doubt, or a record is known to have arrived; then `Known` if more
+    /// records are known than were offered; then `Doubt` if the doubtful block does not have 1 to 7
+    /// records, or more than are not known. All change nothing. Condition: the address exists.
     pub fn recall(
         &mut self,
         terminal: usize,

@@ -7,8 +7,8 @@
 //! the order in which they were given, and so are the selection addresses of each.
 //!
 //! Polling and selection by a poll list, time-outs and what a control station answers are those of
-//! GA27-3004. Buffers, numbers of terminals, addresses and records, a poll list that can be changed,
-//! the urgent flag, doubt and what is kept are this project's own.
+//! GA27-3004. Buffers, numbers of terminals, addresses and records, a poll list that can be
+//! changed, the urgent flag, doubt and what is kept are this project's own.
 #![tactic(auto)]
 
 mod addressing;

@@ -31,9 +31,9 @@ pub fn set_polled(control: &mut Control<Global>, terminal: usize, polled: bool) 
 
 /// Begins again, as after the end of the process: the station is at rest at the first entry of the
 /// poll list, with its counters at 0, each terminal polled and no urgent flag up, and its next
-/// silence makes the first call. It keeps its settings, poll list and terminals, the records that it
-/// has to send, its doubts, and the records that arrived; an unanswered block is in doubt. There is
-/// no fault.
+/// silence makes the first call. It keeps its settings, poll list and terminals, the records that
+/// it has to send, its doubts, and the records that arrived; an unanswered block is in doubt. There
+/// is no fault.
 pub fn restart(control: &mut Control<Global>) -> Result<(), Fault>
     ensures { Restarts control.old control.new result }
 {

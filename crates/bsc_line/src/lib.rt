@@ -11,8 +11,8 @@
 //!
 //! The line of one control station and its terminals is that of GA27-3004, centralised multipoint
 //! operation. Events and their refusals, trust, the choice of the station that acts on a silence,
-//! the ready and urgent flags, a poll list that can be changed, doubt and its release, and what a station that begins again keeps
-//! are this project's own.
+//! the ready and urgent flags, a poll list that can be changed, doubt and its release, and what a
+//! station that begins again keeps are this project's own.
 #![tactic(auto)]
 
 mod addressing;

@@ -51,8 +51,8 @@ is_at_rest _ = false
 abbrev pub visit_ended : Option ℕ → ControlValue → Option ℕ
 visit_ended polled c = if calls_anew c then polled else None
 
--- The same of a step in which the control station may have done nothing: it sent nothing, and is not
--- at rest.
+-- The same of a step in which the control station may have done nothing: it sent nothing, and is
+-- not at rest.
 abbrev pub has_acted : ControlStep → Bool
 has_acted step = is_some step.sent || is_at_rest step.control.task
 
