@@ -5,7 +5,7 @@ ghost use Rattle.bsc_connections.specs.Notes.{told_by};
 ghost use Rattle.bsc_monitor.specs.Progress.{after_event, after_act, after_rest, ends_after_act};
 ghost use Rattle.bsc_monitor.specs.Progress.{ends_at_rest, ends_with};
 ghost use Rattle.bsc_monitor.specs.Progress.{begins_after_pause, known_in, pace_after};
-ghost use Rattle.bsc_monitor.specs.Progress.{progress_after, progress_of};
+ghost use Rattle.bsc_monitor.specs.Progress.{progress_after, progress_of, with_found};
 
 use crate::rounds::{Limits, Rounds};
 use crate::visits::Visits;
@@ -114,19 +114,26 @@ impl Progress {
         ensures answer { result ≡ not self.new.ended }
         ensures kept { self.old.ended ≡ true → self.new.ended ≡ true }
     {
+        self.find(found);
+        let ends = self.count(control, note);
+        self.ended = self.ended || ends;
+        !self.ended
+    }
+
+    /// Takes note of whether records arrived.
+    fn find(&mut self, found: bool)
+        ensures { self.new ≡ with_found self.old found }
+    {
         if found {
             self.rounds.found();
         }
-        if self.count(control, note) {
-            self.ended = true;
-        }
-        !self.ended
     }
 
     /// Counts an event. Returns `true` if the control station ends with it.
     fn count<B: Allocator>(&mut self, control: &Control<B>, note: &Note<'_>) -> bool
         ensures state { self.new ≡ after_event self.old control.now (told_by note.now) }
         ensures ends { result ≡ ends_with self.old control.now (told_by note.now) }
+        ensures ended { self.new.ended ≡ self.old.ended }
     {
         match note {
             Note::Sent { .. } => self.count_act(control),
