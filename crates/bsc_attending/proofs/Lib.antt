@@ -1,5 +1,6 @@
 mod AllPrinted
 mod InTurn
+mod Refused
 mod Prepared
 mod Outcomes
 mod GoingOn
