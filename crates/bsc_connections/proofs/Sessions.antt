@@ -386,7 +386,7 @@ module _ {R W F : Type 0} (parts : ConnectionParts R W F)
   -- ---- one step after another
   module _ {S M T : Type 0} (station : station_of.Ghosts S)
       (is_told : M → S → Happening → Result Bool LiveError → M → Type 0)
-      (admits : M → S → ℕ → List ℕ → Bool) (paces : M → Pace)
+      (admits : M → S → ℕ → List ℕ → Bool) (may_answer : M → S → ℕ → Bool) (paces : M → Pace)
       (waiter : waiter_of.Ghosts T R W) where
     abbrev session : SessionParts S R W F M T
     session =
@@ -395,6 +395,7 @@ module _ {R W F : Type 0} (parts : ConnectionParts R W F)
           connection = parts;
           is_told = is_told;
           admits = admits;
+          may_answer = may_answer;
           paces = paces;
           waiter = waiter;
         }
@@ -520,9 +521,9 @@ module _ {R W F : Type 0} (parts : ConnectionParts R W F)
     went_by_peer (Some ends) at place speaker waiting old happened result new b
         (changes, peer, named, joined) is is_up =
         let replaces : Bool = is_open_at (slice_get old.connections at) in
-        elim (place_after_change at place (λ b a. (a.ends ≡ Some ends) × starts a.framing)
+        elim (place_after_change at place (λ b a. (a.ends ≡ Some ends) × (a.written ≡ false) × starts a.framing)
         old.connections new.connections b changes is) [
-          | inl (same, (a, was, (up, fresh))) ↦ inr (
+          | inl (same, (a, was, (up, unwritten, fresh))) ↦ inr (
             record {
               peer = peer;
               replaces = replaces;
@@ -594,8 +595,9 @@ module _ {R W F : Type 0} (parts : ConnectionParts R W F)
         (last h.arrives.connection.framing) old (record old { connections = h.between }) happened
         result new b
         (λ m there m_up. came_by_change at place
-        (λ b a. (a.ends ≡ b.ends) × parts.framing.ends b.framing true a.framing)
-        (λ x y y_up ended. carries_gap x y y_up ended.0 ended.1) old.connections h.between
+        (λ b a. (a.ends ≡ b.ends) × (a.written ≡ b.written)
+        × parts.framing.ends b.framing true a.framing)
+        (λ x y y_up ended. carries_gap x y y_up ended.0 ended.2) old.connections h.between
         h.arrives.connection m h.ended h.arrives.at there m_up)
         h.arrives.heard is is_up
     went_by_gap false at place old happened result new b (none, ok, same) is is_up =
@@ -738,15 +740,15 @@ carries_history {S} {R} {W} {F} {M} {T} parts gives fits old new [] place now (f
 carries_history parts gives fits old new whole place now
     (goes_on {mid = mid} {happened = happened} {history = history} {is_more = is_more} step rest) is
     is_up =
-    carries_with_step_first parts.connection gives fits parts.station parts.is_told parts.admits parts.paces parts.waiter
+    carries_with_step_first parts.connection gives fits parts.station parts.is_told parts.admits parts.may_answer parts.paces parts.waiter
     place old.connections mid.connections happened history now
     (λ m there m_up. went_by_event parts.connection gives fits parts.station parts.is_told
-    parts.admits parts.paces parts.waiter step.awaited place (record old { waiter = step.waiter }) happened (Ok is_more) mid
+    parts.admits parts.may_answer parts.paces parts.waiter step.awaited place (record old { waiter = step.waiter }) happened (Ok is_more) mid
     m step.does there m_up)
     (carries_history parts gives fits mid new history place now rest is is_up)
 carries_history parts gives fits old new happened place now (fails {error = error} step) is is_up =
     carries_one_step parts.connection gives place old.connections happened now
     (carries_nothing parts.connection gives fits now is_up)
-    (went_by_event parts.connection gives fits parts.station parts.is_told parts.admits parts.paces parts.waiter
+    (went_by_event parts.connection gives fits parts.station parts.is_told parts.admits parts.may_answer parts.paces parts.waiter
     step.awaited place (record old { waiter = step.waiter }) happened (Err error) new now step.does
     is is_up)

@@ -1,5 +1,6 @@
 -- What a station that is attended does, step by step.
-use Rattle.std.specs.Prelude.{◌≡◌, ◌⊎◌, ◌&&◌, ⊤, ℕ, ◌+◌, ◌-◌, ◌^◌, Bool, true, false, not}
+use Rattle.std.specs.Prelude.{◌≡◌, ◌⊎◌, ◌&&◌, ◌||◌, ⊤, ℕ, zero, suc, ◌+◌, ◌-◌, ◌^◌}
+use Rattle.std.specs.Prelude.{Bool, true, false, not}
 use Rattle.std.specs.Prelude.{List, [], ◌∷◌, ◌++◌, length, slice_get, position}
 use Rattle.std.specs.Prelude.{Option, None, Some, is_none, is_some, Result, Ok, Err, nat_lt}
 use Rattle.std.specs.Prelude.{if◌then◌else◌}
@@ -24,7 +25,7 @@ use Rattle.bsc_connections.specs.declared.connection.Taken.{Taken}
 use Rattle.bsc_connections.specs.declared.connection.Taken.TheVariants.{Nothing, Part, Whole}
 use Rattle.bsc_connections.specs.declared.connection.Taken.TheVariants.{Closed}
 use Rattle.bsc_connections.specs.Parts.{ConnectionParts, SessionParts}
-use Rattle.bsc_connections.specs.Connections.{ConnectionValue, Takes, Sends}
+use Rattle.bsc_connections.specs.Connections.{ConnectionValue, Takes, Sends, is_reached}
 use Rattle.bsc_connections.specs.Histories.{Happening, WasHeard, WasSilent, HasJoined}
 use Rattle.bsc_connections.specs.Histories.{HasClosed, WasIgnored, WasRefused, WasStopped}
 use Rattle.bsc_connections.specs.Histories.{HadClient, sent_if_in_time, sent_where_some}
@@ -50,6 +51,25 @@ first_closed connections = position (λ c. is_none c.ends) connections
 -- yet.
 abbrev pub first_untold : {R W F : Type 0} → List (ConnectionValue R W F) → Option ℕ
 first_untold connections = position (λ c. is_none c.ends && is_some c.untold) connections
+
+-- Whether there is this connection, it is open, and a transmission was written on it.
+abbrev pub is_reached_at : {R W F : Type 0} → Option (ConnectionValue R W F) → Bool
+is_reached_at None = false
+is_reached_at (Some connection) = is_reached connection
+
+-- Whether somebody at the first places, this many, may answer what was sent last: it was written
+-- there, and the monitor says that the peer there may answer.
+abbrev pub is_reached_below : {R W F : Type 0} → (ℕ → Bool) → List (ConnectionValue R W F) → ℕ
+    → Bool
+is_reached_below may_answer connections zero = false
+is_reached_below may_answer connections (suc place) =
+    is_reached_below may_answer connections place
+    || (is_reached_at (slice_get connections place) && may_answer place)
+
+-- Whether somebody may answer what was sent last.
+abbrev pub is_any_reached : {R W F : Type 0} → (ℕ → Bool) → List (ConnectionValue R W F) → Bool
+is_any_reached may_answer connections =
+    is_reached_below may_answer connections (length connections)
 
 -- Whether there is this connection, and it is open.
 abbrev pub is_open_at : {R W F : Type 0} → Option (ConnectionValue R W F) → Bool
@@ -292,7 +312,8 @@ module _ {S R W F M T : Type 0} (parts : SessionParts S R W F M T) where
       (result : Result Bool LiveError) (new : Now) : Type 0 where
     pub between : List (ConnectionValue R W F)
     pub ended : ChangesAt place
-        (λ b a. (a.ends ≡ b.ends) × parts.connection.framing.ends b.framing true a.framing)
+        (λ b a. (a.ends ≡ b.ends) × (a.written ≡ b.written)
+        × parts.connection.framing.ends b.framing true a.framing)
         old.connections between
     pub arrives : Arrives place (record old { connections = between }) happened result new
 
@@ -304,14 +325,16 @@ module _ {S R W F M T : Type 0} (parts : SessionParts S R W F M T) where
       (happened ≡ []) × (result ≡ Ok true) × (new ≡ old)
 
   -- A peer that has connected and has these directions gets this place, as an open connection on
-  -- which nothing has arrived, and the monitor is told of that, of the peer that the waiter names
-  -- there, and whether the connection was open; or it has gone and nothing changes.
+  -- which nothing has arrived and nothing was written, and the monitor is told of that, of the peer
+  -- that the waiter names there, and whether the connection was open; or it has gone and nothing
+  -- changes.
   abbrev pub JoinsAs : ℕ → Option (R × W) → S → T → AroundNow → List Happening
       → Result Bool LiveError → AroundNow → Type 0
   JoinsAs place None station waiter old happened result new =
       (new.connections ≡ old.connections) × TellsNothing old.monitor happened result new.monitor
   JoinsAs place (Some ends) station waiter old happened result new =
-      ChangesAt place (λ b a. (a.ends ≡ Some ends) × parts.connection.framing.starts a.framing)
+      ChangesAt place (λ b a. (a.ends ≡ Some ends) × (a.written ≡ false)
+      × parts.connection.framing.starts a.framing)
       old.connections new.connections
       × (peer : Option SocketAddr) × parts.waiter.names waiter place peer
       × TellsOne
@@ -374,11 +397,12 @@ module _ {S R W F M T : Type 0} (parts : SessionParts S R W F M T) where
 
   -- What a step begins with: if a write has failed that is not told yet, with a read at the place
   -- of the first such connection, which tells of it, and without a wait; otherwise with the event
-  -- that a wait returns.
-  abbrev pub BeginsWith : Option ℕ → T → Awaited → T → Type 0
-  BeginsWith (Some place) before awaited waiter =
+  -- that a wait returns. The flag says whether somebody may answer what was sent last.
+  abbrev pub BeginsWith : Option ℕ → Bool → T → Awaited → T → Type 0
+  BeginsWith (Some place) is_reached before awaited waiter =
       (awaited ≡ Octets place) × (waiter ≡ before)
-  BeginsWith None before awaited waiter = parts.waiter.waits before (Ok awaited) waiter
+  BeginsWith None is_reached before awaited waiter =
+      parts.waiter.waits before is_reached (Ok awaited) waiter
 
   -- One step: it began with an event, and that was handled. The result is what the monitor
   -- returned.
@@ -386,14 +410,18 @@ module _ {S R W F M T : Type 0} (parts : SessionParts S R W F M T) where
       (new : Now) : Type 0 where
     pub awaited : Awaited
     pub waiter : T
-    pub begins : BeginsWith (first_untold old.connections) old.waiter awaited waiter
+    pub begins : BeginsWith (first_untold old.connections)
+        (is_any_reached (parts.may_answer old.monitor old.station) old.connections)
+        old.waiter awaited waiter
     pub does : Does awaited (record old { waiter = waiter }) happened result new
 
   -- A wait failed, and nothing was done. Each failed write had been told.
   pub record FailsToWait (old : Now) (result : Result Bool LiveError) (new : Now) : Type 0 where
     pub error : LiveError
     pub all_told : first_untold old.connections ≡ None
-    pub waited : parts.waiter.waits old.waiter (Err error) new.waiter
+    pub waited : parts.waiter.waits old.waiter
+        (is_any_reached (parts.may_answer old.monitor old.station) old.connections) (Err error)
+        new.waiter
     pub result_is : result ≡ Err error
     pub others : new ≡ record old { waiter = new.waiter }
 

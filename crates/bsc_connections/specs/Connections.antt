@@ -1,6 +1,6 @@
 -- What a read and a transmission do to one connection.
 use Rattle.std.specs.Prelude.{⊤, ◌≡◌, ◌⊎◌, ℕ, ◌<◌, Bool, true, false, List, [], length, Option}
-use Rattle.std.specs.Prelude.{None, Some, Ok, Err, if◌then◌else◌}
+use Rattle.std.specs.Prelude.{None, Some, Ok, Err, ◌&&◌, is_none, not, if◌then◌else◌}
 use Rattle.std.specs.Io.KnownBytes.{Appends, Consumes, IsAtEnd, Keeps}
 use Rattle.std.specs.declared.io.ErrorKind.{ErrorKind}
 use Rattle.std.specs.declared.io.ErrorKind.TheVariants as kind
@@ -17,12 +17,18 @@ use Rattle.bsc_connections.specs.declared.connection.Taken.TheVariants.{Closed}
 use Rattle.bsc_connections.specs.declared.framing.Framing as framing_of
 use Rattle.bsc_connections.specs.Parts.{ConnectionParts}
 
--- The two directions of a connection while it is open, its framing, and the fault of a write that
--- failed and that is not told yet.
+-- The two directions of a connection while it is open, its framing, the fault of a write that
+-- failed and that is not told yet, and whether a transmission was written on it since it began.
 pub record ConnectionValue (R W F : Type 0) : Type 0 where
   pub ends : Option (R × W)
   pub framing : F
   pub untold : Option DeviceFault
+  pub written : Bool
+
+-- Whether a connection is open and a transmission was written on it: its peer may answer what was
+-- sent last.
+abbrev pub is_reached : {R W F : Type 0} → ConnectionValue R W F → Bool
+is_reached connection = not (is_none connection.ends) && connection.written
 
 -- What a failed read means. If nothing arrived in time there is nothing to read, and if the read
 -- was interrupted there may be; the connection stays open. Any other failure closes it, with the
@@ -129,6 +135,7 @@ module _ {R W F : Type 0} (parts : ConnectionParts R W F) where
     pub was_open : old.ends ≡ Some (before, writer)
     pub stays_open : new.ends ≡ Some (after, writer)
     pub untold : new.untold ≡ old.untold
+    pub written : new.written ≡ old.written
     pub reads : Reads parts.reader parts.framing taken
         (record { reader = before; framing = old.framing })
         (record { reader = after; framing = new.framing })
@@ -170,6 +177,7 @@ module _ {R W F : Type 0} (parts : ConnectionParts R W F) where
         (parts.framing.framed octets)
     pub held : new.framing ≡ old.framing
     pub untold : new.untold ≡ old.untold
+    pub is_written : new.written ≡ true
 
   -- A write fails: the connection is closed, and that is to be told.
   abbrev pub FailsToWrite : ConnectionValue R W F → ConnectionValue R W F → Type 0

@@ -21,26 +21,28 @@ connection_parts reader writer framing =
     record { reader = reader; writer = writer; framing = framing }
 
 -- What is known of a station, of its connections, of what its monitor does when it is told of
--- something, of what it admits, of the pace that it asks for, and of its waiter.
+-- something, of what it admits, of who may answer, of the pace that it asks for, and of its waiter.
 pub record SessionParts (S R W F M T : Type 0) : Type 1 where
   pub station : station_of.Ghosts S
   pub connection : ConnectionParts R W F
   pub is_told : M → S → Happening → Result Bool LiveError → M → Type 0
   pub admits : M → S → ℕ → List ℕ → Bool
+  pub may_answer : M → S → ℕ → Bool
   pub paces : M → Pace
   pub waiter : waiter_of.Ghosts T R W
 
 abbrev pub session_parts : {S R W F M T : Type 0} → station_of.Ghosts S → read.Ghosts R
     → write.Ghosts W → framing_of.Ghosts F
     → (M → S → Happening → Result Bool LiveError → M → Type 0) → (M → S → ℕ → List ℕ → Bool)
-    → (M → Pace) → waiter_of.Ghosts T R W
+    → (M → S → ℕ → Bool) → (M → Pace) → waiter_of.Ghosts T R W
     → SessionParts S R W F M T
-session_parts station reader writer framing is_told admits paces waiter =
+session_parts station reader writer framing is_told admits may_answer paces waiter =
     record {
       station = station;
       connection = connection_parts reader writer framing;
       is_told = is_told;
       admits = admits;
+      may_answer = may_answer;
       paces = paces;
       waiter = waiter;
     }

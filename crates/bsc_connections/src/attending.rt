@@ -8,6 +8,7 @@ ghost use Rattle.bsc_connections.specs.Attending.{Attends, StepsOrFails, Does, A
 ghost use Rattle.bsc_connections.specs.Attending.{IsEnded, IsTakenAt, PlaceFor, awaits_gap};
 ghost use Rattle.bsc_connections.specs.Attending.{first_closed, first_untold, handled_if};
 
+use crate::reached::is_any_reached;
 use crate::replying::reply;
 use crate::{
     Awaited, Connection, Framing, Handled, LiveError, Monitor, Note, Refusal, Taken, Waiter,
@@ -23,9 +24,9 @@ use std::io::{Read, Write};
 /// anything else is heard, or withheld where the waiter says that it is late, so that it is lost to
 /// the peers and none of them hears it after a time-out; if the monitor refuses, nothing is
 /// written. It makes no difference to the station whether its answer is withheld. A connection that
-/// fails or ends is closed for good, and a peer that connects later takes its place; if none is
-/// closed, that of a connection that the waiter says may be replaced. Returns at once with any
-/// error of the waiter or of the monitor, and with `Count` after 2^64 - 1 steps.
+/// fails or ends is closed for good, and a peer that connects later takes its place, or one that is
+/// vacant; if none is closed, that of a connection that the waiter says may be replaced. Returns at
+/// once with any error of the waiter or of the monitor, and with `Count` after 2^64 - 1 steps.
 pub fn attend<
     S: Station,
     R: Read + Drop,
@@ -41,7 +42,7 @@ pub fn attend<
 ) -> Result<(), LiveError>
     ensures attends { (history : List Happening)
         × Attends
-        (session_parts S.Station R.Read W.Write F.Framing M.is_told M.admits M.paces
+        (session_parts S.Station R.Read W.Write F.Framing M.is_told M.admits M.may_answer M.paces
         T.Waiter)
         (record {
           station = station.old;
@@ -58,7 +59,7 @@ pub fn attend<
         }) }
     ensures ended { OnOk result (M.has_ended monitor.new ≡ true) }
     ensures by { IsEnded
-        (session_parts S.Station R.Read W.Write F.Framing M.is_told M.admits M.paces
+        (session_parts S.Station R.Read W.Write F.Framing M.is_told M.admits M.may_answer M.paces
         T.Waiter)
         (record {
           station = station.old;
@@ -98,7 +99,8 @@ fn step<
     monitor: &mut M,
 ) -> Result<bool, LiveError>
     ensures steps { StepsOrFails
-        (session_parts S.Station R.Read W.Write F.Framing M.is_told M.admits M.paces T.Waiter)
+        (session_parts S.Station R.Read W.Write F.Framing M.is_told M.admits M.may_answer M.paces
+        T.Waiter)
         (record {
           station = station.old;
           connections = connections.old;
@@ -117,7 +119,7 @@ fn step<
     if let Some(connection) = first_untold(connections) {
         return read_at(station, connections, connection, waiter, monitor);
     }
-    match waiter.wait() {
+    match waiter.wait(is_any_reached(station, connections, monitor)) {
         Ok(Awaited::Octets { connection }) => {
             read_at(station, connections, connection, waiter, monitor)
         }
@@ -187,7 +189,7 @@ fn read_at<
 ) -> Result<bool, LiveError>
     ensures does { (happened : List Happening)
         × Does
-        (session_parts S.Station R.Read W.Write F.Framing M.is_told M.admits M.paces
+        (session_parts S.Station R.Read W.Write F.Framing M.is_told M.admits M.may_answer M.paces
         T.Waiter)
         (Awaited.Octets connection)
         (record {
@@ -268,7 +270,7 @@ fn arrive_at<
     requires { connection < length connections.old }
     ensures arrives { (happened : List Happening)
         × Arrives
-        (session_parts S.Station R.Read W.Write F.Framing M.is_told M.admits M.paces
+        (session_parts S.Station R.Read W.Write F.Framing M.is_told M.admits M.may_answer M.paces
         T.Waiter)
         connection
         (record {
@@ -327,7 +329,7 @@ fn gap_at<
 ) -> Result<bool, LiveError>
     ensures does { (happened : List Happening)
         × Does
-        (session_parts S.Station R.Read W.Write F.Framing M.is_told M.admits M.paces
+        (session_parts S.Station R.Read W.Write F.Framing M.is_told M.admits M.may_answer M.paces
         T.Waiter)
         (Awaited.Gap connection)
         (record {
@@ -369,7 +371,7 @@ fn silence<
 ) -> Result<bool, LiveError>
     ensures silent { (happened : List Happening)
         × IsSilent
-        (session_parts S.Station R.Read W.Write F.Framing M.is_told M.admits M.paces
+        (session_parts S.Station R.Read W.Write F.Framing M.is_told M.admits M.may_answer M.paces
         T.Waiter)
         (record {
           station = station.old;
@@ -444,7 +446,7 @@ fn join<
 ) -> Result<bool, LiveError>
     ensures does { (happened : List Happening)
         × Does
-        (session_parts S.Station R.Read W.Write F.Framing M.is_told M.admits M.paces
+        (session_parts S.Station R.Read W.Write F.Framing M.is_told M.admits M.may_answer M.paces
         T.Waiter)
         Awaited.Newcomer
         (record {

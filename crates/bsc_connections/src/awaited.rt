@@ -98,8 +98,9 @@ pub enum LiveError {
 /// Waits for the next event on a set of connections, and keeps the time of the time-out and of each
 /// gap. `R` and `W` are the two directions of a connection.
 pub trait Waiter<R, W> {
-    /// What a wait may return: the waiter before, the result, the waiter after.
-    ghost waits: { Self → Result AwaitedValue LiveErrorValue → Self → Type 0 };
+    /// What a wait may return: the waiter before, whether somebody may answer what the station sent
+    /// last, the result, the waiter after.
+    ghost waits: { Self → Bool → Result AwaitedValue LiveErrorValue → Self → Type 0 };
 
     /// The station has handled this, and the next wait begins so: the waiter before, what was
     /// handled, how the next wait begins, the waiter after.
@@ -134,9 +135,11 @@ pub trait Waiter<R, W> {
     /// station is asked to end. It may return `Octets` for a connection that has nothing to read.
     /// Once it has returned `Octets` for a connection it keeps doing so until `nothing_left` is
     /// called. It returns `Gap` once for each gap that was begun, unless the gap is begun anew
-    /// before it has passed.
-    fn wait(&mut self) -> Result<Awaited, LiveError>
-        ensures { waits self.old result self.new };
+    /// before it has passed. `is_reached` tells whether somebody may answer what the station sent
+    /// last: a peer that is connected, on whose connection a transmission was written, and that the
+    /// monitor says may answer. If there is none, a waiter may take the time-out to have passed.
+    fn wait(&mut self, is_reached: bool) -> Result<Awaited, LiveError>
+        ensures { waits self.old is_reached result self.new };
 
     /// Records what the station has handled, and how the next wait begins. The time of the time-out
     /// then begins anew, with the next wait and after its pause, unless the transmission may be

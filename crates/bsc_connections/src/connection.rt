@@ -1,10 +1,11 @@
 //! One connection of a station.
 
-ghost use Rattle.std.specs.Prelude.{◌≡◌, ◌<◌, ◌&&◌, length, None, Some, not, is_none, is_some};
+ghost use Rattle.std.specs.Prelude.{◌≡◌, ◌<◌, ◌&&◌, length, None, Some, false, not, is_none};
+ghost use Rattle.std.specs.Prelude.{is_some};
 ghost use Rattle.bsc_connections.specs.Parts.{connection_parts};
 ghost use Rattle.bsc_connections.specs.Connections.{Takes, Sends, Reads, untold_taken};
 ghost use Rattle.bsc_connections.specs.Connections.{GivesNoOctets, IsEndedBy, failure_means};
-ghost use Rattle.bsc_connections.specs.Connections.{write_fault};
+ghost use Rattle.bsc_connections.specs.Connections.{is_reached, write_fault};
 
 use crate::Framing;
 use crate::limits::MAX_READ;
@@ -46,6 +47,9 @@ pub struct Connection<R, W, F> {
     /// The fault of a write that failed and that no read has reported yet.
     untold: Option<DeviceFault>,
 
+    /// Whether a transmission was written on the connection since it began.
+    written: bool,
+
     /// The octets of the last read.
     read: [u8; MAX_READ],
 }
@@ -55,7 +59,12 @@ impl<R, W, F> Model for Connection<R, W, F> {
 
     ghost Value = { ConnectionValue R W F };
 
-    ghost view = { λ c. record { ends = c.ends; framing = c.framing; untold = c.untold } };
+    ghost view = { λ c. record {
+      ends = c.ends;
+      framing = c.framing;
+      untold = c.untold;
+      written = c.written;
+    } };
 }
 
 impl<R: Read + Drop, W: Write + Drop, F: Framing + Drop> Connection<R, W, F> {
@@ -64,11 +73,30 @@ impl<R: Read + Drop, W: Write + Drop, F: Framing + Drop> Connection<R, W, F> {
         ensures is_open { result.ends ≡ Some (reader, writer) }
         ensures starts { F.starts result.framing }
         ensures untold { result.untold ≡ None }
+        ensures unwritten { result.written ≡ false }
     {
         Connection {
             ends: Some((reader, writer)),
             framing: F::new(),
             untold: None,
+            written: false,
+            read: [0; MAX_READ],
+        }
+    }
+
+    /// Creates a connection that is closed: the place of a peer that has not connected yet. A read
+    /// of it tells of nothing, and a peer that connects gets its place as that of any closed one.
+    pub fn vacant() -> Connection<R, W, F>
+        ensures is_closed { result.ends ≡ None }
+        ensures starts { F.starts result.framing }
+        ensures untold { result.untold ≡ None }
+        ensures unwritten { result.written ≡ false }
+    {
+        Connection {
+            ends: None,
+            framing: F::new(),
+            untold: None,
+            written: false,
             read: [0; MAX_READ],
         }
     }
@@ -78,6 +106,14 @@ impl<R: Read + Drop, W: Write + Drop, F: Framing + Drop> Connection<R, W, F> {
         ensures { result ≡ not (is_none self.now.ends) }
     {
         self.ends.is_some()
+    }
+
+    /// Returns whether the connection is open and a transmission was written on it, so that its
+    /// peer may answer what was sent last.
+    pub(crate) fn is_reached(&self) -> bool
+        ensures { result ≡ is_reached self.now }
+    {
+        self.ends.is_some() && self.written
     }
 
     /// Returns whether a failed write has closed the connection, and no read has reported that yet.
@@ -107,6 +143,7 @@ impl<R: Read + Drop, W: Write + Drop, F: Framing + Drop> Connection<R, W, F> {
         ensures ended { result ≡ F.awaits self.old.framing }
         ensures kept { self.new.ends ≡ self.old.ends }
         ensures untold { self.new.untold ≡ self.old.untold }
+        ensures written { self.new.written ≡ self.old.written }
     {
         self.framing.gap()
     }
@@ -156,9 +193,12 @@ impl<R: Read + Drop, W: Write + Drop, F: Framing + Drop> Connection<R, W, F> {
         let Some((_, writer)) = &mut self.ends else {
             return;
         };
-        if let Err(error) = F::write(writer, octets) {
-            self.close();
-            self.untold = Some(fault_of(error));
+        match F::write(writer, octets) {
+            Ok(()) => self.written = true,
+            Err(error) => {
+                self.close();
+                self.untold = Some(fault_of(error));
+            }
         }
     }
 }

@@ -44,7 +44,7 @@ pub fn gaps()
 pub fn streams<S: Station, R: Read + Drop, W: Write + Drop, T: Waiter<R, W>, M: Monitor<S>>()
     ensures history { CarriesHistory
         (session_parts S.Station R.Read W.Write ⟦<SocketRecords as Framing>⟧ M.is_told
-        M.admits M.paces T.Waiter) GivesRecords }
+        M.admits M.may_answer M.paces T.Waiter) GivesRecords }
     ensures records { (old new : RecordsValue) (given : List ℕ) (arrived : List (List ℕ))
         → SplitsAll old given arrived new }
 {}
@@ -62,7 +62,7 @@ pub fn streams_by_gaps<
     M: Monitor<S>,
 >()
     ensures history { CarriesHistory (session_parts S.Station R.Read W.Write ⟦<Gaps as Framing>⟧
-        M.is_told M.admits M.paces T.Waiter) GivesByGaps }
+        M.is_told M.admits M.may_answer M.paces T.Waiter) GivesByGaps }
 
     // The end of the input ends the transmission that has begun before it closes the connection.
     ensures ended { LosesNothing (connection_parts R.Read W.Write ⟦<Gaps as Framing>⟧) }
@@ -78,7 +78,7 @@ pub fn silences<
     M: Monitor<S>,
 >()
     ensures { TellsEachSilence (session_parts S.Station R.Read W.Write F.Framing M.is_told
-        M.admits M.paces T.Waiter) }
+        M.admits M.may_answer M.paces T.Waiter) }
 {}
 
 /// The monitor has admitted every transmission that a station hears. If it does not admit one, the
@@ -92,5 +92,5 @@ pub fn admissions<
     M: Monitor<S>,
 >()
     ensures { HearsWhatIsAdmitted (session_parts S.Station R.Read W.Write F.Framing M.is_told
-        M.admits M.paces T.Waiter) }
+        M.admits M.may_answer M.paces T.Waiter) }
 {}

@@ -17,6 +17,7 @@ mod gaps;
 pub mod laws;
 mod limits;
 mod monitor;
+mod reached;
 mod replying;
 mod socket_records;
 

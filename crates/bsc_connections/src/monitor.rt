@@ -98,6 +98,10 @@ pub trait Monitor<S> {
     /// this place.
     ghost admits: { Self → S → ℕ → List ℕ → Bool };
 
+    /// Whether the peer of the connection at this place may answer what the station, as it is then,
+    /// has sent last.
+    ghost may_answer: { Self → S → ℕ → Bool };
+
     /// How the next wait begins.
     ghost paces: { Self → PaceValue };
 
@@ -117,6 +121,11 @@ pub trait Monitor<S> {
     /// place. One that is not admitted is not heard; the monitor is told of it.
     fn admits(&self, station: &S, connection: usize, octets: &[u8]) -> bool
         ensures { result ≡ admits self.now station.now connection octets.now };
+
+    /// Returns whether the peer of the connection at this place may answer what the station has
+    /// sent last. It may not if the station knows that it awaits the answer of another peer.
+    fn may_answer(&self, station: &S, connection: usize) -> bool
+        ensures { result ≡ may_answer self.now station.now connection };
 
     /// Returns how the wait begins that follows what was noted last.
     fn pace(&self) -> Pace

@@ -173,14 +173,15 @@ module _ {S M K Z : Type 0} (party : party_of.Ghosts S Z)
   -- What is shown of each step of a session with such a monitor.
   pub shown_by : {R W F T : Type 0} (station : station_of.Ghosts S) (reader : read.Ghosts R)
       (writer : write.Ghosts W) (framing : framing_of.Ghosts F)
-      (admits : Keeping M K → S → ℕ → List ℕ → Bool) (paces : Keeping M K → Pace)
+      (admits : Keeping M K → S → ℕ → List ℕ → Bool)
+      (may_answer : Keeping M K → S → ℕ → Bool) (paces : Keeping M K → Pace)
       (waiter : waiter_of.Ghosts T R W)
       (old new : Session S (ConnectionValue R W F) (Keeping M K) T) (happened : List Happening)
       (result : Result Bool LiveError)
-      → Steps (session_parts station reader writer framing Tells admits paces waiter) old happened
+      → Steps (session_parts station reader writer framing Tells admits may_answer paces waiter) old happened
       result new
       → ShownOf Leaves Kept IsSame old.station old.monitor happened result new.station new.monitor
-  shown_by station reader writer framing admits paces waiter old new happened result step =
-      shown_of_step (session_parts station reader writer framing Tells admits paces waiter) Leaves
+  shown_by station reader writer framing admits may_answer paces waiter old new happened result step =
+      shown_of_step (session_parts station reader writer framing Tells admits may_answer paces waiter) Leaves
       Kept IsSame leaves_idle same_idle leaves_told kept_accepted leaves_later kept_later
       same_of_other old new happened result step

@@ -65,10 +65,11 @@ module _ {S M K Z : Type 0} (party : party_of.Ghosts S Z)
 
   module _ {R W F T : Type 0} (station : station_of.Ghosts S) (reader : read.Ghosts R)
       (writer : write.Ghosts W) (framing : framing_of.Ghosts F)
-      (admits : Keeping M K → S → ℕ → List ℕ → Bool) (paces : Keeping M K → Pace)
+      (admits : Keeping M K → S → ℕ → List ℕ → Bool)
+      (may_answer : Keeping M K → S → ℕ → Bool) (paces : Keeping M K → Pace)
       (waiter : waiter_of.Ghosts T R W) where
     abbrev parts : SessionParts S R W F (Keeping M K) T
-    parts = session_parts station reader writer framing Tells admits paces waiter
+    parts = session_parts station reader writer framing Tells admits may_answer paces waiter
 
     abbrev Now : Type 0
     Now = Session S (ConnectionValue R W F) (Keeping M K) T

@@ -29,12 +29,13 @@ module _ {S M K Z R W F T : Type 0} (party : party_of.Ghosts S Z)
     (is_told : M → S → Happening → Result Bool LiveError → M → Type 0)
     (station : station_of.Ghosts S) (reader : read.Ghosts R)
     (writer : write.Ghosts W) (framing : framing_of.Ghosts F)
-    (admits : Keeping M K → S → ℕ → List ℕ → Bool) (paces : Keeping M K → Pace)
+    (admits : Keeping M K → S → ℕ → List ℕ → Bool)
+    (may_answer : Keeping M K → S → ℕ → Bool) (paces : Keeping M K → Pace)
     (waiter : waiter_of.Ghosts T R W) where
   abbrev parts : SessionParts S R W F (Keeping M K) T
   parts =
       session_parts station reader writer framing
-      (KeepsAndTells party kept_at store printed is_told) admits paces waiter
+      (KeepsAndTells party kept_at store printed is_told) admits may_answer paces waiter
 
   abbrev Now : Type 0
   Now = Session S (ConnectionValue R W F) (Keeping M K) T
@@ -64,7 +65,7 @@ module _ {S M K Z R W F T : Type 0} (party : party_of.Ghosts S Z)
       → Step (all_sent happened) (is_ok result) (moment_of old) (moment_of new)
   step old new happened result steps =
       let shown =
-      shown_by party kept_at store printed is_told station reader writer framing admits paces
+      shown_by party kept_at store printed is_told station reader writer framing admits may_answer paces
       waiter old new happened result steps in
       record {
         event = event old new happened result steps;

@@ -99,14 +99,15 @@ module _ {S K Z : Type 0} (station : station_of.Ghosts S) (party : party_of.Ghos
     given_up : {first now : Moment S K} → KeptSteps true first now → KeptSteps false first now
 
   -- The same, what the station forgets of the records that are known to have arrived, and of those
-  -- that arrived, and what it does for programs.
+  -- that arrived, what it does once a terminal is to be polled or not, and what it does for
+  -- programs.
   module _ (forgets_sent : S → S → Type 0) (forgets_arrived : S → ℕ → ℕ → S → Type 0)
-      (does : ForPrograms S) where
-    -- A run of a station: sessions, and between them records are forgotten, what has changed is
-    -- kept, and programs are served. A record that they offer is kept, and only then offered; if
-    -- the station has no memory for it, the run fails, and only the store has the record. The end
-    -- of a doubt is kept once the station has ended it. The flag says whether all of it succeeded;
-    -- nothing follows what fails.
+      (polls : S → ℕ → Bool → S → Type 0) (does : ForPrograms S) where
+    -- A run of a station: sessions, and between them records are forgotten, terminals are polled
+    -- again or no more, what has changed is kept, and programs are served. A record that they offer
+    -- is kept, and only then offered; if the station has no memory for it, the run fails, and only
+    -- the store has the record. The end of a doubt is kept once the station has ended it. The flag
+    -- says whether all of it succeeded; nothing follows what fails.
     pub data KeptRun : Bool → Moment S K → Moment S K → Type 0 where
       begins : {first now : Moment S K} → now ≡ first → KeptRun true first now
       attended : {first old new : Moment S K} {fine : Bool} → KeptRun true first old
@@ -116,6 +117,9 @@ module _ {S K Z : Type 0} (station : station_of.Ghosts S) (party : party_of.Ghos
           → KeptRun true first (record { station = new; keeper = old.keeper })
       forgot_arrived : {first old : Moment S K} {number count : ℕ} {new : S}
           → KeptRun true first old → forgets_arrived old.station number count new
+          → KeptRun true first (record { station = new; keeper = old.keeper })
+      polled : {first old : Moment S K} {terminal : ℕ} {wanted : Bool} {new : S}
+          → KeptRun true first old → polls old.station terminal wanted new
           → KeptRun true first (record { station = new; keeper = old.keeper })
       kept : {first old : Moment S K} {printed : ℕ → Option ℕ} {done : Unit {0}}
           {new : Keeper K} → KeptRun true first old

@@ -36,6 +36,7 @@ pub fn attend_kept<
         (session_parts S.Station R.Read W.Write F.Framing
         ⟦<Keeping<'a, M, K> as Monitor<S>>⟧.is_told
         ⟦<Keeping<'a, M, K> as Monitor<S>>⟧.admits
+        ⟦<Keeping<'a, M, K> as Monitor<S>>⟧.may_answer
         ⟦<Keeping<'a, M, K> as Monitor<S>>⟧.paces
         T.Waiter)
         M.has_ended result keeping.old keeping.new station.old station.new

@@ -56,6 +56,8 @@ impl<'a, S: Party + Sends, M: Monitor<S> + Prints, K: Store + Drop> Monitor<S>
 
     ghost admits = { λ k station place octets. M.admits k.watch.now station place octets };
 
+    ghost may_answer = { λ k station place. M.may_answer k.watch.now station place };
+
     ghost paces = { λ k. M.paces k.watch.now };
 
     ghost is_told = { KeepsAndTells S.Party S.kept_at K.Store M.printed M.is_told };
@@ -69,6 +71,10 @@ impl<'a, S: Party + Sends, M: Monitor<S> + Prints, K: Store + Drop> Monitor<S>
 
     fn admits(&self, station: &S, connection: usize, octets: &[u8]) -> bool {
         self.watch.admits(station, connection, octets)
+    }
+
+    fn may_answer(&self, station: &S, connection: usize) -> bool {
+        self.watch.may_answer(station, connection)
     }
 
     fn pace(&self) -> Pace {

@@ -37,24 +37,28 @@ pub fn kept_before_sent<
         (session_parts S.Station R.Read W.Write F.Framing
         ⟦<Keeping<'static, M, K> as Monitor<S>>⟧.is_told
         ⟦<Keeping<'static, M, K> as Monitor<S>>⟧.admits
+        ⟦<Keeping<'static, M, K> as Monitor<S>>⟧.may_answer
         ⟦<Keeping<'static, M, K> as Monitor<S>>⟧.paces
         T.Waiter) }
     ensures changed { KeepsEachChange S.Party S.kept_at K.Store M.printed
         (session_parts S.Station R.Read W.Write F.Framing
         ⟦<Keeping<'static, M, K> as Monitor<S>>⟧.is_told
         ⟦<Keeping<'static, M, K> as Monitor<S>>⟧.admits
+        ⟦<Keeping<'static, M, K> as Monitor<S>>⟧.may_answer
         ⟦<Keeping<'static, M, K> as Monitor<S>>⟧.paces
         T.Waiter) }
     ensures throughout { HasAllThroughout S.Party S.kept_at K.Store M.printed
         (session_parts S.Station R.Read W.Write F.Framing
         ⟦<Keeping<'static, M, K> as Monitor<S>>⟧.is_told
         ⟦<Keeping<'static, M, K> as Monitor<S>>⟧.admits
+        ⟦<Keeping<'static, M, K> as Monitor<S>>⟧.may_answer
         ⟦<Keeping<'static, M, K> as Monitor<S>>⟧.paces
         T.Waiter) }
     ensures steps { EachStepIsKept S.Station S.Party S.kept_at K.Store
         (session_parts S.Station R.Read W.Write F.Framing
         ⟦<Keeping<'static, M, K> as Monitor<S>>⟧.is_told
         ⟦<Keeping<'static, M, K> as Monitor<S>>⟧.admits
+        ⟦<Keeping<'static, M, K> as Monitor<S>>⟧.may_answer
         ⟦<Keeping<'static, M, K> as Monitor<S>>⟧.paces
         T.Waiter) }
 {}

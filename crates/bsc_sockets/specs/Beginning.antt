@@ -9,11 +9,12 @@ use Rattle.bsc_peers.specs.declared.networks.Networks.{Networks}
 use Rattle.bsc_sockets.specs.Standings.{StandingsValue, new_standings, peer_of, standings_value}
 use Rattle.bsc_sockets.specs.declared.standings.Standing.{Standing}
 use Rattle.bsc_sockets.specs.declared.standings.Standings.{Standings}
+use Rattle.bsc_sockets.specs.declared.silences.LastSilence.TheVariants.{Untold}
 use Rattle.bsc_sockets.specs.declared.times.Time.TheVariants.{Anew}
 use Rattle.bsc_sockets.specs.declared.times.Times.{Times}
 
--- With this many places: nothing is ready and no gap is awaited, nothing is known of a peer, and
--- the time of the time-out begins with the first wait, which begins at once.
+-- With this many places: nothing is ready and no gap is awaited, nothing is known of a peer, the
+-- time of the time-out begins with the first wait, which begins at once, and no silence was told.
 pub record HasBegunSockets {A : Type 0} (places : ℕ) (ready : List ℕ) (standings : Standings A)
     (times : Times A) : Type 0 where
   pub nothing_ready : ready ≡ []
@@ -21,6 +22,7 @@ pub record HasBegunSockets {A : Type 0} (places : ℕ) (ready : List ℕ) (stand
   pub time_out : times.time_out ≡ Anew
   pub pause : times.pause ≡ None
   pub no_gap : times.gaps.items ≡ replicate places None
+  pub no_silence : times.last_silence ≡ Untold
 
 -- Whether these networks allow this address.
 abbrev pub is_allowed : Networks → SocketAddr → Bool

@@ -5,6 +5,7 @@ pub mod Errors
 pub mod Listening
 pub mod Ready
 pub mod Serving
+pub mod Silences
 pub mod Standings
 pub mod Stopping
 pub mod Times

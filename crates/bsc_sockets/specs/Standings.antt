@@ -124,10 +124,10 @@ abbrev pub counted_after : ℕ → Awaited → ℕ → ℕ
 counted_after time TimeOut silence = min (silence + time) (2 ^ 128 - 1)
 counted_after time awaited silence = silence
 
--- What a time-out adds to the time of all silences: its length, or nothing in the first wait of a
--- station that begins.
+-- What a time-out adds to the time of all silences: its length, or nothing if it has passed at
+-- once, as the flag says.
 abbrev pub silence_of : Bool → ℕ → ℕ
-silence_of begins whole = if begins then 0 else whole
+silence_of is_over whole = if is_over then 0 else whole
 
 -- The time of the time-out after this.
 abbrev pub time_after : Bool → Time → Time

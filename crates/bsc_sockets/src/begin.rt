@@ -1,7 +1,8 @@
 //! Makes the first connections of a station.
 
 ghost use Rattle.std.specs.Prelude.{◌≡◌, ◌<◌, ◌≤◌, ◌^◌, ◌+◌, [], false, true, is_some, length};
-ghost use Rattle.std.specs.Prelude.{IfErr, IfOk, IfSome, IsNone, IsSome, OnOk, Some, slice_get, ℕ};
+ghost use Rattle.std.specs.Prelude.{IfErr, IfOk, IfSome, IsNone, IsSome, OnOk, Some, min};
+ghost use Rattle.std.specs.Prelude.{slice_get, ℕ};
 ghost use Rattle.std.specs.Net.ToAddrs.{host_addrs};
 ghost use Rattle.bsc_sockets.specs.Beginning.{HasAdmitted, is_allowed};
 ghost use Rattle.bsc_sockets.specs.Listening.{IsAddressError, IsConnectError, IsDenied};
@@ -19,11 +20,14 @@ use std::io::ErrorKind;
 use std::net::{HostAddrs, Net, SocketAddr};
 use std::time::{Clock, Duration};
 
-/// The peers that one waits for. (Own.)
+/// The peers that connect to a station. (Own.)
 #[derive(Clone, Copy, Debug, PartialEq, Eq)]
 pub struct Peers {
-    /// The number of peers.
+    /// The most peers that are connected at a time: the number of places.
     pub count: usize,
+
+    /// The number of peers that one waits for; of more than there are places, for as many as these.
+    pub begin_with: usize,
 
     /// How long to wait for each peer, counted from the arrival of the one before it.
     pub patience: Duration,
@@ -51,13 +55,13 @@ pub trait Reception {
     fn refused(&mut self, peer: SocketAddr);
 }
 
-/// Sockets with a connection at each of their places.
+/// Sockets with a connection at each of their first places.
 #[derive(Drop)]
 pub struct Begun<'a, N: Net + Clock, A: Allocator> {
     /// The sockets, which wait for the connections.
     pub sockets: Sockets<'a, N, A>,
 
-    /// The two directions of each connection, by place.
+    /// The two directions of each connection, by place. The places after them are vacant.
     pub connections: Vec<(Reading, Writing<'a, N, A>), A>,
 }
 
@@ -160,16 +164,18 @@ fn is_own(stream: &TcpStream) -> bool {
     }
 }
 
-/// Takes a connection from each of these peers, fewer than 65,536, in the order in which they
-/// connect. A peer whose address is not allowed is turned away, and the patience goes on meanwhile.
-/// Fails with `NobodyConnected` if a peer does not connect within their patience, which begins anew
-/// for each, with `Stopped` if the station is asked to end before that, with `CannotWatchInput` if
-/// the system does not report the descriptor that asks it to, with `Sockets` if it refuses what the
-/// sockets need, and with `Memory` if memory cannot be allocated. A peer that the system cannot
-/// accept is tried again; one for which it refuses what a connection needs, for example since no
-/// descriptor is left, is turned away and waited for anew. If it keeps listening, a further peer is
-/// a newcomer; else the system refuses that peer. The reception is told of the address and of each
-/// peer. A peer that has gone before the last one connected is told too, and waited for anew.
+/// Makes a place for each of these peers, fewer than 65,536, and takes a connection from each of
+/// those that are waited for, in the order in which they connect. The other places stay vacant.
+/// With none to wait for it returns at once. A peer whose address is not allowed is turned away,
+/// and the patience goes on meanwhile. Fails with `NobodyConnected` if a peer does not connect
+/// within their patience, which begins anew for each, with `Stopped` if the station is asked to end
+/// before that, with `CannotWatchInput` if the system does not report the descriptor that asks it
+/// to, with `Sockets` if it refuses what the sockets need, and with `Memory` if memory cannot be
+/// allocated. A peer that the system cannot accept is tried again; one for which it refuses what a
+/// connection needs, for example since no descriptor is left, is turned away and waited for anew.
+/// If it keeps listening, a further peer is a newcomer; else the system refuses that peer. The
+/// reception is told of the address and of each peer. A peer that has gone before the last one
+/// connected is told too, and waited for anew.
 pub fn listen<'a, N: Net + Clock, A: Allocator + Copy, H: Reception>(
     runtime: &'a N,
     alloc: A,
@@ -179,14 +185,16 @@ pub fn listen<'a, N: Net + Clock, A: Allocator + Copy, H: Reception>(
     reception: &mut H,
 ) -> Result<Begun<'a, N, A>, SocketsError>
     requires { peers.count < 2 ^ 16 }
-    ensures count { IfOk result (λ begun. length begun.connections.items ≡ peers.count) }
+    ensures count { IfOk result (λ begun.
+        length begun.connections.items ≡ min peers.begin_with peers.count) }
     ensures settings { IfOk result (λ begun. begun.sockets.settings ≡ settings) }
     ensures refuses { peers.keeps_listening ≡ false
         → IfOk result (λ begun. IsNone begun.sockets.listener) }
     ensures listens { peers.keeps_listening ≡ true
         → IfOk result (λ begun. IsSome begun.sockets.listener) }
     ensures places { IfOk result (λ begun. begun.sockets.places ≡ peers.count) }
-    ensures admitted { IfOk result (λ begun. HasAdmitted settings.allowed peers.count
+    ensures admitted { IfOk result (λ begun.
+        HasAdmitted settings.allowed (min peers.begin_with peers.count)
         (standings_value begun.sockets.standings)) }
     ensures failed { IfErr result (IsListenError (is_some settings.stops_with)) }
 {
@@ -241,7 +249,8 @@ impl<'a, N: Net + Clock, A: Allocator + Copy> Begun<'a, N, A> {
         Ok(())
     }
 
-    /// Takes a connection from each of these peers, and then keeps listening or stops.
+    /// Takes a connection from each of these peers that is waited for, and then keeps listening or
+    /// stops.
     fn take_peers<H: Reception>(
         &mut self,
         listening: Listening,
@@ -249,7 +258,8 @@ impl<'a, N: Net + Clock, A: Allocator + Copy> Begun<'a, N, A> {
         reception: &mut H,
     ) -> Result<(), SocketsError>
         requires { self.old.connections.items ≡ [] }
-        ensures count { OnOk result (length self.new.connections.items ≡ peers.count) }
+        ensures count { OnOk result
+            (length self.new.connections.items ≡ min peers.begin_with peers.count) }
         ensures settings { self.new.sockets.settings ≡ self.old.sockets.settings }
         ensures refuses { peers.keeps_listening ≡ false
             → OnOk result (IsNone self.new.sockets.listener) }
@@ -257,15 +267,16 @@ impl<'a, N: Net + Clock, A: Allocator + Copy> Begun<'a, N, A> {
             → OnOk result (IsSome self.new.sockets.listener) }
         ensures places { self.new.sockets.places ≡ self.old.sockets.places }
         ensures admitted { peers.count ≤ length self.old.sockets.standings.places.items
-            → OnOk result (HasAdmitted self.old.sockets.settings.allowed peers.count
-            (standings_value self.new.sockets.standings)) }
+            → OnOk result (HasAdmitted self.old.sockets.settings.allowed
+            (min peers.begin_with peers.count) (standings_value self.new.sockets.standings)) }
         ensures failed { IfErr result IsPeerError }
     {
         if let Ok(address) = listening.address() {
             reception.listens(address);
         }
         self.sockets.take_peers_of(listening)?;
-        self.add_peers(peers.count, peers.patience, reception)?;
+        let waited_for = peers.begin_with.min(peers.count);
+        self.add_peers(waited_for, peers.patience, reception)?;
         self.replace_gone(peers.patience, reception)?;
         if !peers.keeps_listening {
             self.sockets.stop_listening();

@@ -28,6 +28,7 @@ mod next_peer;
 mod pausing;
 mod ready;
 mod settings;
+mod silences;
 mod sockets;
 mod standings;
 mod stopping;

@@ -38,6 +38,7 @@ impl<'a, N: Net + Clock, A: Allocator + Copy> Sockets<'a, N, A> {
         ensures told { times_told self.new.stopping ≡ times_told self.old.stopping }
         ensures time_out { self.new.times.time_out ≡ self.old.times.time_out }
         ensures gaps { self.new.times.gaps ≡ self.old.times.gaps }
+        ensures last_silence { self.new.times.last_silence ≡ self.old.times.last_silence }
         ensures standings { self.new.standings ≡ self.old.standings }
         ensures places { self.new.places ≡ self.old.places }
         ensures listener { self.new.listener ≡ self.old.listener }

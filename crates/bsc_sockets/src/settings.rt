@@ -26,9 +26,14 @@ pub struct ConnectionSettings {
     /// The pause with which a wait begins if the monitor of the station asks for it.
     pub pause: Duration,
 
-    /// Whether the first wait, if nothing has arrived, returns at once that the time has passed, so
-    /// that a control station makes its first call without delay.
+    /// Whether the first time-out passes at once, if nothing has arrived, so that a control station
+    /// makes its first call without delay.
     pub begins: bool,
+
+    /// Whether a later time-out passes at once while nobody is connected who may answer what the
+    /// station sent last, so that a control station does not wait for what cannot come. A station
+    /// may do so only if nobody answers on one connection what it sent on another.
+    pub skips: bool,
 
     /// The addresses of the peers that may connect to a station that listens. A peer with another
     /// address is turned away.

@@ -1,13 +1,15 @@
 //! The connections of a station, and its waiter.
 
 ghost use Rattle.std.specs.Prelude.{◌≡◌, ◌<◌, ◌^◌, IfErr, IfOk, IfSome, IsNone, IsSome, OnOk};
+ghost use Rattle.std.specs.Duration.{as_nanos};
 ghost use Rattle.std.specs.Prelude.{None, true, false, is_some, slice_get, slice_set};
+ghost use Rattle.std.specs.Prelude.{if◌then◌else◌};
 ghost use Rattle.bsc_sockets.specs.Answers.{may_connect, newcomer_address, newcomer_may};
 ghost use Rattle.bsc_sockets.specs.Beginning.{HasBegunSockets};
 ghost use Rattle.bsc_sockets.specs.Listening.{IsDenied, IsUnwatched};
 ghost use Rattle.bsc_sockets.specs.Ready.{without_place};
 ghost use Rattle.bsc_sockets.specs.Standings.{after_joining, is_known, moves_time_out};
-ghost use Rattle.bsc_sockets.specs.Standings.{standings_value};
+ghost use Rattle.bsc_sockets.specs.Standings.{silence_of, standings_value};
 
 use crate::asking::watch_programs;
 use crate::directions::{Reading, Writing, directions};
@@ -15,7 +17,7 @@ use crate::pausing::Rest;
 use crate::ready::Ready;
 use crate::standings::Standings;
 use crate::stopping::{Stopping, watch};
-use crate::times::Times;
+use crate::times::{End, Times};
 use crate::unread::Unread;
 use crate::{ConnectionSettings, Listening, SocketsError};
 use bsc_connections::{Awaited, Handled, LiveError, Pace, Waiter};
@@ -160,6 +162,7 @@ impl<'a, N: Net + Clock, A: Allocator + Copy> Sockets<'a, N, A> {
         ensures settings { self.new.settings ≡ self.old.settings }
         ensures stopping { self.new.stopping ≡ self.old.stopping }
         ensures time_out { self.new.times.time_out ≡ self.old.times.time_out }
+        ensures last_silence { self.new.times.last_silence ≡ self.old.times.last_silence }
         ensures gaps { OnOk result (self.new.times.gaps.items
             ≡ slice_set self.old.times.gaps.items place None) }
         ensures ready { OnOk result (self.new.ready ≡ without_place self.old.ready place) }
@@ -237,6 +240,7 @@ impl<'a, N: Net + Clock, A: Allocator + Copy> Sockets<'a, N, A> {
         ensures settings { self.new.settings ≡ self.old.settings }
         ensures stopping { self.new.stopping ≡ self.old.stopping }
         ensures time_out { self.new.times.time_out ≡ self.old.times.time_out }
+        ensures last_silence { self.new.times.last_silence ≡ self.old.times.last_silence }
         ensures gaps { IfOk result (λ joined. IfSome joined (λ _. self.new.times.gaps.items
             ≡ slice_set self.old.times.gaps.items place None)) }
         ensures ready { IfOk result (λ joined. IfSome joined
@@ -273,6 +277,7 @@ impl<'a, N: Net + Clock, A: Allocator + Copy> Waiter<Reading, Writing<'a, N, A>>
     ghost use Rattle.bsc_sockets.specs.Answers.{newcomer_may};
     ghost use Rattle.bsc_sockets.specs.Calls.{TellsCall, is_reported_in};
     ghost use Rattle.bsc_sockets.specs.Ready.{without_place};
+    ghost use Rattle.bsc_sockets.specs.Silences.{is_over, silence_after, silence_answered};
     ghost use Rattle.bsc_sockets.specs.Standings.{IsQuietest, after_joining, counted_after};
     ghost use Rattle.bsc_sockets.specs.Standings.{is_known, moves_time_out, peer_of, silence_of};
     ghost use Rattle.bsc_sockets.specs.Standings.{standings_after, standings_value, time_after};
@@ -281,15 +286,14 @@ impl<'a, N: Net + Clock, A: Allocator + Copy> Waiter<Reading, Writing<'a, N, A>>
     ghost use Rattle.bsc_sockets.specs.declared.asking.TheConstants.{CLIENTS};
     ghost use Rattle.bsc_sockets.specs.declared.times.Time.TheVariants.{Anew};
 
-    ghost waits = { λ before result after.
+    ghost waits = { λ before is_reached result after.
         (IfOk result (IsAnswer after.settings.allowed after.places after.newcomer after.ready))
         × (IfErr result IsWaitError)
         × (IfOk result (λ awaited.
         times_told after.stopping ≡ times_told before.stopping + stops_in awaited))
-        × (after.settings.allowed ≡ before.settings.allowed)
-        × (OnOk result (IsNone after.times.pause
-        → after.settings ≡ record before.settings { begins = false }))
-        × (OnOk result (IsSome after.times.pause → after.settings ≡ before.settings))
+        × (after.settings ≡ before.settings)
+        × (IfOk result (λ awaited.
+        after.times.last_silence ≡ silence_after awaited before.times.last_silence))
         × IsKept before.times.time_out after.times.time_out
         × (OnOk result (IsNone after.times.pause
         → HasBegun before.settings.time_out before.times.time_out after.times.time_out))
@@ -304,7 +308,8 @@ impl<'a, N: Net + Clock, A: Allocator + Copy> Waiter<Reading, Writing<'a, N, A>>
         × (OnOk result (IsSome after.times.pause → after.times.gaps ≡ before.times.gaps))
         × (IfOk result (λ awaited. after.standings.silence
         ≡ counted_after
-        (silence_of before.settings.begins (as_nanos before.settings.time_out)) awaited
+        (silence_of (is_over before.times.last_silence before.settings is_reached
+        (is_some before.times.pause)) (as_nanos before.settings.time_out)) awaited
         before.standings.silence))
         × (after.places ≡ before.places)
         × (after.listener ≡ before.listener)
@@ -328,11 +333,17 @@ impl<'a, N: Net + Clock, A: Allocator + Copy> Waiter<Reading, Writing<'a, N, A>>
         (moves_time_out (is_some before.listener) standings what) before.times.time_out)
         × (after.times.pause ≡ pause_of pace)
         × (after.times.gaps ≡ before.times.gaps)
+        × (after.times.last_silence ≡ before.times.last_silence)
         × (standings_value after.standings ≡ standings_after standings what)
         × (after ≡ record before { times = after.times; standings = after.standings }) };
 
     ghost permits = { λ before in_time after.
-        (after ≡ record before { unread = after.unread })
+        (after ≡ record before {
+          unread = after.unread;
+          times = record before.times {
+            last_silence = silence_answered before.times.last_silence;
+          };
+        })
         × (in_time ≡ false → after.unread ≡ before.unread)
         × (in_time ≡ true → IsSome before.unread.limit
         × IfSome after.unread.limit (λ limit. limit.time ≡ before.settings.late_after)) };
@@ -341,6 +352,7 @@ impl<'a, N: Net + Clock, A: Allocator + Copy> Waiter<Reading, Writing<'a, N, A>>
         (after.times.time_out ≡ before.times.time_out)
         × (after.times.gaps.items ≡ slice_set before.times.gaps.items place (Some Anew))
         × (after.times.pause ≡ before.times.pause)
+        × (after.times.last_silence ≡ before.times.last_silence)
         × (after ≡ record before { times = after.times }) };
 
     ghost has_nothing_left = { λ before place after.
@@ -350,6 +362,7 @@ impl<'a, N: Net + Clock, A: Allocator + Copy> Waiter<Reading, Writing<'a, N, A>>
         × (IsSome joined → newcomer_may before.settings.allowed before.newcomer ≡ Some true)
         × (after.settings ≡ before.settings)
         × (after.times.time_out ≡ before.times.time_out)
+        × (after.times.last_silence ≡ before.times.last_silence)
         × (IfSome joined (λ _. after.times.gaps.items
         ≡ slice_set before.times.gaps.items place None))
         × (IfSome joined (λ _. after.ready ≡ without_place before.ready place))
@@ -370,7 +383,8 @@ impl<'a, N: Net + Clock, A: Allocator + Copy> Waiter<Reading, Writing<'a, N, A>>
         IsQuietest standings (length standings.places)
         (as_nanos waiter.settings.replace_after) named };
 
-    fn wait(&mut self) -> Result<Awaited, LiveError> {
+    fn wait(&mut self, is_reached: bool) -> Result<Awaited, LiveError> {
+        let has_paused = self.times.begins_with_pause();
         if let Rest::Called { .. } = self.rest()? {
             return Ok(Awaited::Client);
         }
@@ -379,13 +393,12 @@ impl<'a, N: Net + Clock, A: Allocator + Copy> Waiter<Reading, Writing<'a, N, A>>
         }
         let ConnectionSettings { time_out, gap, .. } = self.settings;
         let next = self.times.next_end(self.runtime, time_out, gap)?;
-        // Before the first call of a station that begins no time has passed.
-        let (left, silence) = if self.settings.begins {
-            (Duration::ZERO, Duration::ZERO)
-        } else {
-            (next.left, time_out)
-        };
-        self.settings.begins = false;
+        let is_over = self
+            .times
+            .last_silence()
+            .is_over(&self.settings, is_reached, has_paused);
+        let (next, silence) = ending(is_over, next, time_out);
+        let left = next.left;
         match self.stopping.left(self.runtime, time_out)? {
             Some(until_stop) if until_stop <= left => match self.in_time(until_stop)? {
                 Awaited::TimeOut => Ok(self.stop_again()),
@@ -409,6 +422,7 @@ impl<'a, N: Net + Clock, A: Allocator + Copy> Waiter<Reading, Writing<'a, N, A>>
     }
 
     fn may_send(&mut self) -> bool {
+        self.times.answer_silence();
         if self.unread.is_late(self.runtime) {
             return false;
         }
@@ -445,5 +459,22 @@ impl<'a, N: Net + Clock, A: Allocator + Copy> Waiter<Reading, Writing<'a, N, A>>
             Some(peer) => Some(peer.address),
             None => None,
         }
+    }
+}
+
+/// Returns what ends next, and how much time of silence it counts if it is the time-out: the
+/// time-out at once, and none, if it is over; else this end, and the whole time-out.
+fn ending(is_over: bool, next: End, time_out: Duration) -> (End, Duration)
+    ensures counted { as_nanos result.1 ≡ silence_of is_over (as_nanos time_out) }
+    ensures whose { result.0.gap ≡ (if is_over then None else next.gap) }
+{
+    if is_over {
+        let now = End {
+            left: Duration::ZERO,
+            gap: None,
+        };
+        (now, Duration::ZERO)
+    } else {
+        (next, time_out)
     }
 }

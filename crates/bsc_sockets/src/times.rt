@@ -1,13 +1,15 @@
-//! The times of the pause, the time-out and the gaps.
+//! The times of the pause, the time-out and the gaps, and the last silence.
 
-ghost use Rattle.std.specs.Prelude.{◌≡◌, IfErr, IfOk, IsSome, None, OnOk, Some, false, replicate};
-ghost use Rattle.std.specs.Prelude.{slice_set};
+ghost use Rattle.std.specs.Prelude.{◌≡◌, IfErr, IfOk, IsSome, None, OnOk, Some, false, is_some};
+ghost use Rattle.std.specs.Prelude.{replicate, slice_set};
 ghost use Rattle.bsc_sockets.specs.Answers.{IsWaitError};
 ghost use Rattle.bsc_sockets.specs.Calls.{is_call};
+ghost use Rattle.bsc_sockets.specs.Silences.{silence_after, silence_answered};
 ghost use Rattle.bsc_sockets.specs.Times.{GapsRun, HasBegun, IsAwaited, IsEnd, IsKept, Runs};
 ghost use Rattle.bsc_sockets.specs.Times.{earlier, ended_gap, event_of, pause_of, since};
 ghost use Rattle.bsc_sockets.specs.Times.{without_ended};
 
+use crate::silences::LastSilence;
 use crate::time_limit::TimeLimit;
 use bsc_connections::{Awaited, LiveError, Pace};
 use std::alloc::{AllocError, Allocator};
@@ -33,7 +35,8 @@ pub(crate) struct End {
 }
 
 /// The time of the time-out, of the pause with which a wait begins, and of the gap of each
-/// connection on which one is awaited. Each is begun anew by its own call, and by nothing else.
+/// connection on which one is awaited. Each is begun anew by its own call, and by nothing else. And
+/// what the station has done since the last time-out that it was told of.
 #[derive(Drop)]
 pub(crate) struct Times<A: Allocator> {
     time_out: Time,
@@ -42,6 +45,8 @@ pub(crate) struct Times<A: Allocator> {
     pause: Option<Time>,
     /// The time of the gap at each place, if one is awaited there.
     gaps: Vec<Option<Time>, A>,
+    /// The last silence that the station was told of.
+    last_silence: LastSilence,
 }
 
 impl<A: Allocator> Times<A> {
@@ -51,6 +56,7 @@ impl<A: Allocator> Times<A> {
         ensures time_out { IfOk result (λ times. times.time_out ≡ Time.Anew) }
         ensures pause { IfOk result (λ times. times.pause ≡ None) }
         ensures gaps { IfOk result (λ times. times.gaps.items ≡ replicate places None) }
+        ensures last_silence { IfOk result (λ times. times.last_silence ≡ LastSilence.Untold) }
     {
         let mut gaps = Vec::new(alloc);
         for _ in 0..places {
@@ -60,6 +66,7 @@ impl<A: Allocator> Times<A> {
             time_out: Time::Anew,
             pause: None,
             gaps,
+            last_silence: LastSilence::Untold,
         })
     }
 
@@ -68,6 +75,7 @@ impl<A: Allocator> Times<A> {
         ensures time_out { self.new.time_out ≡ Time.Anew }
         ensures pause { self.new.pause ≡ self.old.pause }
         ensures gaps { self.new.gaps ≡ self.old.gaps }
+        ensures last_silence { self.new.last_silence ≡ self.old.last_silence }
     {
         self.time_out = Time::Anew;
     }
@@ -78,6 +86,7 @@ impl<A: Allocator> Times<A> {
         ensures pause { self.new.pause ≡ self.old.pause }
         ensures gaps { self.new.gaps.items
             ≡ slice_set self.old.gaps.items place (Some Time.Anew) }
+        ensures last_silence { self.new.last_silence ≡ self.old.last_silence }
     {
         if let Some(gap) = self.gaps.get_mut(place) {
             *gap = Some(Time::Anew);
@@ -89,11 +98,34 @@ impl<A: Allocator> Times<A> {
         ensures time_out { self.new.time_out ≡ self.old.time_out }
         ensures pause { self.new.pause ≡ pause_of pace }
         ensures gaps { self.new.gaps ≡ self.old.gaps }
+        ensures last_silence { self.new.last_silence ≡ self.old.last_silence }
     {
         self.pause = match pace {
             Pace::AtOnce => None,
             Pace::AfterPause => Some(Time::Anew),
         };
+    }
+
+    /// Returns the last silence that the station was told of.
+    pub(crate) fn last_silence(&self) -> LastSilence
+        ensures { result ≡ self.now.last_silence }
+    {
+        self.last_silence
+    }
+
+    /// Records that the station sends something, or withholds it.
+    pub(crate) fn answer_silence(&mut self)
+        ensures { self.new
+            ≡ record self.old { last_silence = silence_answered self.old.last_silence } }
+    {
+        self.last_silence.answer();
+    }
+
+    /// Returns whether the next wait begins with a pause, or goes on with one.
+    pub(crate) fn begins_with_pause(&self) -> bool
+        ensures { result ≡ is_some self.now.pause }
+    {
+        self.pause.is_some()
     }
 
     /// Begins the time of the pause, which takes `pause`, if this wait is to begin with one and it
@@ -109,6 +141,7 @@ impl<A: Allocator> Times<A> {
         ensures limit { IfOk result (λ limit. self.new.pause ≡ since limit) }
         ensures failed { IfErr result IsWaitError }
         ensures gaps { self.new.gaps ≡ self.old.gaps }
+        ensures last_silence { self.new.last_silence ≡ self.old.last_silence }
     {
         let Some(begun) = self.pause else {
             return Ok(None);
@@ -123,6 +156,7 @@ impl<A: Allocator> Times<A> {
         ensures time_out { self.new.time_out ≡ self.old.time_out }
         ensures pause { self.new.pause ≡ None }
         ensures gaps { self.new.gaps ≡ self.old.gaps }
+        ensures last_silence { self.new.last_silence ≡ self.old.last_silence }
     {
         self.pause = None;
     }
@@ -132,6 +166,7 @@ impl<A: Allocator> Times<A> {
         ensures time_out { self.new.time_out ≡ self.old.time_out }
         ensures pause { self.new.pause ≡ self.old.pause }
         ensures gaps { self.new.gaps.items ≡ slice_set self.old.gaps.items place None }
+        ensures last_silence { self.new.last_silence ≡ self.old.last_silence }
     {
         if let Some(gap) = self.gaps.get_mut(place) {
             *gap = None;
@@ -153,6 +188,7 @@ impl<A: Allocator> Times<A> {
         ensures pause { self.new.pause ≡ self.old.pause }
         ensures gaps { OnOk result (GapsRun gap self.old.gaps.items self.new.gaps.items) }
         ensures awaited { IfOk result (λ end. IsAwaited end.gap self.old.gaps.items) }
+        ensures last_silence { self.new.last_silence ≡ self.old.last_silence }
     {
         let (limit, left) = running(clock, self.time_out, time_out)?;
         self.time_out = Time::Since(limit);
@@ -174,8 +210,11 @@ impl<A: Allocator> Times<A> {
         ensures time_out { self.new.time_out ≡ self.old.time_out }
         ensures pause { self.new.pause ≡ self.old.pause }
         ensures gaps { self.new.gaps.items ≡ without_ended end.gap self.old.gaps.items }
+        ensures last_silence { self.new.last_silence
+            ≡ silence_after result self.old.last_silence }
     {
         let Some(connection) = end.gap else {
+            self.last_silence.tell();
             return Awaited::TimeOut;
         };
         self.stop_gap(connection);

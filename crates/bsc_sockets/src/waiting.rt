@@ -7,6 +7,7 @@ ghost use Rattle.std.specs.Option.{option_map_or};
 ghost use Rattle.bsc_sockets.specs.Answers.{IsAnswer, IsWaitError};
 ghost use Rattle.bsc_sockets.specs.Calls.{FindsCall, TellsCall, is_call, is_reported_in, sought_in};
 ghost use Rattle.bsc_sockets.specs.Serving.{is_overdue, served_after, served_overdue};
+ghost use Rattle.bsc_sockets.specs.Silences.{silence_after};
 ghost use Rattle.bsc_sockets.specs.Standings.{counted_after};
 ghost use Rattle.bsc_sockets.specs.Stopping.{stops_in, times_told};
 ghost use Rattle.bsc_sockets.specs.Times.{IsEnd, ended_gap, event_of, without_ended};
@@ -354,6 +355,8 @@ impl<'a, N: Net + Clock, A: Allocator + Copy> Sockets<'a, N, A> {
             ≡ counted_after (as_nanos silence) result self.old.standings.silence }
         ensures called { self.new.called ≡ self.old.called }
         ensures events { self.new.events ≡ self.old.events }
+        ensures last { self.new.times.last_silence
+            ≡ silence_after result self.old.times.last_silence }
     {
         let awaited = self.times.end(end);
         if awaited == Awaited::TimeOut {

@@ -73,6 +73,11 @@ reason t called place =
 abbrev pub admits : Trust → Option ℕ → ℕ → Heard → Bool
 admits t called place heard = is_noise heard || is_none (reason t called place)
 
+-- Whether the peer of the connection at this place may answer what was sent last. If nothing was
+-- sent since the last answer, none of them is known not to.
+abbrev pub may_answer : Trust → Option ℕ → ℕ → Bool
+may_answer t called place = is_none t.awaiting || is_none (reason t called place)
+
 -- ---- what each event changes
 
 -- The same, but this is known of the connection at this place.

@@ -1,13 +1,15 @@
 //! What a control station can tell of the premises on which its line rests.
 
-ghost use Rattle.std.specs.Prelude.{◌≡◌, is_none};
+ghost use Rattle.std.specs.Prelude.{◌≡◌, false, is_none};
+ghost use Rattle.bsc_frame.specs.declared.message.Heard.{Heard as HeardValue};
+ghost use Rattle.bsc_trust.specs.Answers.{is_noise};
 ghost use Rattle.bsc_trust.specs.Connections.{connected_at, owned_by};
 ghost use Rattle.bsc_trust.specs.Trust.{new_trust, reason, admits, after_joined, after_closed};
 ghost use Rattle.bsc_trust.specs.Trust.{after_sent, after_heard, told_of, after_ignored};
 ghost use Rattle.bsc_trust.specs.Trust.{reason_told, slowest_share, with_connected, given_to};
 ghost use Rattle.bsc_trust.specs.Trust.{first_reason, reason_for, reason_of_nobody, after_time};
 ghost use Rattle.bsc_trust.specs.Trust.{told_of_time, told_of_sending, reason_after_time};
-ghost use Rattle.bsc_trust.specs.Trust.{after_withheld, was_told};
+ghost use Rattle.bsc_trust.specs.Trust.{after_withheld, may_answer, was_told};
 
 use crate::answers::{is_noise, is_timed};
 use crate::connected::Connected;
@@ -117,6 +119,17 @@ impl Trust {
         is_noise(heard) || self.reason(called, place).is_none()
     }
 
+    /// Returns whether the peer of the connection at this place may answer what the control station
+    /// sent last. It may not if there is one of the reasons of [`Trust::ignored`] other than
+    /// `NothingSent`: what it sent would not be heard, unless it is noise.
+    pub fn may_answer(&self, called: Option<usize>, place: usize) -> bool
+        ensures value { result ≡ may_answer self.now called place }
+        ensures unheard { result ≡ false → (received : HeardValue)
+            → admits self.now called place received ≡ is_noise received }
+    {
+        self.awaiting.is_none() || self.reason(called, place).is_none()
+    }
+
     /// Records that a transmission was heard at this place and time; it was admitted. Noise changes
     /// nothing. Anything else is an answer: none is due any more, and the connection is owned by
     /// the terminal that is called, if one is and not all answer on one connection. Returns
@@ -176,6 +189,14 @@ impl Trust {
         ensures { result ≡ was_told self.now place }
     {
         self.connected_at(place).told
+    }
+
+    /// Returns the terminal that owns the connection at this place, if one does: it has answered on
+    /// it.
+    pub fn owner(&self, place: usize) -> Option<usize>
+        ensures { result ≡ (connected_at self.now.connections place).owner }
+    {
+        self.connected_at(place).owner
     }
 
     /// Returns the first reason for which the line is not trusted, or `None` if it is trusted.

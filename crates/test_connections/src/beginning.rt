@@ -106,7 +106,7 @@ fn nobody_there_is_told_at_once(rt: HostRuntime) -> Result<(), Fail> {
 /// Whether a station is told of an octet that arrives on its first connection.
 fn hears<R: Read, W, S: Waiter<R, W>>(sockets: &mut S, connections: &mut [(R, W)]) -> bool {
     let first = Awaited::Octets { connection: 0 };
-    sockets.wait() == Ok(first) && reads_at(connections, 0, &[0x16])
+    sockets.wait(true) == Ok(first) && reads_at(connections, 0, &[0x16])
 }
 
 /// Whether a station that listens hears an octet of a station that connected to it with these

@@ -59,7 +59,7 @@ fn first_event(
     settings: ConnectionSettings,
 ) -> Result<Option<Awaited>, SocketsError> {
     let mut begun = reach(rt, alloc, address, settings)?;
-    Ok(begun.sockets.wait().ok())
+    Ok(begun.sockets.wait(true).ok())
 }
 
 #[test]
@@ -108,7 +108,7 @@ fn serving(descriptor: RawFd) -> ConnectionSettings {
 /// Whether the next wait has this result, if the time-out begins with it.
 fn waits<R, W, S: Waiter<R, W>>(sockets: &mut S, awaited: Awaited) -> bool {
     sockets.handled(Handled::Silence, Pace::AtOnce);
-    sockets.wait() == Ok(awaited)
+    sockets.wait(true) == Ok(awaited)
 }
 
 /// Whether a station that serves programs is called once by one that connects to this address, and

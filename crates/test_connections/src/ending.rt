@@ -1,14 +1,14 @@
-//! A peer that sends and ends its connection at once: a station that answers every message, and a
-//! monitor that records what it is told.
+//! A peer that sends and ends its connection at once, and peers that take vacant places: a station
+//! that answers every message, and a monitor that records what it is told.
 
-use crate::meeting::{QUIET, Untold, begin, bound, peer, peers};
+use crate::meeting::{QUIET, Untold, begin, bound, peer, peers, peers_of};
 use bsc_bid::Station;
 use bsc_carrier::CarrierError;
 use bsc_connections::{
     Connection, Framing, Gaps, LiveError, Monitor, Note, Pace, SocketRecords, attend,
 };
 use bsc_frame::{Heard, MessageBuffer, Reply};
-use bsc_sockets::{Begun, Listening};
+use bsc_sockets::{Begun, Listening, Peers};
 use std::alloc::{AllocError, Global};
 use std::io;
 use std::io::{Read, Write};
@@ -89,6 +89,12 @@ fn tell(told: &mut String, note: &Note<'_>) {
             ..
         } => write!(told, "closed {connection}, {why}; "),
         Note::Closed { connection, .. } => write!(told, "closed {connection}; "),
+        Note::Joined {
+            connection,
+            replaces,
+            ..
+        } => write!(told, "joined {connection} {replaces}; "),
+        Note::Refused { .. } => write!(told, "refused; "),
         _ => write!(told, "something else; "),
     };
 }
@@ -100,6 +106,8 @@ impl Monitor<Answers> for Records {
     ghost has_ended = { λ records. records.has_ended };
 
     ghost admits = { λ _ _ _ _. true };
+
+    ghost may_answer = { λ _ _ _. true };
 
     ghost paces = { λ _. AtOnce };
 
@@ -114,6 +122,10 @@ impl Monitor<Answers> for Records {
     }
 
     fn admits(&self, _station: &Answers, _connection: usize, _octets: &[u8]) -> bool {
+        true
+    }
+
+    fn may_answer(&self, _station: &Answers, _connection: usize) -> bool {
         true
     }
 
@@ -206,5 +218,37 @@ fn records_of_each_length_are_heard(rt: HostRuntime) -> Result<(), Fail> {
     hears::<SocketRecords>(&rt, &[0], Shutdown::Write, due)?;
     let refused = SocketRecords::write(&mut Vec::<u8>::new(rt.alloc()), &[]);
     assert!(rt; refused == Err(CarrierError::Length));
+    Ok(())
+}
+
+/// Whether of three peers that connect to a station with two vacant places the first two get these,
+/// in order, and the third none.
+fn are_taken(rt: &HostRuntime, listening: Listening) -> Result<bool, Fail> {
+    let two = Peers {
+        begin_with: 0,
+        ..peers(2)
+    };
+    let begun = begin(
+        rt,
+        rt.alloc(),
+        listening,
+        two,
+        QUIET.settings(),
+        &mut Untold,
+    )?;
+    let Begun { mut sockets, .. } = Box::into_inner(begun);
+    let mut vacant = Vec::new(rt.alloc());
+    for _ in 0..2u8 {
+        vacant.push(Connection::<_, _, SocketRecords>::vacant())?;
+    }
+    let mut monitor = Records::new(rt.alloc(), "joined 0 false; joined 1 false; refused; ");
+    Ok(attend(&mut Answers, &mut vacant, &mut sockets, &mut monitor) == Ok(()))
+}
+
+#[test]
+fn newcomers_take_vacant_places(rt: HostRuntime) -> Result<(), Fail> {
+    let (listening, address) = bound(&rt)?;
+    let _peers = peers_of(&rt, rt.alloc(), address, 3)?;
+    assert!(rt; are_taken(&rt, listening)?);
     Ok(())
 }

@@ -190,6 +190,9 @@ pub(crate) struct Times {
 
     /// Whether a time-out has passed when the station begins.
     pub(crate) begins: bool,
+
+    /// Whether a time-out passes at once that nobody can break.
+    pub(crate) skips: bool,
 }
 
 /// A connection may be replaced after two time-outs.
@@ -200,6 +203,7 @@ pub(crate) const SHORT: Times = Times {
     replace_after: 80,
     pause: 15,
     begins: false,
+    skips: false,
 };
 
 /// The same, with a time-out and a gap that pass in no test.
@@ -219,6 +223,7 @@ impl Times {
             replace_after: Duration::from_millis(self.replace_after),
             pause: Duration::from_millis(self.pause),
             begins: self.begins,
+            skips: self.skips,
             allowed: Networks::new(),
             stops_with: None,
             serves: None,
@@ -307,6 +312,7 @@ pub(crate) fn reach<'a, N: Net + Clock, A: Allocator + Copy>(
 pub(crate) fn peers(count: usize) -> Peers {
     Peers {
         count,
+        begin_with: count,
         patience: patience(),
         keeps_listening: true,
     }

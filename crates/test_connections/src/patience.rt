@@ -244,6 +244,42 @@ fn a_station_waits_as_long_as_it_is_patient(rt: HostRuntime) -> Result<(), Fail>
     Ok(())
 }
 
+/// For how many peers a station waits that has two places, and what is reported if two connect.
+const FIRST: &[(usize, usize, &str)] = &[
+    (0, 0, "listens; "),
+    (1, 1, "listens; waits 0 1; joined 0 0; "),
+    (
+        3,
+        2,
+        "listens; waits 0 2; joined 0 0; waits 1 2; joined 1 1; ",
+    ),
+];
+
+/// Whether a station that waits for this many peers begins with these connections, and reports
+/// this.
+fn begins(rt: &HostRuntime, (begin_with, count, told): (usize, usize, &str)) -> Result<bool, Fail> {
+    let wanted = Peers {
+        begin_with,
+        ..peers(2)
+    };
+    let mut settings = settings();
+    settings.allowed = allowed("127.0.0.1")?;
+    let (listening, address) = bound(rt)?;
+    let machine = Machine::new(rt, &[]);
+    let far = peers_of(rt, rt.alloc(), address, 2)?;
+    let mut reports = Reports::new(&machine, address, far, b"");
+    let begun = connections_of(&machine, listening, wanted, settings, &mut reports);
+    Ok(begun == Ok(count) && reports.told.as_str() == told)
+}
+
+#[test]
+fn a_station_begins_with_those_that_it_waits_for(rt: HostRuntime) -> Result<(), Fail> {
+    for case in FIRST {
+        assert!(rt; begins(&rt, *case)?, "{}", case.2);
+    }
+    Ok(())
+}
+
 /// What is reported if of two peers the first goes before the second connects: another peer is
 /// waited for, and takes the place.
 const ANEW: &str = "listens; waits 0 2; joined 0 0; waits 1 2; joined 1 0; left 0 true; waits 1 2; \
@@ -276,11 +312,11 @@ fn is_at<R: Read, W: Write, S: Waiter<R, W>>(
 ) -> Result<bool, Fail> {
     let is_named = sockets.peer(place) == Some(peer.local_addr()?);
     peer.write_all(b"here")?;
-    let is_told = sockets.wait()? == Awaited::Octets { connection: place };
+    let is_told = sockets.wait(true)? == Awaited::Octets { connection: place };
     let is_read = reads_at(connections, place, b"here");
     sockets.nothing_left(place);
     sockets.begin_gap(place);
-    let gap = sockets.wait()? == Awaited::Gap { connection: place };
+    let gap = sockets.wait(true)? == Awaited::Gap { connection: place };
     let is_written = writes_at(connections, place, b"too") && reads(peer, b"too");
     Ok(is_named && is_told && is_read && gap && is_written)
 }
@@ -292,7 +328,7 @@ fn takes<R: Read + Drop, W: Write + Drop, S: Waiter<R, W>>(
     place: usize,
     newcomer: &mut TcpStream,
 ) -> Result<bool, Fail> {
-    if sockets.wait()? != Awaited::Newcomer || place >= connections.len() {
+    if sockets.wait(true)? != Awaited::Newcomer || place >= connections.len() {
         return Ok(false);
     }
     let Some(joined) = sockets.join(place) else {

@@ -75,7 +75,7 @@ fn two_newcomers<R: Drop, W: Drop, S: Waiter<R, W>>(
 ) -> Result<(), Fail> {
     for refused in [1, 9] {
         let mut far = peer(rt, address)?;
-        if sockets.wait()? != Awaited::Newcomer {
+        if sockets.wait(true)? != Awaited::Newcomer {
             return Err("no newcomer".into());
         }
         alloc.refuse_nth(refused);
@@ -98,7 +98,7 @@ fn a_growth_for_a_newcomer(rt: HostRuntime) -> Result<(), Fail> {
 fn told_of<R, W, S: Waiter<R, W>>(sockets: &mut S) -> Result<usize, Fail> {
     let (mut told, mut count) = ([false; 65], 0usize);
     for _ in 0..260u16 {
-        let place = match sockets.wait()? {
+        let place = match sockets.wait(true)? {
             Awaited::Octets { connection } => connection,
             Awaited::Newcomer => 64,
             _ => return Err("something else".into()),

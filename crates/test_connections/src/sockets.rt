@@ -43,6 +43,20 @@ const PASSING: &[&str] = &[
      passes:40:timeout sends:0:here pauses:15:octets passes:0:octets",
 ];
 
+/// While nobody may answer, a time-out passes at once, but the first one of a station that does not
+/// begin, one after which nothing was sent, and one after a pause.
+const ALONE: &[&str] = &[
+    "passes:0:timeout alone:40:timeout may alone:0:timeout may alone:0:timeout may \
+     alone:0:timeout replaceable:none may alone-pauses:55:timeout replaceable:0 may \
+     passes:40:timeout",
+];
+
+/// The same in a station that listens first.
+const ALONE_AT_FIRST: &[&str] = &["late alone:40:timeout may alone:0:timeout"];
+
+/// The same with a time-out that passes in no test.
+const ALONE_FOR_LONG: &[&str] = &["alone:0:timeout may alone:0:timeout"];
+
 /// A call of a program is told once, and two of them once.
 const CALLS: &[&str] = &[
     "calls silence waits:call silence waits:timeout calls calls silence waits:call silence \
@@ -57,6 +71,7 @@ const LONG: Times = Times {
     replace_after: 80,
     pause: 3_600_000,
     begins: false,
+    skips: false,
 };
 
 /// Courses of a station with long times, whose peer has octets to be read at nearly all times, so
@@ -136,12 +151,31 @@ const LONG_BEGIN: Times = Times {
     ..LONG
 };
 
+/// The same of stations that skip silences which nobody can break.
+const SHORT_SKIPS: Times = Times {
+    skips: true,
+    ..SHORT_BEGIN
+};
+
+const LISTENS_FIRST: Times = Times {
+    skips: true,
+    ..SHORT
+};
+
+const LONG_SKIPS: Times = Times {
+    skips: true,
+    ..LONG_BEGIN
+};
+
 /// Numbers of peers, the times of the station, what it watches beside its peers, and what happens
 /// there.
 const STATIONS: &[(usize, Times, Besides, &[&str])] = &[
     (1, SHORT, Besides::Nothing, ONE_PEER),
     (2, SHORT, Besides::Nothing, TWO_PEERS),
     (1, SHORT_BEGIN, Besides::Nothing, PASSING),
+    (1, SHORT_SKIPS, Besides::Nothing, ALONE),
+    (1, LISTENS_FIRST, Besides::Nothing, ALONE_AT_FIRST),
+    (1, LONG_SKIPS, Besides::Nothing, ALONE_FOR_LONG),
     (1, SHORT, Besides::Programs, CALLS),
     (1, LONG, Besides::Nothing, COURSES),
     (1, SLOW, Besides::Nothing, GAPS),

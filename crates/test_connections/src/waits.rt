@@ -4,20 +4,20 @@ use crate::scene::{Scene, Word};
 use bsc_connections::{Awaited, Handled, Pace, Waiter};
 use std::time::Instant;
 
-/// The number of milliseconds after which a wait has this result. The time-out begins with the
-/// wait, and the gap that is expected.
+/// The number of milliseconds after which a wait has this result, in which somebody may answer, or
+/// nobody. The time-out begins with the wait, and the gap that is expected.
 fn passed<R, W, S: Waiter<R, W>>(
     rt: &HostRuntime,
     sockets: &mut S,
     expected: Option<Awaited>,
-    pace: Pace,
+    (pace, is_reached): (Pace, bool),
 ) -> Option<u128> {
     sockets.handled(Handled::Silence, pace);
     if let Some(Awaited::Gap { connection }) = expected {
         sockets.begin_gap(connection);
     }
     let start = Instant::now(rt).ok()?;
-    let awaited = sockets.wait().ok();
+    let awaited = sockets.wait(is_reached).ok();
     let passed = start.elapsed(rt).ok()?.as_millis();
     (awaited == expected).then_some(passed)
 }
@@ -28,9 +28,9 @@ fn passes<R, W, S: Waiter<R, W>>(
     rt: &HostRuntime,
     sockets: &mut S,
     (least, expected): (usize, Option<Awaited>),
-    pace: Pace,
+    begun: (Pace, bool),
 ) -> bool {
-    match passed(rt, sockets, expected, pace) {
+    match passed(rt, sockets, expected, begun) {
         Some(passed) => least as u128 <= passed && passed < 4_000,
         None => false,
     }
@@ -48,7 +48,7 @@ fn waits<R, W, S: Waiter<R, W>>(
         if is_called && !scene.calls() {
             return false;
         }
-        if (sockets.wait().ok() == awaited) == is_one {
+        if (sockets.wait(true).ok() == awaited) == is_one {
             return is_one;
         }
     }
@@ -65,7 +65,7 @@ fn shares<R, W, S: Waiter<R, W>>(scene: &Scene<'_>, sockets: &mut S, is_called: 
         if is_called && !scene.calls() {
             return false;
         }
-        let place = match sockets.wait() {
+        let place = match sockets.wait(true) {
             Ok(Awaited::Octets { connection }) => connection,
             Ok(Awaited::Newcomer | Awaited::Client) => 2,
             _ => return false,
@@ -89,7 +89,7 @@ fn crowds<R, W, S: Waiter<R, W>>(scene: &mut Scene<'_>, sockets: &mut S) -> bool
         if !scene.comes() {
             return false;
         }
-        match sockets.wait() {
+        match sockets.wait(true) {
             Ok(Awaited::Newcomer) => sockets.turn_away(),
             Ok(Awaited::Octets { connection: 0 }) => return true,
             _ => return false,
@@ -121,9 +121,10 @@ fn many_go<R, W, S: Waiter<R, W>>(
 
 /// Whether a wait of a word has its result: `waits:AWAITED`; `finds:AWAITED`, and the time-out
 /// begins with it; `passes:MILLISECONDS:AWAITED`, the same after at least this time;
-/// `pauses:MILLISECONDS:AWAITED`, the same after a pause; `pauses-an-hour`, which is the pause, of
-/// which a tenth of a second is left once it has begun; `replaceable:PLACE`, that connection may be
-/// replaced, or none.
+/// `pauses:MILLISECONDS:AWAITED`, the same after a pause; `alone:MILLISECONDS:AWAITED` and
+/// `alone-pauses:MILLISECONDS:AWAITED`, the same while nobody may answer; `pauses-an-hour`, which
+/// is the pause, of which a tenth of a second is left once it has begun; `replaceable:PLACE`, that
+/// connection may be replaced, or none.
 pub(crate) fn wait_goes<R, W, S: Waiter<R, W>>(
     scene: &mut Scene<'_>,
     sockets: &mut S,
@@ -131,14 +132,16 @@ pub(crate) fn wait_goes<R, W, S: Waiter<R, W>>(
 ) -> Option<bool> {
     let (rt, awaited, least) = (scene.rt, word.awaited(), word.number);
     match word.verb {
-        "waits" => Some(sockets.wait().ok() == awaited),
-        "finds" => Some(passed(rt, sockets, awaited, Pace::AtOnce).is_some()),
-        "passes" => Some(passes(rt, sockets, (least, awaited), Pace::AtOnce)),
-        "pauses" => Some(passes(rt, sockets, (least, awaited), Pace::AfterPause)),
+        "waits" => Some(sockets.wait(true).ok() == awaited),
+        "finds" => Some(passed(rt, sockets, awaited, (Pace::AtOnce, true)).is_some()),
+        "passes" => Some(passes(rt, sockets, (least, awaited), (Pace::AtOnce, true))),
+        "pauses" => Some(passes(rt, sockets, (least, awaited), (Pace::AfterPause, true))),
+        "alone" => Some(passes(rt, sockets, (least, awaited), (Pace::AtOnce, false))),
+        "alone-pauses" => Some(passes(rt, sockets, (least, awaited), (Pace::AfterPause, false))),
         "pauses-an-hour" => {
             scene.lets_an_hour_pass();
             let octets = Some(Awaited::Octets { connection: 0 });
-            Some(passes(rt, sockets, (100, octets), Pace::AfterPause))
+            Some(passes(rt, sockets, (100, octets), (Pace::AfterPause, true)))
         }
         "replaceable" => {
             let is_any = word.last != "none";

@@ -42,7 +42,7 @@ returns-then-not-admits-clause-arrives g c =
             c.requires;
         heard = subst (λ (b : Bool). HearsIfAdmitted
             (session_parts g.S.Station g.R.Read g.W.Write g.F.Framing g.M.Monitor.is_told
-            g.M.Monitor.admits g.M.Monitor.paces g.T.Waiter)
+            g.M.Monitor.admits g.M.Monitor.may_answer g.M.Monitor.paces g.T.Waiter)
             b place octets
             (record {
               station = c.args.station.now;
@@ -88,7 +88,7 @@ returns-clause-arrives g c =
             c.requires;
         heard = subst (λ (b : Bool). HearsIfAdmitted
             (session_parts g.S.Station g.R.Read g.W.Write g.F.Framing g.M.Monitor.is_told
-            g.M.Monitor.admits g.M.Monitor.paces g.T.Waiter)
+            g.M.Monitor.admits g.M.Monitor.may_answer g.M.Monitor.paces g.T.Waiter)
             b place octets
             (record {
               station = c.args.station.now;

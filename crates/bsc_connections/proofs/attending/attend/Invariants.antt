@@ -13,7 +13,7 @@ invariant-steps g l = record {
   extends : (history : List Happening) (last : Session g.row.S.Denot
       (ConnectionValue g.row.R.Denot g.row.W.Denot g.row.F.Denot) g.row.M.Denot g.row.T.Denot)
       → Attends
-      (session_parts g.S.Station g.R.Read g.W.Write g.F.Framing g.M.Monitor.is_told g.M.Monitor.admits g.M.Monitor.paces g.T.Waiter)
+      (session_parts g.S.Station g.R.Read g.W.Write g.F.Framing g.M.Monitor.is_told g.M.Monitor.admits g.M.Monitor.may_answer g.M.Monitor.paces g.T.Waiter)
       (record {
         station = l.station;
         connections = l.connections;
@@ -22,7 +22,7 @@ invariant-steps g l = record {
       }) history last
       → (whole : List Happening)
       × Attends
-      (session_parts g.S.Station g.R.Read g.W.Write g.F.Framing g.M.Monitor.is_told g.M.Monitor.admits g.M.Monitor.paces g.T.Waiter)
+      (session_parts g.S.Station g.R.Read g.W.Write g.F.Framing g.M.Monitor.is_told g.M.Monitor.admits g.M.Monitor.may_answer g.M.Monitor.paces g.T.Waiter)
       (record {
         station = l.fn.station;
         connections = l.fn.connections;
@@ -30,7 +30,7 @@ invariant-steps g l = record {
         waiter = l.fn.waiter;
       }) whole last;
   counted : GoesOn
-      (session_parts g.S.Station g.R.Read g.W.Write g.F.Framing g.M.Monitor.is_told g.M.Monitor.admits g.M.Monitor.paces g.T.Waiter)
+      (session_parts g.S.Station g.R.Read g.W.Write g.F.Framing g.M.Monitor.is_told g.M.Monitor.admits g.M.Monitor.may_answer g.M.Monitor.paces g.T.Waiter)
       l.count
       (record {
         station = l.fn.station;

@@ -11,7 +11,7 @@ pub returns-then-not-awaits_gap_at-clause-does : goal.returns-then-not-awaits_ga
 returns-then-not-awaits_gap_at-clause-does g c = (
   [],
   subst (λ (b : Bool). GapPasses
-      (session_parts g.S.Station g.R.Read g.W.Write g.F.Framing g.M.Monitor.is_told g.M.Monitor.admits g.M.Monitor.paces g.T.Waiter)
+      (session_parts g.S.Station g.R.Read g.W.Write g.F.Framing g.M.Monitor.is_told g.M.Monitor.admits g.M.Monitor.may_answer g.M.Monitor.paces g.T.Waiter)
       c.args.connection b
       (record {
         station = c.args.station.now;
@@ -43,7 +43,7 @@ returns-clause-does g c =
     let (happened, arrives) = c.arrive_at.ensures.arrives in (
       happened,
       subst (λ (b : Bool). GapPasses
-          (session_parts g.S.Station g.R.Read g.W.Write g.F.Framing g.M.Monitor.is_told g.M.Monitor.admits g.M.Monitor.paces g.T.Waiter)
+          (session_parts g.S.Station g.R.Read g.W.Write g.F.Framing g.M.Monitor.is_told g.M.Monitor.admits g.M.Monitor.may_answer g.M.Monitor.paces g.T.Waiter)
           place b
           (record {
             station = c.args.station.now;
@@ -66,6 +66,7 @@ returns-clause-does g c =
               refl,
               (
                 c.gap.ensures.kept,
+                c.gap.ensures.written,
                 subst (λ (b : Bool). g.F.Framing.ends one.framing b c.gap.new.self.framing) ended
                     c.gap.ensures.ends,
               ),

@@ -53,7 +53,7 @@ returns-clause-does g c =
               c.new.result,
               there,
               refl,
-              (c.new.ensures.is_open, c.new.ensures.starts),
+              (c.new.ensures.is_open, c.new.ensures.unwritten, c.new.ensures.starts),
             ),
             c.peer-peer.result,
             c.peer-peer.ensures,

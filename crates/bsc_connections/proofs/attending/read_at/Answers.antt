@@ -59,7 +59,7 @@ returns-then-awaits_gap_at-clause-does g c = (
       named = tt;
       tells = (refl, refl, refl);
       waits_on = subst (λ (b : Bool). WaitsOn
-          (session_parts g.S.Station g.R.Read g.W.Write g.F.Framing g.M.Monitor.is_told g.M.Monitor.admits g.M.Monitor.paces g.T.Waiter)
+          (session_parts g.S.Station g.R.Read g.W.Write g.F.Framing g.M.Monitor.is_told g.M.Monitor.admits g.M.Monitor.may_answer g.M.Monitor.paces g.T.Waiter)
           Part c.args.connection b c.args.waiter.now c.begin_gap.new.self)
           (sym c.if-awaits_gap_at.true ∙ c.awaits_gap_at.ensures.value) c.begin_gap.ensures;
     },
@@ -80,7 +80,7 @@ returns-else-awaits_gap_at-clause-does g c = (
       named = tt;
       tells = (refl, refl, refl);
       waits_on = subst (λ (b : Bool). WaitsOn
-          (session_parts g.S.Station g.R.Read g.W.Write g.F.Framing g.M.Monitor.is_told g.M.Monitor.admits g.M.Monitor.paces g.T.Waiter)
+          (session_parts g.S.Station g.R.Read g.W.Write g.F.Framing g.M.Monitor.is_told g.M.Monitor.admits g.M.Monitor.may_answer g.M.Monitor.paces g.T.Waiter)
           Part c.args.connection b c.args.waiter.now c.args.waiter.now)
           (sym c.if-awaits_gap_at.false ∙ c.awaits_gap_at.ensures.value) refl;
     },

@@ -1,7 +1,7 @@
 -- `step` tells the monitor of a peer that the system could not accept or that may not connect, or
 -- that the station is asked to end, and does nothing else; or it tells of a connection that is
 -- closed, without a wait.
-use Rattle.std.proofs.Common.{◌≡◌, ℕ, Option, [], ◌∷◌, None, Some, Ok, inl, refl, sym, ◌∙◌, subst}
+use Rattle.std.proofs.Common.{◌≡◌, ℕ, Bool, Option, [], ◌∷◌, None, Some, Ok, inl, refl, sym, ◌∙◌, subst}
 use Rattle.bsc_connections.specs.declared.awaited.Awaited.{Awaited}
 use Rattle.bsc_connections.specs.declared.awaited.Awaited.TheVariants.{NotAccepted, NotAllowed, Octets}
 use Rattle.bsc_connections.specs.declared.awaited.Awaited.TheVariants.{Stopped, Client}
@@ -12,16 +12,18 @@ use Rattle.bsc_connections.specs.Parts.{SessionParts, session_parts}
 use Rattle.bsc_connections.proofs.attending.step.Goals as goal
 
 module _ {S R W F M T : Type 0} (parts : SessionParts S R W F M T) where
-  begins_with_wait : (untold : Option ℕ) (before : T) (awaited : Awaited) (after : T)
-      → untold ≡ None → parts.waiter.waits before (Ok awaited) after
-      → BeginsWith parts untold before awaited after
-  begins_with_wait untold before awaited after none waits =
-      subst (λ (o : Option ℕ). BeginsWith parts o before awaited after) (sym none) waits
+  begins_with_wait : (untold : Option ℕ) (reached is_reached : Bool) (before : T)
+      (awaited : Awaited) (after : T) → untold ≡ None → reached ≡ is_reached
+      → parts.waiter.waits before reached (Ok awaited) after
+      → BeginsWith parts untold is_reached before awaited after
+  begins_with_wait untold reached is_reached before awaited after none same waits =
+      subst (λ (o : Option ℕ). BeginsWith parts o is_reached before awaited after) (sym none)
+      (subst (λ (b : Bool). parts.waiter.waits before b (Ok awaited) after) same waits)
 
-  begins_with_untold : (untold : Option ℕ) (place : ℕ) (before : T) → untold ≡ Some place
-      → BeginsWith parts untold before (Octets place) before
-  begins_with_untold untold place before is =
-      subst (λ (o : Option ℕ). BeginsWith parts o before (Octets place) before) (sym is)
+  begins_with_untold : (untold : Option ℕ) (is_reached : Bool) (place : ℕ) (before : T)
+      → untold ≡ Some place → BeginsWith parts untold is_reached before (Octets place) before
+  begins_with_untold untold is_reached place before is =
+      subst (λ (o : Option ℕ). BeginsWith parts o is_reached before (Octets place) before) (sym is)
       (refl, refl)
 
 pub returns-in-Ok-NotAccepted-clause-steps : goal.returns-in-Ok-NotAccepted-clause-steps
@@ -32,9 +34,11 @@ returns-in-Ok-NotAccepted-clause-steps g c =
         awaited = NotAccepted;
         waiter = c.wait.new.self;
         begins = begins_with_wait (session_parts g.S.Station g.R.Read g.W.Write g.F.Framing
-            g.M.Monitor.is_told g.M.Monitor.admits g.M.Monitor.paces g.T.Waiter) _ _ NotAccepted _
-            (sym c.first_untold.ensures ∙ c.in_default.is)
-            (subst (λ (a : Awaited). g.T.Waiter.waits c.args.waiter.now (Ok a) c.wait.new.self)
+            g.M.Monitor.is_told g.M.Monitor.admits g.M.Monitor.may_answer g.M.Monitor.paces g.T.Waiter) _
+            c.is_any_reached.result _ _ NotAccepted _ (sym c.first_untold.ensures ∙ c.in_default.is)
+            c.is_any_reached.ensures
+            (subst (λ (a : Awaited). g.T.Waiter.waits c.args.waiter.now c.is_any_reached.result
+            (Ok a) c.wait.new.self)
             c.in-Ok-NotAccepted.field-0-is c.in-Ok-NotAccepted.ensures);
         does = (refl, refl, (refl, c.note.ensures.told), refl);
       },
@@ -48,9 +52,11 @@ returns-in-Ok-NotAllowed-clause-steps g c =
         awaited = NotAllowed;
         waiter = c.wait.new.self;
         begins = begins_with_wait (session_parts g.S.Station g.R.Read g.W.Write g.F.Framing
-            g.M.Monitor.is_told g.M.Monitor.admits g.M.Monitor.paces g.T.Waiter) _ _ NotAllowed _
-            (sym c.first_untold.ensures ∙ c.in_default.is)
-            (subst (λ (a : Awaited). g.T.Waiter.waits c.args.waiter.now (Ok a) c.wait.new.self)
+            g.M.Monitor.is_told g.M.Monitor.admits g.M.Monitor.may_answer g.M.Monitor.paces g.T.Waiter) _
+            c.is_any_reached.result _ _ NotAllowed _ (sym c.first_untold.ensures ∙ c.in_default.is)
+            c.is_any_reached.ensures
+            (subst (λ (a : Awaited). g.T.Waiter.waits c.args.waiter.now c.is_any_reached.result
+            (Ok a) c.wait.new.self)
             c.in-Ok-NotAllowed.field-0-is c.in-Ok-NotAllowed.ensures);
         does = (
           refl,
@@ -73,9 +79,11 @@ returns-in-Ok-Stopped-clause-steps g c =
         awaited = Stopped;
         waiter = c.wait.new.self;
         begins = begins_with_wait (session_parts g.S.Station g.R.Read g.W.Write g.F.Framing
-            g.M.Monitor.is_told g.M.Monitor.admits g.M.Monitor.paces g.T.Waiter) _ _ Stopped _
-            (sym c.first_untold.ensures ∙ c.in_default.is)
-            (subst (λ (a : Awaited). g.T.Waiter.waits c.args.waiter.now (Ok a) c.wait.new.self)
+            g.M.Monitor.is_told g.M.Monitor.admits g.M.Monitor.may_answer g.M.Monitor.paces g.T.Waiter) _
+            c.is_any_reached.result _ _ Stopped _ (sym c.first_untold.ensures ∙ c.in_default.is)
+            c.is_any_reached.ensures
+            (subst (λ (a : Awaited). g.T.Waiter.waits c.args.waiter.now c.is_any_reached.result
+            (Ok a) c.wait.new.self)
             c.in-Ok-Stopped.field-0-is c.in-Ok-Stopped.ensures);
         does = (refl, refl, (refl, c.note-in-Ok-Stopped.ensures.told), refl);
       },
@@ -89,9 +97,11 @@ returns-in-Ok-Client-clause-steps g c =
         awaited = Client;
         waiter = c.wait.new.self;
         begins = begins_with_wait (session_parts g.S.Station g.R.Read g.W.Write g.F.Framing
-            g.M.Monitor.is_told g.M.Monitor.admits g.M.Monitor.paces g.T.Waiter) _ _ Client _
-            (sym c.first_untold.ensures ∙ c.in_default.is)
-            (subst (λ (a : Awaited). g.T.Waiter.waits c.args.waiter.now (Ok a) c.wait.new.self)
+            g.M.Monitor.is_told g.M.Monitor.admits g.M.Monitor.may_answer g.M.Monitor.paces g.T.Waiter) _
+            c.is_any_reached.result _ _ Client _ (sym c.first_untold.ensures ∙ c.in_default.is)
+            c.is_any_reached.ensures
+            (subst (λ (a : Awaited). g.T.Waiter.waits c.args.waiter.now c.is_any_reached.result
+            (Ok a) c.wait.new.self)
             c.in-Ok-Client.field-0-is c.in-Ok-Client.ensures);
         does = (refl, refl, (refl, c.note-in-Ok-Client.ensures.told), refl);
       },
@@ -107,7 +117,7 @@ returns-in-Some-clause-steps g c =
         waiter = c.args.waiter.now;
         begins =
             begins_with_untold (session_parts g.S.Station g.R.Read g.W.Write g.F.Framing
-            g.M.Monitor.is_told g.M.Monitor.admits g.M.Monitor.paces g.T.Waiter) _ c.in-Some.connection _
+            g.M.Monitor.is_told g.M.Monitor.admits g.M.Monitor.may_answer g.M.Monitor.paces g.T.Waiter) _ _ c.in-Some.connection _
             (sym c.first_untold.ensures ∙ c.in-Some.is);
         does = does;
       },

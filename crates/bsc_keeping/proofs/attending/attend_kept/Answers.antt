@@ -10,7 +10,7 @@ returns-clause-kept g c =
     let (history, attends) = c.attend.ensures.attends in
     let names =
     names_throughout g.S.Party g.S.Sends.kept_at g.K.Store g.M.Prints.printed g.M.Monitor.is_told
-    g.S.Station g.R.Read g.W.Write g.F.Framing _ _ g.T.Waiter _ history _ attends in
+    g.S.Station g.R.Read g.W.Write g.F.Framing _ _ _ g.T.Waiter _ history _ attends in
     record {
       history = history;
       throughout =
@@ -18,7 +18,7 @@ returns-clause-kept g c =
           (λ old new happened result steps.
           let shown =
           shown_by g.S.Party g.S.Sends.kept_at g.K.Store g.M.Prints.printed g.M.Monitor.is_told
-          g.S.Station g.R.Read g.W.Write g.F.Framing _ _ g.T.Waiter old new happened result steps in
+          g.S.Station g.R.Read g.W.Write g.F.Framing _ _ _ g.T.Waiter old new happened result steps in
           (shown.always, shown.sent))
           _ history _ attends;
       same_watch = names.watch;
@@ -29,4 +29,4 @@ returns-clause-kept g c =
 pub returns-clause-steps : goal.returns-clause-steps
 returns-clause-steps g c =
     reaches g.S.Party g.S.Sends.kept_at g.K.Store g.M.Prints.printed g.M.Monitor.is_told
-    g.S.Station g.R.Read g.W.Write g.F.Framing _ _ g.T.Waiter _ _ _ c.attend.ensures.by
+    g.S.Station g.R.Read g.W.Write g.F.Framing _ _ _ g.T.Waiter _ _ _ c.attend.ensures.by

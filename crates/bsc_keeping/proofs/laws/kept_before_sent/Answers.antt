@@ -9,14 +9,14 @@ pub returns-clause-sent : goal.returns-clause-sent
 returns-clause-sent g c old new happened result steps =
     let shown =
     shown_by g.S.Party g.S.Sends.kept_at g.K.Store g.M.Prints.printed g.M.Monitor.is_told
-    g.S.Station g.R.Read g.W.Write g.F.Framing _ _ g.T.Waiter old new happened result steps in
+    g.S.Station g.R.Read g.W.Write g.F.Framing _ _ _ g.T.Waiter old new happened result steps in
     (shown.always, shown.sent)
 
 pub returns-clause-changed : goal.returns-clause-changed
 returns-clause-changed g c old new happened goes_on steps =
     let shown =
     shown_by g.S.Party g.S.Sends.kept_at g.K.Store g.M.Prints.printed g.M.Monitor.is_told
-    g.S.Station g.R.Read g.W.Write g.F.Framing _ _ g.T.Waiter old new happened (Ok goes_on) steps in
+    g.S.Station g.R.Read g.W.Write g.F.Framing _ _ _ g.T.Waiter old new happened (Ok goes_on) steps in
     shown.accepted_step goes_on refl
 
 pub returns-clause-throughout : goal.returns-clause-throughout
@@ -27,4 +27,4 @@ returns-clause-throughout g c =
 pub returns-clause-steps : goal.returns-clause-steps
 returns-clause-steps g c =
     step g.S.Party g.S.Sends.kept_at g.K.Store g.M.Prints.printed g.M.Monitor.is_told
-    g.S.Station g.R.Read g.W.Write g.F.Framing _ _ g.T.Waiter
+    g.S.Station g.R.Read g.W.Write g.F.Framing _ _ _ g.T.Waiter

@@ -15,7 +15,6 @@ returns-in-TimeOut-2 g c = (
   search rules,
   search rules,
   search rules,
-  search rules,
   λ _. search rules,
   search rules,
   search rules,
@@ -48,12 +47,10 @@ returns-in_err-awaited-in_default-2 g c = (
   search rules,
   search rules,
   search rules,
-  search rules,
 )
 
 pub returns-in_default-4 : goal.returns-in_default-4
 returns-in_default-4 g c = (
-  search rules,
   search rules,
   search rules,
   search rules,
