@@ -1,7 +1,7 @@
 -- The visits are followed by the control station's own task and place: row by row of its table.
-use Rattle.std.proofs.Common.{◌≡◌, ℕ, ◌+◌, Bool, true, false, nat_eq, nat_lt, ◌&&◌, ◌||◌, List}
-use Rattle.std.proofs.Common.{Option, None, Some, option_map, is_some, refl, sym, ◌∙◌, ap, subst}
-use Rattle.std.proofs.Common.{arith, if◌then◌else◌}
+use Rattle.std.proofs.Common.{◌≡◌, ◌≢◌, ℕ, ◌+◌, Bool, true, false, nat_eq, nat_lt, ◌&&◌, List, Option}
+use Rattle.std.proofs.Common.{None, Some, option_map, is_some, refl, sym, ◌∙◌, ap, subst, arith}
+use Rattle.std.proofs.Common.{if◌then◌else◌}
 use Rattle.std.proofs.lemmas.Bool.Decides.{nat_tests}
 use Rattle.bsc_frame.specs.declared.message.Message.{Message}
 use Rattle.bsc_frame.specs.declared.message.Message.TheVariants as m
@@ -24,18 +24,18 @@ use Rattle.bsc_control.specs.declared.task.Replied.{Replied}
 use Rattle.bsc_control.specs.declared.task.Replied.TheVariants.{Nothing, Uninterrupted, Interrupted}
 use Rattle.bsc_control.specs.declared.task.Task.{Task}
 use Rattle.bsc_control.specs.declared.task.Task.TheVariants.{AtRest, Selecting, Sending, Polling}
-use Rattle.bsc_control.specs.CallOrder.{After, Start, Selection, Poll, next_call}
+use Rattle.bsc_control.specs.CallOrder.{After, Call, Start, Selection, Poll, call_past}
+use Rattle.bsc_control.specs.CallOrder.{due_call, passed_over}
 use Rattle.bsc_control.specs.Control.{ControlValue, ControlStep, peer, quiet_step, answer_step}
 use Rattle.bsc_control.specs.Kept.{IsNewControl, IsHearing, IsSilence}
 use Rattle.bsc_control.specs.Peer.{outbound_at}
 use Rattle.bsc_control.specs.Table.{replied_after, is_interrupted, poll_call_step, way_call_step}
-use Rattle.bsc_control.specs.Table.{next_call_step, performed, after_step, bid_step, after_bid}
+use Rattle.bsc_control.specs.Table.{call_past_step, next_call_step, performed, after_step, bid_step, after_bid}
 use Rattle.bsc_control.specs.Table.{selecting_step, receive_step, polling_step, task_step, repeated}
 use Rattle.bsc_control.specs.Table.{silence_in, rooms_after}
-use Rattle.bsc_control.proofs.Calls.{by_next_call}
 use Rattle.bsc_control.proofs.Steps.{reply_is_no_call}
-use Rattle.bsc_monitor.specs.Visits.{is_at_rest, is_begun, calls_anew, polled_in, polled_by}
-use Rattle.bsc_monitor.specs.Visits.{has_acted, ended_by, FollowsStep}
+use Rattle.bsc_monitor.specs.Visits.{is_begun, calls_anew, polled_in, polled_by, ended_by}
+use Rattle.bsc_monitor.specs.Visits.{FollowsStep, polled_still}
 
 -- a call of the call order is sent, and repeats none
 way_call_is_sent : (c : ControlValue) (place : ℕ) (way : Way)
@@ -53,60 +53,89 @@ way_call_ends_poll : (polled : Option ℕ) (c : ControlValue) (place : ℕ) (way
 way_call_ends_poll polled c place FromTerminal = refl
 way_call_ends_poll polled c place (ToTerminal s) = refl
 
-way_call_acts : (c : ControlValue) (place : ℕ) (way : Way)
-    → has_acted (way_call_step c place way) ≡ true
-way_call_acts c place FromTerminal = refl
-way_call_acts c place (ToTerminal s) = refl
+-- a call that is due and passes over entries, or the station comes to rest
+call_past_quiet : (c : ControlValue) (call : Call) (over : Option ℕ)
+    → (call_past_step c call over).sent ≡ None
+    → polled_by (call_past_step c call over).control ≡ None
+call_past_quiet c call None none = refl
+call_past_quiet c call (Some more) none =
+    let on = call_past c call (Some more) in
+    let h = (way_call_is_sent c on.place on.way).1 in absurd (cc)
 
--- and so is the next call, or the station rests
-next_call_acts : (c : ControlValue) (after : After) → has_acted (next_call_step c after) ≡ true
-next_call_acts c after =
-    by_next_call (λ (step : ControlStep). has_acted step ≡ true) c after refl
-    (way_call_acts c (next_call c after).place (next_call c after).way)
+call_past_calls_anew : (c : ControlValue) (call : Call) (over : Option ℕ)
+    → (call_past_step c call over).sent ≢ None
+    → calls_anew (call_past_step c call over).control ≡ true
+call_past_calls_anew c call None made = absurd (made refl)
+call_past_calls_anew c call (Some more) made =
+    let on = call_past c call (Some more) in way_call_calls_anew c on.place on.way
 
-next_call_calls_anew : (c : ControlValue) (after : After)
-    → calls_anew (next_call_step c after).control ≡ true
-next_call_calls_anew c after =
-    by_next_call (λ (step : ControlStep). calls_anew step.control ≡ true) c after refl
-    (way_call_calls_anew c (next_call c after).place (next_call c after).way)
-
-next_call_ends_poll : (polled : Option ℕ) (c : ControlValue) (after : After)
-    → ended_by polled (next_call_step c after) ≡ polled
-next_call_ends_poll polled c after =
-    by_next_call (λ (step : ControlStep). ended_by polled step ≡ polled) c after refl
-    (way_call_ends_poll polled c (next_call c after).place (next_call c after).way)
+call_past_is_no_reply : (c : ControlValue) (call : Call) (over : Option ℕ) (reply : Option Reply)
+    → option_map m.Reply reply ≡ (call_past_step c call over).sent
+    → option_map m.Reply reply ≢ None → ⊥
+call_past_is_no_reply c call None reply is made = made is
+call_past_is_no_reply c call (Some more) reply is made =
+    let on = call_past c call (Some more) in
+    let sent = way_call_is_sent c on.place on.way in
+    reply_is_no_call reply sent.0 (is ∙ sent.1)
 
 -- the next call is made after a poll
-follows_next_call_after_poll : (c : ControlValue) (replied : Replied) → c.task ≡ Polling replied
-    → FollowsStep c (next_call_step c (Poll (is_interrupted replied)))
-follows_next_call_after_poll c replied e =
-    let after : After = Poll (is_interrupted replied) in
-    let polled : polled_by c ≡ Some c.place = ap (λ (t : Task). polled_in t c.place) e in
-    let ended : ended_by (polled_by c) (next_call_step c after)
-    ≡ Some c.place = next_call_ends_poll (polled_by c) c after ∙ polled in
+follows_call_after_poll : (c : ControlValue) (replied : Replied) → c.task ≡ Polling replied
+    → (call : Call) (over : Option ℕ)
+    → call_past_step c call over ≡ next_call_step c (Poll (is_interrupted replied))
+    → FollowsStep c (call_past_step c call over)
+follows_call_after_poll c replied e call None row =
     record {
-      quiet = λ none. absurd (let both : true ≡ false = sym (next_call_acts c after) ∙ none in cc);
+      quiet = λ none. refl;
+      ended = λ entry. (λ is. absurd (cc), λ on. absurd (on.made refl));
+    }
+follows_call_after_poll c replied e call (Some more) row =
+    let on = call_past c call (Some more) in
+    let made = way_call_is_sent c on.place on.way in
+    let polled : polled_by c ≡ Some c.place = ap (λ (t : Task). polled_in t c.place) e in
+    let ended : ended_by (polled_by c) (call_past_step c call (Some more)) ≡ Some c.place =
+    way_call_ends_poll (polled_by c) c on.place on.way ∙ polled in
+    record {
+      quiet = λ none. absurd (let h = made.1 in cc);
       ended = λ entry. (
-        λ is. record { replied = replied; polling = e; place = cc; row = refl },
-        λ on. let there = on.place in ended ∙ ap (λ (n : ℕ). Some n) (sym there),
+        λ is.
+            record {
+              replied = replied;
+              polling = e;
+              place = cc;
+              row = row;
+              made = λ none. let h = made.1 in cc;
+            },
+        λ goes. let there = goes.place in ended ∙ ap (λ (n : ℕ). Some n) (sym there),
       );
     }
 
+follows_next_call_after_poll : (c : ControlValue) (replied : Replied) → c.task ≡ Polling replied
+    → FollowsStep c (next_call_step c (Poll (is_interrupted replied)))
+follows_next_call_after_poll c replied e =
+    let due = due_call c (Poll (is_interrupted replied)) in
+    follows_call_after_poll c replied e due (passed_over c due.place) refl
+
 -- no visit ends, and the station does not go on
 follows_while_no_visit_ends : (c : ControlValue) (step : ControlStep)
-    → (has_acted step ≡ false → polled_by step.control ≡ polled_by c)
+    → (step.sent ≡ None → polled_by step.control ≡ polled_still step.control.task (polled_by c))
     → ((entry : ℕ) → ended_by (polled_by c) step ≡ Some entry → ⊥)
     → ((replied : Replied) → c.task ≡ Polling replied
-    → step ≡ next_call_step c (Poll (is_interrupted replied)) → ⊥)
+    → step ≡ next_call_step c (Poll (is_interrupted replied)) → step.sent ≢ None → ⊥)
     → FollowsStep c step
 follows_while_no_visit_ends c step quiet ends goes =
     record {
       quiet = quiet;
       ended = λ entry. (
         λ is. absurd (ends entry is),
-        λ on. absurd (goes on.replied on.polling on.row),
+        λ on. absurd (goes on.replied on.polling on.row on.made),
       );
     }
+
+still_none : (task : Task) → polled_still task None ≡ None
+still_none AtRest = refl
+still_none (Selecting s enquired) = refl
+still_none (Sending s) = refl
+still_none (Polling replied) = refl
 
 no_end_of_any_test : (a b : Bool) (entry : ℕ) → (if a then (if b then None else None) else None) ≡ Some entry
     → ⊥
@@ -117,20 +146,24 @@ no_end_of_any_test false b entry is = cc
 -- no entry is polled before the step
 follows_unpolled : (c : ControlValue) (step : ControlStep) → polled_by c ≡ None
     → ((replied : Replied) → c.task ≡ Polling replied → ⊥)
-    → (has_acted step ≡ false → polled_by step.control ≡ None) → FollowsStep c step
+    → (step.sent ≡ None → polled_by step.control ≡ None) → FollowsStep c step
 follows_unpolled c step unpolled other quiet =
-    follows_while_no_visit_ends c step (λ none. quiet none ∙ sym unpolled)
-    (λ entry is. no_end_of_any_test (has_acted step) (calls_anew step.control) entry
+    follows_while_no_visit_ends c step
+    (λ none.
+    quiet none
+    ∙ sym (ap (λ (p : Option ℕ). polled_still step.control.task p) unpolled
+    ∙ still_none step.control.task))
+    (λ entry is. no_end_of_any_test (is_some step.sent) (calls_anew step.control) entry
     (subst (λ (p : Option ℕ). ended_by p step ≡ Some entry) unpolled is))
-    (λ replied e row. other replied e)
+    (λ replied e row made. other replied e)
 
 -- a step of the sender, and the act that it leads to
 performs_quiet : (c : ControlValue) (s : ℕ) (outcome : Outcome) (message : Option Message)
-    (after : After) → polled_by c ≡ None → has_acted (performed c s outcome message after) ≡ false
+    (after : After) → polled_by c ≡ None → (performed c s outcome message after).sent ≡ None
     → polled_by (performed c s outcome message after).control ≡ None
 performs_quiet c s o.Sends message after unpolled none = refl
 performs_quiet c s o.Over message after unpolled none =
-    absurd (let both : true ≡ false = sym (next_call_acts c after) ∙ none in cc)
+    call_past_quiet c (due_call c after) (passed_over c (due_call c after).place) none
 performs_quiet c s o.Quiet message after unpolled none = unpolled
 
 follows_bid : (c : ControlValue) (task : Task) (s : ℕ) (step : SenderStep) (after : After)
@@ -147,7 +180,7 @@ follows_call : (c : ControlValue) (task : Task) (after : After) → c.task ≡ t
 follows_call c task after e unpolled other =
     let is : polled_by c ≡ None = ap (λ (t : Task). polled_in t c.place) e ∙ unpolled in
     follows_unpolled c (next_call_step c after) is (λ replied f. other replied (sym e ∙ f))
-    (λ none. absurd (let both : true ≡ false = sym (next_call_acts c after) ∙ none in cc))
+    (call_past_quiet c (due_call c after) (passed_over c (due_call c after).place))
 
 -- something else is sent, or nothing, and the task stays one without a poll
 follows_outside_of_polls : (c : ControlValue) (task : Task) (step : ControlStep) → c.task ≡ task
@@ -201,7 +234,7 @@ replied_not_begun Interrupted Wack = refl
 replied_not_begun Interrupted Rvi = refl
 
 reply_ends_none : (replied : Replied) (r : Option Reply) (first : Bool) (polled : Option ℕ) (entry : ℕ)
-    → (if is_some (option_map m.Reply r) || is_at_rest (Polling (replied_after replied r))
+    → (if is_some (option_map m.Reply r)
     then (if is_begun (Polling (replied_after replied r)) && first then polled else None)
     else None) ≡ Some entry → ⊥
 reply_ends_none replied None first polled entry is = cc
@@ -211,20 +244,6 @@ reply_ends_none replied (Some r) first polled entry is =
     (replied_not_begun replied r) is in
     cc
 
--- a receiver makes no call, and the poll goes on
-receives_no_call : (c : ControlValue) (replied : Replied) (step : ReceiverStep) (after : After)
-    → receive_step c replied step ≡ next_call_step c after → ⊥
-receives_no_call c replied step after =
-    by_next_call (λ (x : ControlStep). receive_step c replied step ≡ x → ⊥) c after
-    (λ row.
-    let no : Polling (replied_after replied step.reply) ≡ AtRest =
-    ap (λ (x : ControlStep). x.control.task) row in
-    cc)
-    (λ row.
-    let call = next_call c after in
-    let made = way_call_is_sent c call.place call.way in
-    reply_is_no_call step.reply made.0 (ap (λ (x : ControlStep). x.sent) row ∙ made.1))
-
 -- the receiver replies, or keeps silent
 follows_receiving : (c : ControlValue) (replied : Replied) (step : ReceiverStep) → c.task
     ≡ Polling replied → FollowsStep c (receive_step c replied step)
@@ -232,7 +251,10 @@ follows_receiving c replied step e =
     follows_while_no_visit_ends c (receive_step c replied step)
     (λ none. sym (ap (λ (t : Task). polled_in t c.place) e))
     (λ entry is. reply_ends_none replied step.reply (nat_eq c.failures 0) (polled_by c) entry is)
-    (λ other f. receives_no_call c replied step (Poll (is_interrupted other)))
+    (λ other f row made.
+    let due = due_call c (Poll (is_interrupted other)) in
+    call_past_is_no_reply c due (passed_over c due.place) step.reply
+    (ap (λ (x : ControlStep). x.sent) row) made)
 
 follows_heard : (c : ControlValue) (h : Heard) (replied : Replied) (rooms : Rooms) → c.task
     ≡ Polling replied → FollowsStep c (receive_step c replied
@@ -281,8 +303,11 @@ follows_repeat c e =
     let no : None ≡ Some entry =
     subst (λ (b : Bool). (if b then polled_by c else None) ≡ Some entry) failed is in
     cc)
-    (λ replied f row.
-    let anew = next_call_calls_anew c (Poll (is_interrupted replied)) in
+    (λ replied f row made.
+    let due = due_call c (Poll (is_interrupted replied)) in
+    let anew =
+    call_past_calls_anew c due (passed_over c due.place)
+    (subst (λ (x : ControlStep). x.sent ≢ None) row made) in
     let same = ap (λ (x : ControlStep). calls_anew x.control) row in
     cc)
 

@@ -1,3 +1,4 @@
+pub mod Absent
 pub mod Firsts
 pub mod Offered
 pub mod Counts

@@ -8,6 +8,7 @@ use Rattle.bsc_control.specs.declared.task.Task.{Task}
 use Rattle.bsc_control.specs.declared.task.Task.TheVariants.{Polling}
 use Rattle.bsc_control.specs.Control.{ControlValue}
 use Rattle.bsc_directory.specs.declared.limits.TheConstants.{MAX_TERMINALS}
+use Rattle.bsc_monitor.specs.Visits.{polled_still}
 use Rattle.bsc_monitor.specs.declared.answering.Answering.{Answering}
 
 -- Nothing is told, and nothing has been sent.
@@ -45,10 +46,16 @@ untold a (Some terminal) =
 abbrev pub answering_sent : Answering → ControlValue → Answering
 answering_sent a c = record a { polled = unreplied c; told = told_after a (poll_over a c) }
 
+-- The same after the control station has acted on what it heard, or on a silence, as the flag says,
+-- and is in this task. Once it is at rest its last poll is over, and nothing is told of it.
+abbrev pub answering_acted : Answering → Task → Bool → Answering
+answering_acted a task silence =
+    record a { silence = silence; polled = polled_still task a.polled }
+
 -- The same after an event.
 abbrev pub answering_after : Answering → ControlValue → Happening → Answering
-answering_after a c (WasHeard place octets) = record a { silence = false }
-answering_after a c WasSilent = record a { silence = true }
+answering_after a c (WasHeard place octets) = answering_acted a c.task false
+answering_after a c WasSilent = answering_acted a c.task true
 answering_after a c (WasSent octets) = answering_sent a c
 answering_after a c _ = a
 

@@ -1,5 +1,7 @@
+pub mod Absences
 pub mod Answering
 pub mod Arrivals
+pub mod Attendance
 pub mod EndValues
 pub mod Counting
 pub mod Ends
@@ -9,11 +11,14 @@ pub mod Holding
 pub mod LastCall
 pub mod LineTerminal
 pub mod Offers
+pub mod Polls
 pub mod Printed
 pub mod Progress
 pub mod Refusing
 pub mod Rounds
+pub mod Saturating
 pub mod Telling
+pub mod Terminals
 pub mod Traces
 pub mod TrustReport
 pub mod Trusting

@@ -1,5 +1,6 @@
 -- What a watch prints to its trace.
-use Rattle.std.specs.Prelude.{◌≡◌, ℕ, Bool, true, false, List, [], ◌++◌, Option, None, Some}
+use Rattle.std.specs.Prelude.{◌≡◌, ℕ, nat_lt, Bool, true, false, List, [], ◌++◌, Option, None}
+use Rattle.std.specs.Prelude.{Some}
 use Rattle.std.specs.Io.KnownBytes.{Appends}
 use Rattle.bsc_connections.specs.Histories.{Happening, HadClient}
 use Rattle.bsc_control.specs.Control.{ControlValue}
@@ -11,11 +12,17 @@ use Rattle.bsc_report.specs.declared.trace.Who.TheVariants.{Control, Terminal}
 use Rattle.bsc_trust.specs.declared.distrust.Distrust.{Distrust}
 use Rattle.bsc_monitor.specs.Answering.{unanswered}
 use Rattle.bsc_monitor.specs.Holding.{CallLine, TracesNext, held_for, held_shown}
-use Rattle.bsc_monitor.specs.Traces.{IsTraced, ShowsChange, distrust_line, unanswered_line}
-use Rattle.bsc_monitor.specs.Trusting.{called_by, distrust_told, trust_after, trusting_of}
+use Rattle.bsc_monitor.specs.Absences.{absence_told, absences_after, at_time, calling, met}
+use Rattle.bsc_monitor.specs.Terminals.{news_line, told_answering}
+use Rattle.bsc_monitor.specs.Traces.{IsTraced, ShowsChange, distrust_line}
+use Rattle.bsc_monitor.specs.Trusting.{called_by, distrust_told, moved_in, trust_after, trusting_of}
+use Rattle.bsc_monitor.specs.declared.absences.Absences.{Absences}
+use Rattle.bsc_monitor.specs.declared.absences.Turn.{Turn}
 use Rattle.bsc_monitor.specs.declared.answering.Answering.{Answering}
 use Rattle.bsc_monitor.specs.declared.held.Calls.{Calls}
 use Rattle.bsc_monitor.specs.declared.held.Calls.TheVariants as calls
+use Rattle.bsc_monitor.specs.declared.terminal_news.TerminalNews.{TerminalNews}
+use Rattle.bsc_monitor.specs.declared.terminal_news.TerminalsTold.{TerminalsTold}
 use Rattle.bsc_monitor.specs.declared.tracing.Tracing.{Tracing}
 use Rattle.bsc_monitor.specs.declared.tracing.Tracing.TheVariants.{Off, Exchanges, All}
 use Rattle.bsc_monitor.specs.declared.trusting.Trusting.{Trusting}
@@ -91,10 +98,18 @@ abbrev pub ShowsDistrust : Option Distrust → Trace → Trace → Type 0
 ShowsDistrust None old new = new ≡ old
 ShowsDistrust (Some why) old new = ShowsLine (distrust_line why) old new
 
--- It is told that this terminal has not answered, if there is one to tell of.
-abbrev pub ShowsUnanswered : Option ℕ → Trace → Trace → Type 0
-ShowsUnanswered None old new = new ≡ old
-ShowsUnanswered (Some terminal) old new = ShowsLine (unanswered_line terminal) old new
+-- This is told of a terminal, if there is something to tell.
+abbrev pub ShowsNews : Option TerminalNews → Trace → Trace → Type 0
+ShowsNews None old new = new ≡ old
+ShowsNews (Some news) old new = ShowsLine (news_line news) old new
+
+-- All of this is told of terminals, in this order.
+pub record ShowsTerminals (all : TerminalsTold) (old new : Trace) : Type 0 where
+  pub first : Trace
+  pub moved : ShowsNews all.moved old first
+  pub second : Trace
+  pub silent : ShowsNews all.silent first second
+  pub visited : ShowsNews all.visited second new
 
 -- Which calls may begin an idle poll of a control station in this task: while it polls, those that
 -- it sends.
@@ -102,19 +117,43 @@ abbrev pub calls_in : Task → Calls
 calls_in (Polling replied) = calls.Sent
 calls_in _ = calls.Neither
 
+-- What an event is to the terminals, by what is known before it and the control station after it.
+abbrev pub turn_of : Trusting → ControlValue → Option ℕ → Turn
+turn_of old control ended =
+    record { called = old.called; ended = ended; repeated = nat_lt 0 control.failures }
+
+-- What is told of terminals with an event at a control station: the one that is known now to answer
+-- on a connection, or has left; the one that has not answered; and what the visit that has ended
+-- shows.
+abbrev pub terminals_told : Answering → Turn → Absences → Trusting → Trusting → ControlValue
+    → Happening → TerminalsTold
+terminals_told answering turn absences old new control happening =
+    record {
+      moved = moved_in old.trust new.trust happening;
+      silent = told_answering (unanswered answering control happening);
+      visited = absence_told absences turn happening;
+    }
+
 -- What happened to a control station is shown with the time, and kept with the same time: the line
--- for it, then why the line is not trusted if that is told of it, then the terminal that has not
--- answered if one is told of.
-pub record ControlShows (control : ControlValue) (happening : Happening) (answering : Answering)
-    (old new : Trusting) (before after : Trace) : Type 0 where
+-- for it, then why the line is not trusted if that is told of it, then what is told of terminals.
+-- The visit to a terminal has ended with it, or none has.
+pub record ControlShows (control : ControlValue) (happening : Happening) (ended : Option ℕ)
+    (answering : Answering) (absent absent_after : Absences) (old new : Trusting)
+    (before after : Trace) : Type 0 where
   pub time : ℕ
   pub trust : new
       ≡ trusting_of (trust_after old.trust old.called happening time) (called_by control)
+  pub absences : absent_after
+      ≡ calling
+      (met (absences_after absent (turn_of old control ended) happening time)
+      (moved_in old.trust new.trust happening)) (called_by control)
   pub first : Trace
   pub event : ShowsEvent (calls_in control.task) Control time happening before first
   pub second : Trace
   pub distrust : ShowsDistrust (distrust_told old.trust old.called happening time) first second
-  pub silent : ShowsUnanswered (unanswered answering control happening) second after
+  pub terminals : ShowsTerminals
+      (terminals_told answering (turn_of old control ended) (at_time absent time) old new control
+      happening) second after
 
 -- The same of a control station that has ended, which calls nobody else.
 pub record LastShows (happening : Happening) (old new : Trusting) (before after : Trace)

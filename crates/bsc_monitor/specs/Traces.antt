@@ -162,11 +162,6 @@ waiting_line connected wanted = connected_shown connected ++ wanted_shown wanted
 abbrev pub waiting_for_control : List ℕ
 waiting_for_control = codes "waiting for the control station\n"
 
--- A terminal that has not answered.
-abbrev pub unanswered_line : ℕ → List ℕ
-unanswered_line terminal =
-    codes "terminal " ++ decimal terminal ++ codes " has not answered\n"
-
 -- Why the line is not trusted.
 abbrev pub distrust_line : Distrust → List ℕ
 distrust_line why = codes "not trusted: " ++ reason_text why ++ codes "\n"

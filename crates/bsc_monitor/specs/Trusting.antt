@@ -9,11 +9,14 @@ use Rattle.bsc_control.specs.Control.{ControlValue, current}
 use Rattle.bsc_control.specs.declared.task.Task.{Task}
 use Rattle.bsc_control.specs.declared.task.Task.TheVariants.{AtRest}
 use Rattle.bsc_frame.specs.Reading.{heard}
+use Rattle.bsc_trust.specs.Connections.{connected_at}
 use Rattle.bsc_trust.specs.Trust.{admits, after_closed, after_heard, after_ignored, after_joined}
 use Rattle.bsc_trust.specs.Trust.{after_sent, after_withheld, reason_told, told_of}
 use Rattle.bsc_trust.specs.Trust.{told_of_sending, was_told}
 use Rattle.bsc_trust.specs.declared.distrust.Distrust.{Distrust}
 use Rattle.bsc_trust.specs.declared.trust.Trust.{Trust}
+use Rattle.bsc_monitor.specs.Terminals.{moved_by}
+use Rattle.bsc_monitor.specs.declared.terminal_news.TerminalNews.{TerminalNews}
 use Rattle.bsc_monitor.specs.declared.trusting.Trusting.{Trusting}
 
 -- The terminal with this number is called in every task that a call begins.
@@ -61,3 +64,29 @@ distrust_told t called (WasHeard place octets) now = told_of t (heard octets) no
 distrust_told t called (WasIgnored place octets) now = ignoring_told t called place
 distrust_told t called (WasSent octets) now = told_of_sending t now
 distrust_told t called _ now = None
+
+-- The place of the connection of which this tells.
+abbrev pub place_in : Happening → Option ℕ
+place_in (WasHeard place octets) = Some place
+place_in (HasJoined place peer replaces) = Some place
+place_in (HasClosed place peer why) = Some place
+place_in _ = None
+
+-- The terminal that is known to answer on the connection at this place.
+abbrev pub owner_at : Trust → ℕ → Option ℕ
+owner_at t place = (connected_at t.connections place).owner
+
+-- The terminal that is known to answer at this place, if there is one.
+abbrev pub owner_if : Trust → Option ℕ → Option ℕ
+owner_if t None = None
+owner_if t (Some place) = owner_at t place
+
+-- What is told of the connection at this place, if there is one: that a terminal is known now to
+-- answer on it, or that the one which did before has left.
+abbrev pub moved_after : Option ℕ → Trust → Option ℕ → Option TerminalNews
+moved_after before t None = None
+moved_after before t (Some place) = moved_by place before (owner_at t place)
+
+abbrev pub moved_in : Trust → Trust → Happening → Option TerminalNews
+moved_in old new happening =
+    moved_after (owner_if old (place_in happening)) new (place_in happening)

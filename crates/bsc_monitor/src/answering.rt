@@ -2,7 +2,8 @@
 
 ghost use Rattle.std.specs.Prelude.{◌≡◌, Some};
 ghost use Rattle.bsc_connections.specs.Notes.{told_by};
-ghost use Rattle.bsc_monitor.specs.Answering.{answering_after, answering_sent, new_answering};
+ghost use Rattle.bsc_monitor.specs.Answering.{answering_acted, answering_after, answering_sent};
+ghost use Rattle.bsc_monitor.specs.Answering.{new_answering};
 ghost use Rattle.bsc_monitor.specs.Answering.{poll_over, told_after, unanswered, unreplied};
 ghost use Rattle.bsc_monitor.specs.Answering.{untold};
 
@@ -43,13 +44,24 @@ impl Answering {
         ensures answer { result ≡ unanswered self.old control.now (told_by note.now) }
     {
         match note {
-            Note::Heard { .. } => self.silence = false,
-            Note::Silence => self.silence = true,
+            Note::Heard { .. } => self.acted(control, false),
+            Note::Silence => self.acted(control, true),
             Note::Sent { .. } => return self.sent(control),
             Note::Joined { .. } | Note::Refused { .. } | Note::Closed { .. } => {}
             Note::Ignored { .. } | Note::Withheld { .. } | Note::Stopped | Note::Client => {}
         }
         None
+    }
+
+    /// Takes note of what the control station has heard, or of a silence. Once it is at rest its
+    /// last poll is over, and nothing is told of it.
+    fn acted<B: Allocator>(&mut self, control: &Control<B>, silence: bool)
+        ensures { self.new ≡ answering_acted self.old control.now.task silence }
+    {
+        self.silence = silence;
+        if let Task::AtRest = control.task() {
+            self.polled = None;
+        }
     }
 
     /// Takes note of a transmission of the control station.

@@ -1,19 +1,23 @@
 //! The monitor of a control station.
 
-ghost use Rattle.std.specs.Prelude.{◌≡◌, ◌-◌, false, length, slice_get};
+ghost use Rattle.std.specs.Prelude.{◌≡◌, false, length, slice_get};
 ghost use Rattle.bsc_connections.specs.declared.awaited.Pace.TheVariants.{AtOnce};
+ghost use Rattle.bsc_connections.specs.Notes.{told_by};
+ghost use Rattle.bsc_monitor.specs.Absences.{is_retry, new_absences};
 ghost use Rattle.bsc_monitor.specs.Answering.{new_answering};
-ghost use Rattle.bsc_monitor.specs.Progress.{progress_of};
+ghost use Rattle.bsc_monitor.specs.Progress.{pace_after, pace_with, progress_of};
 ghost use Rattle.bsc_monitor.specs.Telling.{calls_in};
 ghost use Rattle.bsc_monitor.specs.Trusting.{called_by, trusting_of};
 
+use crate::absences::{Absences, Turn};
 use crate::answering::Answering;
 use crate::ended::LastWatch;
 use crate::held::{Calls, Seen};
 use crate::progress::Progress;
+use crate::terminal_news::{TerminalsTold, unanswered};
 use crate::trusting::{Trusting, called_by};
 use crate::watch::Watch;
-use crate::{Limits, Meter, Party, Timer};
+use crate::{AbsenceLimits, Limits, Meter, Party, Presence, Presences, Timer};
 use bsc_connections::{LiveError, Monitor, Note, Pace};
 use bsc_control::{Control, Task};
 use bsc_report::Who;
@@ -39,8 +43,11 @@ pub struct ControlWatch<'a, A: Allocator, T: Drop, W, D> {
     /// How the next wait begins.
     pace: Pace,
 
-    /// Which terminals do not answer.
+    /// Which terminals do not answer their polls, as far as it is told.
     answering: Answering,
+
+    /// Which terminals are absent.
+    absences: Absences,
 }
 
 impl<'a, A: Allocator + Copy, T: Timer + Meter + Drop, W: Write, D: Write> ControlWatch<
@@ -51,27 +58,30 @@ impl<'a, A: Allocator + Copy, T: Timer + Meter + Drop, W: Write, D: Write> Contr
     D,
 > {
     /// Returns the monitor of a control station that has sent nothing. `listens` tells whether
-    /// other peers may connect later. `trust` is what is known of the premises.
+    /// other peers may connect later. `trust` is what is known of the premises. `absence` says when
+    /// a terminal is absent.
     pub fn new<B: Allocator>(
         control: &Control<B>,
         watch: Watch<'a, A, T, W, D>,
         limits: Limits,
+        absence: AbsenceLimits,
         listens: bool,
         trust: Trust,
     ) -> ControlWatch<'a, A, T, W, D>
         ensures watch { result.watch ≡ watch.entry }
-        ensures progress { result.progress
-            ≡ progress_of limits (length control.now.poll_list - 1) listens }
+        ensures progress { result.progress ≡ progress_of limits listens }
         ensures trusting { result.trusting ≡ trusting_of trust (called_by control.now) }
         ensures answering { result.answering ≡ new_answering }
+        ensures absences { result.absences ≡ new_absences absence (length control.now.peers) }
         ensures pace { result.pace ≡ AtOnce }
     {
         ControlWatch {
             watch,
-            progress: Progress::new(control, limits, listens),
+            progress: Progress::new(limits, listens),
             trusting: Trusting::new(control, trust),
             pace: Pace::AtOnce,
             answering: Answering::new(),
+            absences: Absences::new(absence, control.terminals()),
         }
     }
 
@@ -95,6 +105,17 @@ impl<'a, A: Allocator + Copy, T: Timer + Meter + Drop, W: Write, D: Write> Contr
         ensures { result ≡ slice_get self.now.watch.printed.items number }
     {
         self.watch.printed(number)
+    }
+
+    /// Returns how the wait after an event begins that the progress has not counted yet.
+    fn pace_after<B: Allocator>(&self, control: &Control<B>, note: &Note<'_>) -> Pace
+        ensures { result ≡ pace_with (is_retry self.now.absences (called_by control.now))
+            (pace_after self.now.progress control.now (told_by note.now)) }
+    {
+        if self.absences.is_retry(called_by(control)) {
+            return Pace::AtOnce;
+        }
+        self.progress.pace_after(control, note)
     }
 
     /// Returns the monitor that remains until the last call is answered.
@@ -124,17 +145,22 @@ impl<'a, A: Allocator + Copy, T: Timer + Meter + Drop, W: Write, D: Write, B: Al
 > for ControlWatch<'a, A, T, W, D> {
     ghost use Rattle.std.specs.Prelude.{◌≡◌, IfErr, OnOk};
     ghost use Rattle.bsc_monitor.specs.Answering.{answering_after};
-    ghost use Rattle.bsc_monitor.specs.Progress.{pace_after};
+    ghost use Rattle.bsc_monitor.specs.Absences.{is_retry};
+    ghost use Rattle.bsc_monitor.specs.Progress.{pace_after, pace_with, visited_in};
     ghost use Rattle.bsc_monitor.specs.Refusing.{Refuses};
     ghost use Rattle.bsc_monitor.specs.Telling.{ControlShows, calls_in, trace_of};
     ghost use Rattle.bsc_report.specs.declared.trace.Who.TheVariants.{Control};
     ghost use Rattle.bsc_monitor.specs.Trusting.{called_by, is_admitted};
+    ghost use Rattle.bsc_trust.specs.Trust.{may_answer};
     ghost use Rattle.bsc_monitor.specs.Watching.{Counts, Sees, output_of};
 
     ghost has_ended = { λ w. w.progress.ended };
 
     ghost admits = { λ w station place octets.
         is_admitted w.trusting.trust (called_by station) place octets };
+
+    ghost may_answer = { λ w station place.
+        may_answer w.trusting.trust (called_by station) place };
 
     ghost paces = { λ w. w.pace };
 
@@ -144,8 +170,11 @@ impl<'a, A: Allocator + Copy, T: Timer + Meter + Drop, W: Write, D: Write, B: Al
         × Counts result ⟦<Control<B> as Party>⟧ station happening
         (record { output = output_of W.contents old.watch; progress = old.progress })
         (record { output = output_of W.contents new.watch; progress = new.progress })
-        × (OnOk result (new.pace ≡ pace_after old.progress station happening))
-        × (OnOk result (ControlShows station happening old.answering old.trusting new.trusting
+        × (OnOk result (new.pace ≡ pace_with (is_retry new.absences (called_by station))
+        (pace_after old.progress station happening)))
+        × (OnOk result (ControlShows station happening
+        (visited_in old.progress station happening) old.answering old.absences new.absences
+        old.trusting new.trusting
         (trace_of D.contents old.watch) (trace_of D.contents new.watch)))
         × (OnOk result (new.answering ≡ answering_after old.answering station happening))
         × (IfErr result (λ error. Refuses ⟦<Control<B> as Party>⟧ station (calls_in station.task)
@@ -158,6 +187,10 @@ impl<'a, A: Allocator + Copy, T: Timer + Meter + Drop, W: Write, D: Write, B: Al
             .admits_for(called_by(station), connection, octets)
     }
 
+    fn may_answer(&self, station: &Control<B>, connection: usize) -> bool {
+        self.trusting.may_answer_for(called_by(station), connection)
+    }
+
     fn note(&mut self, station: &Control<B>, note: Note<'_>) -> Result<bool, LiveError> {
         let seen = Seen {
             time: self.watch.milliseconds(),
@@ -165,12 +198,25 @@ impl<'a, A: Allocator + Copy, T: Timer + Meter + Drop, W: Write, D: Write, B: Al
             calls: calls_of(station),
         };
         let found = self.watch.see(station, seen, &note)?;
+        let owner = self.trusting.owner(&note);
         let distrust = self.trusting.note(&note, seen.time);
+        let moved = self.trusting.moved(&note, owner);
+        let turn = Turn {
+            called: self.trusting.called(),
+            ended: self.progress.visited(station, &note),
+            repeated: station.failures() > 0,
+        };
         self.trusting.call(station);
         self.watch.tell_distrust(distrust)?;
-        let unanswered = self.answering.note(station, &note);
-        self.watch.tell_unanswered(unanswered)?;
-        self.pace = self.progress.pace_after(station, &note);
+        let told = TerminalsTold {
+            moved,
+            silent: unanswered(self.answering.note(station, &note)),
+            visited: self.absences.note(&note, turn, seen.time),
+        };
+        self.absences.meet(moved);
+        self.absences.call(called_by(station));
+        self.watch.tell_terminals(told)?;
+        self.pace = self.pace_after(station, &note);
         let goes_on = self.progress.note(station, &note, found);
         self.watch
             .show_progress(station, Some(self.progress.rounds()));
@@ -179,6 +225,30 @@ impl<'a, A: Allocator + Copy, T: Timer + Meter + Drop, W: Write, D: Write, B: Al
 
     fn pace(&self) -> Pace {
         self.pace
+    }
+}
+
+impl<'a, A: Allocator + Copy, T: Timer + Meter + Drop, W: Write, D: Write> Presences
+    for ControlWatch<'a, A, T, W, D> {
+    ghost use Rattle.bsc_monitor.specs.Absences.{presence_at, requested, wants};
+
+    ghost wants = { λ w terminal. wants w.absences terminal };
+
+    ghost shows = { λ w terminal. presence_at w.absences terminal };
+
+    ghost obeys = { λ old terminal polled new.
+        new ≡ record old { absences = requested old.absences terminal polled } };
+
+    fn wants(&self, terminal: usize) -> bool {
+        self.absences.wants(terminal)
+    }
+
+    fn presence(&self, terminal: usize) -> Option<Presence> {
+        self.absences.presence(terminal)
+    }
+
+    fn set_polled(&mut self, terminal: usize, polled: bool) {
+        self.absences.request(terminal, polled);
     }
 }
 

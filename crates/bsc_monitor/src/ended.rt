@@ -132,12 +132,15 @@ impl<'a, A: Allocator + Copy, T: Timer + Meter + Drop, W: Write, D: Write> Monit
     ghost use Rattle.bsc_connections.specs.declared.awaited.Pace.TheVariants.{AtOnce};
     ghost use Rattle.bsc_monitor.specs.Telling.{LastShows, trace_of};
     ghost use Rattle.bsc_monitor.specs.Trusting.{is_admitted};
+    ghost use Rattle.bsc_trust.specs.Trust.{may_answer};
     ghost use Rattle.bsc_monitor.specs.Watching.{last_of, last_told, output_of};
 
     ghost has_ended = { λ w. w.ended };
 
     ghost admits = { λ w _ place octets.
         is_admitted w.trusting.trust w.trusting.called place octets };
+
+    ghost may_answer = { λ w _ place. may_answer w.trusting.trust w.trusting.called place };
 
     ghost paces = { λ _. AtOnce };
 
@@ -151,6 +154,10 @@ impl<'a, A: Allocator + Copy, T: Timer + Meter + Drop, W: Write, D: Write> Monit
 
     fn admits(&self, _station: &Ended, connection: usize, octets: &[u8]) -> bool {
         self.trusting.admits_last(connection, octets)
+    }
+
+    fn may_answer(&self, _station: &Ended, connection: usize) -> bool {
+        self.trusting.may_answer_last(connection)
     }
 
     fn note(&mut self, station: &Ended, note: Note<'_>) -> Result<bool, LiveError> {

@@ -1,7 +1,8 @@
-//! The laws of visits and of the order in which records are printed and transmissions are sent.
-//! They are about the definitions only.
+//! The laws of visits, of terminals that do not answer, and of the order in which records are
+//! printed and transmissions are sent. They are about the definitions only.
 
 ghost use Rattle.bsc_connections.specs.Parts.{session_parts};
+ghost use Rattle.bsc_monitor.specs.Attendance.{AbsentBySilence};
 ghost use Rattle.bsc_monitor.specs.Visits.{FollowsNew, FollowsHearing, FollowsSilence};
 ghost use Rattle.bsc_monitor.specs.Watching.{PrintsBeforeSending, output_of};
 
@@ -19,6 +20,12 @@ pub fn visits()
     ensures new_control { FollowsNew }
     ensures hearing { FollowsHearing }
     ensures silence { FollowsSilence }
+{}
+
+/// A terminal is absent after its visits exactly if it answered in none of the last ones, as many
+/// as the limit says.
+pub fn absences()
+    ensures { AbsentBySilence }
 {}
 
 /// What a station that is watched sends, it sends after the records that had arrived at it were
@@ -39,12 +46,14 @@ pub fn printed_before_sent<
         (session_parts ⟦<Control<B> as Station>⟧ R.Read W.Write F.Framing
         ⟦<ControlWatch<'static, A, T, O, D> as Monitor<Control<B>>>⟧.is_told
         ⟦<ControlWatch<'static, A, T, O, D> as Monitor<Control<B>>>⟧.admits
+        ⟦<ControlWatch<'static, A, T, O, D> as Monitor<Control<B>>>⟧.may_answer
         ⟦<ControlWatch<'static, A, T, O, D> as Monitor<Control<B>>>⟧.paces
         Q.Waiter) ⟦<Control<B> as Party>⟧ (λ w. output_of O.contents w.watch) }
     ensures terminal { PrintsBeforeSending
         (session_parts ⟦<LineTerminal<B> as Station>⟧ R.Read W.Write F.Framing
         ⟦<TerminalWatch<'static, A, T, O, D> as Monitor<LineTerminal<B>>>⟧.is_told
         ⟦<TerminalWatch<'static, A, T, O, D> as Monitor<LineTerminal<B>>>⟧.admits
+        ⟦<TerminalWatch<'static, A, T, O, D> as Monitor<LineTerminal<B>>>⟧.may_answer
         ⟦<TerminalWatch<'static, A, T, O, D> as Monitor<LineTerminal<B>>>⟧.paces
         Q.Waiter) ⟦<LineTerminal<B> as Party>⟧ (λ w. output_of O.contents w.watch) }
 {}

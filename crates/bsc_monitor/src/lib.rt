@@ -10,8 +10,10 @@
 //! clock of its own.
 #![tactic(auto)]
 
+mod absences;
 mod answering;
 mod arrivals;
+mod attendance;
 mod beginning;
 mod channel_end;
 mod control_party;
@@ -27,6 +29,8 @@ mod making;
 mod offering;
 mod offers;
 mod party;
+mod polls;
+mod presences;
 mod progress;
 mod record_lines;
 mod record_writer;
@@ -34,6 +38,7 @@ mod report;
 mod rounds;
 mod standing;
 mod standings;
+mod terminal_news;
 mod terminal_watch;
 mod trace;
 mod tracing;
@@ -42,6 +47,7 @@ mod trusting;
 mod visits;
 mod watch;
 
+pub use attendance::{AbsenceLimits, Presence};
 pub use beginning::Beginning;
 pub use bsc_progress::{Meter, Timer};
 pub use channel_end::ChannelEnd;
@@ -55,6 +61,8 @@ pub use making::{new_control, new_terminal};
 pub use offering::{offer_at_terminal, offer_for_terminal};
 pub use offers::{OfferError, read_records};
 pub use party::{Party, Received};
+pub use polls::{Polls, is_settled, settle};
+pub use presences::Presences;
 pub use record_lines::RecordLines;
 pub use report::write_report;
 pub use rounds::Limits;

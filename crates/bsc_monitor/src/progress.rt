@@ -1,17 +1,17 @@
 //! The progress of a control station through its poll list.
 
-ghost use Rattle.std.specs.Prelude.{◌≡◌, ◌-◌, length, not, true};
+ghost use Rattle.std.specs.Prelude.{◌≡◌, ◌&&◌, ◌||◌, length, not, slice_get, true};
 ghost use Rattle.bsc_connections.specs.Notes.{told_by};
-ghost use Rattle.bsc_monitor.specs.Progress.{after_event, after_act, after_rest, ends_after_act};
-ghost use Rattle.bsc_monitor.specs.Progress.{ends_at_rest, ends_with};
-ghost use Rattle.bsc_monitor.specs.Progress.{begins_after_pause, known_in, pace_after};
-ghost use Rattle.bsc_monitor.specs.Progress.{progress_after, progress_of, with_found};
+ghost use Rattle.bsc_monitor.specs.Progress.{after_event, after_sent, ends_when_sent, ends_with};
+ghost use Rattle.bsc_monitor.specs.Progress.{begins_after_pause, is_last_visit, known_in};
+ghost use Rattle.bsc_monitor.specs.Progress.{pace_after, pace_of, polled_entries};
+ghost use Rattle.bsc_monitor.specs.Progress.{progress_after, progress_of, visited_in, with_found};
 
 use crate::rounds::{Limits, Rounds};
 use crate::visits::Visits;
 use crate::{station_counts, station_standing};
 use bsc_connections::{Note, Pace};
-use bsc_control::{Control, Task};
+use bsc_control::Control;
 use std::alloc::Allocator;
 
 /// The visits and rounds that a control station has made, and whether it has ended.
@@ -42,15 +42,13 @@ pub(crate) struct Progress {
 impl Progress {
     /// Returns the progress of a control station that has sent nothing. `listens` tells whether
     /// other peers may connect later.
-    pub fn new<B: Allocator>(control: &Control<B>, limits: Limits, listens: bool) -> Progress
-        ensures { result ≡ progress_of limits (length control.now.poll_list - 1) listens }
+    pub fn new(limits: Limits, listens: bool) -> Progress
+        ensures { result ≡ progress_of limits listens }
     {
-        // The poll list has an entry, since the station is at one.
-        let _ = control.place();
         Progress {
             limits,
             visits: Visits::new(),
-            rounds: Rounds::new(control.poll_list().len() - 1),
+            rounds: Rounds::new(limits.counts_at_once),
             listens,
             closed: false,
             stopped: false,
@@ -85,25 +83,62 @@ impl Progress {
         ensures { result ≡ begins_after_pause self.now control.now }
     {
         let mut visits = self.visits;
-        match visits.acted(control) {
+        match visits.sent(control) {
             Some(entry) => {
                 let more = station_standing(control).waiting;
                 let known = known_in(control);
                 self.rounds
-                    .pauses_after(entry, control.place(), more, known)
+                    .pauses_after(is_last_visit(control, entry), more, known)
             }
             None => false,
         }
     }
 
+    /// Returns the terminal whose visit ends with an event that is not counted yet, if one ends
+    /// with it.
+    pub fn visited<B: Allocator>(&self, control: &Control<B>, note: &Note<'_>) -> Option<usize>
+        ensures { result ≡ visited_in self.now control.now (told_by note.now) }
+    {
+        let mut visits = self.visits;
+        let entry = match note {
+            Note::Sent { .. } => visits.sent(control)?,
+            Note::Heard { .. } | Note::Silence => visits.acted(control)?,
+            _ => return None,
+        };
+        terminal_at(control, entry)
+    }
+
+    /// Whether the control station has ended, or does with what it has just sent, and what is not
+    /// counted yet.
+    fn ends_when_sent<B: Allocator>(&self, control: &Control<B>) -> bool
+        ensures { result ≡ (self.now.ended || ends_when_sent self.now control.now) }
+    {
+        let mut after = *self;
+        let ends = after.count_sent(control);
+        self.ended || ends
+    }
+
     /// Returns how the wait after an event begins that is not counted yet: with a pause after what
-    /// begins a round after one in which nothing got through.
+    /// begins a round after one in which nothing got through, unless the control station has ended.
     pub fn pace_after<B: Allocator>(&self, control: &Control<B>, note: &Note<'_>) -> Pace
         ensures { result ≡ pace_after self.now control.now (told_by note.now) }
     {
         match note {
-            Note::Sent { .. } if self.begins_after_pause(control) => Pace::AfterPause,
+            Note::Sent { .. } => self.pace_when_sent(control),
             _ => Pace::AtOnce,
+        }
+    }
+
+    /// Returns how the wait begins after what the control station has just sent, and what is not
+    /// counted yet.
+    fn pace_when_sent<B: Allocator>(&self, control: &Control<B>) -> Pace
+        ensures { result ≡ pace_of (begins_after_pause self.now control.now
+            && not (self.now.ended || ends_when_sent self.now control.now)) }
+    {
+        if self.begins_after_pause(control) && !self.ends_when_sent(control) {
+            Pace::AfterPause
+        } else {
+            Pace::AtOnce
         }
     }
 
@@ -136,51 +171,79 @@ impl Progress {
         ensures ended { self.new.ended ≡ self.old.ended }
     {
         match note {
-            Note::Sent { .. } => self.count_act(control),
+            Note::Sent { .. } => self.count_sent(control),
             Note::Closed { .. } => {
                 self.closed = !self.listens;
                 self.closed
             }
             Note::Silence => {
-                let is_over = self.count_rest(control);
-                self.stopped || is_over
+                let _ = self.visits.acted(control);
+                self.stopped
             }
             Note::Stopped => {
                 let was_stopped = self.stopped;
                 self.stopped = true;
                 was_stopped
             }
-            Note::Heard { .. } => self.count_rest(control),
-            Note::Ignored { .. } | Note::Withheld { .. } => false,
-            Note::Joined { .. } | Note::Refused { .. } | Note::Client => false,
+            Note::Heard { .. } => {
+                let _ = self.visits.acted(control);
+                self.rounds.meet();
+                false
+            }
+            Note::Ignored { .. } | Note::Joined { .. } => {
+                self.rounds.meet();
+                false
+            }
+            Note::Withheld { .. } | Note::Refused { .. } | Note::Client => false,
         }
     }
 
-    /// Counts that the control station has come to rest, if it has. Returns what `count_act` does.
-    fn count_rest<B: Allocator>(&mut self, control: &Control<B>) -> bool
-        ensures state { self.new ≡ after_rest self.old control.now }
-        ensures ends { result ≡ ends_at_rest self.old control.now }
+    /// Counts a transmission of the control station. Returns `true` if it has made enough rounds,
+    /// or a visit has ended after it was asked to end.
+    fn count_sent<B: Allocator>(&mut self, control: &Control<B>) -> bool
+        ensures state { self.new ≡ after_sent self.old control.now }
+        ensures ends { result ≡ ends_when_sent self.old control.now }
     {
-        match control.task() {
-            Task::AtRest => self.count_act(control),
-            _ => false,
-        }
-    }
-
-    /// Counts a transmission of the control station, or that it has come to rest. Returns `true` if
-    /// it has made enough rounds, or a visit has ended after it was asked to end.
-    fn count_act<B: Allocator>(&mut self, control: &Control<B>) -> bool
-        ensures state { self.new ≡ after_act self.old control.now }
-        ensures ends { result ≡ ends_after_act self.old control.now }
-    {
-        let Some(entry) = self.visits.acted(control) else {
+        let Some(entry) = self.visits.sent(control) else {
             return false;
         };
         let more = station_standing(control).waiting;
         let known = known_in(control);
-        self.rounds.visited(entry, control.place(), more, known);
+        self.rounds
+            .visited(is_last_visit(control, entry), more, known);
         self.stopped || self.rounds.are_enough(self.limits)
     }
+}
+
+/// Returns the terminal of this entry of the poll list, if there is one.
+fn terminal_at<B: Allocator>(control: &Control<B>, entry: usize) -> Option<usize>
+    ensures { result ≡ slice_get control.now.poll_list entry }
+{
+    let terminal = control.poll_list().get(entry)?;
+    Some(usize::from(*terminal))
+}
+
+/// Returns whether a round is complete with the visit to this entry, after which that at the
+/// present place is visited.
+fn is_last_visit<B: Allocator>(control: &Control<B>, entry: usize) -> bool
+    ensures { result ≡ is_last_visit control.now entry }
+{
+    let place = control.place();
+    place < entry || (place == entry && polled_entries(control) <= 1)
+}
+
+/// Returns how many entries of the poll list are polled.
+fn polled_entries<B: Allocator>(control: &Control<B>) -> usize
+    ensures { result ≡ polled_entries control.now (length control.now.poll_list) }
+{
+    let mut count = 0;
+    'entries: for place in 0..control.poll_list().len() {
+        let terminal = usize::from(control.poll_list()[place]);
+        if control.is_polled(terminal) {
+            count += 1;
+        }
+    }
+    count
 }
 
 /// Returns how many records are known to have arrived at the terminals.

@@ -83,6 +83,8 @@ impl<'a, A: Allocator + Copy, T: Timer + Meter + Drop, W: Write, D: Write, B: Al
 
     ghost admits = { λ _ _ _ _. true };
 
+    ghost may_answer = { λ _ _ _. true };
+
     ghost paces = { λ _. AtOnce };
 
     ghost is_told = { λ old station happening result new.
@@ -99,6 +101,10 @@ impl<'a, A: Allocator + Copy, T: Timer + Meter + Drop, W: Write, D: Write, B: Al
         (trace_of D.contents old.watch) (trace_of D.contents new.watch))) };
 
     fn admits(&self, _station: &LineTerminal<B>, _connection: usize, _octets: &[u8]) -> bool {
+        true
+    }
+
+    fn may_answer(&self, _station: &LineTerminal<B>, _connection: usize) -> bool {
         true
     }
 

@@ -12,7 +12,7 @@ ghost use Rattle.bsc_monitor.specs.Traces.{connection_shown, distrust_line};
 ghost use Rattle.bsc_monitor.specs.Traces.{error_shown, fault_shown, joined_line, joined_shown};
 ghost use Rattle.bsc_monitor.specs.Traces.{heard_from as sender_heard};
 ghost use Rattle.bsc_monitor.specs.Traces.{origin_shown, peer_shown, refusal_shown, refused_line};
-ghost use Rattle.bsc_monitor.specs.Traces.{stopped_line, unanswered_line, withheld_line};
+ghost use Rattle.bsc_monitor.specs.Traces.{stopped_line, withheld_line};
 
 use bsc_carrier::{CarrierError, DeviceFault};
 use bsc_connections::{Note, Refusal};
@@ -209,15 +209,6 @@ pub(crate) fn write_closed<W: Write>(
 {
     write_connection(connection, peer, out)?;
     write_end(why, out)
-}
-
-/// Writes the line for a terminal that has not answered, without a time.
-pub(crate) fn write_unanswered<W: Write>(terminal: usize, out: &mut W) -> Result<(), PrintError>
-    ensures ok { OnOk result (Appends (W.contents out.old) (W.contents out.new)
-        (unanswered_line terminal)) }
-    ensures err { IfErr result (λ error. error ≡ PrintError.Output) }
-{
-    Ok(write!(out, "terminal {terminal} has not answered\n")?)
 }
 
 /// Writes the line for a time-out.

@@ -3,11 +3,12 @@
 ghost use Rattle.std.specs.Prelude.{◌≡◌};
 ghost use Rattle.bsc_connections.specs.Notes.{told_by};
 ghost use Rattle.bsc_frame.specs.Reading.{heard};
-ghost use Rattle.bsc_trust.specs.Trust.{after_heard, after_ignored, told_of};
+ghost use Rattle.bsc_trust.specs.Trust.{after_heard, after_ignored, may_answer, told_of};
 ghost use Rattle.bsc_monitor.specs.Trusting.{called_by, distrust_told, is_admitted};
 ghost use Rattle.bsc_monitor.specs.Trusting.{address_of, ignoring_told, trust_after};
-ghost use Rattle.bsc_monitor.specs.Trusting.{trusting_of};
+ghost use Rattle.bsc_monitor.specs.Trusting.{moved_after, owner_if, place_in, trusting_of};
 
+use crate::terminal_news::{TerminalNews, moved_by};
 use bsc_connections::Note;
 use bsc_control::{Control, Task};
 use bsc_frame::{TextBuffer, decode};
@@ -43,6 +44,13 @@ impl Trusting {
         self.trust
     }
 
+    /// Returns the terminal that was called after the last event, if one was.
+    pub fn called(&self) -> Option<usize>
+        ensures { result ≡ self.now.called }
+    {
+        self.called
+    }
+
     /// Returns whether what arrived at this place is heard, if this terminal is called.
     pub fn admits_for(&self, called: Option<usize>, place: usize, octets: &[u8]) -> bool
         ensures { result ≡ is_admitted self.now.trust called place octets.now }
@@ -58,6 +66,22 @@ impl Trusting {
         ensures { result ≡ is_admitted self.now.trust self.now.called place octets.now }
     {
         self.admits_for(self.called, place, octets)
+    }
+
+    /// Returns whether the peer of the connection at this place may answer what was sent last, if
+    /// this terminal is called.
+    pub fn may_answer_for(&self, called: Option<usize>, place: usize) -> bool
+        ensures { result ≡ may_answer self.now.trust called place }
+    {
+        self.trust.may_answer(called, place)
+    }
+
+    /// Returns whether the peer of the connection at this place may answer what was sent last, if
+    /// the terminal is called that was called last.
+    pub fn may_answer_last(&self, place: usize) -> bool
+        ensures { result ≡ may_answer self.now.trust self.now.called place }
+    {
+        self.may_answer_for(self.called, place)
     }
 
     /// Takes note of an event at this time, in milliseconds. The terminal that was called last is
@@ -93,6 +117,28 @@ impl Trusting {
         }
     }
 
+    /// Returns the terminal that is known to answer on the connection of which an event tells, if
+    /// it tells of one and there is such a terminal.
+    pub fn owner(&self, note: &Note<'_>) -> Option<usize>
+        ensures { result ≡ owner_if self.now.trust (place_in (told_by note.now)) }
+    {
+        match place_in(note) {
+            Some(place) => self.trust.owner(place),
+            None => None,
+        }
+    }
+
+    /// Returns what is told of the connection of which an event tells, if it tells of one, by the
+    /// terminal that was known to answer on it before.
+    pub fn moved(&self, note: &Note<'_>, before: Option<usize>) -> Option<TerminalNews>
+        ensures { result ≡ moved_after before self.now.trust (place_in (told_by note.now)) }
+    {
+        match place_in(note) {
+            Some(place) => moved_by(place, before, self.trust.owner(place)),
+            None => None,
+        }
+    }
+
     /// Takes note of a transmission that was heard. Returns what is to be told of it.
     fn hear(&mut self, place: usize, octets: &[u8], now: u64) -> Option<Distrust>
         ensures kept { self.new ≡ trusting_of
@@ -122,6 +168,19 @@ impl Trusting {
         ensures { self.new ≡ trusting_of self.old.trust (called_by control.now) }
     {
         self.called = called_by(control);
+    }
+}
+
+/// Returns the place of the connection of which an event tells, if it tells of one.
+fn place_in(note: &Note<'_>) -> Option<usize>
+    ensures { result ≡ place_in (told_by note.now) }
+{
+    match note {
+        Note::Heard { connection, .. } => Some(*connection),
+        Note::Joined { connection, .. } => Some(*connection),
+        Note::Closed { connection, .. } => Some(*connection),
+        Note::Ignored { .. } | Note::Silence | Note::Sent { .. } | Note::Withheld { .. } => None,
+        Note::Refused { .. } | Note::Stopped | Note::Client => None,
     }
 }
 

@@ -4,8 +4,9 @@ ghost use Rattle.std.specs.Prelude.{◌≡◌, ◌+◌, IfErr, IfOk, OnOk, true}
 ghost use Rattle.bsc_connections.specs.Notes.{told_by};
 ghost use Rattle.bsc_progress.specs.Counts.{saturated};
 ghost use Rattle.bsc_monitor.specs.Telling.{BeginsLine, ShowsDistrust, ShowsEvent, ShowsLine};
-ghost use Rattle.bsc_monitor.specs.Telling.{ShowsUnanswered, is_off_line, trace_of};
-ghost use Rattle.bsc_monitor.specs.Traces.{distrust_line, unanswered_line};
+ghost use Rattle.bsc_monitor.specs.Telling.{ShowsNews, ShowsTerminals, is_off_line, trace_of};
+ghost use Rattle.bsc_monitor.specs.Terminals.{news_line};
+ghost use Rattle.bsc_monitor.specs.Traces.{distrust_line};
 ghost use Rattle.bsc_monitor.specs.Refusing.{IsTraceFault, IsUnprinted, Refuses};
 ghost use Rattle.bsc_monitor.specs.Watching.{IsFlushed, IsFound, PrintsArrivals, Sees};
 ghost use Rattle.bsc_monitor.specs.Watching.{live_of, output_of};
@@ -14,7 +15,8 @@ use crate::arrivals::print_arrivals;
 use crate::counting::station_counts;
 use crate::held::{HeldCall, Seen, write_held, write_next};
 use crate::record_writer::RecordWriter;
-use crate::trace::{write_change, write_distrust, write_note, write_unanswered};
+use crate::terminal_news::{TerminalNews, TerminalsTold, write_news};
+use crate::trace::{write_change, write_distrust, write_note};
 use crate::{Meter, Party, RecordLines, Timer, Tracing};
 use bsc_connections::{LiveError, Note};
 use bsc_print::PrintError;
@@ -214,28 +216,40 @@ impl<'a, A: Allocator + Copy, T: Timer + Meter + Drop, W: Write, D: Write> Watch
         }
     }
 
-    /// Prints that this terminal has not answered, in a trace with the time. Prints nothing if
-    /// there is none.
-    pub(crate) fn tell_unanswered(&mut self, terminal: Option<usize>) -> Result<(), LiveError>
+    /// Prints what is told of terminals, in a trace with the time.
+    pub(crate) fn tell_terminals(&mut self, all: TerminalsTold) -> Result<(), LiveError>
         ensures records { output_of W.contents self.new ≡ output_of W.contents self.old }
-        ensures trace { OnOk result (ShowsUnanswered terminal (trace_of D.contents self.old)
+        ensures trace { OnOk result (ShowsTerminals all (trace_of D.contents self.old)
             (trace_of D.contents self.new)) }
         ensures fault { IfErr result IsTraceFault }
     {
-        match terminal {
-            Some(terminal) => live(self.write_unanswered(terminal)),
+        self.tell_terminal(all.moved)?;
+        self.tell_terminal(all.silent)?;
+        self.tell_terminal(all.visited)
+    }
+
+    /// Prints this of a terminal, in a trace with the time. Prints nothing if there is nothing to
+    /// tell.
+    fn tell_terminal(&mut self, news: Option<TerminalNews>) -> Result<(), LiveError>
+        ensures records { output_of W.contents self.new ≡ output_of W.contents self.old }
+        ensures trace { OnOk result (ShowsNews news (trace_of D.contents self.old)
+            (trace_of D.contents self.new)) }
+        ensures fault { IfErr result IsTraceFault }
+    {
+        match news {
+            Some(news) => live(self.write_news(news)),
             None => Ok(()),
         }
     }
 
-    /// Writes the line for a terminal that has not answered, in a trace with the time.
-    fn write_unanswered(&mut self, terminal: usize) -> Result<(), PrintError>
+    /// Writes the line that tells this of a terminal, in a trace with the time.
+    fn write_news(&mut self, news: TerminalNews) -> Result<(), PrintError>
         ensures records { output_of W.contents self.new ≡ output_of W.contents self.old }
-        ensures trace { OnOk result (ShowsLine (unanswered_line terminal)
+        ensures trace { OnOk result (ShowsLine (news_line news)
             (trace_of D.contents self.old) (trace_of D.contents self.new)) }
     {
         self.write_start()?;
-        write_unanswered(terminal, self.errors)
+        write_news(news, self.errors)
     }
 
     /// Prints why the line is not trusted, in a trace with the time. Prints nothing if there is no

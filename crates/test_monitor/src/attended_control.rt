@@ -47,7 +47,7 @@ type Attended = (
 const ATTENDED: &[Attended] = &[
     // One round: a selection, a bid, a poll that is answered with a text, and four polls without an
     // answer. A trace of exchanges has all of that too: the call of the last poll stands before the
-    // line that says that a terminal has not answered.
+    // lines that say that a terminal has not answered, and is absent.
     (
         true,
         Tracing::Exchanges,
@@ -79,7 +79,8 @@ to 1: offered 0, known 0
 +17 silence
 +18 control sent CALL A 161604ff1616c185ff
 +19 terminal 1 has not answered
-+20 connection 0 heard EOT 161604ff
++20 terminal 1 is absent
++21 connection 0 heard EOT 161604ff
 ",
     ),
     // The last call is answered with a text, which is refused until the terminal gives up. It is
@@ -116,7 +117,8 @@ to 1: offered 0, known 0
 ",
         "+29 control sent CALL A 161604ff1616c185ff
 +30 terminal 1 has not answered
-+31 silence
++31 terminal 1 is absent
++32 silence
 ",
     ),
     // The station is asked to end, and does so at the next silence. It is asked again before its
@@ -134,6 +136,20 @@ to 1: offered 0, known 0
 +4 silence
 +5 control sent CALL A 161604ff1616c185ff
 +6 asked to end
+",
+    ),
+    // No terminal comes, and no round counts: the station goes on until it is asked to end.
+    (
+        false,
+        Tracing::All,
+        (Some(1), 1),
+        b"",
+        b"tttttttttttsts",
+        NOTHING,
+        "+27 asked to end
++28 silence
++29 control sent CALL A 161604ff1616c185ff
++30 asked to end
 ",
     ),
 ];
@@ -183,6 +199,7 @@ fn attend_control(
     let limits = Limits {
         rounds,
         idle_rounds,
+        counts_at_once: false,
     };
     let settings = (Printing { records, trace }, limits, 0, 1_000);
     let watch = control_watch(alloc, control, settings, out, errors)?;

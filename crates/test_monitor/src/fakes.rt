@@ -6,7 +6,7 @@ use bsc_connections::{
 };
 use bsc_control::Control;
 use bsc_monitor::{
-    ControlWatch, Limits, LineTerminal, Printing, RecordLines, TerminalWatch, Watch,
+    AbsenceLimits, ControlWatch, Limits, LineTerminal, Printing, RecordLines, TerminalWatch, Watch,
 };
 use bsc_print::Form;
 use bsc_progress::{Counts, Meter, Timer};
@@ -105,7 +105,7 @@ pub(crate) struct Scripted {
 }
 
 impl Waiter<Told, Taking> for Scripted {
-    ghost waits = { λ _ _ _. Unit {0} };
+    ghost waits = { λ _ _ _ _. Unit {0} };
 
     ghost handles = { λ _ _ _ _. Unit {0} };
 
@@ -125,7 +125,7 @@ impl Waiter<Told, Taking> for Scripted {
 
     ghost names_newcomer = { λ _ _. Unit {0} };
 
-    fn wait(&mut self) -> Result<Awaited, LiveError> {
+    fn wait(&mut self, _is_reached: bool) -> Result<Awaited, LiveError> {
         let Some(&step) = self.steps.first() else {
             return Ok(Awaited::Octets { connection: 0 });
         };
@@ -194,6 +194,12 @@ pub(crate) const HEXADECIMAL: RecordLines = RecordLines {
     numbers: false,
 };
 
+/// When a terminal is absent: after one visit without an answer.
+const ABSENCE: AbsenceLimits = AbsenceLimits {
+    absent_after: 1,
+    retry: 30_000,
+};
+
 /// The watch of a control station that ends at these limits, with a clock that was read so often,
 /// over one connection for all terminals, with this time-out in milliseconds.
 pub(crate) fn control_watch<'a, W: Write, D: Write>(
@@ -205,7 +211,7 @@ pub(crate) fn control_watch<'a, W: Write, D: Write>(
 ) -> Result<ControlWatch<'a, Global, Counting, W, D>, LiveError> {
     let (timer, trust) = (Counting { asked }, trust_of(time_out));
     match Watch::new(alloc, control, printing, timer, out, errors) {
-        Ok(watch) => Ok(ControlWatch::new(control, watch, limits, false, trust)),
+        Ok(watch) => Ok(ControlWatch::new(control, watch, limits, ABSENCE, false, trust)),
         Err(_) => Err(LiveError::Memory),
     }
 }

@@ -44,6 +44,8 @@ impl<S> Monitor<S> for Quiet {
 
     ghost admits = { λ _ _ _ _. true };
 
+    ghost may_answer = { λ _ _ _. true };
+
     ghost paces = { λ _. AtOnce };
 
     ghost is_told = { λ _ _ _ _ _. Unit {0} };
@@ -53,6 +55,10 @@ impl<S> Monitor<S> for Quiet {
     }
 
     fn admits(&self, _station: &S, _connection: usize, _octets: &[u8]) -> bool {
+        true
+    }
+
+    fn may_answer(&self, _station: &S, _connection: usize) -> bool {
         true
     }
 

@@ -143,6 +143,7 @@ fn tell<W: Write>(
     let limits = Limits {
         rounds: None,
         idle_rounds: u64::MAX,
+        counts_at_once: true,
     };
     let settings = (printing, limits, asked, time_out);
     let mut watch = control_watch(alloc, control, settings, &mut out, errors)?;
