@@ -8,7 +8,8 @@ use Rattle.bsc_feed.specs.declared.fault.Fault.{Fault}
 use Rattle.bsc_feed.specs.declared.told.Told.{Told}
 use Rattle.bsc_feed.specs.Answering.{Answers, Does, DoesIf, Serving, asked_of}
 use Rattle.bsc_feed.specs.Clients.{NextsIn, Nexts, TellsAnswer, TellsPlace, TellsState}
-use Rattle.bsc_feed.specs.Commands.{Asked, offer, status, release, ready, urgent, follow, stop}
+use Rattle.bsc_feed.specs.Commands.{Asked, offer, status, release, ready, urgent, poll, follow}
+use Rattle.bsc_feed.specs.Commands.{stop}
 use Rattle.bsc_feed.specs.Following.{FollowsValue}
 use Rattle.bsc_feed.specs.Lines.{line_of}
 use Rattle.bsc_feed.specs.Sessions.{Event, IsNoFollow, line_of_event, octets_of_event, step_by}
@@ -118,6 +119,7 @@ module _ {S M : Type 0} (party : party_of.Ghosts S M) (serves : Serving S) where
   does_no_follow (release channel count) follows before answer after new unasked does = does.5
   does_no_follow (ready takes) follows before answer after new unasked does = does.3
   does_no_follow urgent follows before answer after new unasked does = does.3
+  does_no_follow (poll terminal polled) follows before answer after new unasked does = does.3
   does_no_follow (follow channel from) follows before answer after new unasked does = absurd unasked
   does_no_follow stop follows before answer after new unasked does = does.2
 

@@ -6,14 +6,15 @@ use Rattle.bsc_block.specs.Records.{record_of}
 use Rattle.bsc_block.specs.declared.record.RecordError.{RecordError}
 use Rattle.bsc_directory.specs.declared.way.Way.{Way}
 use Rattle.bsc_monitor.specs.Ends.{End, sending, receiving}
+use Rattle.bsc_monitor.specs.declared.attendance.Presence.{Presence}
 use Rattle.bsc_monitor.specs.declared.party.Party as party_of
 use Rattle.bsc_feed.specs.declared.fault.Fault.{Fault}
 use Rattle.bsc_feed.specs.declared.fault.Fault.TheVariants.{LineTooLong, NoSuchChannel, NotSending}
 use Rattle.bsc_feed.specs.declared.fault.Fault.TheVariants.{OutOfMemory}
 use Rattle.bsc_feed.specs.declared.told.Told.{Told}
 use Rattle.bsc_feed.specs.declared.told.Told.TheVariants.{Kept, Done, Refused}
-use Rattle.bsc_feed.specs.Commands.{Asked, asked_in, offer, status, release, ready, urgent, follow}
-use Rattle.bsc_feed.specs.Commands.{stop, takes_memory}
+use Rattle.bsc_feed.specs.Commands.{Asked, asked_in, offer, status, release, ready, urgent, poll}
+use Rattle.bsc_feed.specs.Commands.{follow, stop, takes_memory}
 use Rattle.bsc_feed.specs.Faults.{record_fault}
 use Rattle.bsc_feed.specs.Following.{FollowsValue}
 use Rattle.bsc_feed.specs.Places.{IsFound, end_at, terminal_at, way_at}
@@ -50,24 +51,31 @@ Offering S = S → ℕ → Way → List ℕ → Result ℕ Fault → S → Type 
 abbrev pub Releasing : Type 0 → Type 1
 Releasing S = S → ℕ → Way → ℕ → Result (Unit {0}) Fault → S → Type 0
 
--- What a station does for clients: the full length of its records, and what each of its calls does.
+-- What a station does for clients: the full length of its records, what it knows of the terminals
+-- that it calls, and what each of its calls does.
 pub record Serving (S : Type 0) : Type 1 where
   pub offers : Offering S
   pub full : S → ℕ
   pub releases : Releasing S
   pub readies : S → Bool → Result (Unit {0}) Fault → S → Type 0
   pub urges : S → Result (Unit {0}) Fault → S → Type 0
+  pub polls : S → ℕ → Bool → Result (Unit {0}) Fault → S → Type 0
+  pub shows : S → ℕ → Option Presence
   pub stops : S → S → Type 0
 
 abbrev pub serving : {S : Type 0} → Offering S → (S → ℕ) → Releasing S
     → (S → Bool → Result (Unit {0}) Fault → S → Type 0)
-    → (S → Result (Unit {0}) Fault → S → Type 0) → (S → S → Type 0) → Serving S
-serving offers full releases readies urges stops = record {
+    → (S → Result (Unit {0}) Fault → S → Type 0)
+    → (S → ℕ → Bool → Result (Unit {0}) Fault → S → Type 0) → (S → ℕ → Option Presence)
+    → (S → S → Type 0) → Serving S
+serving offers full releases readies urges polls shows stops = record {
   offers = offers;
   full = full;
   releases = releases;
   readies = readies;
   urges = urges;
+  polls = polls;
+  shows = shows;
   stops = stops;
 }
 
@@ -138,6 +146,9 @@ module _ {S M : Type 0} (party : party_of.Ghosts S M) (serves : Serving S) where
       × (answer ≡ Some (done_or result)) × (after ≡ follows)
   Does urgent follows old answer after new =
       (result : Result (Unit {0}) Fault) × serves.urges old result new
+      × (answer ≡ Some (done_or result)) × (after ≡ follows)
+  Does (poll terminal polled) follows old answer after new =
+      (result : Result (Unit {0}) Fault) × serves.polls old terminal polled result new
       × (answer ≡ Some (done_or result)) × (after ≡ follows)
   Does (follow channel from) follows old answer after new =
       (found : Option ℕ) × (told : Told) × IsFound party old channel found

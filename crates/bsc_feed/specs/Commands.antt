@@ -13,7 +13,8 @@ use Rattle.bsc_feed.specs.declared.fault.Fault.TheVariants.{NotACommand}
 use Rattle.bsc_feed.specs.declared.fault.Fault.TheVariants.{NotHexadecimal, OutOfMemory}
 use Rattle.bsc_feed.specs.declared.keyword.Keyword.{Keyword}
 use Rattle.bsc_feed.specs.declared.keyword.Keyword.TheVariants.{Offer, OfferHex, Status, Release}
-use Rattle.bsc_feed.specs.declared.keyword.Keyword.TheVariants.{Ready, Urgent, Follow, Stop}
+use Rattle.bsc_feed.specs.declared.keyword.Keyword.TheVariants.{Ready, Urgent, Poll, Follow}
+use Rattle.bsc_feed.specs.declared.keyword.Keyword.TheVariants.{Stop}
 use Rattle.bsc_feed.specs.Channels.{ChannelAndRest, channel_at}
 use Rattle.bsc_feed.specs.Numbers.{count_of}
 
@@ -29,6 +30,8 @@ pub data Asked : Type 0 where
   ready : Bool → Asked
   -- the station asks for the line
   urgent : Asked
+  -- the terminal with this number is called again, or no more
+  poll : ℕ → Bool → Asked
   -- what happens on a channel is told from now on, from this number on if there is one
   follow : Channel → Option ℕ → Asked
   -- the station ends
@@ -42,6 +45,7 @@ asked_by asks.Status = status
 asked_by (asks.Release channel count) = release channel count
 asked_by (asks.Ready takes) = ready takes
 asked_by asks.Urgent = urgent
+asked_by (asks.Poll terminal polled) = poll terminal polled
 asked_by (asks.Follow channel from) = follow channel from
 asked_by asks.Stop = stop
 
@@ -54,6 +58,7 @@ command_keyword word =
     if bytes_eq word (codes "release") then Some Release else
     if bytes_eq word (codes "ready") then Some Ready else
     if bytes_eq word (codes "urgent") then Some Urgent else
+    if bytes_eq word (codes "poll") then Some Poll else
     if bytes_eq word (codes "follow") then Some Follow else
     if bytes_eq word (codes "stop") then Some Stop else None
 
@@ -88,6 +93,16 @@ ready_in text =
     if bytes_eq text (codes "on") then Some (ready true) else
     if bytes_eq text (codes "off") then Some (ready false) else None
 
+-- `on T` or `off T`, by the first word and the rest.
+abbrev pub poll_by : List ℕ → Option ℕ → Option Asked
+poll_by word None = None
+poll_by word (Some terminal) =
+    if bytes_eq word (codes "on") then Some (poll terminal true) else
+    if bytes_eq word (codes "off") then Some (poll terminal false) else None
+
+abbrev pub poll_in : List ℕ → Option Asked
+poll_in text = poll_by (first_word text) (option_and_then count_of (after_word text))
+
 -- A channel that is followed, from a number on if there is a further word.
 abbrev pub follow_from : ChannelAndRest → Option (List ℕ) → Option Asked
 follow_from c None = Some (follow c.channel None)
@@ -110,6 +125,7 @@ asked_with Offer rest = or_not_a_command (offer_in rest)
 asked_with OfferHex rest = offer_hex_in (channel_at rest)
 asked_with Release rest = or_not_a_command (release_in rest)
 asked_with Ready rest = or_not_a_command (ready_in rest)
+asked_with Poll rest = or_not_a_command (poll_in rest)
 asked_with Follow rest = or_not_a_command (follow_in rest)
 asked_with _ rest = Err NotACommand
 

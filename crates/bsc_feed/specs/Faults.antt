@@ -8,7 +8,8 @@ use Rattle.bsc_feed.specs.declared.fault.Fault.{Fault}
 use Rattle.bsc_feed.specs.declared.fault.Fault.TheVariants.{NotACommand, LineTooLong}
 use Rattle.bsc_feed.specs.declared.fault.Fault.TheVariants.{NotHexadecimal, NoSuchChannel}
 use Rattle.bsc_feed.specs.declared.fault.Fault.TheVariants.{NotSending, NotATerminal}
-use Rattle.bsc_feed.specs.declared.fault.Fault.TheVariants.{RecordTooLong, WrongCharacter}
+use Rattle.bsc_feed.specs.declared.fault.Fault.TheVariants.{NoSuchTerminal, RecordTooLong}
+use Rattle.bsc_feed.specs.declared.fault.Fault.TheVariants.{WrongCharacter}
 use Rattle.bsc_feed.specs.declared.fault.Fault.TheVariants.{NotInDoubt, CountMismatch, NotKept}
 use Rattle.bsc_feed.specs.declared.fault.Fault.TheVariants.{OutOfMemory}
 
@@ -20,6 +21,7 @@ fault_text NotHexadecimal = codes "not hexadecimal"
 fault_text NoSuchChannel = codes "no such channel"
 fault_text NotSending = codes "the station does not send on it"
 fault_text NotATerminal = codes "the station is not a terminal"
+fault_text NoSuchTerminal = codes "no such terminal"
 fault_text RecordTooLong = codes "record too long"
 fault_text WrongCharacter = codes "wrong character"
 fault_text NotInDoubt = codes "not in doubt"

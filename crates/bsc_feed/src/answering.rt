@@ -24,8 +24,8 @@ pub(crate) fn answer<A: Allocator + Copy, S: Served>(
     station: &mut S,
 ) -> Option<Told>
     ensures { Answers S.Party
-        (serving (OffersBy S.offered S.is_kept S.offers) S.full S.releases S.readies S.urges
-        S.stops)
+        (serving (OffersBy S.offered S.is_kept S.offers) S.full S.releases S.readies S.urges S.polls
+        S.shows S.stops)
         (option_map (λ l. l.now) line.entry)
         follows.old station.old result follows.new station.new }
 {
@@ -45,8 +45,8 @@ fn answer_line<A: Allocator + Copy, S: Served>(
     station: &mut S,
 ) -> Option<Told>
     ensures { Answers S.Party
-        (serving (OffersBy S.offered S.is_kept S.offers) S.full S.releases S.readies S.urges
-        S.stops)
+        (serving (OffersBy S.offered S.is_kept S.offers) S.full S.releases S.readies S.urges S.polls
+        S.shows S.stops)
         (Some line.now)
         follows.old station.old result follows.new station.new }
 {
@@ -64,7 +64,7 @@ fn obey<A: Allocator, S: Served>(
     station: &mut S,
 ) -> Option<Told>
     ensures { Does S.Party (serving (OffersBy S.offered S.is_kept S.offers) S.full S.releases
-        S.readies S.urges S.stops)
+        S.readies S.urges S.polls S.shows S.stops)
         (asked_by command.entry)
         follows.old station.old result follows.new station.new }
 {
@@ -75,6 +75,9 @@ fn obey<A: Allocator, S: Served>(
         Command::Release { channel, count } => Some(release(channel, count, station)),
         Command::Ready { ready } => Some(done(station.set_ready(ready))),
         Command::Urgent => Some(done(station.set_urgent())),
+        Command::Poll { terminal, polled } => {
+            Some(done(station.set_polled(terminal as usize, polled)))
+        }
         Command::Follow { channel, from } => Some(follow(channel, from, follows, station)),
         Command::Stop => {
             station.stop();

@@ -75,9 +75,10 @@ impl Client {
     }
 
     /// Writes the next line that the client is told, with its line feed, and returns whether there
-    /// was one: the answer to its line, or else what happened on a channel that it follows. A line
-    /// of the client is obeyed here. After an error the step is done, and a part of the line may
-    /// have been written.
+    /// was one: the answer to its line, or else what happened on a channel that it follows. Before
+    /// the state of the channel from a terminal that the station calls it writes the line for the
+    /// terminal. A line of the client is obeyed here. After an error the step is done, and a part
+    /// of the line may have been written.
     pub fn next_line<A: Allocator + Copy, S: Served, W: Write>(
         &mut self,
         alloc: A,
@@ -86,8 +87,10 @@ impl Client {
     ) -> Result<bool, PrintError>
         ensures { (told : Option ToldValue)
             × Nexts S.Party (serving (OffersBy S.offered S.is_kept S.offers) S.full S.releases
-            S.readies S.urges S.stops) self.old station.old told self.new station.new
-            × IsWritten S.Party station.new told result (W.contents out.old) (W.contents out.new) }
+            S.readies S.urges S.polls S.shows S.stops) self.old station.old told self.new
+            station.new
+            × IsWritten S.Party S.shows station.new told result (W.contents out.old)
+            (W.contents out.new) }
     {
         match self.next(alloc, station) {
             Some(told) => {
@@ -102,7 +105,8 @@ impl Client {
     /// on a channel that is followed.
     fn next<A: Allocator + Copy, S: Served>(&mut self, alloc: A, station: &mut S) -> Option<Told>
         ensures { Nexts S.Party (serving (OffersBy S.offered S.is_kept S.offers) S.full S.releases
-            S.readies S.urges S.stops) self.old station.old result self.new station.new }
+            S.readies S.urges S.polls S.shows S.stops) self.old station.old result self.new
+            station.new }
     {
         if let Some(place) = self.telling {
             return Some(self.tell_state(place, station));

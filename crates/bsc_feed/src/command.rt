@@ -24,6 +24,9 @@ pub enum Command<'a, A: Allocator> {
     /// The station asks for the line.
     Urgent,
 
+    /// The terminal with this number is called again, or no more.
+    Poll { terminal: u32, polled: bool },
+
     /// What happens on a channel is told from now on: the records that arrive, from the one with
     /// this number on, or how many are known to have arrived once they are more than this number.
     /// Without a number, from now on.

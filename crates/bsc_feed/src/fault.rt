@@ -27,6 +27,9 @@ pub enum Fault {
     /// The station is not a terminal.
     NotATerminal,
 
+    /// The station calls no terminal with this number.
+    NoSuchTerminal,
+
     /// The record has more characters than the full length.
     RecordTooLong,
 
@@ -58,6 +61,7 @@ impl Fault {
             Fault::NoSuchChannel => "no such channel",
             Fault::NotSending => "the station does not send on it",
             Fault::NotATerminal => "the station is not a terminal",
+            Fault::NoSuchTerminal => "no such terminal",
             Fault::RecordTooLong => "record too long",
             Fault::WrongCharacter => "wrong character",
             Fault::NotInDoubt => "not in doubt",

@@ -14,6 +14,7 @@ pub(crate) enum Keyword {
     Release,
     Ready,
     Urgent,
+    Poll,
     Follow,
     Stop,
 }
@@ -34,6 +35,8 @@ pub(crate) fn read_keyword(word: &[u8]) -> Option<Keyword>
         Some(Keyword::Ready)
     } else if spells(word, "urgent") {
         Some(Keyword::Urgent)
+    } else if spells(word, "poll") {
+        Some(Keyword::Poll)
     } else if spells(word, "follow") {
         Some(Keyword::Follow)
     } else if spells(word, "stop") {

@@ -35,14 +35,14 @@ pub fn sessions<S: Served>()
     // The lines that were obeyed, and the one that waits for its answer, are all lines of the
     // client that are not skipped, each once and in order; a half line is not one of them.
     ensures lines { ObeysEachLine S.Party (serving (OffersBy S.offered S.is_kept S.offers) S.full
-        S.releases S.readies S.urges S.stops) }
+        S.releases S.readies S.urges S.polls S.shows S.stops) }
 
     // Where no line waits, the station is as it was, whatever is told.
     ensures quiet { ChangesByLines S.Party (serving (OffersBy S.offered S.is_kept S.offers) S.full
-        S.releases S.readies S.urges S.stops) }
+        S.releases S.readies S.urges S.polls S.shows S.stops) }
 
     // What is told of a followed channel are its records from the number asked for, in order, each
     // once, those that had arrived and those that arrive.
     ensures arrivals { TellsEachOnce S.Party (serving (OffersBy S.offered S.is_kept S.offers) S.full
-        S.releases S.readies S.urges S.stops) }
+        S.releases S.readies S.urges S.polls S.shows S.stops) }
 {}

@@ -4,8 +4,8 @@ ghost use Rattle.std.specs.Prelude.{◌≡◌, option_map};
 ghost use Rattle.bsc_input.specs.Hexadecimal.{octets_of};
 ghost use Rattle.bsc_feed.specs.Commands.{IsRead, asked_after, asked_alone, asked_by, asked_in};
 ghost use Rattle.bsc_feed.specs.Commands.{asked_with, follow_from, follow_in, offer_hex_in};
-ghost use Rattle.bsc_feed.specs.Commands.{offer_in, offer_octets, or_not_a_command, ready_in};
-ghost use Rattle.bsc_feed.specs.Commands.{release_in};
+ghost use Rattle.bsc_feed.specs.Commands.{offer_in, offer_octets, or_not_a_command, poll_in};
+ghost use Rattle.bsc_feed.specs.Commands.{ready_in, release_in};
 ghost use Rattle.bsc_feed.specs.Channels.{channel_at};
 
 use crate::channel::{Split, split_channel};
@@ -81,6 +81,7 @@ fn read_with<'a, A: Allocator + Copy>(
         Keyword::OfferHex => read_offer_hex(alloc, rest),
         Keyword::Release => if_command(read_release(rest)),
         Keyword::Ready => if_command(read_ready(rest)),
+        Keyword::Poll => if_command(read_poll(rest)),
         Keyword::Follow => if_command(read_follow(rest)),
         _ => Err(Fault::NotACommand),
     }
@@ -140,6 +141,27 @@ fn read_ready<'a, A: Allocator>(text: &[u8]) -> Option<Command<'a, A>>
         Some(Command::Ready { ready: true })
     } else if spells(text, "off") {
         Some(Command::Ready { ready: false })
+    } else {
+        None
+    }
+}
+
+/// Reads `on T` or `off T`.
+fn read_poll<'a, A: Allocator>(text: &[u8]) -> Option<Command<'a, A>>
+    ensures { option_map asked_by result ≡ poll_in text.now }
+{
+    let (word, rest) = split_word(text);
+    let terminal = count_of(rest?)?;
+    if spells(word, "on") {
+        Some(Command::Poll {
+            terminal,
+            polled: true,
+        })
+    } else if spells(word, "off") {
+        Some(Command::Poll {
+            terminal,
+            polled: false,
+        })
     } else {
         None
     }

@@ -1,16 +1,17 @@
 //! Stations that programs feed.
 
-ghost use Rattle.std.specs.Prelude.{◌≡◌, ◌<◌, ◌≤◌, ℕ, Bool, List, Result, length};
+ghost use Rattle.std.specs.Prelude.{◌≡◌, ◌<◌, ◌≤◌, ℕ, Bool, List, Option, Result, length};
 ghost use Rattle.bsc_block.specs.Format.{IsFormat};
 ghost use Rattle.bsc_directory.specs.declared.way.Way.{Way as WayValue};
 ghost use Rattle.bsc_feed.specs.declared.fault.Fault.{Fault as FaultValue};
 ghost use Rattle.bsc_feed.specs.Offering.{IsSending, OffersBy};
 ghost use Rattle.bsc_monitor.specs.Ends.{IsWay};
+ghost use Rattle.bsc_monitor.specs.declared.attendance.Presence.{Presence as PresenceValue};
 
 use crate::Fault;
 use bsc_block::{Format, Record};
 use bsc_directory::Way;
-use bsc_monitor::Party;
+use bsc_monitor::{Party, Presence};
 
 /// A station that is fed while it runs. Terminals are counted from 0 among those that the station
 /// knows. After a fault nothing of the station has changed that a client could see.
@@ -37,6 +38,13 @@ pub trait Served: Party {
 
     /// What it does to ask for the line.
     ghost urges: { Self → Result (Unit {0}) FaultValue → Self → Type 0 };
+
+    /// What it does to call a terminal again, or to call it no more: the station before, the
+    /// terminal, whether it is to be called, the result, the station after.
+    ghost polls: { Self → ℕ → Bool → Result (Unit {0}) FaultValue → Self → Type 0 };
+
+    /// What a control station knows of whether the terminal with this number is there.
+    ghost shows: { Self → ℕ → Option PresenceValue };
 
     /// What it does to end after the present visit.
     ghost stops: { Self → Self → Type 0 };
@@ -69,6 +77,16 @@ pub trait Served: Party {
     /// Asks for the line. Fails with `NotATerminal` at a control station.
     fn set_urgent(&mut self) -> Result<(), Fault>
         ensures { urges self.old result self.new };
+
+    /// Has a control station call the terminal with this number again, or call it no more. Fails
+    /// with `NoSuchTerminal` if the station calls none.
+    fn set_polled(&mut self, terminal: usize, polled: bool) -> Result<(), Fault>
+        ensures { polls self.old terminal polled result self.new };
+
+    /// Returns what a control station knows of whether the terminal with this number is there;
+    /// `None` if the station calls none.
+    fn presence(&self, terminal: usize) -> Option<Presence>
+        ensures { result ≡ shows self.now terminal };
 
     /// Ends the station after the present visit.
     fn stop(&mut self)

@@ -25,6 +25,7 @@ use Rattle.bsc_kept.specs.declared.ends.Sending.{Sending}
 use Rattle.bsc_monitor.specs.Forgetting.{ForgetsArrivedFor, ForgetsArrivedFrom, ForgetsOwn}
 use Rattle.bsc_monitor.specs.Forgetting.{ForgetsSent, further, nothing}
 use Rattle.bsc_monitor.specs.LineTerminal.{LineTerminalValue}
+use Rattle.bsc_monitor.specs.Polls.{PollsTerminal}
 use Rattle.bsc_keeping.specs.Ends.{kept_at_control}
 use Rattle.bsc_restarts.specs.AfterCrash.{arrived_at_control, arrived_at_terminal, kept_at_terminal}
 use Rattle.bsc_restarts.specs.AfterCrash.{waiting_at_control, waiting_at_terminal}
@@ -187,8 +188,16 @@ arrived_forgotten has sending receiving number count old new all (inr one) =
 
 pub terminal_outlives_forgetting :
     OutlivesForgetting kept_at_terminal waiting_at_terminal arrived_at_terminal ForgetsOwn
-    ForgetsArrivedFor
-terminal_outlives_forgetting = record { sent = own_forgotten; arrived = arrived_forgotten }
+    ForgetsArrivedFor (λ old terminal wanted new. new ≡ old)
+terminal_outlives_forgetting =
+    record {
+      sent = own_forgotten;
+      arrived = arrived_forgotten;
+      polled = λ has sending receiving terminal wanted old new all same.
+          subst
+          (HasStation kept_at_terminal waiting_at_terminal arrived_at_terminal has sending receiving)
+          (sym same) all;
+    }
 
 -- what is to be kept of a sending side that may be there
 pub side_where : (i j : ℕ) {a b l m : ℕ} {k o : KeptSender} → l ≡ m → a ≡ b → k ≡ o
@@ -275,7 +284,37 @@ peer_forgotten has sending receiving number count old new all (inr one) =
     (forgets_first one.n _ _ one.there one.forgets.records)) it got))
     has sending receiving all)
 
+-- one of whose terminals is polled from now on, or is not
+peer_polled : (has : Channel → Contents) (sending : List Sending) (receiving : List Receiving)
+    (t : ℕ) (wanted : Bool) (old new : ControlValue)
+    → HasStation kept_at_control waiting_at_control arrived_at_control has sending receiving old
+    → PollsTerminal old t wanted new
+    → HasStation kept_at_control waiting_at_control arrived_at_control has sending receiving new
+peer_polled has sending receiving t wanted old new all polls =
+    let p : PeerValue = record (peer_at old t) { polled = wanted } in
+    let peers = length_of_set old.peers t p in
+    subst (HasStation kept_at_control waiting_at_control arrived_at_control has sending receiving)
+    (sym polls.state)
+    (has_still kept_at_control waiting_at_control arrived_at_control old (with_peer old t p)
+    (λ i j.
+    side_where i j
+    (value_kept_by_set (λ (x : PeerValue). length x.outbounds) old.peers t i p no_peer refl)
+    peers
+    (value_kept_by_set (λ (x : PeerValue). kept_of_side (outbound_at x j)) old.peers t i p no_peer
+    refl))
+    (λ i j.
+    value_kept_by_set (λ (x : PeerValue). waiting (outbound_at x j).queue) old.peers t i p no_peer
+    refl)
+    (λ i it got.
+    subst (HasAllReceived it)
+    (λ k. if nat_lt i (sym peers k)
+    then sym (value_kept_by_set (λ (x : PeerValue). x.spool.records) old.peers t i p no_peer refl) k
+    else [])
+    got)
+    has sending receiving all)
+
 pub control_outlives_forgetting :
     OutlivesForgetting kept_at_control waiting_at_control arrived_at_control ForgetsSent
-    ForgetsArrivedFrom
-control_outlives_forgetting = record { sent = sides_forgotten; arrived = peer_forgotten }
+    ForgetsArrivedFrom PollsTerminal
+control_outlives_forgetting =
+    record { sent = sides_forgotten; arrived = peer_forgotten; polled = peer_polled }

@@ -22,6 +22,7 @@ use Rattle.bsc_keeping.specs.Offers.{KeepsOffer, OffersIf, channel_to}
 use Rattle.bsc_keeping.specs.Runs.{ForPrograms, IsEvent, KeptRun, KeptStep, KeptSteps, Moment}
 use Rattle.bsc_keeping.specs.Runs.{if_fed}
 use Rattle.bsc_keeping.specs.Runs.{attended, begins, begun, forgot_arrived, forgot_sent, kept}
+use Rattle.bsc_keeping.specs.Runs.{polled}
 use Rattle.bsc_keeping.specs.Runs.{offered, one_more, released, set}
 use Rattle.bsc_keeping.specs.declared.keeper.Keeper.{Keeper}
 use Rattle.bsc_restarts.specs.Between.{LeavesOffer, OutlivesForgetting, OutlivesKeeping}
@@ -182,10 +183,11 @@ module _ {S K Z : Type 0} (station : station_of.Ghosts S) (party : party_of.Ghos
     (kept_at : S → ℕ → ℕ → Option KeptSender) (waits : S → ℕ → ℕ → List (List ℕ))
     (store : store_of.Ghosts K) (sending : List Sending) (receiving : List Receiving)
     (forgets_sent : S → S → Type 0) (forgets_arrived : S → ℕ → ℕ → S → Type 0)
-    (does : ForPrograms S)
+    (polls : S → ℕ → Bool → S → Type 0) (does : ForPrograms S)
     (grows : (old new : S) → IsEvent station party kept_at store old new
     → StationGrows party kept_at waits old new)
-    (forgetting : OutlivesForgetting kept_at waits (arrived_of party) forgets_sent forgets_arrived)
+    (forgetting : OutlivesForgetting kept_at waits (arrived_of party) forgets_sent forgets_arrived
+    polls)
     (following : FollowsPrograms party kept_at waits store sending receiving does)
     (differ : ChannelsDiffer sending receiving)
     (has : K → Channel → Contents) (given : KeepsGiven store has) where
@@ -329,7 +331,7 @@ module _ {S K Z : Type 0} (station : station_of.Ghosts S) (party : party_of.Ghos
 
   -- a run
   pub after_run : (fine : Bool) → fine ≡ true → (first now : Moment S K) → Kept first
-      → KeptRun station party kept_at store forgets_sent forgets_arrived does fine first now
+      → KeptRun station party kept_at store forgets_sent forgets_arrived polls does fine first now
       → store.sound now.keeper.store → Kept now
   after_run true fine first now kept_first (begins same) sound = subst Kept (sym same) kept_first
   after_run true fine first now kept_first (attended {old = mid} before steps) sound =
@@ -350,6 +352,14 @@ module _ {S K Z : Type 0} (station : station_of.Ghosts S) (party : party_of.Ghos
         knows = was.knows;
         has_all =
             forgetting.arrived _ sending receiving number count mid.station _ was.has_all forgets;
+      }
+  after_run true fine first now kept_first
+      (polled {old = mid} {terminal = terminal} {wanted = wanted} before polling) sound =
+      let was = after_run true refl first mid kept_first before sound in
+      record {
+        knows = was.knows;
+        has_all =
+            forgetting.polled _ sending receiving terminal wanted mid.station _ was.has_all polling;
       }
   after_run true fine first now kept_first (kept {old = mid} {printed = printed} before keeps)
       sound =
@@ -425,30 +435,31 @@ module _ {S K Z : Type 0} (station : station_of.Ghosts S) (party : party_of.Ghos
     (kept_at : S → ℕ → ℕ → Option KeptSender) (waits : S → ℕ → ℕ → List (List ℕ))
     (store : store_of.Ghosts K) (sending : List Sending) (receiving : List Receiving)
     (forgets_sent : S → S → Type 0) (forgets_arrived : S → ℕ → ℕ → S → Type 0)
-    (does : ForPrograms S)
+    (polls : S → ℕ → Bool → S → Type 0) (does : ForPrograms S)
     (grows : (old new : S) → IsEvent station party kept_at store old new
     → StationGrows party kept_at waits old new)
-    (forgetting : OutlivesForgetting kept_at waits (arrived_of party) forgets_sent forgets_arrived)
+    (forgetting : OutlivesForgetting kept_at waits (arrived_of party) forgets_sent forgets_arrived
+    polls)
     (following : FollowsPrograms party kept_at waits store sending receiving does)
     (differ : ChannelsDiffer sending receiving) where
   pub outlives : OutlivesCrashes kept_at waits (arrived_of party) store sending receiving station
-      party forgets_sent forgets_arrived does
+      party forgets_sent forgets_arrived polls does
   outlives =
       record {
         between = λ has given first now whole run sound.
             after_run station party kept_at waits store sending receiving forgets_sent
-            forgets_arrived does grows forgetting following differ has given true refl first now
+            forgets_arrived polls does grows forgetting following differ has given true refl first now
             whole run sound;
         within = λ has given old new sent goes_on whole step sound.
             leaves_either station party kept_at waits store sending receiving forgets_sent
-            forgets_arrived does grows forgetting following differ has given old new sent goes_on
+            forgets_arrived polls does grows forgetting following differ has given old new sent goes_on
             whole step sound;
         offering = λ has given old terminal way chars result keeper new whole offers keeps.
             (following.offers has given terminal way chars result old.station new old.keeper keeper
             offers whole.knows whole.has_all keeps).crash;
         releasing = λ has given old terminal way count printed result keeper new whole releases keeps.
             while_released station party kept_at waits store sending receiving forgets_sent
-            forgets_arrived does grows forgetting following differ has given old printed new result
+            forgets_arrived polls does grows forgetting following differ has given old printed new result
             keeper (following.releases terminal way count old.station new releases) whole keeps;
       }
 

@@ -1,6 +1,6 @@
--- What a station forgets or is offered between two sessions, and what is kept at its end: its store
--- has all that is to be kept of it.
-use Rattle.std.specs.Prelude.{◌≡◌, ◌⊎◌, ℕ, List, Option, Result, Ok}
+-- What a station forgets or is offered between two sessions, which terminals it polls, and what is
+-- kept at its end: its store has all that is to be kept of it.
+use Rattle.std.specs.Prelude.{◌≡◌, ◌⊎◌, ℕ, Bool, List, Option, Result, Ok}
 use Rattle.bsc_bid.specs.declared.kept.KeptSender.{KeptSender}
 use Rattle.bsc_bid.specs.Terminal.{TerminalValue}
 use Rattle.bsc_control.specs.Control.{ControlValue, terminals}
@@ -24,17 +24,24 @@ use Rattle.bsc_restarts.specs.Kept.{ChannelsDiffer, HasStation, Knows}
 module _ {S : Type 0} (kept_at : S → ℕ → ℕ → Option KeptSender)
     (waits : S → ℕ → ℕ → List (List ℕ)) (records : S → ℕ → List (List ℕ)) where
   -- If a store has all that is to be kept of a station, so it has once the station has forgotten
-  -- records that are known to have arrived, or the first records that arrived on a channel.
+  -- records that are known to have arrived, or the first records that arrived on a channel, and
+  -- once a terminal is polled or is not.
   pub record OutlivesForgetting (forgets_sent : S → S → Type 0)
-      (forgets_arrived : S → ℕ → ℕ → S → Type 0) : Type 0 where
-    pub sent : (has : Channel → Contents) (sending : List Sending) (receiving : List Receiving)
-        (old new : S) → HasStation kept_at waits records has sending receiving old
-        → forgets_sent old new → HasStation kept_at waits records has sending receiving new
-    pub arrived : (has : Channel → Contents) (sending : List Sending)
-        (receiving : List Receiving) (number count : ℕ) (old new : S)
-        → HasStation kept_at waits records has sending receiving old
-        → forgets_arrived old number count new
-        → HasStation kept_at waits records has sending receiving new
+      (forgets_arrived : S → ℕ → ℕ → S → Type 0) (polls : S → ℕ → Bool → S → Type 0) : Type 0
+    where
+      pub sent : (has : Channel → Contents) (sending : List Sending) (receiving : List Receiving)
+          (old new : S) → HasStation kept_at waits records has sending receiving old
+          → forgets_sent old new → HasStation kept_at waits records has sending receiving new
+      pub arrived : (has : Channel → Contents) (sending : List Sending)
+          (receiving : List Receiving) (number count : ℕ) (old new : S)
+          → HasStation kept_at waits records has sending receiving old
+          → forgets_arrived old number count new
+          → HasStation kept_at waits records has sending receiving new
+      pub polled : (has : Channel → Contents) (sending : List Sending)
+          (receiving : List Receiving) (terminal : ℕ) (wanted : Bool) (old new : S)
+          → HasStation kept_at waits records has sending receiving old
+          → polls old terminal wanted new
+          → HasStation kept_at waits records has sending receiving new
 
   -- If a store has all that is to be kept of a station, a crash leaves that also while all that the
   -- station has changed is kept once more, and how many records were printed.

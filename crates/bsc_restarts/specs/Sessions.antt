@@ -55,10 +55,12 @@ module _ {S K : Type 0} (kept_at : S → ℕ → ℕ → Option KeptSender)
   -- the end of a doubt.
   pub record OutlivesCrashes {Z : Type 0} (station : station_of.Ghosts S)
       (party : party_of.Ghosts S Z) (forgets_sent : S → S → Type 0)
-      (forgets_arrived : S → ℕ → ℕ → S → Type 0) (does : ForPrograms S) : Type 0 where
+      (forgets_arrived : S → ℕ → ℕ → S → Type 0) (polls : S → ℕ → Bool → S → Type 0)
+      (does : ForPrograms S) : Type 0 where
     pub between : (has : K → Channel → Contents) → KeepsGiven store has
         → (first now : Moment S K) → IsKeptIn has first
-        → KeptRun station party kept_at store forgets_sent forgets_arrived does true first now
+        → KeptRun station party kept_at store forgets_sent forgets_arrived polls does true first
+        now
         → store.sound now.keeper.store → IsKeptIn has now
     pub within : (has : K → Channel → Contents) → KeepsGiven store has → (old new : Moment S K)
         (sent : List (List ℕ)) (goes_on : Bool) → IsKeptIn has old

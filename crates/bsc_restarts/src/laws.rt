@@ -36,7 +36,7 @@ use bsc_bid::laws::recalls;
 use bsc_control::Control;
 use bsc_control::laws::made_again;
 use bsc_kept::Store;
-use bsc_monitor::{Forgets, LineTerminal, Party};
+use bsc_monitor::{Forgets, LineTerminal, Party, Polls};
 use bsc_serving::Feeds;
 use std::alloc::Allocator;
 
@@ -67,7 +67,7 @@ pub fn terminal_outlives_crashes<A: Allocator, K: Store + Drop>()
         (sends_from (Some terminal)) (spools_of terminal)
         ⟦<LineTerminal<A> as Station>⟧ ⟦<LineTerminal<A> as Party>⟧
         ⟦<LineTerminal<A> as Forgets>⟧.forgets_sent
-        ⟦<LineTerminal<A> as Forgets>⟧.forgets_arrived
+        ⟦<LineTerminal<A> as Forgets>⟧.forgets_arrived ⟦<LineTerminal<A> as Polls>⟧.polls
         (if_fed is_fed (for_programs ⟦<LineTerminal<A> as Feeds>⟧.offers
         ⟦<LineTerminal<A> as Feeds>⟧.releases ⟦<LineTerminal<A> as Feeds>⟧.readies
         ⟦<LineTerminal<A> as Feeds>⟧.urges)) }
@@ -79,7 +79,7 @@ pub fn control_outlives_crashes<A: Allocator, K: Store + Drop>()
         → OutlivesCrashes kept_at_control waiting_at_control arrived_at_control K.Store
         (sending_of terminals ControlOwner) (receiving_of terminals ControlOwner)
         ⟦<Control<A> as Station>⟧ ⟦<Control<A> as Party>⟧ ⟦<Control<A> as Forgets>⟧.forgets_sent
-        ⟦<Control<A> as Forgets>⟧.forgets_arrived
+        ⟦<Control<A> as Forgets>⟧.forgets_arrived ⟦<Control<A> as Polls>⟧.polls
         (if_fed is_fed (for_programs ⟦<Control<A> as Feeds>⟧.offers
         ⟦<Control<A> as Feeds>⟧.releases ⟦<Control<A> as Feeds>⟧.readies
         ⟦<Control<A> as Feeds>⟧.urges)) }
@@ -107,12 +107,12 @@ pub fn kept_once_begun<K: Store + Drop>()
 }
 
 /// Between two sessions, too, the store of a station has all that is to be kept of it: when the
-/// station forgets records, and when it is offered one. At the end, while all that the station has
-/// changed is kept once more, a crash leaves no less.
+/// station forgets records, when a terminal is polled or is not, and when it is offered a record.
+/// At the end, while all that the station has changed is kept once more, a crash leaves no less.
 pub fn kept_between_sessions<A: Allocator, K: Store + Drop>()
     ensures terminal_forgets { OutlivesForgetting kept_at_terminal waiting_at_terminal
         arrived_at_terminal ⟦<LineTerminal<A> as Forgets>⟧.forgets_sent
-        ⟦<LineTerminal<A> as Forgets>⟧.forgets_arrived }
+        ⟦<LineTerminal<A> as Forgets>⟧.forgets_arrived ⟦<LineTerminal<A> as Polls>⟧.polls }
     ensures terminal_keeps { OutlivesKeeping kept_at_terminal waiting_at_terminal
         arrived_at_terminal ⟦<LineTerminal<A> as Party>⟧ K.Store }
     ensures terminal_offers { (terminal : TerminalValue) → HasDistinctAddresses terminal
@@ -121,7 +121,7 @@ pub fn kept_between_sessions<A: Allocator, K: Store + Drop>()
         (λ (l : LineTerminalValue). IsTributary l.tributary) terminal_with }
     ensures control_forgets { OutlivesForgetting kept_at_control waiting_at_control
         arrived_at_control ⟦<Control<A> as Forgets>⟧.forgets_sent
-        ⟦<Control<A> as Forgets>⟧.forgets_arrived }
+        ⟦<Control<A> as Forgets>⟧.forgets_arrived ⟦<Control<A> as Polls>⟧.polls }
     ensures control_keeps { OutlivesKeeping kept_at_control waiting_at_control arrived_at_control
         ⟦<Control<A> as Party>⟧ K.Store }
     ensures control_offers { (terminals : List TerminalValue) → AreDistinct terminals

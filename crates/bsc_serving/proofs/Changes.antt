@@ -11,7 +11,7 @@ use Rattle.bsc_feed.specs.declared.fault.Fault.{Fault}
 use Rattle.bsc_feed.specs.Answering.{Answers, Does, DoesIf, Offers, OffersAt, OffersCodes, Releases}
 use Rattle.bsc_feed.specs.Answering.{ReleasesAt, Serving, asked_of}
 use Rattle.bsc_feed.specs.Clients.{Nexts, NextsIn}
-use Rattle.bsc_feed.specs.Commands.{Asked, offer, status, release, ready, urgent, follow, stop}
+use Rattle.bsc_feed.specs.Commands.{Asked, offer, status, release, ready, urgent, poll, follow, stop}
 use Rattle.bsc_feed.specs.Following.{FollowsValue}
 use Rattle.bsc_feed.specs.Lines.{line_of}
 use Rattle.bsc_feed.specs.Places.{end_at}
@@ -28,6 +28,8 @@ module _ {S M : Type 0} (party : party_of.Ghosts S M) (serves : Serving S) (Goes
     → serves.readies old takes result new → Goes old new)
     (if_urged : (old : S) (result : Result (Unit {0}) Fault) (new : S)
     → serves.urges old result new → Goes old new)
+    (if_polled : (old : S) (t : ℕ) (polled : Bool) (result : Result (Unit {0}) Fault) (new : S)
+    → serves.polls old t polled result new → Goes old new)
     (if_stopped : (old new : S) → serves.stops old new → Goes old new) where
   same : (old new : S) → new ≡ old → Goes old new
   same old new is = subst (Goes old) (sym is) (stays old)
@@ -75,6 +77,8 @@ module _ {S M : Type 0} (party : party_of.Ghosts S M) (serves : Serving S) (Goes
   by_command (ready takes) follows old answer after new does =
       if_readied old takes does.0 new does.1
   by_command urgent follows old answer after new does = if_urged old does.0 new does.1
+  by_command (poll terminal polled) follows old answer after new does =
+      if_polled old terminal polled does.0 new does.1
   by_command (follow channel from) follows old answer after new does = same old new does.5
   by_command stop follows old answer after new does = if_stopped old new does.0
 

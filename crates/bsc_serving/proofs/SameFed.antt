@@ -1,13 +1,15 @@
 -- Programs ask the same station all the time, and the same keeps its records.
-use Rattle.std.proofs.Common.{◌≡◌, ◌∙◌, ℕ, Bool, true, List, Result, Ok, Err, ap, refl}
+use Rattle.std.proofs.Common.{◌≡◌, ◌∙◌, ℕ, Bool, true, List, Option, None, Some, Result}
+use Rattle.std.proofs.Common.{Ok, Err, ap, refl}
 use Rattle.bsc_directory.specs.declared.way.Way.{Way}
 use Rattle.bsc_feed.specs.declared.fault.Fault.{Fault}
 use Rattle.bsc_feed.specs.Answering.{Serving, serving}
 use Rattle.bsc_feed.specs.Offering.{OffersBy}
 use Rattle.bsc_kept.specs.declared.fault.StoreFault.{StoreFault}
+use Rattle.bsc_monitor.specs.declared.attendance.Presence.{Presence}
 use Rattle.bsc_monitor.specs.declared.party.Party as party_of
 use Rattle.bsc_serving.specs.Feds.{ChangesStation, HasKeptNumber, KeepsAndOffers, KeepsIfDone}
-use Rattle.bsc_serving.specs.Feds.{ReleasesAndKeeps}
+use Rattle.bsc_serving.specs.Feds.{PollsBy, PollsIfKnown, ReleasesAndKeeps}
 use Rattle.bsc_serving.specs.Serves.{IsAsked, asked, unasked}
 use Rattle.bsc_serving.specs.declared.fed.Fed.{Fed}
 use Rattle.bsc_serving.proofs.Changes.{goes_by_step}
@@ -38,7 +40,8 @@ module _ {S Q M : Type 0} (party : party_of.Ghosts (Fed S Q) M)
     (releases : S → ℕ → Way → ℕ → Result (Unit {0}) Fault → S → Type 0)
     (keeps_changes : Q → S → Result (Unit {0}) StoreFault → Q → Type 0)
     (readies : S → Bool → Result (Unit {0}) Fault → S → Type 0)
-    (urges : S → Result (Unit {0}) Fault → S → Type 0) where
+    (urges : S → Result (Unit {0}) Fault → S → Type 0) (shows : Q → ℕ → Option Presence)
+    (obeys : Q → ℕ → Bool → Q → Type 0) where
   -- what a station that is fed does for programs
   abbrev pub serves : Serving (Fed S Q)
   serves =
@@ -47,6 +50,7 @@ module _ {S Q M : Type 0} (party : party_of.Ghosts (Fed S Q) M)
       (λ (f : Fed S Q) ready result.
       ChangesStation (λ old new. readies old ready result new) f)
       (λ (f : Fed S Q) result. ChangesStation (λ old new. urges old result new) f)
+      (PollsBy shows obeys) (λ (f : Fed S Q) terminal. shows f.keeps.now terminal)
       (λ (f : Fed S Q) new. new ≡ record f { stopped = true })
 
   once_done : (answer : Result (Unit {0}) Fault) (old : Fed S Q) (result : Result (Unit {0}) Fault)
@@ -55,6 +59,13 @@ module _ {S Q M : Type 0} (party : party_of.Ghosts (Fed S Q) M)
   once_done (Ok done) old result new keeps =
       record { station = keeps.same.station; keeps = keeps.same.keeps }
   once_done (Err fault) old result new keeps = if_same old new keeps.1
+
+  once_polled : (known : Option Presence) (old : Fed S Q) (t : ℕ) (polled : Bool)
+      (result : Result (Unit {0}) Fault) (new : Fed S Q)
+      → PollsIfKnown obeys known old t polled result new → SameNames old new
+  once_polled None old t polled result new polls = if_same old new polls.1
+  once_polled (Some presence) old t polled result new polls =
+      record { station = polls.same.station; keeps = polls.same.keeps }
 
   -- what is asked, one step of a program after another
   pub asked_same : {old new : Fed S Q} → IsAsked party serves (λ (f : Fed S Q). f.failure) old new
@@ -73,6 +84,7 @@ module _ {S Q M : Type 0} (party : party_of.Ghosts (Fed S Q) M)
       record { station = changing.same.station; keeps = changing.same.keeps })
       (λ a result b changing.
       record { station = changing.same.station; keeps = changing.same.keeps })
+      (λ a t polled result b polls. once_polled (shows a.keeps.now t) a t polled result b polls)
       (λ a b is.
       record {
         station = ap (λ (f : Fed S Q). f.station.ghost_name) is;

@@ -18,10 +18,11 @@ use Rattle.bsc_keeping.specs.Keeping.{KeepsStep}
 use Rattle.bsc_keeping.specs.Offers.{KeepsOffer}
 use Rattle.bsc_keeping.specs.Runs.{KeptRun, Moment, not_offered, not_released, offered, released, set}
 use Rattle.bsc_keeping.specs.declared.keeper.Keeper.{Keeper}
+use Rattle.bsc_monitor.specs.declared.attendance.Presence.{Presence}
 use Rattle.bsc_monitor.specs.declared.party.Party as party_of
 use Rattle.bsc_serving.specs.Feds.{AnswersKept, KeepsIfDone}
-use Rattle.bsc_serving.specs.Feds.{OffersIfKept}
-use Rattle.bsc_serving.specs.Keeping.{HasKept, KeepsChangesBy, KeepsOfferBy}
+use Rattle.bsc_serving.specs.Feds.{OffersIfKept, PollsIfKnown}
+use Rattle.bsc_serving.specs.Keeping.{HasKept, KeepsChangesBy, KeepsOfferBy, ObeysBy}
 use Rattle.bsc_serving.specs.Serves.{IsAsked, ServesPrograms, asked, served_as, unasked}
 use Rattle.bsc_serving.specs.Turns.{for_programs}
 use Rattle.bsc_serving.specs.declared.fed.Fed.{Fed}
@@ -32,12 +33,13 @@ use Rattle.bsc_serving.proofs.SameFed.{serves}
 module _ {S K V M N : Type 0} (station : station_of.Ghosts S) (party : party_of.Ghosts S N)
     (kept_at : S → ℕ → ℕ → Option KeptSender) (store : store_of.Ghosts K)
     (printed : V → ℕ → Option ℕ) (forgets_sent : S → S → Type 0)
-    (forgets_arrived : S → ℕ → ℕ → S → Type 0)
+    (forgets_arrived : S → ℕ → ℕ → S → Type 0) (polls : S → ℕ → Bool → S → Type 0)
     (offered_on : S → ℕ → Way → List (List ℕ))
     (offers : S → ℕ → Way → List ℕ → Result ℕ Fault → S → Type 0)
     (releases : S → ℕ → Way → ℕ → Result (Unit {0}) Fault → S → Type 0)
     (readies : S → Bool → Result (Unit {0}) Fault → S → Type 0)
-    (urges : S → Result (Unit {0}) Fault → S → Type 0)
+    (urges : S → Result (Unit {0}) Fault → S → Type 0) (shows : V → ℕ → Option Presence)
+    (obeys : V → ℕ → Bool → V → Type 0)
     (fed_party : party_of.Ghosts (Fed S (KeptBy K V)) M) (full : Fed S (KeptBy K V) → ℕ)
     (first : Moment S K) where
   abbrev FedOne : Type 0
@@ -48,7 +50,7 @@ module _ {S K V M N : Type 0} (station : station_of.Ghosts S) (party : party_of.
 
   abbrev Run : Bool → Moment S K → Type 0
   Run fine now =
-      KeptRun station party kept_at store forgets_sent forgets_arrived
+      KeptRun station party kept_at store forgets_sent forgets_arrived polls
       (for_programs offers releases readies urges) fine first now
 
   -- the station and what keeps its records, and whether it has to end
@@ -173,12 +175,30 @@ module _ {S K V M N : Type 0} (station : station_of.Ghosts S) (party : party_of.
             (set (so_far old fine run) sets));
       }
 
+  by_poll : (known : Option Presence) (old : FedOne) (t : ℕ) (polled : Bool)
+      (result : Result (Unit {0}) Fault) (new : FedOne)
+      → PollsIfKnown (ObeysBy obeys) known old t polled result new → Goes old new
+  by_poll None old t polled result new (refused, is) =
+      record {
+        keeper = ap (λ (f : FedOne). f.keeps.now.keeper.ghost_name) is;
+        runs = λ fine run. subst Runs (sym is) run;
+      }
+  by_poll (Some presence) old t polled result new polls =
+      record {
+        keeper = polls.obeyed.same_keeper;
+        runs = λ fine run.
+            as_left new None (polls.failure ∙ fine)
+            (subst (λ s. Run true (at s new.keeps.now.keeper.now)) (sym polls.station)
+            (subst (λ k. Run true (at old.station.now k)) (sym polls.obeyed.keeper)
+            (so_far old fine run)));
+      }
+
   -- what a station that is fed does for programs
   abbrev does : Serving FedOne
   does =
       serves fed_party offered_on (λ (k : KeptBy K V) t way chars. HasKept store t way chars k.keeper.now)
       offers (KeepsOfferBy store) full releases (KeepsChangesBy party kept_at store printed) readies
-      urges
+      urges (λ (k : KeptBy K V) t. shows k.watch.now t) (ObeysBy obeys)
 
   abbrev pub Asks : FedOne → FedOne → Type 0
   Asks = IsAsked fed_party does (λ (f : FedOne). f.failure)
@@ -201,6 +221,8 @@ module _ {S K V M N : Type 0} (station : station_of.Ghosts S) (party : party_of.
       by_change a b changing.keeps changing.failure (inl (takes, result, changing.changed)))
       (λ a result b changing.
       by_change a b changing.keeps changing.failure (inr (result, changing.changed)))
+      (λ a t polled result b polls.
+      by_poll (shows a.keeps.now.watch.now t) a t polled result b polls)
       (λ a b is.
       record {
         keeper = ap (λ (f : FedOne). f.keeps.now.keeper.ghost_name) is;

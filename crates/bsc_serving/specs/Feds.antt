@@ -1,11 +1,13 @@
 -- What a station does for programs whose records are kept.
-use Rattle.std.specs.Prelude.{◌≡◌, ℕ, List, Option, Some, Result, Ok, Err, OnErr, slice_get}
+use Rattle.std.specs.Prelude.{◌≡◌, ℕ, Bool, List, Option, None, Some, Result, Ok, Err, OnErr}
+use Rattle.std.specs.Prelude.{slice_get}
 use Rattle.bsc_connections.specs.declared.awaited.LiveError.{LiveError}
 use Rattle.bsc_connections.specs.declared.awaited.LiveError.TheVariants.{Memory, Unkept}
 use Rattle.bsc_directory.specs.declared.way.Way.{Way}
 use Rattle.bsc_feed.specs.declared.fault.Fault.{Fault}
-use Rattle.bsc_feed.specs.declared.fault.Fault.TheVariants.{NotKept}
+use Rattle.bsc_feed.specs.declared.fault.Fault.TheVariants.{NoSuchTerminal, NotKept}
 use Rattle.bsc_kept.specs.declared.fault.StoreFault.{StoreFault}
+use Rattle.bsc_monitor.specs.declared.attendance.Presence.{Presence}
 use Rattle.bsc_serving.specs.declared.fed.Fed.{Fed}
 
 module _ {S Q : Type 0} (offered : S → ℕ → Way → List (List ℕ))
@@ -86,6 +88,28 @@ module _ {S Q : Type 0}
     pub keeps_rest : (between.keeps.now ≡ old.keeps.now) × (between.failure ≡ old.failure)
     pub same : IsSameFed old between
     pub keeps : KeepsIfDone answer between result new
+
+module _ {S Q : Type 0} (obeys : Q → ℕ → Bool → Q → Type 0) where
+  -- A terminal is called again, or no more, and nothing of the station changes, or of what is kept.
+  pub record ObeysPoll (old : Fed S Q) (t : ℕ) (polled : Bool) (result : Result (Unit {0}) Fault)
+      (new : Fed S Q) : Type 0 where
+    pub obeyed : obeys old.keeps.now t polled new.keeps.now
+    pub done : result ≡ Ok tt
+    pub station : new.station.now ≡ old.station.now
+    pub failure : new.failure ≡ old.failure
+    pub same : IsSameFed old new
+
+  -- So it is if the terminal is known; if the station does not call it, nothing changes.
+  abbrev pub PollsIfKnown : Option Presence → Fed S Q → ℕ → Bool → Result (Unit {0}) Fault
+      → Fed S Q → Type 0
+  PollsIfKnown None old t polled result new = (result ≡ Err NoSuchTerminal) × (new ≡ old)
+  PollsIfKnown (Some presence) old t polled result new = ObeysPoll old t polled result new
+
+-- What a program asks of a terminal, of which this is known.
+abbrev pub PollsBy : {S Q : Type 0} → (Q → ℕ → Option Presence) → (Q → ℕ → Bool → Q → Type 0)
+    → Fed S Q → ℕ → Bool → Result (Unit {0}) Fault → Fed S Q → Type 0
+PollsBy shows obeys old t polled result new =
+    PollsIfKnown obeys (shows old.keeps.now t) old t polled result new
 
 -- The station changes so, and nothing else does.
 pub record ChangesStation {S Q : Type 0} (changes : S → S → Type 0) (old new : Fed S Q)

@@ -1,5 +1,5 @@
 -- What is kept of what programs offer.
-use Rattle.std.specs.Prelude.{◌≡◌, ℕ, List, [], ◌∷◌, Option, Some, Result}
+use Rattle.std.specs.Prelude.{◌≡◌, ℕ, Bool, List, [], ◌∷◌, Option, Some, Result}
 use Rattle.bsc_bid.specs.declared.kept.KeptSender.{KeptSender}
 use Rattle.bsc_directory.specs.Ways.{select_of}
 use Rattle.bsc_directory.specs.declared.way.Way.{Way}
@@ -26,6 +26,15 @@ pub record HasKept {K : Type 0} (store : store_of.Ghosts K) (t : ℕ) (way : Way
 pub record IsSameKeptBy {K V : Type 0} (old new : KeptBy K V) : Type 0 where
   pub keeper : new.keeper.ghost_name ≡ old.keeper.ghost_name
   pub watch : new.watch ≡ old.watch
+
+-- The watch obeys a program that lets this terminal be called again, or has it called no more. What
+-- is kept stays.
+pub record ObeysBy {K V : Type 0} (obeys : V → ℕ → Bool → V → Type 0) (old : KeptBy K V) (t : ℕ)
+    (polled : Bool) (new : KeptBy K V) : Type 0 where
+  pub watch : obeys old.watch.now t polled new.watch.now
+  pub same_watch : new.watch.ghost_name ≡ old.watch.ghost_name
+  pub keeper : new.keeper.now ≡ old.keeper.now
+  pub same_keeper : new.keeper.ghost_name ≡ old.keeper.ghost_name
 
 -- A record that is going to be offered is kept, or is not, as the result says.
 pub record KeepsOfferBy {K V : Type 0} (store : store_of.Ghosts K) (old : KeptBy K V) (t : ℕ)

@@ -1,5 +1,5 @@
 -- The monitor that pauses the attending of a station for its programs.
-use Rattle.std.specs.Prelude.{◌≡◌, Bool, true, false, not, ◌||◌, ◌&&◌, Result, Ok, Err}
+use Rattle.std.specs.Prelude.{◌≡◌, ℕ, Bool, true, false, not, ◌||◌, ◌&&◌, Result, Ok, Err}
 use Rattle.bsc_connections.specs.declared.awaited.LiveError.{LiveError}
 use Rattle.bsc_connections.specs.Histories.{Happening, HadClient, WasHeard, WasSilent}
 use Rattle.bsc_serving.specs.declared.pausing.Pausing.{Pausing}
@@ -41,3 +41,12 @@ module _ {M S : Type 0} (is_told : M → S → Happening → Result Bool LiveErr
       (result : Result Bool LiveError) (new : Pausing M) : Type 0 where
     pub paused : new.paused ≡ (old.paused || is_pause happening)
     pub tells : TellsUnlessClient happening old station result new
+
+-- The inner monitor obeys a program that lets this terminal be called again, or has it called no
+-- more.
+pub record ObeysInner {M : Type 0} (obeys : M → ℕ → Bool → M → Type 0) (old : Pausing M) (t : ℕ)
+    (polled : Bool) (new : Pausing M) : Type 0 where
+  pub inner : obeys old.monitor.now t polled new.monitor.now
+  pub same : new.monitor.ghost_name ≡ old.monitor.ghost_name
+  pub paused : new.paused ≡ old.paused
+  pub ended : new.ended ≡ old.ended

@@ -50,7 +50,7 @@ module _ {S M T : Type 0} (party : party_of.Ghosts S M) (serves : Serving S)
   -- told, octets of the program are taken or read.
   abbrev pub GoesOn : Option Telling → Session T → S → Step → Session T → Type 0
   GoesOn (Some told) old station result new =
-      ((result ≡ Closed) ⊎ (new.outbox ≡ told_text party station told))
+      ((result ≡ Closed) ⊎ (new.outbox ≡ told_text party serves.shows station told))
       × (new.client ≡ old.client) × (new.inbox ≡ old.inbox)
   GoesOn None old station result new = TakesOrReads read write old new
 

@@ -9,7 +9,7 @@ use bsc_block::{Format, Record};
 use bsc_connections::LiveError;
 use bsc_directory::Way;
 use bsc_feed::{Fault, Served};
-use bsc_monitor::{ChannelEnd, Party, Received};
+use bsc_monitor::{ChannelEnd, Party, Presence, Received};
 
 /// A station that is fed, and what keeps its records. What is offered is kept before the station
 /// offers it. Once there is a failure the station must not be asked for more: it has to end.
@@ -132,7 +132,7 @@ impl<'a, S: Feeds, Q: Keeps<S>> Party for Fed<'a, S, Q> {
 impl<'a, S: Feeds, Q: Keeps<S>> Served for Fed<'a, S, Q> {
     ghost use Rattle.std.specs.Prelude.{◌≡◌, true};
     ghost use Rattle.bsc_serving.specs.Feds.{ChangesStation, HasKeptNumber, KeepsAndOffers};
-    ghost use Rattle.bsc_serving.specs.Feds.{ReleasesAndKeeps};
+    ghost use Rattle.bsc_serving.specs.Feds.{PollsBy, ReleasesAndKeeps};
 
     ghost offered = { λ f. S.offered f.station.now };
 
@@ -148,6 +148,10 @@ impl<'a, S: Feeds, Q: Keeps<S>> Served for Fed<'a, S, Q> {
         ChangesStation (λ old new. S.readies old ready result new) f };
 
     ghost urges = { λ f result. ChangesStation (λ old new. S.urges old result new) f };
+
+    ghost polls = { PollsBy Q.shows Q.obeys };
+
+    ghost shows = { λ f terminal. Q.shows f.keeps.now terminal };
 
     ghost stops = { λ f new. new ≡ record f { stopped = true } };
 
@@ -180,6 +184,18 @@ impl<'a, S: Feeds, Q: Keeps<S>> Served for Fed<'a, S, Q> {
 
     fn set_urgent(&mut self) -> Result<(), Fault> {
         self.station.set_urgent()
+    }
+
+    fn set_polled(&mut self, terminal: usize, polled: bool) -> Result<(), Fault> {
+        if self.keeps.presence(terminal).is_none() {
+            return Err(Fault::NoSuchTerminal);
+        }
+        self.keeps.set_polled(terminal, polled);
+        Ok(())
+    }
+
+    fn presence(&self, terminal: usize) -> Option<Presence> {
+        self.keeps.presence(terminal)
     }
 
     fn stop(&mut self) {

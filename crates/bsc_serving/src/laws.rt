@@ -13,5 +13,5 @@ use std::io::{Read, Write};
 /// follows it is told each record once, in order.
 pub fn steps<S: Served, T: Read + Write>()
     ensures { AreStepsOfClients S.Party (serving (OffersBy S.offered S.is_kept S.offers) S.full
-        S.releases S.readies S.urges S.stops) T.Read T.Write }
+        S.releases S.readies S.urges S.polls S.shows S.stops) T.Read T.Write }
 {}

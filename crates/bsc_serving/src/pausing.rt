@@ -6,6 +6,7 @@ ghost use Rattle.bsc_serving.specs.Pauses.{is_pause};
 
 use bsc_connections::{LiveError, Monitor, Note, Pace};
 use bsc_keeping::Prints;
+use bsc_monitor::{Presence, Presences};
 
 /// A monitor that ends the attending of a station when programs may have something to say or to be
 /// told: a program is to be served, or the station has heard something or a silence. All else it
@@ -65,6 +66,8 @@ impl<'a, S, M: Monitor<S>> Monitor<S> for Pausing<'a, M> {
 
     ghost admits = { λ p station place octets. M.admits p.monitor.now station place octets };
 
+    ghost may_answer = { λ p station place. M.may_answer p.monitor.now station place };
+
     ghost paces = { λ p. M.paces p.monitor.now };
 
     ghost is_told = { PausesAndTells M.is_told };
@@ -83,6 +86,10 @@ impl<'a, S, M: Monitor<S>> Monitor<S> for Pausing<'a, M> {
         self.monitor.admits(station, connection, octets)
     }
 
+    fn may_answer(&self, station: &S, connection: usize) -> bool {
+        self.monitor.may_answer(station, connection)
+    }
+
     fn pace(&self) -> Pace {
         self.monitor.pace()
     }
@@ -93,5 +100,27 @@ impl<'a, M: Prints> Prints for Pausing<'a, M> {
 
     fn printed(&self, number: usize) -> Option<usize> {
         self.monitor.printed(number)
+    }
+}
+
+impl<'a, M: Presences> Presences for Pausing<'a, M> {
+    ghost use Rattle.bsc_serving.specs.Pauses.{ObeysInner};
+
+    ghost wants = { λ p terminal. M.wants p.monitor.now terminal };
+
+    ghost shows = { λ p terminal. M.shows p.monitor.now terminal };
+
+    ghost obeys = { ObeysInner M.obeys };
+
+    fn wants(&self, terminal: usize) -> bool {
+        self.monitor.wants(terminal)
+    }
+
+    fn presence(&self, terminal: usize) -> Option<Presence> {
+        self.monitor.presence(terminal)
+    }
+
+    fn set_polled(&mut self, terminal: usize, polled: bool) {
+        self.monitor.set_polled(terminal, polled);
     }
 }

@@ -17,7 +17,7 @@ use bsc_connections::LiveError;
 use bsc_feed::Served;
 use bsc_keeping::{Keeper, Prints};
 use bsc_kept::Store;
-use bsc_monitor::{Forgets, Party};
+use bsc_monitor::{Forgets, Party, Polls, Presences};
 use std::alloc::{AllocError, Global};
 use std::io::{Read, Write};
 
@@ -82,8 +82,9 @@ impl<P: Programs + Drop> Serving<P> {
             (serving (OffersBy ⟦<Fed<'s, S, Q> as Served>⟧.offered
             ⟦<Fed<'s, S, Q> as Served>⟧.is_kept ⟦<Fed<'s, S, Q> as Served>⟧.offers)
             ⟦<Fed<'s, S, Q> as Served>⟧.full ⟦<Fed<'s, S, Q> as Served>⟧.releases
-            ⟦<Fed<'s, S, Q> as Served>⟧.readies
-            ⟦<Fed<'s, S, Q> as Served>⟧.urges ⟦<Fed<'s, S, Q> as Served>⟧.stops) (λ f. f.failure))
+            ⟦<Fed<'s, S, Q> as Served>⟧.readies ⟦<Fed<'s, S, Q> as Served>⟧.urges
+            ⟦<Fed<'s, S, Q> as Served>⟧.polls ⟦<Fed<'s, S, Q> as Served>⟧.shows
+            ⟦<Fed<'s, S, Q> as Served>⟧.stops) (λ f. f.failure))
             station.old keeps.old result station.new keeps.new }
     {
         self.programs.ask();
@@ -97,17 +98,18 @@ impl<P: Programs + Drop> Serving<P> {
     }
 
     /// Serves the programs of a station whose records this keeper keeps, as [`Serving::serve`]
-    /// does; `watch` tells how many records were printed. The turn is part of the run of such a
-    /// station: each record that a program offers is kept, and only then offered, and the end of a
-    /// doubt is kept before the next step. The run has not failed unless the turn does.
-    pub fn serve_kept<S: Station + Feeds + Forgets, K: Store + Drop, V: Prints>(
+    /// does; `watch` tells how many records were printed, and which terminals are there. The turn
+    /// is part of the run of such a station: each record that a program offers is kept, and only
+    /// then offered, and the end of a doubt is kept before the next step. The run has not failed
+    /// unless the turn does.
+    pub fn serve_kept<S: Station + Feeds + Forgets + Polls, K: Store + Drop, V: Prints + Presences>(
         &mut self,
         station: &mut S,
         keeper: &mut Keeper<K>,
-        watch: &V,
+        watch: &mut V,
     ) -> Result<bool, LiveError>
         ensures { KeptRun S.Station S.Party S.kept_at K.Store S.forgets_sent S.forgets_arrived
-            (for_programs S.offers S.releases S.readies S.urges) (is_ok result)
+            S.polls (for_programs S.offers S.releases S.readies S.urges) (is_ok result)
             (record { station = station.old; keeper = keeper.old })
             (record { station = station.new; keeper = keeper.new }) }
     {
@@ -116,13 +118,13 @@ impl<P: Programs + Drop> Serving<P> {
     }
 
     /// Does the same with what keeps the records.
-    fn serve_with<'a, S: Station + Feeds + Forgets, K: Store + Drop, V: Prints>(
+    fn serve_with<'a, S: Station + Feeds + Forgets + Polls, K: Store + Drop, V: Prints + Presences>(
         &mut self,
         station: &mut S,
         keeps: &mut KeptBy<'a, K, V>,
     ) -> Result<bool, LiveError>
         ensures ran { KeptRun S.Station S.Party S.kept_at K.Store S.forgets_sent S.forgets_arrived
-            (for_programs S.offers S.releases S.readies S.urges) (is_ok result)
+            S.polls (for_programs S.offers S.releases S.readies S.urges) (is_ok result)
             (record { station = station.old; keeper = keeps.old.keeper.now })
             (record { station = station.new; keeper = keeps.new.keeper.now }) }
         ensures same { keeps.new.keeper.ghost_name ≡ keeps.old.keeper.ghost_name }
@@ -141,6 +143,7 @@ impl<P: Programs + Drop> Serving<P> {
             ⟦<Fed<'s, S, Q> as Served>⟧.is_kept ⟦<Fed<'s, S, Q> as Served>⟧.offers)
             ⟦<Fed<'s, S, Q> as Served>⟧.full ⟦<Fed<'s, S, Q> as Served>⟧.releases
             ⟦<Fed<'s, S, Q> as Served>⟧.readies ⟦<Fed<'s, S, Q> as Served>⟧.urges
+            ⟦<Fed<'s, S, Q> as Served>⟧.polls ⟦<Fed<'s, S, Q> as Served>⟧.shows
             ⟦<Fed<'s, S, Q> as Served>⟧.stops) (λ f. f.failure) fed.old (failure_of result)
             fed.new }
         ensures same_station { fed.new.station.ghost_name ≡ fed.old.station.ghost_name }
@@ -177,7 +180,8 @@ impl<P: Programs + Drop> Serving<P> {
     fn serve_all<F: Failing>(&mut self, fed: &mut F) -> Result<(), LiveError>
         requires { F.fails fed.old ≡ None }
         ensures { IsServed F.Party (serving (OffersBy F.offered F.is_kept F.offers) F.full
-            F.releases F.readies F.urges F.stops) F.fails fed.old (failure_of result) fed.new }
+            F.releases F.readies F.urges F.polls F.shows F.stops) F.fails fed.old
+            (failure_of result) fed.new }
     {
         let mut left = MAX_STEPS;
         'turns: for _ in 0..MAX_PROGRAMS {
@@ -250,7 +254,7 @@ fn serve_place<T: Read + Write + Drop, F: Failing>(
 ) -> Result<(), LiveError>
     requires { F.fails fed.old ≡ None }
     ensures { IsServed F.Party (serving (OffersBy F.offered F.is_kept F.offers) F.full F.releases
-        F.readies F.urges F.stops) F.fails fed.old (failure_of result) fed.new }
+        F.readies F.urges F.polls F.shows F.stops) F.fails fed.old (failure_of result) fed.new }
 {
     let Some(at) = places.get_mut(place) else {
         return Ok(());
@@ -278,7 +282,7 @@ fn serve_session<T: Read + Write + Drop, F: Failing>(
 ) -> Result<Step, LiveError>
     requires { F.fails fed.old ≡ None }
     ensures { IsServed F.Party (serving (OffersBy F.offered F.is_kept F.offers) F.full F.releases
-        F.readies F.urges F.stops) F.fails fed.old (failure_of result) fed.new }
+        F.readies F.urges F.polls F.shows F.stops) F.fails fed.old (failure_of result) fed.new }
 {
     'steps: for _ in 0..MAX_STEPS + MAX_WRITES {
         if *left == 0 && !session.has_to_tell() {

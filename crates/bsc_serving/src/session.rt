@@ -94,8 +94,8 @@ impl<T: Read + Write + Drop> Session<T> {
     /// told, tells the next line or obeys one, takes what the program has said, or reads.
     pub(crate) fn step<A: Allocator + Copy, S: Served>(&mut self, alloc: A, station: &mut S) -> Step
         ensures { StepsOn S.Party (serving (OffersBy S.offered S.is_kept S.offers) S.full S.releases
-            S.readies S.urges S.stops) T.Read T.Write self.old station.old result self.new
-            station.new }
+            S.readies S.urges S.polls S.shows S.stops) T.Read T.Write self.old station.old result
+            self.new station.new }
     {
         if !self.outbox.is_empty() {
             return self.send();

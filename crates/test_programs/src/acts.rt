@@ -21,7 +21,7 @@
 //! | `away N` | N programs were turned away |
 //! | `calls N`, `under N` | the next wait was to end at once N times, or fewer |
 
-use crate::stations::control;
+use crate::stations::{Quiet, control};
 use crate::world::{Program, Scripted, World};
 use bsc_block::Record;
 use bsc_control::Control;
@@ -110,7 +110,7 @@ pub(crate) fn is_stopped<S: Feeds>(
     times: usize,
 ) -> Result<bool, Fail> {
     for _ in 0..times {
-        if serving.serve(station, &mut Unkept)? {
+        if serving.serve(station, &mut Unkept::new(&mut Quiet))? {
             return Ok(true);
         }
     }

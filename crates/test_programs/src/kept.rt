@@ -30,7 +30,7 @@ fn served(alloc: Global, world: &World, store: Memory) -> Result<Result<bool, Li
     let mut station = control(alloc)?;
     let mut keeper = begun(alloc, &mut station, store)?;
     let mut serving = on_heap(alloc, Serving::new(alloc, world.scripted()))?;
-    Ok(serving.serve_kept(&mut *station, &mut *keeper, &Quiet))
+    Ok(serving.serve_kept(&mut *station, &mut *keeper, &mut Quiet))
 }
 
 /// What programs say, each of which is served once, and what each has to be told.

@@ -5,7 +5,7 @@ ghost use Rattle.std.specs.Prelude.{◌≡◌};
 use bsc_config::{Config, read_config};
 use bsc_control::Control;
 use bsc_keeping::Prints;
-use bsc_monitor::{LineTerminal, new_control, new_terminal};
+use bsc_monitor::{LineTerminal, Presence, Presences, new_control, new_terminal};
 use std::alloc::Global;
 use std::test::Fail;
 use test_fixtures::configurations::THREE_ADDRESSES;
@@ -30,9 +30,52 @@ pub(crate) fn terminal(alloc: Global) -> Result<Box<LineTerminal<Global>>, Fail>
     Ok(Box::new(alloc, new_terminal(alloc, &config, 0))?)
 }
 
-/// Prints nothing.
+/// Prints nothing, and knows that terminal 1 was never visited.
 #[derive(Drop)]
 pub(crate) struct Quiet;
+
+impl Presences for Quiet {
+    ghost use Rattle.std.specs.Prelude.{◌==◌, None, Some, false, if◌then◌else◌, true};
+
+    ghost wants = { λ _ _. true };
+
+    ghost shows = { λ _ terminal. if terminal == 1
+        then
+        Some
+        (record {
+          polled = true;
+          absent = false;
+          answers = 0;
+          naks = 0;
+          repetitions = 0;
+          silences = 0;
+          heard = None;
+        })
+        else None };
+
+    ghost obeys = { λ _ _ _ _. Unit {0} };
+
+    fn wants(&self, _terminal: usize) -> bool {
+        true
+    }
+
+    fn presence(&self, terminal: usize) -> Option<Presence> {
+        if terminal != 1 {
+            return None;
+        }
+        Some(Presence {
+            polled: true,
+            absent: false,
+            answers: 0,
+            naks: 0,
+            repetitions: 0,
+            silences: 0,
+            heard: None,
+        })
+    }
+
+    fn set_polled(&mut self, _terminal: usize, _polled: bool) {}
+}
 
 impl Prints for Quiet {
     ghost use Rattle.std.specs.Prelude.{Some};

@@ -10,16 +10,16 @@ pub returns-clause-lines : goal.returns-clause-lines
 returns-clause-lines g c =
     let served = g.S.Served in
     obeys_each_line g.S.Party (serving (OffersBy served.offered served.is_kept served.offers) served.full
-    served.releases served.readies served.urges served.stops)
+    served.releases served.readies served.urges served.polls served.shows served.stops)
 
 pub returns-clause-quiet : goal.returns-clause-quiet
 returns-clause-quiet g c =
     let served = g.S.Served in
     changes_by_lines g.S.Party (serving (OffersBy served.offered served.is_kept served.offers) served.full
-    served.releases served.readies served.urges served.stops)
+    served.releases served.readies served.urges served.polls served.shows served.stops)
 
 pub returns-clause-arrivals : goal.returns-clause-arrivals
 returns-clause-arrivals g c =
     let served = g.S.Served in
     tells_each_once g.S.Party (serving (OffersBy served.offered served.is_kept served.offers) served.full
-    served.releases served.readies served.urges served.stops)
+    served.releases served.readies served.urges served.polls served.shows served.stops)

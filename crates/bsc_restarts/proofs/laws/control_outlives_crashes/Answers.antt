@@ -10,7 +10,7 @@ use Rattle.bsc_restarts.proofs.laws.control_outlives_crashes.Goals as goal
 
 pub returns : goal.returns
 returns g c terminals distinct is_fed =
-    outlives _ _ _ _ g.K.Store _ _ _ _ _
+    outlives _ _ _ _ g.K.Store _ _ _ _ _ _
     (λ old new event.
     let grows =
     moves _ _ ControlGrows control_grows_itself control_hears control_acts old new event

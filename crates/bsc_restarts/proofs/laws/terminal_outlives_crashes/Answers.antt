@@ -11,7 +11,7 @@ use Rattle.bsc_restarts.proofs.laws.terminal_outlives_crashes.Goals as goal
 
 pub returns : goal.returns
 returns g c terminal distinct is_fed =
-    outlives _ _ _ _ g.K.Store _ _ _ _ _
+    outlives _ _ _ _ g.K.Store _ _ _ _ _ _
     (λ old new event.
     let grows =
     moves _ _ TerminalGrows terminal_grows_itself terminal_hears terminal_acts old new

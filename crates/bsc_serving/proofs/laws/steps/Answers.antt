@@ -8,4 +8,4 @@ pub returns : goal.returns
 returns g c =
     let served = g.S.Served in
     steps_of_clients g.S.Party (serving (OffersBy served.offered served.is_kept served.offers) served.full
-    served.releases served.readies served.urges served.stops) g.T.Read g.T.Write
+    served.releases served.readies served.urges served.polls served.shows served.stops) g.T.Read g.T.Write

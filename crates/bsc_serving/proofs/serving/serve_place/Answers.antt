@@ -8,10 +8,10 @@ pub returns-in_default : goal.returns-in_default
 returns-in_default g c =
     let served = g.F.Served in
     not_served g.F.Party (serving (OffersBy served.offered served.is_kept served.offers) served.full
-    served.releases served.readies served.urges served.stops) g.F.Failing.fails c.requires
+    served.releases served.readies served.urges served.polls served.shows served.stops) g.F.Failing.fails c.requires
 
 pub returns-in_default-at : goal.returns-in_default-at
 returns-in_default-at g c =
     let served = g.F.Served in
     not_served g.F.Party (serving (OffersBy served.offered served.is_kept served.offers) served.full
-    served.releases served.readies served.urges served.stops) g.F.Failing.fails c.requires
+    served.releases served.readies served.urges served.polls served.shows served.stops) g.F.Failing.fails c.requires

@@ -9,13 +9,13 @@ pub steps-init : goal.steps-init
 steps-init g c =
     let served = g.F.Served in
     not_served g.F.Party (serving (OffersBy served.offered served.is_kept served.offers) served.full
-    served.releases served.readies served.urges served.stops) g.F.Failing.fails c.requires
+    served.releases served.readies served.urges served.polls served.shows served.stops) g.F.Failing.fails c.requires
 
 pub returns-in-Some : goal.returns-in-Some
 returns-in-Some g c =
     let served = g.F.Served in
     served_by_step g.F.Party (serving (OffersBy served.offered served.is_kept served.offers) served.full
-    served.releases served.readies served.urges served.stops) g.F.Failing.fails g.T.Read g.T.Write
+    served.releases served.readies served.urges served.polls served.shows served.stops) g.F.Failing.fails g.T.Read g.T.Write
     c.steps.session c.step-step.result c.step-step.new.self c.steps.invariant c.step-step.ensures
     (sym c.in-Some.ensures)
 
@@ -23,7 +23,7 @@ pub returns-then-ne : goal.returns-then-ne
 returns-then-ne g c =
     let served = g.F.Served in
     served_by_step g.F.Party (serving (OffersBy served.offered served.is_kept served.offers) served.full
-    served.releases served.readies served.urges served.stops) g.F.Failing.fails g.T.Read g.T.Write
+    served.releases served.readies served.urges served.polls served.shows served.stops) g.F.Failing.fails g.T.Read g.T.Write
     c.steps.session c.step-step.result c.step-step.new.self c.steps.invariant c.step-step.ensures
     (sym c.in_default.ensures)
 
@@ -31,6 +31,6 @@ pub steps-preserved : goal.steps-preserved
 steps-preserved g c =
     let served = g.F.Served in
     served_by_step g.F.Party (serving (OffersBy served.offered served.is_kept served.offers) served.full
-    served.releases served.readies served.urges served.stops) g.F.Failing.fails g.T.Read g.T.Write
+    served.releases served.readies served.urges served.polls served.shows served.stops) g.F.Failing.fails g.T.Read g.T.Write
     c.steps.session c.step-step.result c.step-step.new.self c.steps.invariant c.step-step.ensures
     (sym c.in_default.ensures)

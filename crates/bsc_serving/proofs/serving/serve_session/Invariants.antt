@@ -9,5 +9,5 @@ abbrev pub invariant-steps : goal.invariant-steps
 invariant-steps g l =
     let served = g.F.Served in
     IsServed g.F.Party (serving (OffersBy served.offered served.is_kept served.offers) served.full
-    served.releases served.readies served.urges served.stops) g.F.Failing.fails l.initial.fed None
+    served.releases served.readies served.urges served.polls served.shows served.stops) g.F.Failing.fails l.initial.fed None
     l.fed

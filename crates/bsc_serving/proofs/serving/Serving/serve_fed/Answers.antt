@@ -6,10 +6,12 @@ pub returns-clause-same_station : goal.returns-clause-same_station
 returns-clause-same_station g c =
     (asked_same _ g.S.Feeds.offered g.Q.Keeps.has_kept g.S.Feeds.offers g.Q.Keeps.keeps_offer _
     g.S.Feeds.releases g.Q.Keeps.keeps_changes g.S.Feeds.readies g.S.Feeds.urges
+    g.Q.Keeps.shows g.Q.Keeps.obeys
     c.serve_all.ensures.is_asked).station
 
 pub returns-clause-same_keeps : goal.returns-clause-same_keeps
 returns-clause-same_keeps g c =
     (asked_same _ g.S.Feeds.offered g.Q.Keeps.has_kept g.S.Feeds.offers g.Q.Keeps.keeps_offer _
     g.S.Feeds.releases g.Q.Keeps.keeps_changes g.S.Feeds.readies g.S.Feeds.urges
+    g.Q.Keeps.shows g.Q.Keeps.obeys
     c.serve_all.ensures.is_asked).keeps

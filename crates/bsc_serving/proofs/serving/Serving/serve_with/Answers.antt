@@ -7,14 +7,14 @@ use Rattle.bsc_serving.proofs.serving.Serving.serve_with.Goals as goal
 pub returns-clause-ran : goal.returns-clause-ran
 returns-clause-ran g c =
     turn_runs g.S.Station g.S.Party g.S.Sends.kept_at g.K.Store g.V.Prints.printed
-    g.S.Forgets.forgets_sent g.S.Forgets.forgets_arrived g.S.Feeds.offered g.S.Feeds.offers
-    g.S.Feeds.releases g.S.Feeds.readies g.S.Feeds.urges _ _ _ _ _ _ _ _ c.serve.ensures
+    g.S.Forgets.forgets_sent g.S.Forgets.forgets_arrived g.S.Polls.polls g.S.Feeds.offered g.S.Feeds.offers
+    g.S.Feeds.releases g.S.Feeds.readies g.S.Feeds.urges g.V.Presences.shows g.V.Presences.obeys _ _ _ _ _ _ _ _ c.serve.ensures
     (begins refl)
 
 pub returns-clause-same : goal.returns-clause-same
 returns-clause-same g c =
     turn_keeper g.S.Station g.S.Party g.S.Sends.kept_at g.K.Store g.V.Prints.printed
-    g.S.Forgets.forgets_sent g.S.Forgets.forgets_arrived g.S.Feeds.offered g.S.Feeds.offers
-    g.S.Feeds.releases g.S.Feeds.readies g.S.Feeds.urges _ _
+    g.S.Forgets.forgets_sent g.S.Forgets.forgets_arrived g.S.Polls.polls g.S.Feeds.offered g.S.Feeds.offers
+    g.S.Feeds.releases g.S.Feeds.readies g.S.Feeds.urges g.V.Presences.shows g.V.Presences.obeys _ _
     (record { station = c.args.station.now; keeper = c.args.keeps.now.keeper.now }) _ _ _ _ _
     c.serve.ensures
