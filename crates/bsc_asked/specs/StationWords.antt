@@ -19,9 +19,12 @@ pub record AskedWords : Type 0 where
   pub time_out : Option (List ℕ)
   pub patience : Option (List ℕ)
   pub replace_after : Option (List ℕ)
+  pub begin_with : Option (List ℕ)
   pub pause : Option (List ℕ)
   pub rounds : Option (List ℕ)
   pub idle_rounds : Option (List ℕ)
+  pub absent_after : Option (List ℕ)
+  pub retry_absent : Option (List ℕ)
   pub until_input_ends : Bool
   pub offers : List (List ℕ)
   pub store : Option (List ℕ)
@@ -51,9 +54,12 @@ asked_words w = record {
   time_out = option_map string_bytes w.time_out;
   patience = option_map string_bytes w.patience;
   replace_after = option_map string_bytes w.replace_after;
+  begin_with = option_map string_bytes w.begin_with;
   pause = option_map string_bytes w.pause;
   rounds = option_map string_bytes w.rounds;
   idle_rounds = option_map string_bytes w.idle_rounds;
+  absent_after = option_map string_bytes w.absent_after;
+  retry_absent = option_map string_bytes w.retry_absent;
   until_input_ends = w.until_input_ends;
   offers = map string_bytes w.offers.items;
   store = option_map string_bytes w.store;

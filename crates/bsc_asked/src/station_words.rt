@@ -49,6 +49,9 @@ pub struct StationWords {
     /// After how much silence a newcomer replaces a connection, in milliseconds.
     pub replace_after: Option<String>,
 
+    /// The number of terminals for which the control station waits before its first call.
+    pub begin_with: Option<String>,
+
     /// The pause after a round in which nothing got through, in milliseconds.
     pub pause: Option<String>,
 
@@ -57,6 +60,12 @@ pub struct StationWords {
 
     /// The number of idle rounds in a row after which it ends.
     pub idle_rounds: Option<String>,
+
+    /// The number of visits in a row without an answer after which a terminal is absent.
+    pub absent_after: Option<String>,
+
+    /// After how many seconds an absent terminal is called again.
+    pub retry_absent: Option<String>,
 
     /// Whether the station ends when standard input does.
     pub until_input_ends: bool,

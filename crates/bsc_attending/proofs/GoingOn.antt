@@ -6,9 +6,10 @@ use Rattle.bsc_control.specs.Control.{ControlValue}
 use Rattle.bsc_kept.specs.declared.store.Store as store_of
 use Rattle.bsc_keeping.specs.Runs.{Moment, attended, begins, forgot_arrived, forgot_sent}
 use Rattle.bsc_keeping.specs.Runs.{kept, not_kept, not_offered, not_released, offered, released}
-use Rattle.bsc_keeping.specs.Runs.{set, stopped}
+use Rattle.bsc_keeping.specs.Runs.{polled, set, stopped}
 use Rattle.bsc_keeping.specs.declared.keeper.Keeper.{Keeper}
 use Rattle.bsc_monitor.specs.LineTerminal.{LineTerminalValue}
+use Rattle.bsc_monitor.specs.Polls.{Settles}
 use Rattle.bsc_attending.specs.Runs.{HasRunOver, PreparedRunsKept, PreparedRunsOver, Runs}
 use Rattle.bsc_attending.specs.Runs.{RunsKept, StationParts, at}
 use Rattle.bsc_attending.specs.Sparing.{ForgetsEach, ForgetsIf, ForgetsIfSo, ForgetsUnneeded}
@@ -47,6 +48,13 @@ module _ {S K Z : Type 0} (parts : StationParts S Z) (is_fed : Bool) (store : st
   once_in_turns true old new so_far forgets = forgot_sent so_far forgets
   once_in_turns false old new so_far same = subst Reached (sym same) so_far
 
+  -- the terminals are polled that are to be
+  pub once_settled : (wanted : ℕ → Bool) (count : ℕ) (old new : S) → Reached old
+      → Settles parts.polls wanted count old new → Reached new
+  once_settled wanted zero old new so_far same = subst Reached (sym same) so_far
+  once_settled wanted (suc t) old new so_far (mid, before, last) =
+      polled (once_settled wanted t old mid so_far before) last
+
 -- a run that goes on from where another has led
 module _ {S K Z : Type 0} (parts : StationParts S Z) (is_fed : Bool) (store : store_of.Ghosts K)
   where
@@ -60,6 +68,7 @@ module _ {S K Z : Type 0} (parts : StationParts S Z) (is_fed : Bool) (store : st
     run_then sooner (attended later steps) = attended (run_then sooner later) steps
     run_then sooner (forgot_sent later forgets) = forgot_sent (run_then sooner later) forgets
     run_then sooner (forgot_arrived later forgets) = forgot_arrived (run_then sooner later) forgets
+    run_then sooner (polled later polls) = polled (run_then sooner later) polls
     run_then sooner (kept later keeps) = kept (run_then sooner later) keeps
     run_then sooner (not_kept later keeps) = not_kept (run_then sooner later) keeps
     run_then sooner (offered later keeps offers) = offered (run_then sooner later) keeps offers
@@ -80,6 +89,7 @@ module _ {S K Z : Type 0} (parts : StationParts S Z) (store : store_of.Ghosts K)
   unfed_too (attended before steps) = attended (unfed_too before) steps
   unfed_too (forgot_sent before forgets) = forgot_sent (unfed_too before) forgets
   unfed_too (forgot_arrived before forgets) = forgot_arrived (unfed_too before) forgets
+  unfed_too (polled before polls) = polled (unfed_too before) polls
   unfed_too (kept before keeps) = kept (unfed_too before) keeps
   unfed_too (not_kept before keeps) = not_kept (unfed_too before) keeps
   unfed_too (offered before keeps offers) = absurd offers

@@ -1,7 +1,7 @@
 -- What a station leaves when it ends, what it prints then, and its result; and what it knows of its
 -- connections when it begins.
-use Rattle.std.specs.Prelude.{◌≡◌, ◌⊎◌, ◌++◌, ℕ, zero, suc, List, length, Option, Some, None}
-use Rattle.std.specs.Prelude.{Result, Err, IsErrAnd, slice_set}
+use Rattle.std.specs.Prelude.{◌≡◌, ◌⊎◌, ◌++◌, ℕ, zero, suc, List, length, Option}
+use Rattle.std.specs.Prelude.{Result, IsErrAnd, slice_set}
 use Rattle.std.specs.Io.KnownBytes.{Appends}
 use Rattle.std.specs.declared.net.ip_addr.IpAddr.{IpAddr}
 use Rattle.bsc_control.specs.Control.{peer_at}
@@ -13,7 +13,6 @@ use Rattle.bsc_print.specs.declared.form.Form.{Form}
 use Rattle.bsc_trust.specs.Trust.{after_joined}
 use Rattle.bsc_trust.specs.declared.trust.Trust.{Trust}
 use Rattle.bsc_attending.specs.declared.error.AttendingError.{AttendingError}
-use Rattle.bsc_attending.specs.declared.error.AttendingError.TheVariants as attending
 use Rattle.bsc_attending.specs.declared.preparing.Prepared.{Prepared}
 use Rattle.bsc_attending.specs.declared.preparing.Prepared.TheVariants as prepared
 use Rattle.bsc_attending.specs.declared.attending.Left.{Left}

@@ -138,3 +138,10 @@ module _ {S M Z W D R : Type 0} (party : party_of.Ghosts S Z)
     pub tells : is_told old.watch.now station happening result new.watch.now
     pub follows : Follows party station (followed_of contents old.printer.now)
         (followed_of contents new.printer.now)
+
+-- The watch obeys a program that lets this terminal be called again, or has it called no more.
+pub record ObeysWatch {M O : Type 0} (obeys : M → ℕ → Bool → M → Type 0) (old : Following M O)
+    (t : ℕ) (polled : Bool) (new : Following M O) : Type 0 where
+  pub inner : obeys old.watch.now t polled new.watch.now
+  pub same : new.watch.ghost_name ≡ old.watch.ghost_name
+  pub printer : new.printer ≡ old.printer

@@ -31,29 +31,32 @@ use Rattle.bsc_attending.specs.declared.preparing.Prepared.TheVariants as prepar
 use Rattle.bsc_serving.specs.Turns.{for_programs}
 
 -- What is known of a station with memory of type Z, what it says of the channels on which it sends,
--- what it forgets of the records that are known to have arrived, and of those that arrived, and
--- what it does for programs.
+-- what it forgets of the records that are known to have arrived, and of those that arrived, what it
+-- does once a terminal is to be polled or not, and what it does for programs.
 pub record StationParts (S Z : Type 0) : Type 1 where
   pub station : station_of.Ghosts S
   pub party : party_of.Ghosts S Z
   pub kept_at : S → ℕ → ℕ → Option KeptSender
   pub forgets_sent : S → S → Type 0
   pub forgets_arrived : S → ℕ → ℕ → S → Type 0
+  pub polls : S → ℕ → Bool → S → Type 0
   pub does : ForPrograms S
 
 abbrev pub station_parts : {S Z : Type 0} → station_of.Ghosts S → party_of.Ghosts S Z
     → (S → ℕ → ℕ → Option KeptSender) → (S → S → Type 0) → (S → ℕ → ℕ → S → Type 0)
-    → (S → ℕ → Way → List ℕ → Result ℕ Fault → S → Type 0)
+    → (S → ℕ → Bool → S → Type 0) → (S → ℕ → Way → List ℕ → Result ℕ Fault → S → Type 0)
     → (S → ℕ → Way → ℕ → Result (Unit {0}) Fault → S → Type 0)
     → (S → Bool → Result (Unit {0}) Fault → S → Type 0)
     → (S → Result (Unit {0}) Fault → S → Type 0) → StationParts S Z
-station_parts station party kept_at forgets_sent forgets_arrived offers releases readies urges =
+station_parts station party kept_at forgets_sent forgets_arrived polls offers releases readies urges
+    =
     record {
       station = station;
       party = party;
       kept_at = kept_at;
       forgets_sent = forgets_sent;
       forgets_arrived = forgets_arrived;
+      polls = polls;
       does = for_programs offers releases readies urges;
     }
 
@@ -68,7 +71,7 @@ abbrev pub Runs : {S K Z : Type 0} → StationParts S Z → Bool → store_of.Gh
     → Moment S K → Moment S K → Type 0
 Runs parts is_fed store =
     KeptRun parts.station parts.party parts.kept_at store parts.forgets_sent parts.forgets_arrived
-    (if_fed is_fed parts.does)
+    parts.polls (if_fed is_fed parts.does)
 
 -- A station was attended over connections, for which `runs` says what that means, and something
 -- failed only if this is so.

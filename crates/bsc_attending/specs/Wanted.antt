@@ -1,5 +1,5 @@
 -- The connections that a station asks for.
-use Rattle.std.specs.Prelude.{ℕ, ℤ, pos, ◌+◌, ◌*◌, ◌-◌, ◌^◌, min, Bool, true, false, not}
+use Rattle.std.specs.Prelude.{ℕ, ℤ, pos, ◌+◌, ◌*◌, ◌-◌, ◌^◌, min, Bool, true, false, not, ◌&&◌}
 use Rattle.std.specs.Prelude.{if◌then◌else◌, Option, None, Some, length}
 use Rattle.bsc_monitor.specs.declared.tracing.Tracing.{Tracing}
 use Rattle.bsc_monitor.specs.declared.tracing.Tracing.TheVariants.{Off, Exchanges, All}
@@ -10,18 +10,21 @@ use Rattle.bsc_attending.specs.declared.preparing.Prepared.{Prepared}
 use Rattle.bsc_attending.specs.declared.preparing.Prepared.TheVariants as prepared
 use Rattle.bsc_attending.specs.declared.wanted.Wanted.{Wanted}
 
--- The connections: their place and number, whether their octets are raw, from which networks peers
--- may connect, whether the station ends with standard input, whether other peers may connect later,
--- whether the station begins, its times in milliseconds, whether what happens is traced, and the
--- descriptor that tells when a program may have to be served.
+-- The connections: their place and number, for how many of them the station waits, whether their
+-- octets are raw, from which networks peers may connect, whether the station ends with standard
+-- input, whether other peers may connect later, whether the station begins, whether it skips
+-- silences that nobody can break, its times in milliseconds, whether what happens is traced, and
+-- the descriptor that tells when a program may have to be served.
 pub record WantedValue : Type 0 where
   pub place : PlaceValue
   pub connections : ℕ
+  pub begin_with : ℕ
   pub raw : Bool
   pub allowed : Networks
   pub stops : Bool
   pub stays : Bool
   pub begins : Bool
+  pub skips : Bool
   pub time_out : ℕ
   pub gap : ℕ
   pub patience : ℕ
@@ -35,11 +38,13 @@ abbrev pub wanted_value : Wanted → WantedValue
 wanted_value w = record {
   place = place_value w.place;
   connections = w.connections;
+  begin_with = w.begin_with;
   raw = w.raw;
   allowed = w.allowed;
   stops = w.stops;
   stays = w.stays;
   begins = w.begins;
+  skips = w.skips;
   time_out = w.time_out;
   gap = w.gap;
   patience = w.patience;
@@ -74,16 +79,20 @@ time_out_of_control time tries = min (time * (tries + 2)) (2 ^ 64 - 1)
 
 -- The control station begins, unless its records are kept, and asks for a connection for each
 -- terminal, or one for all. Its time-out is longer than a terminal holds the line without hearing
--- anything.
+-- anything. It skips silences that nobody can break if peers connect to it, each terminal has a
+-- connection of its own, and transmissions are socket records, so that no terminal goes on after
+-- its connection was cut off.
 abbrev pub control_wants : SettingsValue → Networks → ℕ → ℕ → WantedValue
 control_wants s allowed terminals tries = record {
   place = s.place;
   connections = if s.shared then 1 else terminals;
+  begin_with = s.begin_with;
   raw = s.raw;
   allowed = allowed;
   stops = s.until_input_ends;
   stays = is_listening s.place;
   begins = not s.is_kept;
+  skips = is_listening s.place && (not s.raw && not s.shared);
   time_out = time_out_of_control s.times.time_out tries;
   gap = s.times.gap;
   patience = s.times.patience;
@@ -99,11 +108,13 @@ abbrev pub terminal_wants : SettingsValue → Networks → WantedValue
 terminal_wants s allowed = record {
   place = s.place;
   connections = 1;
+  begin_with = 1;
   raw = s.raw;
   allowed = allowed;
   stops = s.until_input_ends;
   stays = false;
   begins = false;
+  skips = false;
   time_out = s.times.time_out;
   gap = s.times.gap;
   patience = s.times.patience;

@@ -16,7 +16,8 @@ use bsc_connections::LiveError;
 use bsc_control::Control;
 use bsc_keeping::Sends;
 use bsc_monitor::{
-    ControlWatch, Ended, Forgets, Limits, LineTerminal, Party, Printing, TerminalWatch, Watch,
+    AbsenceLimits, ControlWatch, Ended, Forgets, Limits, LineTerminal, Party, Polls, Printing,
+    TerminalWatch, Watch,
 };
 use bsc_progress::{Meter, Timer};
 use bsc_serving::Feeds;
@@ -24,11 +25,15 @@ use bsc_trust::Trust;
 use std::alloc::Global;
 use std::io::Write;
 
-/// When the control station ends, and what it can tell of its line.
+/// When the control station ends, when it takes a terminal for absent, and what it can tell of its
+/// line.
 #[derive(Clone, Copy)]
 pub(crate) struct Ending {
     /// Its limits.
     pub(crate) limits: Limits,
+
+    /// When a terminal is absent, and when it is called again.
+    pub(crate) absence: AbsenceLimits,
 
     /// Whether other peers may connect later.
     pub(crate) listens: bool,
@@ -96,6 +101,7 @@ fn attend_control<C: Attend, T: Timer + Meter + Drop, O: Write, D: Write>(
     ensures ran { HasRunOver (C.runs (station_parts ⟦<Control<Global> as Station>⟧
         ⟦<Control<Global> as Party>⟧ ⟦<Control<Global> as Sends>⟧.kept_at
         ⟦<Control<Global> as Forgets>⟧.forgets_sent ⟦<Control<Global> as Forgets>⟧.forgets_arrived
+        ⟦<Control<Global> as Polls>⟧.polls
         ⟦<Control<Global> as Feeds>⟧.offers ⟦<Control<Global> as Feeds>⟧.releases
         ⟦<Control<Global> as Feeds>⟧.readies ⟦<Control<Global> as Feeds>⟧.urges))
         connections.old control.old (IsErr result) control.new }
@@ -109,7 +115,14 @@ fn attend_control<C: Attend, T: Timer + Meter + Drop, O: Write, D: Write>(
     let mut watch = Watch::new(alloc, control, printing, timer, out, trace)?;
     count_printed(control.spools(), connections, &mut watch);
     let trust = with_connections(ending.trust, connections);
-    let watch = ControlWatch::new(control, watch, ending.limits, ending.listens, trust);
+    let watch = ControlWatch::new(
+        control,
+        watch,
+        ending.limits,
+        ending.absence,
+        ending.listens,
+        trust,
+    );
     Ok(attend_until_answered(control, connections, watch)?)
 }
 
@@ -148,6 +161,7 @@ fn attend_until_answered<C: Attend, T: Timer + Meter + Drop, O: Write, D: Write>
     ensures ran { HasRunOver (C.runs (station_parts ⟦<Control<Global> as Station>⟧
         ⟦<Control<Global> as Party>⟧ ⟦<Control<Global> as Sends>⟧.kept_at
         ⟦<Control<Global> as Forgets>⟧.forgets_sent ⟦<Control<Global> as Forgets>⟧.forgets_arrived
+        ⟦<Control<Global> as Polls>⟧.polls
         ⟦<Control<Global> as Feeds>⟧.offers ⟦<Control<Global> as Feeds>⟧.releases
         ⟦<Control<Global> as Feeds>⟧.readies ⟦<Control<Global> as Feeds>⟧.urges))
         connections.old control.old (IsErr result) control.new }
@@ -173,6 +187,7 @@ fn attend_terminal<C: Attend, T: Timer + Meter + Drop, O: Write, D: Write>(
         ⟦<LineTerminal<Global> as Party>⟧ ⟦<LineTerminal<Global> as Sends>⟧.kept_at
         ⟦<LineTerminal<Global> as Forgets>⟧.forgets_sent
         ⟦<LineTerminal<Global> as Forgets>⟧.forgets_arrived
+        ⟦<LineTerminal<Global> as Polls>⟧.polls
         ⟦<LineTerminal<Global> as Feeds>⟧.offers ⟦<LineTerminal<Global> as Feeds>⟧.releases
         ⟦<LineTerminal<Global> as Feeds>⟧.readies ⟦<LineTerminal<Global> as Feeds>⟧.urges))
         connections.old terminal.old (IsErr result) terminal.new }

@@ -1,9 +1,9 @@
 //! The connections of a station, and attending the station over them.
 
 ghost use Rattle.std.specs.Prelude.{◌≡◌, Bool, IfErr, IfOk, OnOk, Option, Some, false, is_ok};
-ghost use Rattle.std.specs.Prelude.{map, true, ℕ};
+ghost use Rattle.std.specs.Prelude.{◌++◌, ◌-◌, None, length, map, replicate, true, ℕ};
 ghost use Rattle.std.specs.declared.net.ip_addr.IpAddr.{IpAddr as Address};
-ghost use Rattle.bsc_attending.specs.Framings.{ends_of, is_raw};
+ghost use Rattle.bsc_attending.specs.Framings.{ends_of, ends_with_vacant, is_raw};
 ghost use Rattle.bsc_attending.specs.Errors.{IsCutShort};
 ghost use Rattle.bsc_attending.specs.Runs.{Runs, StationParts, at, station_parts};
 ghost use Rattle.bsc_keeping.specs.Runs.{KeptSteps};
@@ -16,7 +16,7 @@ use bsc_connections::{
 };
 use bsc_keeping::{Keeper, Keeping, Prints, attend_kept};
 use bsc_kept::Store;
-use bsc_monitor::Forgets;
+use bsc_monitor::{Forgets, Polls, Presences, settle};
 use bsc_serving::Feeds;
 use std::alloc::Global;
 use std::io::{Read, Write};
@@ -61,8 +61,9 @@ pub(crate) fn connect<H: Network>(
     let Opened {
         waiter,
         connections,
+        places,
     } = machine.open(wanted)?;
-    let framed = in_framing(alloc, wanted.raw, connections)?;
+    let framed = in_framing(alloc, wanted.raw, connections, places)?;
     Ok(Connections {
         waiter,
         framed,
@@ -70,22 +71,43 @@ pub(crate) fn connect<H: Network>(
     })
 }
 
-/// Returns the connections over these pairs of a reader and a writer.
+/// Returns the connections over these pairs of a reader and a writer, and vacant ones after them up
+/// to this many places.
 fn in_framing<R: Read + Drop, W: Write + Drop>(
     alloc: Global,
     raw: bool,
     directions: Vec<(R, W)>,
+    places: usize,
 ) -> Result<Framed<R, W>, AttendingError>
     ensures framing { IfOk result (λ framed. is_raw framed ≡ raw) }
-    ensures all { IfOk result (λ framed. ends_of framed ≡ map (λ d. Some d) directions.items) }
+    ensures all { IfOk result (λ framed.
+        ends_of framed ≡ ends_with_vacant directions.items places) }
     ensures cut { IfErr result IsCutShort }
 {
     if raw {
-        let connections = connections_of(alloc, directions)?;
+        let connections = with_vacant(connections_of(alloc, directions)?, places)?;
         return Ok(Framed::Raw { connections });
     }
-    let connections = connections_of(alloc, directions)?;
+    let connections = with_vacant(connections_of(alloc, directions)?, places)?;
     Ok(Framed::Records { connections })
+}
+
+/// Returns these connections, and vacant ones after them up to this many places.
+fn with_vacant<R: Read + Drop, W: Write + Drop, F: Framing + Drop>(
+    connections: Vec<Connection<R, W, F>>,
+    places: usize,
+) -> Result<Vec<Connection<R, W, F>>, AttendingError>
+    ensures all { IfOk result (λ all. map (λ c. c.ends) all.items
+        ≡ map (λ c. c.ends) connections.items
+        ++ replicate (places - length connections.items) None) }
+    ensures cut { IfErr result IsCutShort }
+{
+    let vacant = places.saturating_sub(connections.len());
+    let mut connections = connections;
+    for _ in 0..vacant {
+        connections.push(Connection::vacant())?;
+    }
+    Ok(connections)
 }
 
 /// Returns the connections over these pairs of a reader and a writer, with one framing.
@@ -133,28 +155,28 @@ pub(crate) trait Attend {
         ensures { OnOk result (M.has_ended monitor.new ≡ true) };
 
     /// Attends a station over the connections until its monitor ends it, and keeps what it changes
-    /// before it sends. The station forgets what it does not need any more. If programs can feed
-    /// it, it does what they ask for meanwhile.
-    fn attend_kept<S: Station + Feeds + Forgets, M: Monitor<S> + Prints, K: Store + Drop>(
-        &mut self,
-        station: &mut S,
-        watch: &mut M,
-        keeper: &mut Keeper<K>,
-    ) -> Result<(), LiveError>
+    /// before it sends. The station forgets what it does not need any more, and polls the terminals
+    /// that its monitor wants to be polled. If programs can feed it, it does what they ask for
+    /// meanwhile.
+    fn attend_kept<
+        S: Station + Feeds + Forgets + Polls,
+        M: Monitor<S> + Prints + Presences,
+        K: Store + Drop,
+    >(&mut self, station: &mut S, watch: &mut M, keeper: &mut Keeper<K>) -> Result<(), LiveError>
         ensures { Runs (station_parts S.Station S.Party S.kept_at S.forgets_sent
-            S.forgets_arrived S.offers S.releases S.readies S.urges) (reached self.old) K.Store
-            (is_ok result) (at station.old keeper.old) (at station.new keeper.new) };
+            S.forgets_arrived S.polls S.offers S.releases S.readies S.urges) (reached self.old)
+            K.Store (is_ok result) (at station.old keeper.old) (at station.new keeper.new) };
 
     /// Attends a station whose monitor prints the records that arrive. If its records are kept,
     /// they are before it sends, and so is at the end how many were printed. The station forgets
-    /// what it does not need any more.
-    fn attend_watched<S: Station + Feeds + Forgets, M: Monitor<S> + Prints>(
+    /// what it does not need any more, and polls the terminals that its monitor wants to be polled.
+    fn attend_watched<S: Station + Feeds + Forgets + Polls, M: Monitor<S> + Prints + Presences>(
         &mut self,
         station: &mut S,
         watch: &mut M,
     ) -> Result<(), LiveError>
         ensures { runs (station_parts S.Station S.Party S.kept_at S.forgets_sent
-            S.forgets_arrived S.offers S.releases S.readies S.urges)
+            S.forgets_arrived S.polls S.offers S.releases S.readies S.urges)
             self.old station.old (is_ok result) self.new station.new };
 
     /// Returns how many records of the channel with this number were printed before the station
@@ -172,9 +194,9 @@ pub(crate) trait Attend {
 }
 
 impl<R: Read + Drop, W: Write + Drop, Q: Waiter<R, W> + Drop> Connections<R, W, Q> {
-    /// Attends a station until its monitor ends it or many events have happened. Returns false if
-    /// the monitor has ended it.
-    fn attend_for_a_span<S: Station, M: Monitor<S>>(
+    /// Attends a station until its monitor ends it, many events have happened, or its poll list is
+    /// to be changed. Returns false if the monitor has ended it.
+    fn attend_for_a_span<S: Station + Polls, M: Monitor<S> + Presences>(
         &mut self,
         station: &mut S,
         watch: &mut M,
@@ -185,12 +207,11 @@ impl<R: Read + Drop, W: Write + Drop, Q: Waiter<R, W> + Drop> Connections<R, W, 
     }
 
     /// Does the same with a station whose records are kept.
-    fn attend_and_keep_for_a_span<S: Station + Feeds, M: Monitor<S> + Prints, K: Store + Drop>(
-        &mut self,
-        station: &mut S,
-        watch: &mut M,
-        keeper: &mut Keeper<K>,
-    ) -> Result<bool, LiveError>
+    fn attend_and_keep_for_a_span<
+        S: Station + Feeds + Polls,
+        M: Monitor<S> + Prints + Presences,
+        K: Store + Drop,
+    >(&mut self, station: &mut S, watch: &mut M, keeper: &mut Keeper<K>) -> Result<bool, LiveError>
         ensures { KeptSteps S.Station S.Party S.kept_at K.Store (is_ok result)
             (at station.old keeper.old) (at station.new keeper.new) }
     {
@@ -235,22 +256,22 @@ impl<R: Read + Drop, W: Write + Drop, Q: Waiter<R, W> + Drop> Attend for Connect
         }
     }
 
-    fn attend_kept<S: Station + Feeds + Forgets, M: Monitor<S> + Prints, K: Store + Drop>(
-        &mut self,
-        station: &mut S,
-        watch: &mut M,
-        keeper: &mut Keeper<K>,
-    ) -> Result<(), LiveError> {
+    fn attend_kept<
+        S: Station + Feeds + Forgets + Polls,
+        M: Monitor<S> + Prints + Presences,
+        K: Store + Drop,
+    >(&mut self, station: &mut S, watch: &mut M, keeper: &mut Keeper<K>) -> Result<(), LiveError> {
         'spans: for _ in 0..u64::MAX {
             if !self.attend_and_keep_for_a_span(station, watch, keeper)? {
                 return Ok(());
             }
             forget_unneeded(station, watch, self.forgets_printed);
+            settle(station, watch);
         }
         Err(LiveError::Count)
     }
 
-    fn attend_watched<S: Station + Feeds + Forgets, M: Monitor<S> + Prints>(
+    fn attend_watched<S: Station + Feeds + Forgets + Polls, M: Monitor<S> + Prints + Presences>(
         &mut self,
         station: &mut S,
         watch: &mut M,
@@ -260,6 +281,7 @@ impl<R: Read + Drop, W: Write + Drop, Q: Waiter<R, W> + Drop> Attend for Connect
                 return Ok(());
             }
             forget_unneeded(station, watch, self.forgets_printed);
+            settle(station, watch);
         }
         Err(LiveError::Count)
     }

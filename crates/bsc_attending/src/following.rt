@@ -6,7 +6,7 @@ use crate::Readiness;
 use crate::printer::Printer;
 use bsc_connections::{LiveError, Monitor, Note, Pace};
 use bsc_keeping::Prints;
-use bsc_monitor::Party;
+use bsc_monitor::{Party, Presence, Presences};
 use std::io::Write;
 
 /// A monitor that tells another monitor what happened, and then prints records that have arrived,
@@ -38,6 +38,8 @@ impl<'a, 'b, S: Party, M: Monitor<S>, W: Write, D: Write + Drop, R: Readiness + 
 
     ghost admits = { λ f station place octets. M.admits f.watch.now station place octets };
 
+    ghost may_answer = { λ f station place. M.may_answer f.watch.now station place };
+
     ghost paces = { λ f. M.paces f.watch.now };
 
     ghost is_told = { TellsAndFollows S.Party M.is_told W.contents };
@@ -52,6 +54,10 @@ impl<'a, 'b, S: Party, M: Monitor<S>, W: Write, D: Write + Drop, R: Readiness + 
         self.watch.admits(station, connection, octets)
     }
 
+    fn may_answer(&self, station: &S, connection: usize) -> bool {
+        self.watch.may_answer(station, connection)
+    }
+
     fn pace(&self) -> Pace {
         self.watch.pace()
     }
@@ -62,5 +68,27 @@ impl<'a, M, O: Prints> Prints for Following<'a, M, O> {
 
     fn printed(&self, number: usize) -> Option<usize> {
         self.printer.printed(number)
+    }
+}
+
+impl<'a, M: Presences, O> Presences for Following<'a, M, O> {
+    ghost use Rattle.bsc_attending.specs.Printer.{ObeysWatch};
+
+    ghost wants = { λ f terminal. M.wants f.watch.now terminal };
+
+    ghost shows = { λ f terminal. M.shows f.watch.now terminal };
+
+    ghost obeys = { ObeysWatch M.obeys };
+
+    fn wants(&self, terminal: usize) -> bool {
+        self.watch.wants(terminal)
+    }
+
+    fn presence(&self, terminal: usize) -> Option<Presence> {
+        self.watch.presence(terminal)
+    }
+
+    fn set_polled(&mut self, terminal: usize, polled: bool) {
+        self.watch.set_polled(terminal, polled);
     }
 }

@@ -18,7 +18,7 @@ use bsc_bid::Station;
 use bsc_connections::{LiveError, Monitor};
 use bsc_keeping::{Keeper, Own, Prints, Sends, begin_control, begin_terminal};
 use bsc_kept::{Store, StoreFault};
-use bsc_monitor::{Forgets, Party};
+use bsc_monitor::{Forgets, Party, Polls, Presences};
 use bsc_serving::Feeds;
 use std::alloc::Global;
 use std::io::Write;
@@ -110,16 +110,15 @@ impl<'a, C: Attend + Drop, K: Store + Drop, W: Write, D: Write + Drop, R: Readin
         self.connections.attend(station, monitor)
     }
 
-    fn attend_kept<S: Station + Feeds + Forgets, M: Monitor<S> + Prints, L: Store + Drop>(
-        &mut self,
-        station: &mut S,
-        watch: &mut M,
-        keeper: &mut Keeper<L>,
-    ) -> Result<(), LiveError> {
+    fn attend_kept<
+        S: Station + Feeds + Forgets + Polls,
+        M: Monitor<S> + Prints + Presences,
+        L: Store + Drop,
+    >(&mut self, station: &mut S, watch: &mut M, keeper: &mut Keeper<L>) -> Result<(), LiveError> {
         self.connections.attend_kept(station, watch, keeper)
     }
 
-    fn attend_watched<S: Station + Feeds + Forgets, M: Monitor<S> + Prints>(
+    fn attend_watched<S: Station + Feeds + Forgets + Polls, M: Monitor<S> + Prints + Presences>(
         &mut self,
         station: &mut S,
         watch: &mut M,

@@ -12,11 +12,14 @@ use bsc_sockets::SocketsError;
 use std::io::{Read, Write};
 use std::os::fd::RawFd;
 
-/// The connections of a station, in order, and the waiter for them.
+/// The connections with which a station begins, in order, and the waiter for them.
 #[derive(Drop)]
 pub struct Opened<R: Drop, W: Drop, Q: Drop> {
     pub waiter: Q,
     pub connections: Vec<(R, W)>,
+
+    /// The number of places for connections. Those after the connections are vacant.
+    pub places: usize,
 }
 
 /// What programs reach that feed a station, and the descriptor that is readable when one of them

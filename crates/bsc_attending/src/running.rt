@@ -10,7 +10,7 @@ use crate::preparing::Prepared;
 use bsc_bid::Station;
 use bsc_control::Control;
 use bsc_keeping::Sends;
-use bsc_monitor::{Forgets, LineTerminal, Party};
+use bsc_monitor::{Forgets, LineTerminal, Party, Polls};
 use bsc_serving::Feeds;
 use std::alloc::Global;
 
@@ -41,12 +41,14 @@ impl Running for Prepared {
         (runs _ _ (station_parts ⟦<Control<Global> as Station>⟧ ⟦<Control<Global> as Party>⟧
         ⟦<Control<Global> as Sends>⟧.kept_at
         ⟦<Control<Global> as Forgets>⟧.forgets_sent ⟦<Control<Global> as Forgets>⟧.forgets_arrived
+        ⟦<Control<Global> as Polls>⟧.polls
         ⟦<Control<Global> as Feeds>⟧.offers ⟦<Control<Global> as Feeds>⟧.releases
         ⟦<Control<Global> as Feeds>⟧.readies ⟦<Control<Global> as Feeds>⟧.urges))
         (runs _ _ (station_parts ⟦<LineTerminal<Global> as Station>⟧
         ⟦<LineTerminal<Global> as Party>⟧ ⟦<LineTerminal<Global> as Sends>⟧.kept_at
         ⟦<LineTerminal<Global> as Forgets>⟧.forgets_sent
         ⟦<LineTerminal<Global> as Forgets>⟧.forgets_arrived
+        ⟦<LineTerminal<Global> as Polls>⟧.polls
         ⟦<LineTerminal<Global> as Feeds>⟧.offers ⟦<LineTerminal<Global> as Feeds>⟧.releases
         ⟦<LineTerminal<Global> as Feeds>⟧.readies ⟦<LineTerminal<Global> as Feeds>⟧.urges)) };
 
@@ -54,12 +56,14 @@ impl Running for Prepared {
         (Runs (station_parts ⟦<Control<Global> as Station>⟧ ⟦<Control<Global> as Party>⟧
         ⟦<Control<Global> as Sends>⟧.kept_at
         ⟦<Control<Global> as Forgets>⟧.forgets_sent ⟦<Control<Global> as Forgets>⟧.forgets_arrived
+        ⟦<Control<Global> as Polls>⟧.polls
         ⟦<Control<Global> as Feeds>⟧.offers ⟦<Control<Global> as Feeds>⟧.releases
         ⟦<Control<Global> as Feeds>⟧.readies ⟦<Control<Global> as Feeds>⟧.urges) is_fed store)
         (Runs (station_parts ⟦<LineTerminal<Global> as Station>⟧ ⟦<LineTerminal<Global> as Party>⟧
         ⟦<LineTerminal<Global> as Sends>⟧.kept_at
         ⟦<LineTerminal<Global> as Forgets>⟧.forgets_sent
         ⟦<LineTerminal<Global> as Forgets>⟧.forgets_arrived
+        ⟦<LineTerminal<Global> as Polls>⟧.polls
         ⟦<LineTerminal<Global> as Feeds>⟧.offers ⟦<LineTerminal<Global> as Feeds>⟧.releases
         ⟦<LineTerminal<Global> as Feeds>⟧.readies ⟦<LineTerminal<Global> as Feeds>⟧.urges)
         is_fed store) };

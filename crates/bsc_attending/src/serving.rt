@@ -16,7 +16,7 @@ use bsc_clients::ServedAt;
 use bsc_connections::{LiveError, Monitor, Note};
 use bsc_keeping::{Keeper, Prints};
 use bsc_kept::Store;
-use bsc_monitor::Forgets;
+use bsc_monitor::{Forgets, Polls, Presences, settle};
 use bsc_options::Serves;
 use bsc_serving::{Feeds, Pausing, Programs, Serving, Unkept};
 use std::alloc::Global;
@@ -92,13 +92,13 @@ pub(crate) fn serving_of<P: Programs + Drop>(
 
 /// Attends a station until its monitor ends it or programs may have to be served. Returns false if
 /// the monitor has ended it.
-fn attend_until_called<C: Attend, S: Station + Feeds + Forgets, M: Monitor<S> + Prints>(
-    connections: &mut C,
-    station: &mut S,
-    watch: &mut M,
-) -> Result<bool, LiveError>
+fn attend_until_called<
+    C: Attend,
+    S: Station + Feeds + Forgets + Polls,
+    M: Monitor<S> + Prints + Presences,
+>(connections: &mut C, station: &mut S, watch: &mut M) -> Result<bool, LiveError>
     ensures ran { C.runs (station_parts S.Station S.Party S.kept_at S.forgets_sent
-        S.forgets_arrived S.offers S.releases S.readies S.urges)
+        S.forgets_arrived S.polls S.offers S.releases S.readies S.urges)
         connections.old station.old (is_ok result) connections.new station.new }
 {
     let mut pausing = Pausing::new(watch);
@@ -109,8 +109,8 @@ fn attend_until_called<C: Attend, S: Station + Feeds + Forgets, M: Monitor<S> + 
 /// Does the same with a station whose records are kept.
 fn attend_kept_until_called<
     C: Attend,
-    S: Station + Feeds + Forgets,
-    M: Monitor<S> + Prints,
+    S: Station + Feeds + Forgets + Polls,
+    M: Monitor<S> + Prints + Presences,
     K: Store + Drop,
 >(
     connections: &mut C,
@@ -119,7 +119,7 @@ fn attend_kept_until_called<
     keeper: &mut Keeper<K>,
 ) -> Result<bool, LiveError>
     ensures kept { Runs (station_parts S.Station S.Party S.kept_at S.forgets_sent
-        S.forgets_arrived S.offers S.releases S.readies S.urges) (C.reached connections.old)
+        S.forgets_arrived S.polls S.offers S.releases S.readies S.urges) (C.reached connections.old)
         K.Store (is_ok result) (at station.old keeper.old) (at station.new keeper.new) }
 {
     let mut pausing = Pausing::new(watch);
@@ -155,8 +155,14 @@ fn forget_at_times<S: Forgets, M: Prints>(station: &mut S, watch: &M, count: u64
     }
 }
 
-/// Attends a station that programs feed until its monitor ends it.
-fn attend_fed<C: Attend, P: Programs + Drop, S: Station + Feeds + Forgets, M: Monitor<S> + Prints>(
+/// Attends a station that programs feed until its monitor ends it. In each turn the terminals are
+/// polled that the monitor wants to be polled.
+fn attend_fed<
+    C: Attend,
+    P: Programs + Drop,
+    S: Station + Feeds + Forgets + Polls,
+    M: Monitor<S> + Prints + Presences,
+>(
     connections: &mut C,
     programs: &mut Serving<P>,
     station: &mut S,
@@ -165,10 +171,11 @@ fn attend_fed<C: Attend, P: Programs + Drop, S: Station + Feeds + Forgets, M: Mo
     let mut told = false;
     'calls: for count in 0..u64::MAX {
         forget_at_times(station, watch, count);
+        settle(station, watch);
         if !attend_until_called(connections, station, watch)? {
             return Ok(());
         }
-        let is_asked = programs.serve(station, &mut Unkept)?;
+        let is_asked = programs.serve(station, &mut Unkept::new(watch))?;
         if !tell_stopped(station, watch, is_asked, &mut told)? {
             return Ok(());
         }
@@ -180,8 +187,8 @@ fn attend_fed<C: Attend, P: Programs + Drop, S: Station + Feeds + Forgets, M: Mo
 fn attend_fed_and_kept<
     C: Attend,
     P: Programs + Drop,
-    S: Station + Feeds + Forgets,
-    M: Monitor<S> + Prints,
+    S: Station + Feeds + Forgets + Polls,
+    M: Monitor<S> + Prints + Presences,
     K: Store + Drop,
 >(
     connections: &mut C,
@@ -191,12 +198,13 @@ fn attend_fed_and_kept<
     keeper: &mut Keeper<K>,
 ) -> Result<(), LiveError>
     ensures ran { Runs (station_parts S.Station S.Party S.kept_at S.forgets_sent
-        S.forgets_arrived S.offers S.releases S.readies S.urges) true K.Store
+        S.forgets_arrived S.polls S.offers S.releases S.readies S.urges) true K.Store
         (is_ok result) (at station.old keeper.old) (at station.new keeper.new) }
 {
     let mut told = false;
     'calls: for count in 0..u64::MAX {
         forget_at_times(station, watch, count);
+        settle(station, watch);
         if !attend_kept_until_called(connections, station, watch, keeper)? {
             return Ok(());
         }
@@ -229,12 +237,11 @@ impl<C: Attend + Drop, P: Programs + Drop> Attend for Fed<C, P> {
         self.connections.attend(station, monitor)
     }
 
-    fn attend_kept<S: Station + Feeds + Forgets, M: Monitor<S> + Prints, K: Store + Drop>(
-        &mut self,
-        station: &mut S,
-        watch: &mut M,
-        keeper: &mut Keeper<K>,
-    ) -> Result<(), LiveError> {
+    fn attend_kept<
+        S: Station + Feeds + Forgets + Polls,
+        M: Monitor<S> + Prints + Presences,
+        K: Store + Drop,
+    >(&mut self, station: &mut S, watch: &mut M, keeper: &mut Keeper<K>) -> Result<(), LiveError> {
         let Fed {
             connections,
             programs,
@@ -245,7 +252,7 @@ impl<C: Attend + Drop, P: Programs + Drop> Attend for Fed<C, P> {
         }
     }
 
-    fn attend_watched<S: Station + Feeds + Forgets, M: Monitor<S> + Prints>(
+    fn attend_watched<S: Station + Feeds + Forgets + Polls, M: Monitor<S> + Prints + Presences>(
         &mut self,
         station: &mut S,
         watch: &mut M,

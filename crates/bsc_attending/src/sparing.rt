@@ -1,23 +1,24 @@
-//! What a station does not need any more is forgotten while it is attended.
+//! What a station does not need any more is forgotten while it is attended, and its terminals are
+//! polled as its monitor wants it.
 
 ghost use Rattle.std.specs.Prelude.{◌≡◌, false};
 ghost use Rattle.bsc_attending.specs.Sparing.{ForgetsEach, ForgetsIf, ForgetsUnneeded};
 
 use bsc_connections::{LiveError, Monitor, Note, Pace};
 use bsc_keeping::Prints;
-use bsc_monitor::Forgets;
+use bsc_monitor::{Forgets, Polls, Presence, Presences, is_settled};
 
 /// The number of events after which the attending of a station is ended, so that it forgets.
 pub(crate) const EVENTS: u64 = 1_024;
 
-/// A monitor that ends the attending of a station after many events. All of them it passes to
-/// another monitor.
+/// A monitor that ends the attending of a station after many events, or once a terminal is to be
+/// polled that is not, or the other way round. All events it passes to another monitor.
 #[derive(Drop)]
 pub(crate) struct Sparing<'a, M> {
     /// The inner monitor.
     monitor: &'a mut M,
 
-    /// How many events are left.
+    /// How many events are left; none once the poll list is to be changed.
     left: u64,
 
     /// Whether the inner monitor has ended the attending.
@@ -47,7 +48,7 @@ impl<'a, M> Sparing<'a, M> {
     }
 }
 
-impl<'a, S, M: Monitor<S>> Monitor<S> for Sparing<'a, M> {
+impl<'a, S: Polls, M: Monitor<S> + Presences> Monitor<S> for Sparing<'a, M> {
     ghost use Rattle.std.specs.Prelude.{◌||◌, nat_eq};
     ghost use Rattle.bsc_attending.specs.Sparing.{TellsAndCounts};
 
@@ -55,19 +56,28 @@ impl<'a, S, M: Monitor<S>> Monitor<S> for Sparing<'a, M> {
 
     ghost admits = { λ s station place octets. M.admits s.monitor.now station place octets };
 
+    ghost may_answer = { λ s station place. M.may_answer s.monitor.now station place };
+
     ghost paces = { λ s. M.paces s.monitor.now };
 
-    ghost is_told = { TellsAndCounts M.is_told };
+    ghost is_told = { TellsAndCounts M.is_told S.is_called M.wants S.count };
 
     fn note(&mut self, station: &S, note: Note<'_>) -> Result<bool, LiveError> {
         self.left = self.left.saturating_sub(1);
         let goes_on = self.monitor.note(station, note)?;
         self.ended = !goes_on;
+        if !is_settled(station, &*self.monitor) {
+            self.left = 0;
+        }
         Ok(goes_on && self.left != 0)
     }
 
     fn admits(&self, station: &S, connection: usize, octets: &[u8]) -> bool {
         self.monitor.admits(station, connection, octets)
+    }
+
+    fn may_answer(&self, station: &S, connection: usize) -> bool {
+        self.monitor.may_answer(station, connection)
     }
 
     fn pace(&self) -> Pace {
@@ -80,6 +90,28 @@ impl<'a, M: Prints> Prints for Sparing<'a, M> {
 
     fn printed(&self, number: usize) -> Option<usize> {
         self.monitor.printed(number)
+    }
+}
+
+impl<'a, M: Presences> Presences for Sparing<'a, M> {
+    ghost use Rattle.bsc_attending.specs.Sparing.{ObeysInner};
+
+    ghost wants = { λ s terminal. M.wants s.monitor.now terminal };
+
+    ghost shows = { λ s terminal. M.shows s.monitor.now terminal };
+
+    ghost obeys = { ObeysInner M.obeys };
+
+    fn wants(&self, terminal: usize) -> bool {
+        self.monitor.wants(terminal)
+    }
+
+    fn presence(&self, terminal: usize) -> Option<Presence> {
+        self.monitor.presence(terminal)
+    }
+
+    fn set_polled(&mut self, terminal: usize, polled: bool) {
+        self.monitor.set_polled(terminal, polled);
     }
 }
 

@@ -347,10 +347,12 @@ fn work_of(role: Role) -> Work
     }
 }
 
-/// Returns when the control station of these options ends, and what it can tell of its line before
+/// Returns when the control station of these options ends, when it takes a terminal for absent, and
+/// what it can tell of its line before
 /// there are connections.
 fn ending_of(options: &Options<'_>) -> Ending
     ensures limits { result.limits ≡ options.now.settings.limits }
+    ensures absence { result.absence ≡ options.now.settings.absence }
     ensures listens { result.listens ≡ is_listening (place_value options.now.settings.place) }
     ensures trust { result.trust ≡ new_trust options.now.settings.shared
         options.now.settings.times.time_out options.now.admission.peers.addresses }
@@ -359,6 +361,7 @@ fn ending_of(options: &Options<'_>) -> Ending
     let peers = options.admission.peers.addresses;
     Ending {
         limits: settings.limits,
+        absence: settings.absence,
         listens: listens(settings.place),
         trust: Trust::new(settings.shared, settings.times.time_out, peers),
     }

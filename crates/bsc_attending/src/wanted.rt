@@ -35,6 +35,10 @@ pub struct Wanted<'a> {
     /// The number of connections: 1 to 64, or 1 if a peer listens.
     pub connections: usize,
 
+    /// For how many of them the station waits before it begins, if it listens; the others may be
+    /// made later.
+    pub begin_with: usize,
+
     /// Whether transmissions are raw octets and end at gaps.
     pub raw: bool,
 
@@ -49,6 +53,9 @@ pub struct Wanted<'a> {
 
     /// Whether the first wait ends at once, so that the station makes the first call.
     pub begins: bool,
+
+    /// Whether a silence takes no waiting that nobody can break.
+    pub skips: bool,
 
     /// The time-out in milliseconds.
     pub time_out: u64,
@@ -87,6 +94,7 @@ impl Wanted<'_> {
         ensures late_after { as_nanos result.late_after
             ≡ self.now.line_time_out * 1000000 / LATE_SHARE }
         ensures begins { result.begins ≡ self.now.begins }
+        ensures skips { result.skips ≡ self.now.skips }
         ensures allowed { result.allowed ≡ self.now.allowed }
         ensures stops { result.stops_with ≡ input_if self.now.stops }
         ensures serves { result.serves ≡ self.now.serves }
@@ -98,6 +106,7 @@ impl Wanted<'_> {
             pause: Duration::from_millis(self.pause),
             late_after: Duration::from_millis(self.line_time_out) / LATE_SHARE,
             begins: self.begins,
+            skips: self.skips,
             allowed: self.allowed,
             stops_with: if self.stops {
                 Some(STANDARD_INPUT)
@@ -108,15 +117,17 @@ impl Wanted<'_> {
         }
     }
 
-    /// Returns the peers that a station waits for if it listens: one for each connection, at most
-    /// 64, for up to 60 seconds each.
+    /// Returns the peers that connect to a station if it listens: one for each connection, at most
+    /// 64, of which it waits for some, for up to 60 seconds each.
     pub fn peers(&self) -> Peers
         ensures count { result.count ≡ min self.now.connections MAX_CONNECTIONS }
+        ensures begin_with { result.begin_with ≡ self.now.begin_with }
         ensures patience { as_nanos result.patience ≡ 60000 * 1000000 }
         ensures keeps_listening { result.keeps_listening ≡ self.now.stays }
     {
         Peers {
             count: self.connections.min(MAX_CONNECTIONS),
+            begin_with: self.begin_with,
             patience: Duration::from_millis(LISTENING_PATIENCE),
             keeps_listening: self.stays,
         }
@@ -128,7 +139,8 @@ impl Wanted<'_> {
 /// again, and first listens for one whole time-out. `tries` is the limit of failures in a row. A
 /// terminal that holds the line acts on one silence more than that, and then gives up; the control
 /// station waits for one time-out longer, so that no terminal holds the line any more when it acts
-/// (GA27-3004, time-outs).
+/// (GA27-3004, time-outs). Where each terminal has a connection of its own and knows when that is
+/// cut off, a silence takes no waiting that nobody can break.
 pub(crate) fn wanted_by_control<'a>(
     settings: &StationSettings<'a>,
     allowed: Networks,
@@ -141,11 +153,13 @@ pub(crate) fn wanted_by_control<'a>(
     Wanted {
         place: settings.place,
         connections: if settings.shared { 1 } else { terminals },
+        begin_with: settings.begin_with as usize,
         raw: settings.raw,
         allowed,
         stops: settings.until_input_ends,
         stays: listens(settings.place),
         begins: !settings.is_kept,
+        skips: listens(settings.place) && !settings.raw && !settings.shared,
         time_out: settings.times.time_out.saturating_mul(u64::from(tries) + 2),
         gap: settings.times.gap,
         patience: settings.times.patience,
@@ -167,11 +181,13 @@ pub(crate) fn wanted_by_terminal<'a>(
     Wanted {
         place: settings.place,
         connections: 1,
+        begin_with: 1,
         raw: settings.raw,
         allowed,
         stops: settings.until_input_ends,
         stays: false,
         begins: false,
+        skips: false,
         time_out: settings.times.time_out,
         gap: settings.times.gap,
         patience: settings.times.patience,

@@ -1,7 +1,7 @@
 //! The connections of a machine to other processes, its clock, and the writer for a trace.
 
 ghost use Rattle.std.specs.Prelude.{◌≡◌, length, IfOk};
-ghost use Rattle.bsc_machine.specs.Connections.{AreSettings, ListensOn, count_at};
+ghost use Rattle.bsc_machine.specs.Connections.{AreSettings, ListensOn, count_at, first_at};
 ghost use Rattle.bsc_machine.specs.Showing.{IsOf, is_shown, shows};
 
 use crate::connecting::{PeerAt, connect_within};
@@ -44,6 +44,16 @@ fn tell_address<'a, R: Filing + Net, W: Write>(
     }
 }
 
+/// Returns the number of places for the connections that a station asks for.
+fn places_of(wanted: &Wanted<'_>) -> usize
+    ensures { result ≡ count_at wanted.now.place wanted.now.connections }
+{
+    match wanted.place {
+        Place::Listen { .. } => wanted.peers().count,
+        Place::Connect { .. } => 1,
+    }
+}
+
 /// Makes the connections that a station asks for.
 fn begin<'a, R: AllocGlobal + Clock + Eprint + Filing + Net>(
     runtime: &'a R,
@@ -51,7 +61,7 @@ fn begin<'a, R: AllocGlobal + Clock + Eprint + Filing + Net>(
     wanted: &Wanted<'_>,
 ) -> Result<Begun<'a, R, Global>, SocketsError>
     ensures count { IfOk result (λ begun. length begun.connections.items
-        ≡ count_at wanted.now.place wanted.now.connections) }
+        ≡ first_at wanted.now.place wanted.now.begin_with wanted.now.connections) }
     ensures settings { IfOk result (λ begun. AreSettings wanted.now begun.sockets.settings) }
     ensures listens { IfOk result (λ begun. ListensOn wanted.now.place wanted.now.stays
         begun.sockets.listener) }
@@ -112,7 +122,9 @@ impl<'a, R: AllocGlobal + Clock + Eprint + Filing<File = File> + Net> Network fo
         wanted: &Wanted<'_>,
     ) -> Result<Opened<Self::Reader, Self::Writer, Self::Waiter>, SocketsError>
         ensures count { IfOk result (λ opened. length opened.connections.items
-            ≡ count_at wanted.now.place wanted.now.connections) }
+            ≡ first_at wanted.now.place wanted.now.begin_with wanted.now.connections) }
+        ensures places { IfOk result (λ opened.
+            opened.places ≡ count_at wanted.now.place wanted.now.connections) }
         ensures settings { IfOk result (λ opened. AreSettings wanted.now opened.waiter.settings) }
         ensures listens { IfOk result (λ opened. ListensOn wanted.now.place wanted.now.stays
             opened.waiter.listener) }
@@ -121,6 +133,7 @@ impl<'a, R: AllocGlobal + Clock + Eprint + Filing<File = File> + Net> Network fo
         Ok(Opened {
             waiter: begun.sockets,
             connections: begun.connections,
+            places: places_of(wanted),
         })
     }
 

@@ -6,6 +6,8 @@ use Rattle.bsc_options.specs.declared.error.OptionError.TheVariants.{ConnectNeed
 use Rattle.bsc_options.specs.declared.error.OptionError.TheVariants.{NeedsControl}
 use Rattle.bsc_options.specs.declared.error.OptionError.TheVariants.{PatienceNeedsConnect}
 use Rattle.bsc_options.specs.declared.error.OptionError.TheVariants.{ReplaceAfterNeedsListen}
+use Rattle.bsc_options.specs.declared.error.OptionError.TheVariants.{BeginWithNeedsListen}
+use Rattle.bsc_options.specs.declared.error.OptionError.TheVariants.{BeginWith}
 use Rattle.bsc_options.specs.declared.error.OptionError.TheVariants.{ReplaceAfter, Pause}
 use Rattle.bsc_options.specs.declared.error.OptionError.TheVariants.{PauseNotBelowHalf}
 use Rattle.bsc_options.specs.declared.error.OptionError.TheVariants.{AllowNeedsListen}
@@ -16,6 +18,7 @@ use Rattle.bsc_options.specs.declared.error.OptionError.TheVariants.{ServeAnyone
 use Rattle.bsc_options.specs.declared.error.OptionError.TheVariants.{RepeatedInput, Gap, TimeOut}
 use Rattle.bsc_options.specs.declared.error.OptionError.TheVariants.{GapNotBelowTimeOut, Patience}
 use Rattle.bsc_options.specs.declared.error.OptionError.TheVariants.{Rounds, IdleRounds, NoTerminal}
+use Rattle.bsc_options.specs.declared.error.OptionError.TheVariants.{AbsentAfter, RetryAbsent}
 use Rattle.bsc_options.specs.declared.error.OptionError.TheVariants.{OfferForm, NoChannel, NoPeer}
 use Rattle.bsc_options.specs.declared.error.OptionError.TheVariants.{AllowForm, TooManyNetworks}
 use Rattle.bsc_options.specs.declared.error.OptionError.TheVariants.{PeerForm, RepeatedPeer}
@@ -29,9 +32,12 @@ reason Station = codes "exactly one of --control and --terminal must say which s
 reason TerminalNumber = codes "--terminal takes the number of a terminal"
 reason Place = codes "exactly one of --listen and --connect must say where its connections are"
 reason ConnectNeedsShared = codes "--control with --connect needs --shared"
-reason NeedsControl = codes "--shared, --pause, --rounds and --idle-rounds need --control"
+reason NeedsControl =
+    codes "--shared, --pause, --rounds, --idle-rounds, --absent-after and --retry-absent need "
+    ++ codes "--control"
 reason PatienceNeedsConnect = codes "--patience needs --connect"
 reason ReplaceAfterNeedsListen = codes "--replace-after needs --control and --listen"
+reason BeginWithNeedsListen = codes "--begin-with needs --control and --listen"
 reason AllowNeedsListen = codes "--allow needs --listen"
 reason PeerNeedsListen = codes "--peer needs --control and --listen, and not --shared"
 reason GapNeedsRaw = codes "--gap needs --raw"
@@ -45,10 +51,13 @@ reason TimeOut = codes "--time-out takes milliseconds, 1 to 3600000"
 reason GapNotBelowTimeOut = codes "with --raw the gap must be less than the time-out"
 reason Patience = codes "--patience takes milliseconds, 1 to 3600000"
 reason ReplaceAfter = codes "--replace-after takes milliseconds, 1 to 3600000"
+reason BeginWith = codes "--begin-with takes a number, 0 to 64"
 reason Pause = codes "--pause takes milliseconds, 0 to 3600000"
 reason PauseNotBelowHalf = codes "--pause must be less than half of the time-out"
 reason Rounds = codes "--rounds takes a number from 1 up"
 reason IdleRounds = codes "--idle-rounds takes a number from 1 up"
+reason AbsentAfter = codes "--absent-after takes a number from 0 up"
+reason RetryAbsent = codes "--retry-absent takes seconds, 1 to 3600"
 reason AllowForm = codes "--allow takes ADDRESS/BITS"
 reason TooManyNetworks = codes "--allow cannot be given more than 16 times"
 reason PeerForm = codes "--peer takes T=ADDRESS"
@@ -75,6 +84,7 @@ is_conflict ConnectNeedsShared = true
 is_conflict NeedsControl = true
 is_conflict PatienceNeedsConnect = true
 is_conflict ReplaceAfterNeedsListen = true
+is_conflict BeginWithNeedsListen = true
 is_conflict AllowNeedsListen = true
 is_conflict PeerNeedsListen = true
 is_conflict GapNeedsRaw = true
@@ -87,10 +97,13 @@ is_conflict TimeOut = false
 is_conflict GapNotBelowTimeOut = true
 is_conflict Patience = false
 is_conflict ReplaceAfter = false
+is_conflict BeginWith = false
 is_conflict Pause = false
 is_conflict PauseNotBelowHalf = true
 is_conflict Rounds = false
 is_conflict IdleRounds = false
+is_conflict AbsentAfter = false
+is_conflict RetryAbsent = false
 is_conflict AllowForm = false
 is_conflict TooManyNetworks = false
 is_conflict PeerForm = false

@@ -1,11 +1,12 @@
 -- The settings in the options of a station.
-use Rattle.std.specs.Prelude.{ℕ, ◌-◌, ◌*◌, ◌/◌, ◌^◌, ◌==◌, min, nat_le, ◌&&◌, ◌||◌, not, Bool}
-use Rattle.std.specs.Prelude.{true, false, option_map}
+use Rattle.std.specs.Prelude.{ℕ, ◌-◌, ◌*◌, ◌/◌, ◌^◌, ◌==◌, min, nat_le, nat_lt, ◌&&◌, ◌||◌, not}
+use Rattle.std.specs.Prelude.{Bool, true, false, option_map}
 use Rattle.std.specs.Prelude.{List, [], ◌∷◌, Option, Some, None, is_some, ok_or, Result, Ok, Err}
 use Rattle.std.specs.Prelude.{if◌then◌else◌}
 use Rattle.bsc_asked.specs.StationWords.{AskedWords}
 use Rattle.bsc_print.specs.declared.form.Form.{Form}
 use Rattle.bsc_print.specs.declared.form.Form.TheVariants.{Hexadecimal, Text, Bytes}
+use Rattle.bsc_monitor.specs.declared.attendance.AbsenceLimits.{AbsenceLimits}
 use Rattle.bsc_monitor.specs.declared.rounds.Limits.{Limits}
 use Rattle.bsc_monitor.specs.declared.watch.Printing.{Printing}
 use Rattle.bsc_monitor.specs.declared.tracing.Tracing.{Tracing}
@@ -56,12 +57,14 @@ abbrev pub unless : Bool → OptionError → Result (Unit {0}) OptionError
 unless broken why = if broken then Err why else Ok tt
 
 -- The options that this station may not have, or needs: a control station that connects reaches all
--- terminals by one connection; only a control station pauses and counts rounds.
+-- terminals by one connection; only a control station pauses, counts rounds, and has terminals that
+-- may be absent.
 abbrev pub fits_role : AskedWords → Role → Result (Unit {0}) OptionError
 fits_role w Control = unless (is_some w.connect && not w.shared) error.ConnectNeedsShared
 fits_role w (Terminal number) =
-    unless (w.shared || (is_some w.pause || (is_some w.rounds || is_some w.idle_rounds)))
-    error.NeedsControl
+    unless
+    (((w.shared || is_some w.pause) || (is_some w.rounds || is_some w.idle_rounds))
+    || (is_some w.absent_after || is_some w.retry_absent)) error.NeedsControl
 
 -- Whether a list has any element.
 abbrev pub is_any : {X : Type 0} → List X → Bool
@@ -74,6 +77,8 @@ fits_place w = do
   patience ← unless (is_some w.patience && not (is_some w.connect)) error.PatienceNeedsConnect
   replace ← unless (is_some w.replace_after && not (w.control && is_some w.listen))
       error.ReplaceAfterNeedsListen
+  begin ← unless (is_some w.begin_with && not (w.control && is_some w.listen))
+      error.BeginWithNeedsListen
   allow ← unless (is_any w.allowed && not (is_some w.listen)) error.AllowNeedsListen
   unless (is_any w.peers && (not (w.control && is_some w.listen) || w.shared))
       error.PeerNeedsListen
@@ -145,13 +150,30 @@ rounds_in (Some text) = do
 abbrev pub absent_idle_rounds : Bool → ℕ
 absent_idle_rounds serves = if serves then 2 ^ 64 - 1 else 2
 
--- The limits at which a control station ends.
-abbrev pub limits_in : AskedWords → Result Limits OptionError
-limits_in w = do
+-- The limits at which a control station ends that waits for this many terminals. Rounds count from
+-- the beginning if it waits for some, or connects to a peer.
+abbrev pub limits_in : AskedWords → ℕ → Result Limits OptionError
+limits_in w begin_with = do
   rounds ← rounds_in w.rounds
   idle_rounds ← number_in error.IdleRounds 1 (2 ^ 64 - 1) (absent_idle_rounds (is_some w.serve))
       w.idle_rounds
-  Ok (record { rounds = rounds; idle_rounds = idle_rounds })
+  Ok (record {
+    rounds = rounds;
+    idle_rounds = idle_rounds;
+    counts_at_once = not (is_some w.listen) || nat_lt 0 begin_with;
+  })
+
+-- A number of seconds in milliseconds, up to the largest value of 64 bits.
+abbrev pub in_milliseconds : ℕ → ℕ
+in_milliseconds seconds = min (seconds * 1000) (2 ^ 64 - 1)
+
+-- When a terminal is absent: after two visits without an answer unless given, and with 0 never. It
+-- is called again after 30 seconds unless given.
+abbrev pub absence_in : AskedWords → Result AbsenceLimits OptionError
+absence_in w = do
+  absent_after ← number_in error.AbsentAfter 0 (2 ^ 64 - 1) 2 w.absent_after
+  seconds ← number_in error.RetryAbsent 1 3600 30 w.retry_absent
+  Ok (record { absent_after = absent_after; retry = in_milliseconds seconds })
 
 -- The form of records in the output.
 abbrev pub form_in : Bool → Bool → Form
@@ -169,15 +191,21 @@ printing_in w = record {
   trace = tracing_in w.trace;
 }
 
+-- The number of terminals for which a control station waits, none unless it is given.
+abbrev pub begin_with_in : Option (List ℕ) → Result ℕ OptionError
+begin_with_in text = number_in error.BeginWith 0 64 0 text
+
 -- The settings of a station.
 pub record SettingsValue : Type 0 where
   pub role : Role
   pub place : PlaceValue
   pub serves : Option ServesValue
   pub shared : Bool
+  pub begin_with : ℕ
   pub raw : Bool
   pub times : Times
   pub limits : Limits
+  pub absence : AbsenceLimits
   pub until_input_ends : Bool
   pub is_kept : Bool
   pub sync : Bool
@@ -191,9 +219,11 @@ settings_value s = record {
   place = place_value s.place;
   serves = option_map serves_value s.serves;
   shared = s.shared;
+  begin_with = s.begin_with;
   raw = s.raw;
   times = s.times;
   limits = s.limits;
+  absence = s.absence;
   until_input_ends = s.until_input_ends;
   is_kept = s.is_kept;
   sync = s.sync;
@@ -212,16 +242,20 @@ settings_in w = do
   role ← role_in w.control w.terminal
   place ← place_in w.listen w.connect
   fits ← fits_together w role
+  begin_with ← begin_with_in w.begin_with
   times ← times_in w
-  limits ← limits_in w
+  limits ← limits_in w begin_with
+  absence ← absence_in w
   Ok (record {
     role = role;
     place = place;
     serves = serves_in w.serve w.serve_anyone;
     shared = w.shared;
+    begin_with = begin_with;
     raw = w.raw;
     times = times;
     limits = limits;
+    absence = absence;
     until_input_ends = w.until_input_ends;
     is_kept = is_some w.store;
     sync = w.sync;

@@ -48,7 +48,8 @@ fn check_role(words: &StationWords, role: Role) -> Result<(), OptionError>
         }
         Role::Terminal { .. } => {
             let counts = is_given(&words.rounds) || is_given(&words.idle_rounds);
-            let is_broken = words.shared || is_given(&words.pause) || counts;
+            let calls = is_given(&words.absent_after) || is_given(&words.retry_absent);
+            let is_broken = words.shared || is_given(&words.pause) || counts || calls;
             unless(is_broken, OptionError::NeedsControl)
         }
     }
@@ -64,6 +65,8 @@ fn check_place(words: &StationWords) -> Result<(), OptionError>
     let is_listening = words.control && listens;
     let is_broken = is_given(&words.replace_after) && !is_listening;
     unless(is_broken, OptionError::ReplaceAfterNeedsListen)?;
+    let is_broken = is_given(&words.begin_with) && !is_listening;
+    unless(is_broken, OptionError::BeginWithNeedsListen)?;
     unless(
         has_any(&words.allowed) && !listens,
         OptionError::AllowNeedsListen,

@@ -22,7 +22,8 @@ pub enum OptionError {
     /// `--control` and `--connect` are given without `--shared`.
     ConnectNeedsShared,
 
-    /// `--shared`, `--pause`, `--rounds` or `--idle-rounds` is given without `--control`.
+    /// `--shared`, `--pause`, `--rounds`, `--idle-rounds`, `--absent-after` or `--retry-absent` is
+    /// given without `--control`.
     NeedsControl,
 
     /// `--patience` is given without `--connect`.
@@ -30,6 +31,9 @@ pub enum OptionError {
 
     /// `--replace-after` is given without both `--control` and `--listen`.
     ReplaceAfterNeedsListen,
+
+    /// `--begin-with` is given without both `--control` and `--listen`.
+    BeginWithNeedsListen,
 
     /// `--allow` is given without `--listen`.
     AllowNeedsListen,
@@ -67,6 +71,9 @@ pub enum OptionError {
     /// The value of `--replace-after` is not a number of milliseconds up to an hour.
     ReplaceAfter,
 
+    /// The value of `--begin-with` is not a number from 0 to 64.
+    BeginWith,
+
     /// The value of `--pause` is not a number of milliseconds from 0 up to an hour.
     Pause,
 
@@ -78,6 +85,12 @@ pub enum OptionError {
 
     /// The value of `--idle-rounds` is not a number from 1 up.
     IdleRounds,
+
+    /// The value of `--absent-after` is not a number from 0 up.
+    AbsentAfter,
+
+    /// The value of `--retry-absent` is not a number of seconds up to an hour.
+    RetryAbsent,
 
     /// The value of an `--allow` is not an IP address, with or without a number of leading bits.
     AllowForm,
@@ -137,10 +150,12 @@ impl OptionError {
             }
             OptionError::ConnectNeedsShared => "--control with --connect needs --shared",
             OptionError::NeedsControl => {
-                "--shared, --pause, --rounds and --idle-rounds need --control"
+                "--shared, --pause, --rounds, --idle-rounds, --absent-after and --retry-absent \
+                 need --control"
             }
             OptionError::PatienceNeedsConnect => "--patience needs --connect",
             OptionError::ReplaceAfterNeedsListen => "--replace-after needs --control and --listen",
+            OptionError::BeginWithNeedsListen => "--begin-with needs --control and --listen",
             OptionError::AllowNeedsListen => "--allow needs --listen",
             OptionError::PeerNeedsListen => {
                 "--peer needs --control and --listen, and not --shared"
@@ -157,10 +172,13 @@ impl OptionError {
             OptionError::GapNotBelowTimeOut => "with --raw the gap must be less than the time-out",
             OptionError::Patience => "--patience takes milliseconds, 1 to 3600000",
             OptionError::ReplaceAfter => "--replace-after takes milliseconds, 1 to 3600000",
+            OptionError::BeginWith => "--begin-with takes a number, 0 to 64",
             OptionError::Pause => "--pause takes milliseconds, 0 to 3600000",
             OptionError::PauseNotBelowHalf => "--pause must be less than half of the time-out",
             OptionError::Rounds => "--rounds takes a number from 1 up",
             OptionError::IdleRounds => "--idle-rounds takes a number from 1 up",
+            OptionError::AbsentAfter => "--absent-after takes a number from 0 up",
+            OptionError::RetryAbsent => "--retry-absent takes seconds, 1 to 3600",
             OptionError::AllowForm => "--allow takes ADDRESS/BITS",
             OptionError::TooManyNetworks => "--allow cannot be given more than 16 times",
             OptionError::PeerForm => "--peer takes T=ADDRESS",
@@ -193,6 +211,7 @@ impl OptionError {
             | OptionError::NeedsControl
             | OptionError::PatienceNeedsConnect
             | OptionError::ReplaceAfterNeedsListen
+            | OptionError::BeginWithNeedsListen
             | OptionError::AllowNeedsListen
             | OptionError::PeerNeedsListen
             | OptionError::GapNeedsRaw
@@ -221,9 +240,12 @@ impl OptionError {
             | OptionError::TimeOut
             | OptionError::Patience
             | OptionError::ReplaceAfter
+            | OptionError::BeginWith
             | OptionError::Pause
             | OptionError::Rounds
-            | OptionError::IdleRounds => false,
+            | OptionError::IdleRounds
+            | OptionError::AbsentAfter
+            | OptionError::RetryAbsent => false,
         }
     }
 }

@@ -3,7 +3,8 @@
 ghost use Rattle.std.specs.Prelude.{◌≡◌, option_map, string_bytes};
 ghost use Rattle.bsc_asked.specs.StationWords.{asked_words};
 ghost use Rattle.bsc_options.specs.Readings.{Gives};
-ghost use Rattle.bsc_options.specs.Settings.{absent_idle_rounds, absent_pause, form_in, limits_in};
+ghost use Rattle.bsc_options.specs.Settings.{absence_in, absent_idle_rounds, absent_pause};
+ghost use Rattle.bsc_options.specs.Settings.{form_in, limits_in};
 ghost use Rattle.bsc_options.specs.Settings.{number_in, place_in, place_value};
 ghost use Rattle.bsc_options.specs.Settings.{printing_in, reported_in, role_in, rounds_in};
 ghost use Rattle.bsc_options.specs.Settings.{settings_in, settings_value, times_in, tracing_in};
@@ -13,7 +14,7 @@ use crate::numbers::{number_within, octet_in};
 use crate::serves::serves_of;
 use crate::{OptionError, Serves};
 use bsc_asked::StationWords;
-use bsc_monitor::{Limits, Printing, RecordLines, Tracing};
+use bsc_monitor::{AbsenceLimits, Limits, Printing, RecordLines, Tracing};
 use bsc_print::Form;
 
 /// The gap in milliseconds, unless given.
@@ -33,6 +34,18 @@ const IDLE_ROUNDS: u64 = 2;
 
 /// The same for a station that programs feed: as many as are counted, which never come.
 const SERVING_IDLE_ROUNDS: u64 = u64::MAX;
+
+/// The maximum of the terminals for which a control station waits: as many as there can be.
+const MOST_TERMINALS: u64 = 64;
+
+/// The number of visits in a row without an answer after which a terminal is absent, unless given.
+const ABSENT_AFTER: u64 = 2;
+
+/// After how many seconds an absent terminal is called again, unless given.
+const RETRY_ABSENT: u64 = 30;
+
+/// The most of these: one hour.
+const MOST_RETRY: u64 = 3_600;
 
 /// The maximum of each time, in milliseconds: one hour.
 const HOUR: u64 = 3_600_000;
@@ -91,6 +104,10 @@ pub struct StationSettings<'a> {
     /// Whether the control station reaches all terminals by one connection.
     pub shared: bool,
 
+    /// The number of terminals for which the control station waits before its first call, if it
+    /// listens.
+    pub begin_with: u64,
+
     /// Whether transmissions are raw octets and end at gaps.
     pub raw: bool,
 
@@ -99,6 +116,9 @@ pub struct StationSettings<'a> {
 
     /// The limits at which a control station ends.
     pub limits: Limits,
+
+    /// When a control station takes a terminal for absent.
+    pub absence: AbsenceLimits,
 
     /// Whether it ends when standard input does.
     pub until_input_ends: bool,
@@ -244,9 +264,9 @@ fn read_rounds(rounds: &Option<String>) -> Result<Option<u64>, OptionError>
     }
 }
 
-/// Returns the limits at which a control station ends.
-fn read_limits(words: &StationWords) -> Result<Limits, OptionError>
-    ensures { result ≡ limits_in (asked_words words.now) }
+/// Returns the limits at which a control station ends that waits for this many terminals.
+fn read_limits(words: &StationWords, begin_with: u64) -> Result<Limits, OptionError>
+    ensures { result ≡ limits_in (asked_words words.now) begin_with }
 {
     let rounds = read_rounds(&words.rounds)?;
     let why = OptionError::IdleRounds;
@@ -255,6 +275,21 @@ fn read_limits(words: &StationWords) -> Result<Limits, OptionError>
     Ok(Limits {
         rounds,
         idle_rounds,
+        counts_at_once: !is_given(&words.listen) || begin_with > 0,
+    })
+}
+
+/// Returns when a terminal is absent, and when it is called again.
+fn read_absence(words: &StationWords) -> Result<AbsenceLimits, OptionError>
+    ensures { result ≡ absence_in (asked_words words.now) }
+{
+    let why = OptionError::AbsentAfter;
+    let absent_after = number(&words.absent_after, 0, u64::MAX, ABSENT_AFTER, why)?;
+    let why = OptionError::RetryAbsent;
+    let seconds = number(&words.retry_absent, 1, MOST_RETRY, RETRY_ABSENT, why)?;
+    Ok(AbsenceLimits {
+        absent_after,
+        retry: seconds.saturating_mul(1_000),
     })
 }
 
@@ -307,24 +342,34 @@ fn reported_of(words: &StationWords) -> Option<Form>
 }
 
 /// Reads the settings in the options, or returns the first reason for refusing them, in the order
-/// of the checks: the station, the place of its connections, what does not fit together, the times,
-/// and the limits.
+/// of the checks: the station, the place of its connections, what does not fit together, the
+/// terminals that are waited for, the times, the limits, and when a terminal is absent.
 pub fn read_settings(words: &StationWords) -> Result<StationSettings<'_>, OptionError>
     ensures { Gives settings_value result (settings_in (asked_words words.now)) }
 {
     let role = role_of(words.control, text_of(&words.terminal))?;
     let place = place_of(text_of(&words.listen), text_of(&words.connect))?;
     check_together(words, role)?;
+    let begin_with = number(
+        &words.begin_with,
+        0,
+        MOST_TERMINALS,
+        0,
+        OptionError::BeginWith,
+    )?;
     let times = read_times(words)?;
-    let limits = read_limits(words)?;
+    let limits = read_limits(words, begin_with)?;
+    let absence = read_absence(words)?;
     Ok(StationSettings {
         role,
         place,
         serves: serves_of(&words.serve, words.serve_anyone),
         shared: words.shared,
+        begin_with,
         raw: words.raw,
         times,
         limits,
+        absence,
         until_input_ends: words.until_input_ends,
         is_kept: is_given(&words.store),
         sync: words.sync,

@@ -28,9 +28,12 @@ station_app =
     ∷ option (codes "time-out")
     ∷ option (codes "patience")
     ∷ option (codes "replace-after")
+    ∷ option (codes "begin-with")
     ∷ option (codes "pause")
     ∷ option (codes "rounds")
     ∷ option (codes "idle-rounds")
+    ∷ option (codes "absent-after")
+    ∷ option (codes "retry-absent")
     ∷ flag (codes "until-input-ends")
     ∷ value_list (codes "offer")
     ∷ option (codes "store")
@@ -65,9 +68,12 @@ words_in rows = record {
   time_out = first_of (codes "time-out") rows;
   patience = first_of (codes "patience") rows;
   replace_after = first_of (codes "replace-after") rows;
+  begin_with = first_of (codes "begin-with") rows;
   pause = first_of (codes "pause") rows;
   rounds = first_of (codes "rounds") rows;
   idle_rounds = first_of (codes "idle-rounds") rows;
+  absent_after = first_of (codes "absent-after") rows;
+  retry_absent = first_of (codes "retry-absent") rows;
   until_input_ends = given (codes "until-input-ends") rows;
   offers = values_of (codes "offer") rows;
   store = first_of (codes "store") rows;
@@ -124,9 +130,12 @@ pub record NumberTexts : Type 0 where
   pub time_out : Option Text
   pub patience : Option Text
   pub replace_after : Option Text
+  pub begin_with : Option Text
   pub pause : Option Text
   pub rounds : Option Text
   pub idle_rounds : Option Text
+  pub absent_after : Option Text
+  pub retry_absent : Option Text
 
 abbrev pub number_texts : Numbers → NumberTexts
 number_texts n = record {
@@ -134,9 +143,12 @@ number_texts n = record {
   time_out = option_map string_bytes n.time_out;
   patience = option_map string_bytes n.patience;
   replace_after = option_map string_bytes n.replace_after;
+  begin_with = option_map string_bytes n.begin_with;
   pause = option_map string_bytes n.pause;
   rounds = option_map string_bytes n.rounds;
   idle_rounds = option_map string_bytes n.idle_rounds;
+  absent_after = option_map string_bytes n.absent_after;
+  retry_absent = option_map string_bytes n.retry_absent;
 }
 
 -- The times and limits in the matches.
@@ -146,7 +158,10 @@ numbers_in rows = record {
   time_out = first_of (codes "time-out") rows;
   patience = first_of (codes "patience") rows;
   replace_after = first_of (codes "replace-after") rows;
+  begin_with = first_of (codes "begin-with") rows;
   pause = first_of (codes "pause") rows;
   rounds = first_of (codes "rounds") rows;
   idle_rounds = first_of (codes "idle-rounds") rows;
+  absent_after = first_of (codes "absent-after") rows;
+  retry_absent = first_of (codes "retry-absent") rows;
 }

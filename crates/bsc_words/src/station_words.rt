@@ -42,9 +42,12 @@ struct Numbers {
     time_out: Option<String>,
     patience: Option<String>,
     replace_after: Option<String>,
+    begin_with: Option<String>,
     pause: Option<String>,
     rounds: Option<String>,
     idle_rounds: Option<String>,
+    absent_after: Option<String>,
+    retry_absent: Option<String>,
 }
 
 /// Returns the flags in these matches.
@@ -87,9 +90,12 @@ fn numbers_of(alloc: Global, matches: &ArgMatches<'_>) -> Result<Numbers, AllocE
         time_out: option_text(alloc, matches, "time-out")?,
         patience: option_text(alloc, matches, "patience")?,
         replace_after: option_text(alloc, matches, "replace-after")?,
+        begin_with: option_text(alloc, matches, "begin-with")?,
         pause: option_text(alloc, matches, "pause")?,
         rounds: option_text(alloc, matches, "rounds")?,
         idle_rounds: option_text(alloc, matches, "idle-rounds")?,
+        absent_after: option_text(alloc, matches, "absent-after")?,
+        retry_absent: option_text(alloc, matches, "retry-absent")?,
     })
 }
 
@@ -119,9 +125,12 @@ pub(crate) fn station_words(
         time_out,
         patience,
         replace_after,
+        begin_with,
         pause,
         rounds,
         idle_rounds,
+        absent_after,
+        retry_absent,
     } = numbers;
     Ok(StationWords {
         config,
@@ -139,9 +148,12 @@ pub(crate) fn station_words(
         time_out,
         patience,
         replace_after,
+        begin_with,
         pause,
         rounds,
         idle_rounds,
+        absent_after,
+        retry_absent,
         until_input_ends: flags.until_input_ends,
         offers,
         store,

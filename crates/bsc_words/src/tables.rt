@@ -218,6 +218,12 @@ pub(crate) const STATION: Subcommand = Subcommand {
             help: "Let a newcomer replace what has not answered for MS, 3 time-outs unless given",
         },
         Entry {
+            id: "begin-with",
+            given: Value,
+            value: "N",
+            help: "Wait for N terminals before the first call, 0 to 64, 0 unless given",
+        },
+        Entry {
             id: "pause",
             given: Value,
             value: "MS",
@@ -235,6 +241,19 @@ pub(crate) const STATION: Subcommand = Subcommand {
             given: Value,
             value: "N",
             help: "End after N idle rounds in a row, 2 unless given, with --serve no limit",
+        },
+        Entry {
+            id: "absent-after",
+            given: Value,
+            value: "N",
+            help: "Call a terminal less often after N visits without an answer, 2 unless given; 0 \
+                for never",
+        },
+        Entry {
+            id: "retry-absent",
+            given: Value,
+            value: "S",
+            help: "Call it again after S seconds, 1 to 3600, 30 unless given",
         },
         Entry {
             id: "until-input-ends",

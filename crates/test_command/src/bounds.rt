@@ -28,16 +28,17 @@ hears call-A63 ack1 call-d63 text eot
 > to 63.3: 4849|from 63: offered 0, known 0
 > to 63.0: spooled 0|to 63.1: spooled 0|to 63.2: spooled 0|to 63.3: spooled 1
 # connection 0 closed
-$ station - --control --listen h:1
-// A control station may have 16 networks and the addresses of 64 terminals, and an offer for
-// each of 256 addresses.
+$ station - --control --listen h:1 --begin-with 64
+// A control station may have 16 networks and the addresses of 64 terminals, wait for all of them,
+// and have an offer for each of 256 addresses.
 words*16 --allow ^.0.0.0/8
 words*64 --peer ^=10.0.0.1
 < version = 2|poll_list = [63]
 widest
 fills
 address-in-use
-asks listen h:1 by 64, 15000/3000, gap 50, patience 3000, replace 9000, pause 20, stays, begins
+asks listen h:1 by 64, 15000/3000, gap 50, patience 3000, replace 9000, pause 20, stays, begins, \
+skips, after 64
 ! bscline: address in use
 $ station - --control --listen h:1
 words*17 --allow ^.0.0.0/8
@@ -79,6 +80,7 @@ to ^.2: offered 0, known 0|to ^.3: offered 0, known 0
 > from 63: spooled 1|to 63.0: offered 1, known 1|to 63.1: offered 0, known 0
 > to 63.2: offered 0, known 0|to 63.3: offered 0, known 0|slowest answer: 0% of the time-out|trusted
 sent 55360
+#*64 terminal ^ answers on connection ^
 ";
 
 #[test]

@@ -176,7 +176,7 @@ steps tttttrr
 > not trusted: connection 0 of terminal 1 answered when terminal 0 was called
 ! bscline: the line is not trusted
 sent 66
-# terminal 0 has not answered
+# terminal 0 has not answered|terminal 1 answers on connection 0
 # not trusted: connection 0 of terminal 1 answered when terminal 0 was called|connection 0 closed
 status 5
 ";

@@ -79,7 +79,7 @@ steps rrrrrrrrf
 ! bscline: cannot make the sockets
 $ station line.toml --control --listen h:1 --store control
 address-in-use
-asks listen h:1 by 2, 15000/3000, gap 50, patience 3000, replace 9000, pause 20, stays
+asks listen h:1 by 2, 15000/3000, gap 50, patience 3000, replace 9000, pause 20, stays, skips
 ! bscline: address in use
 $ station three.toml --terminal 0 --connect h:1 --store three
 // A record arrives at terminal 0 by its second address, and in the next process one by its

@@ -69,7 +69,7 @@ impl Scripted<'_> {
 }
 
 impl<'a> Waiter<Pieces, Sink<'a>> for Scripted<'a> {
-    ghost waits = { λ _ _ _. Unit {0} };
+    ghost waits = { λ _ _ _ _. Unit {0} };
 
     ghost handles = { λ _ _ _ _. Unit {0} };
 
@@ -89,7 +89,7 @@ impl<'a> Waiter<Pieces, Sink<'a>> for Scripted<'a> {
 
     ghost names_newcomer = { λ _ _. Unit {0} };
 
-    fn wait(&mut self) -> Result<Awaited, LiveError> {
+    fn wait(&mut self, _is_reached: bool) -> Result<Awaited, LiveError> {
         let Some(&step) = self.steps.first() else {
             let connection = self.next_read();
             return Ok(Awaited::Octets { connection });
@@ -278,6 +278,7 @@ impl Machine<'_> {
             (wanted.raw, ", raw"),
             (wanted.stays, ", stays"),
             (wanted.begins, ", begins"),
+            (wanted.skips, ", skips"),
             (wanted.stops, ", stops"),
             (wanted.trace, ", traced"),
             (wanted.serves.is_some(), ", called"),
@@ -289,6 +290,9 @@ impl Machine<'_> {
             if *is_set {
                 text.write_all(flag.as_bytes())?;
             }
+        }
+        if wanted.stays && wanted.begin_with > 0 {
+            write!(text, ", after {}", wanted.begin_with)?;
         }
         Ok(())
     }
@@ -369,6 +373,7 @@ impl<'a> Network for Machine<'a> {
                 record,
             },
             connections,
+            places: wanted.connections,
         })
     }
 

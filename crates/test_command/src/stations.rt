@@ -49,7 +49,8 @@ $ station line.toml --control --listen h:1
 // No connections can be made, or waiting for them fails after a record has arrived: no report is
 // printed.
 address-in-use
-asks listen h:1 by 2, 15000/3000, gap 50, patience 3000, replace 9000, pause 20, stays, begins
+asks listen h:1 by 2, 15000/3000, gap 50, patience 3000, replace 9000, pause 20, stays, begins, \
+skips
 ! bscline: address in use
 $ station line.toml --terminal 0 --connect h:1
 nobody-there

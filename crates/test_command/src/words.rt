@@ -117,10 +117,14 @@ needs --raw
       --patience <MS>       How long to try to connect, in milliseconds; the time-out unless given
       --replace-after <MS>  Let a newcomer replace what has not answered for MS, 3 time-outs \
 unless given
+      --begin-with <N>      Wait for N terminals before the first call, 0 to 64, 0 unless given
       --pause <MS>          Pause after a round in which nothing got through, in milliseconds, \
 up to 20 unless given, with --serve 100
       --rounds <N>          End after N rounds of the poll list
       --idle-rounds <N>     End after N idle rounds in a row, 2 unless given, with --serve no limit
+      --absent-after <N>    Call a terminal less often after N visits without an answer, 2 unless \
+given; 0 for never
+      --retry-absent <S>    Call it again after S seconds, 1 to 3600, 30 unless given
       --until-input-ends    End when standard input ends
       --offer <OFFER>       Offer the lines of PATH: at a terminal PATH, at the control station \
 T.S=PATH

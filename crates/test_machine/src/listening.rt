@@ -51,6 +51,10 @@ waiting for terminals: 1 of 2 connected
 connection 1 from 127.0.0.1:~ joined
 ";
 
+/// What the control station tells that waits for nobody.
+const AT_ONCE: &str = "listening at 127.0.0.2:~
+";
+
 /// What a terminal tells with a trace that waits for the control station.
 const TRACED: &str = "+0 listening at 127.0.0.2:~
 +0 waiting for the control station
@@ -81,12 +85,17 @@ type Waits = (
     &'static str,
 );
 
-fn cases() -> [Waits; 3] {
+fn cases() -> [Waits; 4] {
     let one = wanted(HERE);
     let control = Wanted {
         connections: 2,
+        begin_with: 2,
         stays: true,
         ..one
+    };
+    let at_once = Wanted {
+        begin_with: 0,
+        ..control
     };
     let traced = Wanted { trace: true, ..one };
     let closed = Wanted {
@@ -96,6 +105,7 @@ fn cases() -> [Waits; 3] {
     let nobody = Err(SocketsError::NobodyConnected);
     [
         (control, 2, Ok(2), CONTROL),
+        (at_once, 0, Ok(0), AT_ONCE),
         (traced, 1, Ok(1), TRACED),
         (closed, 3, nobody, TURNED_AWAY),
     ]

@@ -7,6 +7,6 @@ use Rattle.bsc_attending.proofs.connections.ConnectionsAttend.attend_kept.Given 
 abbrev pub invariant-spans : goal.invariant-spans
 invariant-spans g l =
     Runs (station_parts g.S.Station g.S.Party g.S.Sends.kept_at
-    g.S.Forgets.forgets_sent g.S.Forgets.forgets_arrived g.S.Feeds.offers g.S.Feeds.releases
+    g.S.Forgets.forgets_sent g.S.Forgets.forgets_arrived g.S.Polls.polls g.S.Feeds.offers g.S.Feeds.releases
     g.S.Feeds.readies g.S.Feeds.urges) false g.K.Store true
     (at l.fn.station l.fn.keeper) (at l.station l.keeper)

@@ -8,7 +8,7 @@ pub returns-in-Ok : goal.returns-in-Ok
 returns-in-Ok g c is_fed is =
     let parts =
     station_parts g.S.Station g.S.Party g.S.Sends.kept_at g.S.Forgets.forgets_sent
-    g.S.Forgets.forgets_arrived g.S.Feeds.offers g.S.Feeds.releases g.S.Feeds.readies
+    g.S.Forgets.forgets_arrived g.S.Polls.polls g.S.Feeds.offers g.S.Feeds.releases g.S.Feeds.readies
     g.S.Feeds.urges in
     as_reached parts g.K.Store _ is_fed is (kept c.in_ok-attend_kept.ensures c.in-Ok.ensures)
 
@@ -16,7 +16,7 @@ pub returns-in-Err : goal.returns-in-Err
 returns-in-Err g c is_fed is =
     let parts =
     station_parts g.S.Station g.S.Party g.S.Sends.kept_at g.S.Forgets.forgets_sent
-    g.S.Forgets.forgets_arrived g.S.Feeds.offers g.S.Feeds.releases g.S.Feeds.readies
+    g.S.Forgets.forgets_arrived g.S.Polls.polls g.S.Feeds.offers g.S.Feeds.releases g.S.Feeds.readies
     g.S.Feeds.urges in
     as_reached parts g.K.Store _ is_fed is
     (not_kept c.in_ok-attend_kept.ensures c.in-Err.ensures)
@@ -25,7 +25,7 @@ pub returns-in_err-attend_kept : goal.returns-in_err-attend_kept
 returns-in_err-attend_kept g c is_fed is =
     let parts =
     station_parts g.S.Station g.S.Party g.S.Sends.kept_at g.S.Forgets.forgets_sent
-    g.S.Forgets.forgets_arrived g.S.Feeds.offers g.S.Feeds.releases g.S.Feeds.readies
+    g.S.Forgets.forgets_arrived g.S.Polls.polls g.S.Feeds.offers g.S.Feeds.releases g.S.Feeds.readies
     g.S.Feeds.urges in
     as_reached parts g.K.Store _ is_fed is
     (failed_as parts _ g.K.Store _ _ c.from_residual.result c.from_residual.ensures.0
