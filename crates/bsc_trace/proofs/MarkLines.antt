@@ -4,12 +4,14 @@ use Rattle.std.proofs.Common.{option_and_then, option_map, unwrap_or, if◌then�
 use Rattle.bsc_ladder.specs.declared.row.Place.{Place}
 use Rattle.bsc_ladder.specs.declared.row.Place.TheVariants.{Station}
 use Rattle.bsc_ladder.specs.declared.row.Sign.TheVariants.{Named}
-use Rattle.bsc_trace.specs.Marks.{MarkedValue, NumberedValue, after_this, arrived_by, arrived_from}
+use Rattle.bsc_trace.specs.Marks.{MarkedValue, NumberedValue, after_this, answering_at, arrived_by}
+use Rattle.bsc_trace.specs.Marks.{arrived_from, connection_in, named_or_answering}
 use Rattle.bsc_trace.specs.Marks.{arrived_mark, arrived_to, control_mark, doubt_at, doubt_by}
 use Rattle.bsc_trace.specs.Marks.{doubt_from, doubt_mark, doubt_sign, doubt_to, line_mark, mark_by}
 use Rattle.bsc_trace.specs.Marks.{named_at, numbered_of, selects_in, sign_in}
 use Rattle.bsc_trace.specs.Marks.{station_mark, terminal_mark, told_mark, trust_mark}
 use Rattle.bsc_trace.specs.ReadBack.{TextsAreKept}
+use Rattle.bsc_trace.specs.Words.{column_in}
 use Rattle.bsc_input.specs.Words.{after_word, first_word}
 
 abbrev pub Keeps : List ℕ → Option MarkedValue → Type 0
@@ -34,10 +36,19 @@ module _ (text : List ℕ) where
   named : (column : ℕ) (rest : List ℕ) → Keeps text (named_at column rest)
   named column rest = mapped text _ (selects_in rest) (λ selects other. absurd (other refl))
 
+  answering : (rest : List ℕ) → Keeps text (answering_at text rest)
+  answering rest =
+      and_then text _ (connection_in rest)
+      (λ number. mapped text _ (column_in number) (λ column other. refl))
+
+  told_of : (n : NumberedValue) (o : Option (List ℕ)) → Keeps text (named_or_answering text n o)
+  told_of n None = answering n.rest
+  told_of n (Some addresses) = named n.column addresses
+
   station : (n : NumberedValue) → Keeps text (station_mark text n)
   station n =
       chosen text (bytes_eq n.rest (codes "began again")) _ _ (λ other. refl)
-      (and_then text (named_at n.column) (after_this (codes "is") n.rest) (named n.column))
+      (told_of n (after_this (codes "is") n.rest))
 
   terminal : (rest : List ℕ) → Keeps text (terminal_mark text rest)
   terminal rest = and_then text (station_mark text) (numbered_of 32 rest) station

@@ -64,12 +64,32 @@ abbrev pub named_at : ℕ → List ℕ → Option MarkedValue
 named_at column text =
     option_map (λ selects. marked text (mark_at (Station column) Named)) (selects_in text)
 
--- What is told of the station of this column: its addresses, or that it began again.
+-- The text after `answers on connection`, if that comes first.
+abbrev pub connection_in : List ℕ → Option (List ℕ)
+connection_in text =
+    option_and_then (λ rest. option_and_then (after_this (codes "connection"))
+    (after_this (codes "on") rest)) (after_this (codes "answers") text)
+
+-- That a terminal answers on a connection stands at the column of that.
+abbrev pub answering_at : List ℕ → List ℕ → Option MarkedValue
+answering_at text rest =
+    option_and_then (λ number. option_map
+    (λ column. marked text (mark_at (Station column) Told)) (column_in number))
+    (connection_in rest)
+
+-- The addresses of the station of this column, which follow `is`, or the connection on which it
+-- answers.
+abbrev pub named_or_answering : List ℕ → NumberedValue → Option (List ℕ) → Option MarkedValue
+named_or_answering text n None = answering_at text n.rest
+named_or_answering text n (Some addresses) = named_at n.column addresses
+
+-- What is told of the station of this column: its addresses, its connection, or that it began
+-- again.
 abbrev pub station_mark : List ℕ → NumberedValue → Option MarkedValue
 station_mark text n =
     if bytes_eq n.rest (codes "began again")
     then Some (marked text (mark_at (Station n.column) Restart))
-    else option_and_then (named_at n.column) (after_this (codes "is") n.rest)
+    else named_or_answering text n (after_this (codes "is") n.rest)
 
 abbrev pub terminal_mark : List ℕ → List ℕ → Option MarkedValue
 terminal_mark text rest = option_and_then (station_mark text) (numbered_of 32 rest)

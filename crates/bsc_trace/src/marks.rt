@@ -1,9 +1,10 @@
 //! The marks of a trace: where a text that was told stands, and what it is.
 ghost use Rattle.std.specs.Prelude.{◌≡◌, option_map};
-ghost use Rattle.bsc_trace.specs.Marks.{after_this, arrived_from, arrived_mark, arrived_to};
-ghost use Rattle.bsc_trace.specs.Marks.{control_mark, doubt_at, doubt_from, doubt_mark, doubt_sign};
-ghost use Rattle.bsc_trace.specs.Marks.{doubt_to, line_mark, mark_at as mark_with, mark_by, marked};
-ghost use Rattle.bsc_trace.specs.Marks.{marked_in, marked_of, named_at, numbered_in, numbered_of};
+ghost use Rattle.bsc_trace.specs.Marks.{after_this, answering_at, arrived_from, arrived_mark};
+ghost use Rattle.bsc_trace.specs.Marks.{arrived_to, connection_in, control_mark, doubt_at};
+ghost use Rattle.bsc_trace.specs.Marks.{doubt_from, doubt_mark, doubt_sign, doubt_to, line_mark};
+ghost use Rattle.bsc_trace.specs.Marks.{mark_at as mark_with, mark_by, marked, marked_in};
+ghost use Rattle.bsc_trace.specs.Marks.{marked_of, named_at, numbered_in, numbered_of};
 ghost use Rattle.bsc_trace.specs.Marks.{selects_in, sign_in, terminal_mark, trust_mark};
 
 use crate::words::read_column;
@@ -72,6 +73,23 @@ fn read_named(column: u8, text: &[u8]) -> Option<Marked<'_>>
     }
 }
 
+/// Returns the text after `answers on connection`.
+fn read_connection(text: &[u8]) -> Option<&[u8]>
+    ensures { option_map (λ rest. rest.now) result ≡ connection_in text.now }
+{
+    let rest = after("answers", text)?;
+    let rest = after("on", rest)?;
+    after("connection", rest)
+}
+
+/// Reads the connection on which a terminal answers.
+fn read_answering<'a>(text: &'a [u8], rest: &[u8]) -> Option<Marked<'a>>
+    ensures { option_map marked_in result ≡ answering_at text.now rest.now }
+{
+    let column = read_column(read_connection(rest)?)?;
+    Some(mark_at(text, Place::Station { column }, Sign::Told))
+}
+
 /// Reads what is told of the station of a column.
 fn read_station<'a>(text: &'a [u8], rest: &'a [u8]) -> Option<Marked<'a>>
     ensures { option_map marked_in result ≡ terminal_mark text.now rest.now }
@@ -80,7 +98,10 @@ fn read_station<'a>(text: &'a [u8], rest: &'a [u8]) -> Option<Marked<'a>>
     if spells(rest, "began again") {
         return Some(mark_at(text, Place::Station { column }, Sign::Restart));
     }
-    read_named(column, after("is", rest)?)
+    match after("is", rest) {
+        Some(addresses) => read_named(column, addresses),
+        None => read_answering(text, rest),
+    }
 }
 
 /// Reads that the control station began again.

@@ -152,6 +152,7 @@ const MARKS: &str = "+0 terminal 0 is A, selected as a
 +11 terminal 1 is ready
 +12 arrived to 1: |NO|
 +13 not trusted: an answer took longer than the time-out
++14 terminal 0 answers on connection 1
 bscline: the line is not trusted
 ";
 
@@ -169,6 +170,7 @@ const MARKS_IN_ASCII: &str = "    time control
       11 = terminal 1 is ready
       12 = arrived to 1: |NO|
       13 & not trusted: an answer took longer than the time-out
+      14 |                  |   = terminal 0 answers on connection 1
 ";
 
 const MARKS_IN_BOXES: &str = "    time control
@@ -185,6 +187,7 @@ const MARKS_IN_BOXES: &str = "    time control
       11 ● terminal 1 is ready
       12 ● arrived to 1: |NO|
       13 ✗ not trusted: an answer took longer than the time-out
+      14 │                  │   ● terminal 0 answers on connection 1
 ";
 
 /// The fifth line and the sixth, and the addresses.
