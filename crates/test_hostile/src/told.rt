@@ -81,12 +81,13 @@ fn what_happens_unseen_is_told(rt: HostRuntime) -> Result<(), Fail> {
     Ok(())
 }
 
-/// Terminal 1 is polled, or not.
+/// Terminal 1 is polled.
 const POLL_SECOND: Event<'static> = Event::Polled {
     terminal: 1,
     polled: true,
 };
 
+/// Terminal 1 is passed over.
 const PASS_SECOND: Event<'static> = Event::Polled {
     terminal: 1,
     polled: false,

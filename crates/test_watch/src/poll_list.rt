@@ -18,7 +18,7 @@ pub(crate) struct PollList {
     repeats: usize,
 }
 
-/// The first entry alone.
+/// Only the first entry.
 fn first_place() -> [bool; MAX_ENTRIES] {
     let mut places = [false; MAX_ENTRIES];
     places[0] = true;

@@ -10,11 +10,11 @@ use bsc_line::{Event, Speaker};
 /// The effect of an event on channels.
 #[derive(Clone, Copy, PartialEq, Eq)]
 pub(crate) enum Effect {
-    /// The event was refused, or only set another flag than the next one.
+    /// The event was refused, or only set a ready or an urgent flag.
     Nothing,
 
     /// It was set whether this terminal is polled.
-    Polled(usize, bool),
+    Polled { terminal: usize, polled: bool },
 
     /// A record was offered on this channel.
     Offered(usize, Way),
@@ -46,7 +46,7 @@ pub(crate) fn effect_of(event: &Event<'_>, speaker: Option<Speaker>) -> Effect {
         } => Effect::Offered(terminal, Way::ToTerminal(select)),
         Event::Release { terminal, way } => Effect::Released(terminal, way),
         Event::Restart { party } => Effect::Restarted(party),
-        Event::Polled { terminal, polled } => Effect::Polled(terminal, polled),
+        Event::Polled { terminal, polled } => Effect::Polled { terminal, polled },
         Event::Silence => Effect::Silence,
         Event::Carry { .. } | Event::CarryEach { .. } | Event::CarrySent => match speaker {
             Some(Speaker::Control) => Effect::Down,
@@ -115,7 +115,7 @@ pub(crate) fn allowed(
         Effect::Up if !aside.has(Speaker::Control) => {
             may_hear(kind_at(hearings, 0), way != Way::FromTerminal)
         }
-        Effect::Nothing | Effect::Polled(..) | Effect::Down | Effect::Up => stays,
+        Effect::Nothing | Effect::Polled { .. } | Effect::Down | Effect::Up => stays,
     }
 }
 

@@ -90,7 +90,7 @@ impl LineWatch {
     /// begun again.
     pub(crate) fn see_poll_list(&mut self, effect: Effect) {
         match effect {
-            Effect::Polled(terminal, polled) => self.poll_list.set(terminal, polled),
+            Effect::Polled { terminal, polled } => self.poll_list.set(terminal, polled),
             Effect::Restarted(Speaker::Control) => self.poll_list.restart(),
             _ => {}
         }
