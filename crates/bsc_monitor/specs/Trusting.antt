@@ -4,14 +4,14 @@ use Rattle.std.specs.Net.Socket.{socket_ip}
 use Rattle.std.specs.declared.net.ip_addr.IpAddr.{IpAddr}
 use Rattle.std.specs.declared.net.socket_addr.SocketAddr.{SocketAddr}
 use Rattle.bsc_connections.specs.Histories.{Happening, WasHeard, WasSent, HasJoined, HasClosed}
-use Rattle.bsc_connections.specs.Histories.{WasIgnored, WasWithheld}
+use Rattle.bsc_connections.specs.Histories.{WasIgnored, WasSilent, WasWithheld}
 use Rattle.bsc_control.specs.Control.{ControlValue, current}
 use Rattle.bsc_control.specs.declared.task.Task.{Task}
 use Rattle.bsc_control.specs.declared.task.Task.TheVariants.{AtRest}
 use Rattle.bsc_frame.specs.Reading.{heard}
 use Rattle.bsc_trust.specs.Connections.{connected_at}
 use Rattle.bsc_trust.specs.Trust.{admits, after_closed, after_heard, after_ignored, after_joined}
-use Rattle.bsc_trust.specs.Trust.{after_sent, after_withheld, reason_told, told_of}
+use Rattle.bsc_trust.specs.Trust.{after_sent, after_silence, after_withheld, reason_told, told_of}
 use Rattle.bsc_trust.specs.Trust.{told_of_sending, was_told}
 use Rattle.bsc_trust.specs.declared.distrust.Distrust.{Distrust}
 use Rattle.bsc_trust.specs.declared.trust.Trust.{Trust}
@@ -46,6 +46,7 @@ trust_after t called (WasHeard place octets) now = after_heard t called place (h
 trust_after t called (WasIgnored place octets) now = after_ignored t called place
 trust_after t called (WasSent octets) now = after_sent t now
 trust_after t called (WasWithheld octets) now = after_withheld t now
+trust_after t called WasSilent now = after_silence t
 trust_after t called (HasJoined place peer replaces) now =
     after_joined t place (address_of peer)
 trust_after t called (HasClosed place peer why) now = after_closed t place

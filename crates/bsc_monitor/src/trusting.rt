@@ -113,7 +113,11 @@ impl Trusting {
                 self.trust.closed(*connection);
                 None
             }
-            Note::Silence | Note::Refused { .. } | Note::Stopped | Note::Client => None,
+            Note::Silence => {
+                self.trust.silence();
+                None
+            }
+            Note::Refused { .. } | Note::Stopped | Note::Client => None,
         }
     }
 

@@ -13,7 +13,7 @@ use Rattle.bsc_trust.specs.Answers.{is_noise, is_timed}
 use Rattle.bsc_trust.specs.Connections.{nobody, newcomer, connected_at, ignored_on}
 use Rattle.bsc_trust.specs.Trust.{new_trust, admits, given_to, with_connected, after_heard}
 use Rattle.bsc_trust.specs.Trust.{after_ignored, after_answer, after_time, time_taken}
-use Rattle.bsc_trust.specs.Histories.{Event, Sends, Withholds, Arrives, Joins, Closes}
+use Rattle.bsc_trust.specs.Histories.{Event, Sends, Withholds, TimesOut, Arrives, Joins, Closes}
 use Rattle.bsc_trust.specs.Histories.{after, after_all}
 use Rattle.bsc_trust.specs.Histories.{ends}
 use Rattle.bsc_trust.specs.Histories.{ArrivesOutOfTurn, AnswersAt, AnswersAfterwards}
@@ -63,6 +63,7 @@ barred_stays : (t : Trust) (event : Event) (p : ℕ) → ends p event ≡ false
     → barred_at t.connections p ≡ true → barred_at (after t event).connections p ≡ true
 barred_stays t (Sends now) p stays h = h
 barred_stays t (Withholds now) p stays h = h
+barred_stays t TimesOut p stays h = h
 barred_stays t (Arrives called place heard now) p stays h =
     let given = barred_stays_given t called place p h in
     part_of_chosen (λ (v : Trust). barred_at v.connections p) (admits t called place heard)
@@ -95,6 +96,7 @@ barred_after : (t : Trust) (event : Event) (p : ℕ) → IsSound t → p < MAX_C
     → ArrivesOutOfTurn t event p → barred_at (after t event).connections p ≡ true
 barred_after t (Sends now) p sound within h = absurd h
 barred_after t (Withholds now) p sound within h = absurd h
+barred_after t TimesOut p sound within h = absurd h
 barred_after t (Arrives called place heard now) p sound within h =
     let c : Connected = ignored_on t.shared (connected_at t.connections place) in
     let here : place < length t.connections = omega (arith, within, sound.count, h.0) in
@@ -110,6 +112,7 @@ no_answer_where_barred : (t : Trust) (event : Event) (p : ℕ) → barred_at t.c
     → AnswersAt t event p → ⊥
 no_answer_where_barred t (Sends now) p barred h = h
 no_answer_where_barred t (Withholds now) p barred h = h
+no_answer_where_barred t TimesOut p barred h = h
 no_answer_where_barred t (Arrives called place heard now) p barred h =
     let free : barred_at t.connections place ≡ false =
     (due_where_admitted t called place (no_reason t called place heard h.1 h.2)).1 in

@@ -7,7 +7,7 @@ use Rattle.bsc_trust.specs.declared.terminal_peers.TerminalPeers.{TerminalPeers}
 use Rattle.bsc_trust.specs.declared.trust.Trust.{Trust}
 use Rattle.bsc_trust.specs.Answers.{is_noise}
 use Rattle.bsc_trust.specs.Trust.{new_trust, admits}
-use Rattle.bsc_trust.specs.Histories.{Event, Sends, Withholds, Arrives, Joins, Closes}
+use Rattle.bsc_trust.specs.Histories.{Event, Sends, Withholds, TimesOut, Arrives, Joins, Closes}
 use Rattle.bsc_trust.specs.Histories.{after, is_answer}
 use Rattle.bsc_trust.specs.Histories.{answers_among, is_sending, sendings_among}
 use Rattle.bsc_trust.proofs.Steps.{heard_noise, part_after_answer, after_admitted, after_refused}
@@ -53,6 +53,7 @@ step_takes : (t : Trust) (event : Event)
     ≤ due t.awaiting + cond (is_sending event) 1 0
 step_takes t (Sends now) = omega arith
 step_takes t (Withholds now) = omega arith
+step_takes t TimesOut = omega arith
 step_takes t (Arrives called place heard now) =
     let takes = arrival_takes_by (admits t called place heard) (is_noise heard) t called place heard
     now refl refl in

@@ -19,7 +19,7 @@ use Rattle.bsc_trust.specs.Connections.{nobody, newcomer, connected_at, owned_by
 use Rattle.bsc_trust.specs.Connections.{ignored_on}
 use Rattle.bsc_trust.specs.Trust.{new_trust, admits, reason, reason_for, reason_by_owner}
 use Rattle.bsc_trust.specs.Trust.{reason_beside, reason_where_called, given_to, with_connected}
-use Rattle.bsc_trust.specs.Histories.{Event, Sends, Withholds, Arrives, Joins, Closes}
+use Rattle.bsc_trust.specs.Histories.{Event, Sends, Withholds, TimesOut, Arrives, Joins, Closes}
 use Rattle.bsc_trust.specs.Histories.{after, after_all}
 use Rattle.bsc_trust.specs.Histories.{AnswersFor, ends, TwoAnswers}
 use Rattle.bsc_trust.proofs.Steps.{given_by, chosen_second}
@@ -185,6 +185,7 @@ pub owner_from : (t : Trust) (event : Event) (p owner : ℕ)
     → (owner_at t.connections p ≡ Some owner) ⊎ AnswersFor t event owner p
 owner_from t (Sends now) p owner h = inl h
 owner_from t (Withholds now) p owner h = inl h
+owner_from t TimesOut p owner h = inl h
 owner_from t (Arrives called place heard now) p owner h =
     owner_from_changes t called place heard now _ p owner (changes t called place heard now) h
 owner_from t (Joins place peer) p owner h =
@@ -251,6 +252,7 @@ pub owner_stays : (t : Trust) (event : Event) (p owner : ℕ) → t.shared ≡ f
     → owner_at (after t event).connections p ≡ Some owner
 owner_stays t (Sends now) p owner several stays h = h
 owner_stays t (Withholds now) p owner several stays h = h
+owner_stays t TimesOut p owner several stays h = h
 owner_stays t (Arrives called place heard now) p owner several stays h =
     owner_stays_changes t called place heard _ p owner (changes t called place heard now) several h
 owner_stays t (Joins place peer) p owner several stays h =
@@ -264,6 +266,7 @@ owner_stays t (Closes place) p owner several stays h =
 pub shared_stays : (t : Trust) (event : Event) → (after t event).shared ≡ t.shared
 shared_stays t (Sends now) = refl
 shared_stays t (Withholds now) = refl
+shared_stays t TimesOut = refl
 shared_stays t (Arrives called place heard now) =
     let given : (given_to t called place).shared ≡ t.shared =
     part_of_given (λ (v : Trust). v.shared) t called place (λ c. refl) in
@@ -275,6 +278,7 @@ count_stays : (t : Trust) (event : Event)
     → length (after t event).connections ≡ length t.connections
 count_stays t (Sends now) = refl
 count_stays t (Withholds now) = refl
+count_stays t TimesOut = refl
 count_stays t (Arrives called place heard now) =
     let given : length (given_to t called place).connections ≡ length t.connections =
     part_of_given (λ (v : Trust). length v.connections) t called place
@@ -301,6 +305,7 @@ own_where_answers : (t : Trust) (event : Event) (terminal place : ℕ) → t.sha
     → AnswersFor t event terminal place → IsOrMayBeOf t.connections place terminal
 own_where_answers t (Sends now) terminal place several h = absurd h
 own_where_answers t (Withholds now) terminal place several h = absurd h
+own_where_answers t TimesOut terminal place several h = absurd h
 own_where_answers t (Arrives called from heard now) terminal place several h =
     let admitted : admits t (Some terminal) place heard ≡ true =
     subst (λ (o : Option ℕ). admits t o place heard ≡ true) h.0
@@ -314,6 +319,7 @@ same_place : (t : Trust) (event : Event) (p q terminal later : ℕ) → AnswersF
     → AnswersFor t event later q → p ≡ q
 same_place t (Sends now) p q terminal later h k = absurd h
 same_place t (Withholds now) p q terminal later h k = absurd h
+same_place t TimesOut p q terminal later h k = absurd h
 same_place t (Arrives called from heard now) p q terminal later h k = sym h.1 ∙ k.1
 same_place t (Joins from peer) p q terminal later h k = absurd h
 same_place t (Closes from) p q terminal later h k = absurd h
@@ -383,6 +389,7 @@ owner_after_answer : (t : Trust) (event : Event) (terminal place : ℕ) → IsSo
     → owner_at (after t event).connections place ≡ Some terminal
 owner_after_answer t (Sends now) terminal place sound within h = absurd h
 owner_after_answer t (Withholds now) terminal place sound within h = absurd h
+owner_after_answer t TimesOut terminal place sound within h = absurd h
 owner_after_answer t (Arrives called from heard now) terminal place sound within h =
     let given : (given_to t called from).connections
     ≡ slice_set t.connections place (given_by t terminal place) =

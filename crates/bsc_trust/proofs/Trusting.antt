@@ -11,7 +11,7 @@ use Rattle.bsc_trust.specs.declared.trust.Trust.{Trust}
 use Rattle.bsc_trust.specs.Answers.{is_noise, is_timed}
 use Rattle.bsc_trust.specs.Trust.{admits, given_to, first_reason, after_time, after_answer}
 use Rattle.bsc_trust.specs.Trust.{after_heard, after_ignored, time_taken, time_since, reason_told}
-use Rattle.bsc_trust.specs.Histories.{Event, Sends, Withholds, Arrives, Joins, Closes}
+use Rattle.bsc_trust.specs.Histories.{Event, Sends, Withholds, TimesOut, Arrives, Joins, Closes}
 use Rattle.bsc_trust.specs.Histories.{after, after_all}
 use Rattle.bsc_trust.specs.Histories.{IsFine, AreFine}
 use Rattle.bsc_trust.proofs.Steps.{part_of_chosen, chosen_first, chosen_second, part_of_given}
@@ -52,6 +52,7 @@ stays t (Arrives called place heard now) first h =
     (after_answer t called place now) (Some first) timed given))
     (first_of t.distrust first (reason_told t called place) h)
 stays t (Withholds now) first h = h
+stays t TimesOut first h = h
 stays t (Joins place peer) first h = h
 stays t (Closes place) first h = h
 
@@ -127,6 +128,7 @@ fine_step t (Sends now) h later =
 fine_step t (Arrives called place heard now) h later =
     fine_by (admits t called place heard) t called place heard now refl later
 fine_step t (Withholds now) h later = tt
+fine_step t TimesOut h later = tt
 fine_step t (Joins place peer) h later = tt
 fine_step t (Closes place) h later = tt
 
@@ -140,6 +142,7 @@ none_step t (Arrives called place heard now) h fine =
     ∙ none_by (is_noise heard) (is_timed heard (time_taken t now) t.time_out) t called place heard
     now refl refl h fine
 none_step t (Withholds now) h fine = h
+none_step t TimesOut h fine = h
 none_step t (Joins place peer) h fine = h
 none_step t (Closes place) h fine = h
 

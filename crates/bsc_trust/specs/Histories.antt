@@ -10,16 +10,17 @@ use Rattle.bsc_trust.specs.declared.trust.Trust.{Trust}
 use Rattle.bsc_trust.specs.Answers.{is_noise, is_timed}
 use Rattle.bsc_trust.specs.Connections.{connected_at}
 use Rattle.bsc_trust.specs.Trust.{new_trust, admits, after_joined, after_closed, after_sent}
-use Rattle.bsc_trust.specs.Trust.{after_heard, after_ignored, after_withheld, time_taken}
-use Rattle.bsc_trust.specs.Trust.{time_since}
+use Rattle.bsc_trust.specs.Trust.{after_heard, after_ignored, after_silence, after_withheld}
+use Rattle.bsc_trust.specs.Trust.{time_since, time_taken}
 
 -- What happens to a control station: it sends something at a time; it withholds something at a
--- time, since that would have been late; a transmission arrives, while this terminal is called, if
--- one is, on the connection at a place, with a content and at a time; a connection begins at a
--- place, with this peer; or the connection at a place is closed.
+-- time, since that would have been late; a time-out passes in silence; a transmission arrives,
+-- while this terminal is called, if one is, on the connection at a place, with a content and at a
+-- time; a connection begins at a place, with this peer; or the connection at a place is closed.
 pub data Event : Type 0 where
   Sends : ℕ → Event
   Withholds : ℕ → Event
+  TimesOut : Event
   Arrives : Option ℕ → ℕ → Heard → ℕ → Event
   Joins : ℕ → Option IpAddr → Event
   Closes : ℕ → Event
@@ -28,6 +29,7 @@ pub data Event : Type 0 where
 abbrev pub after : Trust → Event → Trust
 after t (Sends now) = after_sent t now
 after t (Withholds now) = after_withheld t now
+after t TimesOut = after_silence t
 after t (Arrives called place heard now) =
     if admits t called place heard then after_heard t called place heard now
     else after_ignored t called place
@@ -45,6 +47,7 @@ after_all t (event ∷ events) = after_all (after t event) events
 abbrev pub is_answer : Trust → Event → Bool
 is_answer t (Sends now) = false
 is_answer t (Withholds now) = false
+is_answer t TimesOut = false
 is_answer t (Arrives called place heard now) = not (is_noise heard) && admits t called place heard
 is_answer t (Joins place peer) = false
 is_answer t (Closes place) = false
@@ -59,6 +62,7 @@ answers_among t (event ∷ events) =
 abbrev pub is_sending : Event → Bool
 is_sending (Sends now) = true
 is_sending (Withholds now) = true
+is_sending TimesOut = false
 is_sending (Arrives called place heard now) = false
 is_sending (Joins place peer) = false
 is_sending (Closes place) = false
@@ -75,6 +79,7 @@ sendings_among (event ∷ events) =
 abbrev pub AnswersFor : Trust → Event → ℕ → ℕ → Type 0
 AnswersFor t (Sends now) terminal from = ⊥
 AnswersFor t (Withholds now) terminal from = ⊥
+AnswersFor t TimesOut terminal from = ⊥
 AnswersFor t (Arrives called place heard now) terminal from =
     (called ≡ Some terminal) × (place ≡ from)
     × (is_noise heard ≡ false) × (admits t called place heard ≡ true)
@@ -85,6 +90,7 @@ AnswersFor t (Closes place) terminal from = ⊥
 abbrev pub ends : ℕ → Event → Bool
 ends here (Sends now) = false
 ends here (Withholds now) = false
+ends here TimesOut = false
 ends here (Arrives called place heard now) = false
 ends here (Joins place peer) = place == here
 ends here (Closes place) = place == here
@@ -109,6 +115,7 @@ pub record TwoAnswers (time_out : ℕ) (peers : TerminalPeers) (before : List Ev
 abbrev pub ArrivesOutOfTurn : Trust → Event → ℕ → Type 0
 ArrivesOutOfTurn t (Sends now) from = ⊥
 ArrivesOutOfTurn t (Withholds now) from = ⊥
+ArrivesOutOfTurn t TimesOut from = ⊥
 ArrivesOutOfTurn t (Arrives called place heard now) from =
     (place ≡ from) × (admits t called place heard ≡ false)
     × ((connected_at t.connections place).owner ≡ None)
@@ -119,6 +126,7 @@ ArrivesOutOfTurn t (Closes place) from = ⊥
 abbrev pub AnswersAt : Trust → Event → ℕ → Type 0
 AnswersAt t (Sends now) from = ⊥
 AnswersAt t (Withholds now) from = ⊥
+AnswersAt t TimesOut from = ⊥
 AnswersAt t (Arrives called place heard now) from =
     (place ≡ from) × (is_noise heard ≡ false) × (admits t called place heard ≡ true)
 AnswersAt t (Joins place peer) from = ⊥
@@ -145,6 +153,7 @@ pub record AnswersAfterwards (time_out : ℕ) (peers : TerminalPeers) (before : 
 abbrev pub IsFine : Trust → Event → Type 0
 IsFine t (Sends now) = time_since t.heard_at now ≤ t.time_out
 IsFine t (Withholds now) = Unit {0}
+IsFine t TimesOut = Unit {0}
 IsFine t (Arrives called place heard now) =
     (admits t called place heard ≡ true)
     × (is_noise heard ≡ false → is_timed heard (time_taken t now) t.time_out ≡ true

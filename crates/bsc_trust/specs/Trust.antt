@@ -115,7 +115,8 @@ abbrev pub told_of_time : Trust → ℕ → Distrust → Option Distrust
 told_of_time t time late = if is_late t time && is_none t.distrust then Some late else None
 
 -- After the control station sent something at this time. If an answer was heard since it sent
--- something last, this is its reply, which is late if more than the time-out has passed since.
+-- something last, and no time-out has passed in silence since, this is its reply, which is late if
+-- more than the time-out has passed since the answer.
 abbrev pub after_sent : Trust → ℕ → Trust
 after_sent t now = record t {
   awaiting = Some now;
@@ -127,6 +128,10 @@ after_sent t now = record t {
 -- terminals that is as if it had been sent and lost, so that one of them may answer.
 abbrev pub after_withheld : Trust → ℕ → Trust
 after_withheld t now = record t { awaiting = Some now; heard_at = None }
+
+-- After a time-out has passed in silence. What is sent next replies to no answer.
+abbrev pub after_silence : Trust → Trust
+after_silence t = record t { heard_at = None }
 
 abbrev pub told_of_sending : Trust → ℕ → Option Distrust
 told_of_sending t now = told_of_time t (time_since t.heard_at now) LateReply

@@ -45,7 +45,8 @@ pub fn out_of_turn()
 
 /// The first reason for which a line is not trusted stays for ever. As long as there is none, a
 /// line is trusted exactly if whatever arrived was admitted, each answer whose time counts took no
-/// longer than the time-out, and each reply to an answer was sent no later than that.
+/// longer than the time-out, and each reply to an answer was sent no later than that. What is sent
+/// after a time-out in silence replies to no answer.
 pub fn trust()
     ensures lasts { (t : TrustValue) (events : List Event) (first : DistrustValue)
         → t.distrust ≡ Some first → (after_all t events).distrust ≡ Some first }

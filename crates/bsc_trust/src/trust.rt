@@ -9,7 +9,7 @@ ghost use Rattle.bsc_trust.specs.Trust.{after_sent, after_heard, told_of, after_
 ghost use Rattle.bsc_trust.specs.Trust.{reason_told, slowest_share, with_connected, given_to};
 ghost use Rattle.bsc_trust.specs.Trust.{first_reason, reason_for, reason_of_nobody, after_time};
 ghost use Rattle.bsc_trust.specs.Trust.{told_of_time, told_of_sending, reason_after_time};
-ghost use Rattle.bsc_trust.specs.Trust.{after_withheld, may_answer, was_told};
+ghost use Rattle.bsc_trust.specs.Trust.{after_silence, after_withheld, may_answer, was_told};
 
 use crate::answers::{is_noise, is_timed};
 use crate::connected::Connected;
@@ -38,7 +38,8 @@ pub struct Trust {
     /// When the control station last sent something, if it has heard no answer since.
     awaiting: Option<u64>,
 
-    /// When the last answer was heard, if the control station has sent nothing since.
+    /// When the last answer was heard, if the control station has sent nothing since, and no
+    /// time-out has passed since in silence.
     heard_at: Option<u64>,
 
     /// The time of the slowest answer, if one was heard whose time counts.
@@ -90,8 +91,9 @@ impl Trust {
     }
 
     /// Records that the control station sent something at this time, and now awaits an answer to
-    /// it. Returns `LateReply` if more than the time-out has passed since the last answer, nothing
-    /// was sent since then, and nothing spoke against trust before.
+    /// it. It replies to the last answer if nothing was sent and no time-out has passed in silence
+    /// since then. Returns `LateReply` if it does, more than the time-out has passed since the
+    /// answer, and nothing spoke against trust before.
     pub fn sent(&mut self, now: u64) -> Option<Distrust>
         ensures kept { self.new ≡ after_sent self.old now }
         ensures told { result ≡ told_of_sending self.old now }
@@ -109,6 +111,14 @@ impl Trust {
         ensures { self.new ≡ after_withheld self.old now }
     {
         (self.awaiting, self.heard_at) = (Some(now), None);
+    }
+
+    /// Records that a time-out has passed in silence. What is sent next replies to no answer: the
+    /// control station had nothing to send in reply to the last one.
+    pub fn silence(&mut self)
+        ensures { self.new ≡ after_silence self.old }
+    {
+        self.heard_at = None;
     }
 
     /// Returns whether a transmission that arrived at this place is to be heard. Noise always is.
