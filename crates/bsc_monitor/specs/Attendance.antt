@@ -1,7 +1,7 @@
 -- What a control station knows of one terminal. Polling and selection are those of GA27-3004;
 -- visits, and what becomes of terminals that do not answer, are this project's own.
 use Rattle.std.specs.Prelude.{◌≡◌, ◌↔◌, ℕ, zero, suc, ◌-◌, ◌^◌, nat_le, nat_lt}
-use Rattle.std.specs.Prelude.{Bool, true, false, not, ◌||◌, ◌&&◌, List, [], ◌∷◌}
+use Rattle.std.specs.Prelude.{Bool, true, false, not, ◌||◌, ◌&&◌, if◌then◌else◌, List, [], ◌∷◌}
 use Rattle.std.specs.Prelude.{Option, None, Some}
 use Rattle.bsc_monitor.specs.Saturating.{more_by, one_more}
 use Rattle.bsc_monitor.specs.declared.attendance.Attendance.{Attendance}
@@ -41,6 +41,20 @@ has_joined_since time (Some joined) = nat_le time joined
 abbrev pub is_due : AbsenceLimits → Option ℕ → ℕ → Attendance → Bool
 is_due limits joined now p =
     has_joined_since p.visited joined || nat_le (more_by limits.retry p.visited) now
+
+-- Whether it is passed over since it is absent, and by no program.
+abbrev pub is_passed : AbsenceLimits → Attendance → Bool
+is_passed limits p = not p.held && is_absent limits p
+
+-- The time at which the last visit to it ended, if it is absent and no program has taken it off.
+abbrev pub visited_if_passed : AbsenceLimits → Attendance → Option ℕ
+visited_if_passed limits p = if is_passed limits p then Some p.visited else None
+
+-- The time at which it was heard last, if it was, and if it may be the one that has connected: it
+-- is absent, no program has taken it off, and it was not visited since then.
+abbrev pub heard_if_back : AbsenceLimits → Option ℕ → Attendance → Option ℕ
+heard_if_back limits joined p =
+    if is_passed limits p && has_joined_since p.visited joined then p.heard else None
 
 -- ---- what happens
 
@@ -87,7 +101,7 @@ after_request false p = record p { held = true }
 -- The time that has passed since then, if there is a time.
 abbrev pub ago : Option ℕ → ℕ → Option ℕ
 ago None now = None
-ago (Some then) now = Some (now - then)
+ago (Some since) now = Some (now - since)
 
 -- What is told of it at this time; the flag says whether it is to be polled.
 abbrev pub presence_of : AbsenceLimits → Bool → ℕ → Attendance → Presence

@@ -12,7 +12,7 @@ use Rattle.bsc_report.specs.declared.trace.Who.TheVariants.{Control, Terminal}
 use Rattle.bsc_trust.specs.declared.distrust.Distrust.{Distrust}
 use Rattle.bsc_monitor.specs.Answering.{unanswered}
 use Rattle.bsc_monitor.specs.Holding.{CallLine, TracesNext, held_for, held_shown}
-use Rattle.bsc_monitor.specs.Absences.{absence_told, absences_after, at_time, calling, met}
+use Rattle.bsc_monitor.specs.Absences.{absence_told, absences_noted, at_time}
 use Rattle.bsc_monitor.specs.Terminals.{news_line, told_answering}
 use Rattle.bsc_monitor.specs.Traces.{IsTraced, ShowsChange, distrust_line}
 use Rattle.bsc_monitor.specs.Trusting.{called_by, distrust_told, moved_in, trust_after, trusting_of}
@@ -144,9 +144,8 @@ pub record ControlShows (control : ControlValue) (happening : Happening) (ended 
   pub trust : new
       ≡ trusting_of (trust_after old.trust old.called happening time) (called_by control)
   pub absences : absent_after
-      ≡ calling
-      (met (absences_after absent (turn_of old control ended) happening time)
-      (moved_in old.trust new.trust happening)) (called_by control)
+      ≡ absences_noted absent (turn_of old control ended) happening time
+      (moved_in old.trust new.trust happening) (called_by control)
   pub first : Trace
   pub event : ShowsEvent (calls_in control.task) Control time happening before first
   pub second : Trace

@@ -1,9 +1,12 @@
-//! What a control station knows of one terminal: how often it has answered, and whether it is absent.
+//! What a control station knows of one terminal: how often it has answered, and whether it is
+//! absent.
 
 ghost use Rattle.std.specs.Prelude.{◌≡◌};
 ghost use Rattle.bsc_monitor.specs.Attendance.{after_answer, after_repetition, after_request};
-ghost use Rattle.bsc_monitor.specs.Attendance.{after_time_out, after_visit, ago, is_absent};
-ghost use Rattle.bsc_monitor.specs.Attendance.{is_due, is_present, presence_of, unvisited};
+ghost use Rattle.bsc_monitor.specs.Attendance.{after_time_out, after_visit, ago, has_joined_since};
+ghost use Rattle.bsc_monitor.specs.Attendance.{heard_if_back, is_absent, is_due, is_passed};
+ghost use Rattle.bsc_monitor.specs.Attendance.{is_present, presence_of, unvisited};
+ghost use Rattle.bsc_monitor.specs.Attendance.{visited_if_passed};
 
 /// When a terminal that does not answer is absent, and when an absent one is called again.
 #[derive(Clone, Copy, Debug, PartialEq, Eq)]
@@ -112,9 +115,47 @@ impl Attendance {
     pub(crate) fn is_due(&self, limits: AbsenceLimits, joined: Option<u64>, now: u64) -> bool
         ensures { result ≡ is_due limits joined now self.now }
     {
+        self.is_from_before(joined) || self.visited.saturating_add(limits.retry) <= now
+    }
+
+    /// Returns whether somebody has connected since its last visit: perhaps this terminal.
+    fn is_from_before(&self, joined: Option<u64>) -> bool
+        ensures { result ≡ has_joined_since self.now.visited joined }
+    {
         match joined {
-            Some(joined) if self.visited <= joined => true,
-            _ => self.visited.saturating_add(limits.retry) <= now,
+            Some(joined) => self.visited <= joined,
+            None => false,
+        }
+    }
+
+    /// Returns whether it is passed over since it is absent, and by no program.
+    fn is_passed(&self, limits: AbsenceLimits) -> bool
+        ensures { result ≡ is_passed limits self.now }
+    {
+        !self.held && self.is_absent(limits)
+    }
+
+    /// Returns the time at which the last visit to it ended, if it is absent and no program has
+    /// taken it off.
+    pub(crate) fn visited_if_passed(&self, limits: AbsenceLimits) -> Option<u64>
+        ensures { result ≡ visited_if_passed limits self.now }
+    {
+        if self.is_passed(limits) {
+            Some(self.visited)
+        } else {
+            None
+        }
+    }
+
+    /// Returns the time at which it was heard last, if it was, and if it may be the one that has
+    /// connected: it is absent, no program has taken it off, and it was not visited since then.
+    pub(crate) fn heard_if_back(&self, limits: AbsenceLimits, joined: Option<u64>) -> Option<u64>
+        ensures { result ≡ heard_if_back limits joined self.now }
+    {
+        if self.is_passed(limits) && self.is_from_before(joined) {
+            self.heard
+        } else {
+            None
         }
     }
 

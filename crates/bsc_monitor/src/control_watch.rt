@@ -211,10 +211,10 @@ impl<'a, A: Allocator + Copy, T: Timer + Meter + Drop, W: Write, D: Write, B: Al
         let told = TerminalsTold {
             moved,
             silent: unanswered(self.answering.note(station, &note)),
-            visited: self.absences.note(&note, turn, seen.time),
+            visited: self
+                .absences
+                .note(&note, turn, seen.time, moved, called_by(station)),
         };
-        self.absences.meet(moved);
-        self.absences.call(called_by(station));
         self.watch.tell_terminals(told)?;
         self.pace = self.pace_after(station, &note);
         let goes_on = self.progress.note(station, &note, found);
