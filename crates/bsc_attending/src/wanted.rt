@@ -35,8 +35,8 @@ pub struct Wanted<'a> {
     /// The number of connections: 1 to 64, or 1 if a peer listens.
     pub connections: usize,
 
-    /// For how many of them the station waits before it begins, if it listens; the others may be
-    /// made later.
+    /// The number of connections that are made before the station begins, if it listens; the others
+    /// may be made later.
     pub begin_with: usize,
 
     /// Whether transmissions are raw octets and end at gaps.

@@ -47,7 +47,8 @@ count_shown name count = name ++ codes " " ++ decimal count ++ codes ", "
 
 -- How often a terminal has answered, and how often with NAK.
 abbrev pub answers_shown : ℕ → ℕ → List ℕ
-answers_shown answers naks = count_shown (codes "answers") answers ++ count_shown (codes "NAKs") naks
+answers_shown answers naks =
+    count_shown (codes "answers") answers ++ count_shown (codes "NAKs") naks
 
 -- How many of its calls were repeated, and how many silences have passed.
 abbrev pub silences_shown : ℕ → ℕ → List ℕ

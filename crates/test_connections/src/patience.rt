@@ -244,7 +244,8 @@ fn a_station_waits_as_long_as_it_is_patient(rt: HostRuntime) -> Result<(), Fail>
     Ok(())
 }
 
-/// For how many peers a station waits that has two places, and what is reported if two connect.
+/// The number of peers for which a station with two places waits, the number of connections with
+/// which it begins, and what is reported if two peers connect.
 const FIRST: &[(usize, usize, &str)] = &[
     (0, 0, "listens; "),
     (1, 1, "listens; waits 0 1; joined 0 0; "),

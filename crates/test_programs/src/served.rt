@@ -15,7 +15,8 @@ const SERVED: &[&str] = &[
     told 0 ok 0\nok 0\n; asks 0 WO\r\n; told 0 ok 1\n; unread 0 0",
     "a control station is asked for its state, and for what it refuses => \
     connect 1; asks 0 # a comment\n\noffer-hex to 1 48 49\noffer to 2 A\nready on\nurgent\n\
-release to 0 0\nsing\npoll off 1\npoll on 1\npoll off 0\npoll 1\npoll up 1\nstatus\n; told 0 ok 0\nfault no such channel\n\
+release to 0 0\nsing\npoll off 1\npoll on 1\npoll off 0\npoll 1\npoll up 1\n\
+status\n; told 0 ok 0\nfault no such channel\n\
 fault the station is not a terminal\nfault the station is not a terminal\nfault not in doubt\n\
 fault not a command\nok\nok\nfault no such terminal\nfault not a command\n\
 fault not a command\nfrom 0: spooled 0\nto 0.0: offered 0, known 0\nto 0.1: offered 0, known 0\n\
