@@ -1,4 +1,4 @@
-"""Compares what is written more than once: the exports of bsc_embed and the faults of bsc_interface in Rattle, bsc.h,
+"""Compares what is written more than once: the exports of bsc_embed and its faults in Rattle, bsc.h,
 and bsc.py. It prints the C program of which the output are the sizes in C, or compares these with the sizes in Python.
 
     python3 header.py CRATES BSC_H              compares calls and numbers
@@ -77,7 +77,7 @@ def enum_of(header: str, name: str) -> dict:
 def compare_all(crates: str, path: str) -> None:
     with open(path, encoding="utf-8") as file:
         header = re.sub(r"/\*.*?\*/", "", file.read(), flags=re.S)
-    with open(f"{crates}/bsc_interface/src/fault.rt", encoding="utf-8") as file:
+    with open(f"{crates}/bsc_embed/src/interface/fault.rt", encoding="utf-8") as file:
         faults = {int(number) for number in re.findall(r"Fault::\w+ => (\d+),", file.read())}
     compare("bsc_embed and bsc.h", rattle_calls(crates), c_calls(header))
     compare("bsc.h and bsc.py", without_const(c_calls(header)), without_const(python_calls()))
@@ -86,7 +86,7 @@ def compare_all(crates: str, path: str) -> None:
     compare("enum bsc_kind", enum_of(header, "bsc_kind"), {kind.name: kind.value for kind in bsc.Kind})
     compare("enum bsc_end", enum_of(header, "bsc_end"), {"ETX": bsc.ETX, "ETB": bsc.ETB})
     if set(errors.values()) != faults | {0}:
-        sys.exit("header.py: bsc_interface and bsc.h have other faults")
+        sys.exit("header.py: bsc_embed and bsc.h have other faults")
     print(f"bsc_embed, bsc.h and bsc.py have the same {len(c_calls(header))} calls and {len(faults)} faults")
 
 

@@ -4,8 +4,8 @@ use Rattle.std.proofs.Common.{false, Option, Some, None, Result, IfOk, inl, inr}
 use Rattle.bsc_monitor.specs.Arrivals.{arrived_on}
 use Rattle.bsc_monitor.specs.Following.{left_after, share_of, unprinted_on}
 use Rattle.bsc_monitor.specs.declared.party.Party as party_of
-use Rattle.bsc_print.specs.declared.error.PrintError.{PrintError}
-use Rattle.bsc_print.specs.declared.error.PrintError.TheVariants as print
+use Rattle.bsc_text.specs.declared.error.PrintError.{PrintError}
+use Rattle.bsc_text.specs.declared.error.PrintError.TheVariants as print
 use Rattle.bsc_attending.specs.declared.error.AttendingError.{AttendingError}
 use Rattle.bsc_attending.specs.Printer.{AreAllPrinted, Followed, Turn, WritesSome, outcome_after}
 

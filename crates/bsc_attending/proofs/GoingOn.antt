@@ -3,7 +3,7 @@ use Rattle.std.proofs.Common.{◌≡◌, ℕ, zero, suc, Bool, true, false, Opti
 use Rattle.std.proofs.Common.{subst, Result, Ok, Err, IsErr, IfSome, is_ok, is_some, inl, inr}
 use Rattle.std.proofs.Common.{◌||◌, option_map, refl}
 use Rattle.bsc_control.specs.Control.{ControlValue}
-use Rattle.bsc_kept.specs.declared.store.Store as store_of
+use Rattle.bsc_spool.specs.declared.store.Store as store_of
 use Rattle.bsc_keeping.specs.Runs.{Moment, attended, begins, forgot_arrived, forgot_sent}
 use Rattle.bsc_keeping.specs.Runs.{kept, not_kept, not_offered, not_released, offered, released}
 use Rattle.bsc_keeping.specs.Runs.{polled, set, stopped}

@@ -2,10 +2,10 @@
 use Rattle.std.proofs.Common.{◌≡◌, ℕ, Bool, true, false, List, Option, Some, None, is_some}
 use Rattle.std.proofs.Common.{if◌then◌else◌, Result, Ok, Err, inl, inr, subst, sym}
 use Rattle.std.proofs.Common.{IfSome, IsSome, IsSomeAnd, IsErrAnd}
-use Rattle.bsc_asked.specs.StationWords.{AskedWords}
+use Rattle.bsc_options.specs.StationWords.{AskedWords}
 use Rattle.bsc_carrier.specs.declared.error.CarrierError.{CarrierError}
 use Rattle.bsc_config.specs.Settings.{ConfigValue}
-use Rattle.bsc_kept.specs.declared.store.Store as store_of
+use Rattle.bsc_spool.specs.declared.store.Store as store_of
 use Rattle.bsc_keeping.specs.Own.{receiving_of}
 use Rattle.bsc_keeping.specs.declared.keeper.Keeper.{Keeper}
 use Rattle.bsc_keeping.specs.declared.own.Own.{Own}
@@ -13,7 +13,7 @@ use Rattle.bsc_monitor.specs.declared.standing.Standing.{Standing}
 use Rattle.bsc_options.specs.Settings.{SettingsValue, settings_in}
 use Rattle.bsc_options.specs.declared.settings.Role.{Role}
 use Rattle.bsc_options.specs.declared.settings.Role.TheVariants as role
-use Rattle.bsc_print.specs.declared.form.Form.{Form}
+use Rattle.bsc_text.specs.declared.form.Form.{Form}
 use Rattle.bsc_trust.specs.declared.distrust.Distrust.{Distrust}
 use Rattle.bsc_attending.specs.Ending.{HasBegunAndRun, HasRun, IsLeftBy, IsSameKind, result_of}
 use Rattle.bsc_attending.specs.Errors.{IsCutShort, IsPreparingError, IsStoreError, IsUnbegun}

@@ -1,11 +1,11 @@
 -- The configuration, and then the station.
 use Rattle.std.proofs.Common.{ℕ, List, Option, Result, Ok, Err, IfOk, IfErr, inr}
-use Rattle.bsc_asked.specs.StationWords.{AskedWords}
+use Rattle.bsc_options.specs.StationWords.{AskedWords}
 use Rattle.bsc_config.specs.Answers.{IsRefusedFor}
 use Rattle.bsc_config.specs.Settings.{ConfigValue}
 use Rattle.bsc_config.specs.declared.error.ConfigError.{ConfigError}
 use Rattle.bsc_config.specs.declared.error.ConfigError.TheVariants as config
-use Rattle.bsc_input.specs.Texts.{IsTextAt}
+use Rattle.bsc_text.specs.InputTexts.{IsTextAt}
 use Rattle.bsc_options.specs.declared.settings.Role.{Role}
 use Rattle.bsc_attending.specs.Errors.{config_error}
 use Rattle.bsc_attending.specs.Preparing.{HasNoConfig, HasNoStation, IsPrepared, IsStationOf}

@@ -9,7 +9,7 @@ use Rattle.bsc_monitor.specs.Ends.{control_end, station_standing, terminal_end}
 use Rattle.bsc_monitor.specs.Printed.{station_report}
 use Rattle.bsc_monitor.specs.TrustReport.{trust_report}
 use Rattle.bsc_monitor.specs.declared.standing.Standing.{Standing}
-use Rattle.bsc_print.specs.declared.form.Form.{Form}
+use Rattle.bsc_text.specs.declared.form.Form.{Form}
 use Rattle.bsc_trust.specs.Trust.{after_joined}
 use Rattle.bsc_trust.specs.declared.trust.Trust.{Trust}
 use Rattle.bsc_attending.specs.declared.error.AttendingError.{AttendingError}

@@ -5,16 +5,16 @@ use Rattle.bsc_clients.specs.declared.error.ClientsError.{ClientsError}
 use Rattle.bsc_clients.specs.declared.error.ClientsError.TheVariants as clients
 use Rattle.bsc_config.specs.declared.error.ConfigError.{ConfigError}
 use Rattle.bsc_config.specs.declared.error.ConfigError.TheVariants as config
-use Rattle.bsc_input.specs.declared.texts.TextError.{TextError}
-use Rattle.bsc_input.specs.declared.texts.TextError.TheVariants as text
+use Rattle.bsc_text.specs.declared.texts.TextError.{TextError}
+use Rattle.bsc_text.specs.declared.texts.TextError.TheVariants as text
 use Rattle.bsc_connections.specs.declared.awaited.LiveError.{LiveError}
 use Rattle.bsc_connections.specs.declared.awaited.LiveError.TheVariants as live
-use Rattle.bsc_kept.specs.declared.fault.StoreFault.{StoreFault}
-use Rattle.bsc_kept.specs.declared.fault.StoreFault.TheVariants as fault
+use Rattle.bsc_spool.specs.declared.fault.StoreFault.{StoreFault}
+use Rattle.bsc_spool.specs.declared.fault.StoreFault.TheVariants as fault
 use Rattle.bsc_options.specs.declared.error.OptionError.{OptionError}
 use Rattle.bsc_options.specs.declared.error.OptionError.TheVariants as option
-use Rattle.bsc_print.specs.declared.error.PrintError.{PrintError}
-use Rattle.bsc_print.specs.declared.error.PrintError.TheVariants as print
+use Rattle.bsc_text.specs.declared.error.PrintError.{PrintError}
+use Rattle.bsc_text.specs.declared.error.PrintError.TheVariants as print
 use Rattle.bsc_sockets.specs.declared.error.SocketsError.{SocketsError}
 use Rattle.bsc_sockets.specs.declared.error.SocketsError.TheVariants as sockets
 use Rattle.bsc_trust.specs.declared.trust.Trust.{Trust}

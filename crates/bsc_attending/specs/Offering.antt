@@ -4,7 +4,7 @@ use Rattle.std.specs.Prelude.{slice_index_or, Option, Some, None, codes, string_
 use Rattle.std.specs.Str.Lines.{lines}
 use Rattle.bsc_control.specs.Control.{ControlValue, peer_at}
 use Rattle.bsc_control.specs.Kept.{outbound_of}
-use Rattle.bsc_input.specs.Texts.{IsReadError, IsTextAt}
+use Rattle.bsc_text.specs.InputTexts.{IsReadError, IsTextAt}
 use Rattle.bsc_monitor.specs.LineTerminal.{LineTerminalValue}
 use Rattle.bsc_monitor.specs.Offers.{IsFirstRefused, KeepsAllElse, KeepsOtherQueues}
 use Rattle.bsc_monitor.specs.declared.offers.OfferError.{OfferError}

@@ -1,12 +1,12 @@
 -- What a station answers: that it could not be prepared, that it was cut short, or how it ended.
 use Rattle.std.specs.Prelude.{◌≡◌, ◌⊎◌, ℕ, List, Option, Result, Ok, Err, IsErrAnd}
-use Rattle.bsc_asked.specs.StationWords.{AskedWords}
+use Rattle.bsc_options.specs.StationWords.{AskedWords}
 use Rattle.bsc_options.specs.Admission.{IsAdmission}
 use Rattle.bsc_options.specs.Settings.{SettingsValue, settings_in}
 use Rattle.bsc_options.specs.declared.admission.Admission.{Admission}
 use Rattle.bsc_options.specs.declared.settings.Role.{Role}
 use Rattle.bsc_options.specs.declared.settings.Role.TheVariants as role
-use Rattle.bsc_print.specs.declared.form.Form.{Form}
+use Rattle.bsc_text.specs.declared.form.Form.{Form}
 use Rattle.bsc_attending.specs.Ending.{HasEnded}
 use Rattle.bsc_attending.specs.Errors.{IsUnended}
 use Rattle.bsc_attending.specs.Preparing.{IsBegun, IsOptionsRefused, IsPrepared, IsUnprepared}

@@ -2,13 +2,13 @@
 -- configuration, with its records; and what an error says of that.
 use Rattle.std.specs.Prelude.{◌≡◌, ◌≢◌, ◌⊎◌, ◌≤◌, ◌<◌, ℕ, List, length, slice_index_or, Option}
 use Rattle.std.specs.Prelude.{Ok, Err, None, Some, IfSome, codes}
-use Rattle.bsc_asked.specs.StationWords.{AskedWords}
+use Rattle.bsc_options.specs.StationWords.{AskedWords}
 use Rattle.bsc_config.specs.Answers.{IsRefusedFor, Says}
 use Rattle.bsc_config.specs.Settings.{ConfigValue}
 use Rattle.bsc_control.specs.Control.{ControlValue}
 use Rattle.bsc_control.specs.Kept.{IsNewControl}
 use Rattle.bsc_control.specs.Peer.{no_peer}
-use Rattle.bsc_input.specs.Texts.{IsReadError, IsTextAt}
+use Rattle.bsc_text.specs.InputTexts.{IsReadError, IsTextAt}
 use Rattle.bsc_keeping.specs.Own.{receiving_of, sending_of}
 use Rattle.bsc_keeping.specs.declared.own.Own.{Own}
 use Rattle.bsc_keeping.specs.declared.own_text.Owner.{Owner}

@@ -11,9 +11,9 @@ use Rattle.bsc_monitor.specs.Following.{AreSomeCounted, left_after, some_lines}
 use Rattle.bsc_monitor.specs.LineTerminal.{LineTerminalValue}
 use Rattle.bsc_monitor.specs.declared.party.Party as party_of
 use Rattle.bsc_monitor.specs.declared.record_lines.RecordLines.{RecordLines}
-use Rattle.bsc_print.specs.declared.error.PrintError.{PrintError}
-use Rattle.bsc_print.specs.declared.error.PrintError.TheVariants as print
-use Rattle.bsc_report.specs.Channels.{each_below}
+use Rattle.bsc_text.specs.declared.error.PrintError.{PrintError}
+use Rattle.bsc_text.specs.declared.error.PrintError.TheVariants as print
+use Rattle.bsc_text.specs.Channels.{each_below}
 use Rattle.bsc_attending.specs.declared.error.AttendingError.{AttendingError}
 use Rattle.bsc_attending.specs.declared.error.AttendingError.TheVariants as attending
 use Rattle.bsc_attending.specs.declared.following.Following.{Following}

@@ -5,8 +5,8 @@ use Rattle.bsc_monitor.specs.declared.tracing.Tracing.TheVariants.{Off}
 use Rattle.bsc_options.specs.Settings.{SettingsValue}
 use Rattle.bsc_options.specs.declared.settings.Role.{Role}
 use Rattle.bsc_options.specs.declared.settings.Role.TheVariants.{Control, Terminal}
-use Rattle.bsc_progress.specs.declared.counts.Work.{Work}
-use Rattle.bsc_progress.specs.declared.counts.Work.TheVariants.{Events, Rounds}
+use Rattle.bsc_text.specs.declared.progress.counts.Work.{Work}
+use Rattle.bsc_text.specs.declared.progress.counts.Work.TheVariants.{Events, Rounds}
 
 -- What is counted at a station.
 abbrev pub work_in : Role → Work

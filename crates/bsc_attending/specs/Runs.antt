@@ -1,17 +1,17 @@
 -- How a station runs whose records are kept.
 use Rattle.std.specs.Prelude.{◌≡◌, ◌⊎◌, ℕ, Bool, false, List, Option, is_some, Result, Ok}
 use Rattle.std.specs.Prelude.{IsErrAnd}
-use Rattle.bsc_asked.specs.StationWords.{AskedWords}
+use Rattle.bsc_options.specs.StationWords.{AskedWords}
 use Rattle.bsc_bid.specs.declared.kept.KeptSender.{KeptSender}
 use Rattle.bsc_bid.specs.declared.station.Station as station_of
 use Rattle.bsc_control.specs.Control.{ControlValue}
-use Rattle.bsc_directory.specs.declared.way.Way.{Way}
+use Rattle.bsc_bid.specs.declared.way.Way.{Way}
 use Rattle.bsc_feed.specs.declared.fault.Fault.{Fault}
-use Rattle.bsc_kept.specs.Contents.{Contents, GivesBack, IsRead}
-use Rattle.bsc_kept.specs.declared.channel.Channel.{Channel}
-use Rattle.bsc_kept.specs.declared.ends.Receiving.{Receiving}
-use Rattle.bsc_kept.specs.declared.ends.Sending.{Sending}
-use Rattle.bsc_kept.specs.declared.store.Store as store_of
+use Rattle.bsc_spool.specs.Contents.{Contents, GivesBack, IsRead}
+use Rattle.bsc_spool.specs.declared.channel.Channel.{Channel}
+use Rattle.bsc_spool.specs.declared.ends.Receiving.{Receiving}
+use Rattle.bsc_spool.specs.declared.ends.Sending.{Sending}
+use Rattle.bsc_spool.specs.declared.store.Store as store_of
 use Rattle.bsc_monitor.specs.LineTerminal.{LineTerminalValue}
 use Rattle.bsc_monitor.specs.declared.party.Party as party_of
 use Rattle.bsc_keeping.specs.Filled.{IsControlFilledFrom, IsTerminalFilledFrom, KeepsFrom}
@@ -20,7 +20,7 @@ use Rattle.bsc_keeping.specs.Runs.{ForPrograms, KeptRun, Moment, if_fed}
 use Rattle.bsc_keeping.specs.declared.keeper.Keeper.{Keeper}
 use Rattle.bsc_options.specs.Settings.{SettingsValue, settings_in}
 use Rattle.bsc_options.specs.declared.settings.Role.{Role}
-use Rattle.bsc_print.specs.declared.form.Form.{Form}
+use Rattle.bsc_text.specs.declared.form.Form.{Form}
 use Rattle.bsc_attending.specs.Ending.{HasRun}
 use Rattle.bsc_attending.specs.Errors.{IsCutShort, IsStoreError, IsUnbegun}
 use Rattle.bsc_attending.specs.Preparing.{IsPrepared, owner_of}

@@ -3,7 +3,7 @@ use Rattle.std.specs.Prelude.{ℕ, ℤ, pos, ◌+◌, ◌*◌, ◌-◌, ◌^◌,
 use Rattle.std.specs.Prelude.{if◌then◌else◌, Option, None, Some, length}
 use Rattle.bsc_monitor.specs.declared.tracing.Tracing.{Tracing}
 use Rattle.bsc_monitor.specs.declared.tracing.Tracing.TheVariants.{Off, Exchanges, All}
-use Rattle.bsc_peers.specs.declared.networks.Networks.{Networks}
+use Rattle.bsc_trust.specs.declared.networks.Networks.{Networks}
 use Rattle.bsc_options.specs.Settings.{PlaceValue, SettingsValue, connects_to, listens_at}
 use Rattle.bsc_options.specs.Settings.{place_value}
 use Rattle.bsc_attending.specs.declared.preparing.Prepared.{Prepared}

@@ -19,8 +19,8 @@ use bsc_monitor::{
     AbsenceLimits, ControlWatch, Ended, Forgets, Limits, LineTerminal, Party, Polls, Printing,
     TerminalWatch, Watch,
 };
-use bsc_progress::{Meter, Timer};
 use bsc_serving::Feeds;
+use bsc_text::progress::{Meter, Timer};
 use bsc_trust::Trust;
 use std::alloc::Global;
 use std::io::Write;

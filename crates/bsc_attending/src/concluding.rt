@@ -10,7 +10,7 @@ use crate::attending::Left;
 use crate::preparing::Prepared;
 use bsc_carrier::CarrierError;
 use bsc_monitor::{Standing, station_standing, write_report, write_trust};
-use bsc_print::Form;
+use bsc_text::Form;
 use bsc_trust::Trust;
 use std::alloc::Global;
 use std::io::Write;

@@ -15,9 +15,9 @@ use bsc_connections::{
     Connection, Framing, Gaps, LiveError, Monitor, SocketRecords, Waiter, attend,
 };
 use bsc_keeping::{Keeper, Keeping, Prints, attend_kept};
-use bsc_kept::Store;
 use bsc_monitor::{Forgets, Polls, Presences, settle};
 use bsc_serving::Feeds;
+use bsc_spool::Store;
 use std::alloc::Global;
 use std::io::{Read, Write};
 use std::net::IpAddr;

@@ -5,12 +5,11 @@ use bsc_carrier::CarrierError;
 use bsc_clients::ClientsError;
 use bsc_config::ConfigError;
 use bsc_connections::LiveError;
-use bsc_input::TextError;
-use bsc_kept::StoreFault;
 use bsc_monitor::OfferError;
 use bsc_options::OptionError;
-use bsc_print::PrintError;
 use bsc_sockets::SocketsError;
+use bsc_spool::StoreFault;
+use bsc_text::{PrintError, TextError};
 use std::alloc::{AllocError, AllocFailed};
 use thiserror::Error;
 

@@ -5,10 +5,10 @@ ghost use Rattle.std.specs.Prelude.{◌≡◌, ◌≤◌, ◌⊎◌, ℤ, Bool, 
 use crate::Wanted;
 use bsc_clients::{ClientsError, ServedAt};
 use bsc_connections::Waiter;
-use bsc_kept::{Store, StoreFault};
-use bsc_progress::{Meter, Timer, Work};
 use bsc_serving::Programs;
 use bsc_sockets::SocketsError;
+use bsc_spool::{Store, StoreFault};
+use bsc_text::progress::{Meter, Timer, Work};
 use std::io::{Read, Write};
 use std::os::fd::RawFd;
 

@@ -12,9 +12,9 @@ use crate::AttendingError;
 use bsc_bid::Setup;
 use bsc_block::{Record, RecordError};
 use bsc_control::Control;
-use bsc_input::{Files, read_text};
 use bsc_monitor::{LineTerminal, OfferError, offer_at_terminal, offer_for_terminal, read_records};
 use bsc_options::{Offer, OptionError, offer_of};
+use bsc_text::{Files, read_text};
 use std::alloc::Global;
 use std::io::Read;
 

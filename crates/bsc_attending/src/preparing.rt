@@ -3,7 +3,7 @@
 
 ghost use Rattle.std.specs.Prelude.{◌≡◌, ◌≢◌, ◌<◌, ◌≤◌, Err, IfErr, IfOk, IfSome, IsSome, codes};
 ghost use Rattle.std.specs.Prelude.{length, map, string_bytes};
-ghost use Rattle.bsc_asked.specs.StationWords.{asked_words};
+ghost use Rattle.bsc_options.specs.StationWords.{asked_words};
 ghost use Rattle.bsc_attending.specs.Errors.{IsPreparingError};
 ghost use Rattle.bsc_attending.specs.Preparing.{HasConfig, HasNoConfig, HasNoControl};
 ghost use Rattle.bsc_attending.specs.Preparing.{HasNoStation, HasNoTerminal, IsPrepared, IsReady};
@@ -14,13 +14,12 @@ ghost use Rattle.bsc_keeping.specs.OwnText.{own_text_of};
 
 use crate::AttendingError;
 use crate::offering::{offer_all_at_terminal, offer_all_for_terminals};
-use bsc_asked::StationWords;
 use bsc_config::{Config, read_config};
 use bsc_control::Control;
-use bsc_input::{Files, read_text};
 use bsc_keeping::{Own, Owner};
 use bsc_monitor::{LineTerminal, new_control, new_terminal};
-use bsc_options::{GivenPeers, OptionError, Role};
+use bsc_options::{GivenPeers, OptionError, Role, StationWords};
+use bsc_text::{Files, read_text};
 use std::alloc::Global;
 use std::io::Read;
 

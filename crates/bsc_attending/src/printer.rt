@@ -10,7 +10,7 @@ ghost use Rattle.bsc_attending.specs.Printer.{has_unprinted, outcome_after};
 use crate::{AttendingError, Readiness};
 use bsc_keeping::Prints;
 use bsc_monitor::{Party, RecordLines, print_some};
-use bsc_print::{PrintError, put};
+use bsc_text::{PrintError, put};
 use std::alloc::Global;
 use std::io::Write;
 

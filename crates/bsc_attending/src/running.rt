@@ -4,7 +4,7 @@ ghost use Rattle.std.specs.Prelude.{Bool};
 ghost use Rattle.bsc_attending.specs.Printer.{Followed};
 ghost use Rattle.bsc_attending.specs.Runs.{StationParts};
 ghost use Rattle.bsc_keeping.specs.declared.keeper.Keeper.{Keeper as KeeperValue};
-ghost use Rattle.bsc_kept.specs.declared.store.Store as store_of;
+ghost use Rattle.bsc_spool.specs.declared.store.Store as store_of;
 
 use crate::preparing::Prepared;
 use bsc_bid::Station;

@@ -16,3 +16,8 @@ pub mod Steps
 pub mod Telling
 pub mod TurnCount
 pub mod Turning
+pub mod Fronts
+pub mod Owners
+pub mod Repeats
+pub mod EachTerminal
+pub mod Refusing

@@ -13,3 +13,6 @@ pub mod Bid
 pub mod Agreement
 pub mod OneBid
 pub mod EachStep
+pub mod Ways
+pub mod Addresses
+pub mod Refusals

@@ -8,17 +8,17 @@ use Rattle.std.proofs.lemmas.Bool.Decides.{nat_tests}
 use Rattle.std.proofs.lemmas.List.{take-map}
 use Rattle.std.specs.Prelude.{IfSome}
 use Rattle.std.specs.Str.Lines.{strip_carriage_return}
-use Rattle.bsc_input.specs.Lines.{lines_of, parts_of}
-use Rattle.bsc_input.specs.Parts.{before_octet}
-use Rattle.bsc_input.specs.Reading.{ReadsLine}
-use Rattle.bsc_input.specs.declared.input.InputError.{InputError}
-use Rattle.bsc_input.specs.declared.input.InputError.TheVariants as input
-use Rattle.bsc_input.specs.declared.reading.LineEnd.{LineEnd}
-use Rattle.bsc_input.specs.declared.reading.LineEnd.TheVariants.{LineFeed, InputEnd}
-use Rattle.bsc_input.proofs.LineParts.{first_part}
-use Rattle.bsc_ladder.specs.Texts.{Writes}
-use Rattle.bsc_naming.specs.Inputs.{is_too_long}
-use Rattle.bsc_naming.proofs.Lists.{NonePasses, NonePasses-more, position-append, position_none}
+use Rattle.bsc_text.specs.InputLines.{lines_of, parts_of}
+use Rattle.bsc_text.specs.Parts.{before_octet}
+use Rattle.bsc_text.specs.Reading.{ReadsLine}
+use Rattle.bsc_text.specs.declared.input.InputError.{InputError}
+use Rattle.bsc_text.specs.declared.input.InputError.TheVariants as input
+use Rattle.bsc_text.specs.declared.reading.LineEnd.{LineEnd}
+use Rattle.bsc_text.specs.declared.reading.LineEnd.TheVariants.{LineFeed, InputEnd}
+use Rattle.bsc_text.proofs.LineParts.{first_part}
+use Rattle.bsc_trace.specs.Texts.{Writes}
+use Rattle.bsc_trace.specs.Inputs.{is_too_long}
+use Rattle.bsc_trace.proofs.Lists.{NonePasses, NonePasses-more, position-append, position_none}
 use Rattle.bsc_trace.specs.Lines.{TraceValue}
 use Rattle.bsc_chart.specs.Errors.{IsWrongOrPrintError, input_error}
 use Rattle.bsc_chart.specs.Inputs.{DrawsFirst, DrawsInput, HasStopped, ReadsInput, StopsAt}

@@ -1,9 +1,9 @@
 -- The errors of a part of the work are errors of the whole, and what is written last ends a ladder.
 use Rattle.std.proofs.Common.{ℕ, List, Option, None, Some, Result, Ok, Err}
 use Rattle.std.specs.Prelude.{IfErr, IfSome, OnOk}
-use Rattle.bsc_input.specs.declared.input.InputError.{InputError}
-use Rattle.bsc_input.specs.declared.input.InputError.TheVariants as input
-use Rattle.bsc_ladder.specs.Texts.{Writes}
+use Rattle.bsc_text.specs.declared.input.InputError.{InputError}
+use Rattle.bsc_text.specs.declared.input.InputError.TheVariants as input
+use Rattle.bsc_trace.specs.Texts.{Writes}
 use Rattle.bsc_chart.specs.Asked.{IsEarly}
 use Rattle.bsc_chart.specs.Errors.{IsEndError, IsLineError, IsWrongOrPrintError, input_error}
 use Rattle.bsc_chart.specs.Inputs.{DrawsInput, HasStopped, ReadsInput}

@@ -3,8 +3,8 @@ use Rattle.std.proofs.Common.{◌≡◌, List, [], ◌∷◌, ◌++◌, Option, 
 use Rattle.std.proofs.Common.{append_assoc, append-nil, inl, inr, Result, Ok, Err}
 use Rattle.std.proofs.KnownBytes.{Appends-nil, Appends-trans}
 use Rattle.std.specs.Prelude.{OnOk}
-use Rattle.bsc_ladder.specs.Rows.{time_in}
-use Rattle.bsc_ladder.specs.Texts.{IsLine, IsRow, Writes}
+use Rattle.bsc_trace.specs.Rows.{time_in}
+use Rattle.bsc_trace.specs.Texts.{IsLine, IsRow, Writes}
 use Rattle.bsc_trace.specs.Lines.{TraceValue}
 use Rattle.bsc_chart.specs.Ladders.{AreLabels, IsLadder}
 use Rattle.bsc_chart.specs.Pages.{IsEarlyOf}

@@ -1,3 +1,6 @@
+pub mod Plain
+pub mod RowTexts
+pub mod Sums
 pub mod Drawn
 pub mod Ends
 pub mod Ladders

@@ -2,8 +2,8 @@
 use Rattle.std.proofs.Common.{◌≡◌, ℕ, List, [], Option, None, Some, Result, Ok, Err, refl, sym, ap, ◌∙◌, subst}
 use Rattle.std.proofs.Common.{inr}
 use Rattle.std.specs.Prelude.{IfErr, IfSome, OnOk}
-use Rattle.bsc_asked.specs.ChartWords.{AskedChart}
-use Rattle.bsc_input.specs.declared.unreadable.Unreadable.{Unreadable}
+use Rattle.bsc_options.specs.ChartWords.{AskedChart}
+use Rattle.bsc_text.specs.declared.unreadable.Unreadable.{Unreadable}
 use Rattle.bsc_chart.specs.Asked.{drawing_of}
 use Rattle.bsc_chart.specs.Errors.{IsLineError}
 use Rattle.bsc_chart.specs.Inputs.{HasStopped}

@@ -2,9 +2,9 @@
 use Rattle.std.specs.Prelude.{◌≡◌, ℕ, Bool, true, false, List, Option, Some, None, Result, Ok, Err}
 use Rattle.std.specs.Prelude.{if◌then◌else◌, unwrap_or}
 use Rattle.std.specs.Option.{option_and_then}
-use Rattle.bsc_asked.specs.ChartWords.{AskedChart}
-use Rattle.bsc_ladder.specs.declared.glyphs.Style.{Style}
-use Rattle.bsc_ladder.specs.declared.glyphs.Style.TheVariants.{Boxes, Ascii}
+use Rattle.bsc_options.specs.ChartWords.{AskedChart}
+use Rattle.bsc_trace.specs.declared.ladder.glyphs.Style.{Style}
+use Rattle.bsc_trace.specs.declared.ladder.glyphs.Style.TheVariants.{Boxes, Ascii}
 use Rattle.bsc_options.specs.Numbers.{number_within}
 use Rattle.bsc_chart.specs.Inputs.{HasStopped}
 use Rattle.bsc_chart.specs.declared.drawing.Drawing.{Drawing}

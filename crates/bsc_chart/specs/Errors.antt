@@ -1,9 +1,9 @@
 -- The errors of drawing.
 use Rattle.std.specs.Prelude.{ℕ}
-use Rattle.bsc_input.specs.declared.input.InputError.{InputError}
-use Rattle.bsc_input.specs.declared.input.InputError.TheVariants as input
-use Rattle.bsc_print.specs.declared.error.PrintError.{PrintError}
-use Rattle.bsc_print.specs.declared.error.PrintError.TheVariants as print
+use Rattle.bsc_text.specs.declared.input.InputError.{InputError}
+use Rattle.bsc_text.specs.declared.input.InputError.TheVariants as input
+use Rattle.bsc_text.specs.declared.error.PrintError.{PrintError}
+use Rattle.bsc_text.specs.declared.error.PrintError.TheVariants as print
 use Rattle.bsc_chart.specs.declared.error.ChartError.{ChartError}
 use Rattle.bsc_chart.specs.declared.error.ChartError.TheVariants.{NotATraceAt, TooLongAt, Width}
 use Rattle.bsc_chart.specs.declared.error.ChartError.TheVariants.{Forms, Lines, TooMany}

@@ -5,10 +5,10 @@ use Rattle.std.specs.Prelude.{if◌then◌else◌}
 use Rattle.std.specs.Option.{option_to_list}
 use Rattle.std.specs.Str.{bytes_eq}
 use Rattle.std.specs.Str.Lines.{strip_carriage_return}
-use Rattle.bsc_input.specs.Lines.{is_blank, lines_of, parts_of}
-use Rattle.bsc_input.specs.Parts.{before_octet}
-use Rattle.bsc_ladder.specs.Texts.{Writes}
-use Rattle.bsc_naming.specs.Inputs.{is_too_long}
+use Rattle.bsc_text.specs.InputLines.{is_blank, lines_of, parts_of}
+use Rattle.bsc_text.specs.Parts.{before_octet}
+use Rattle.bsc_trace.specs.Texts.{Writes}
+use Rattle.bsc_trace.specs.Inputs.{is_too_long}
 use Rattle.bsc_trace.specs.Lines.{TraceValue, value_of}
 use Rattle.bsc_chart.specs.Pages.{IsChart, IsEarlyText, PageValue, is_full, page_of}
 use Rattle.bsc_chart.specs.declared.error.ChartError.{ChartError}

@@ -1,11 +1,11 @@
 -- The ladder of a trace, as text: for each line one row, in order.
 use Rattle.std.specs.Prelude.{◌≡◌, ◌⊎◌, ℕ, ◌+◌, nat_lt, List, [], ◌∷◌, ◌++◌, if◌then◌else◌}
-use Rattle.bsc_ladder.specs.Rows.{time_in}
-use Rattle.bsc_ladder.specs.Texts.{IsLine, IsRow}
-use Rattle.bsc_ladder.specs.declared.row.Course.{Course}
-use Rattle.bsc_ladder.specs.declared.row.Course.TheVariants.{ToAll, ToOne, From}
-use Rattle.bsc_ladder.specs.declared.row.Place.{Place}
-use Rattle.bsc_ladder.specs.declared.row.Place.TheVariants.{Control, Station}
+use Rattle.bsc_trace.specs.Rows.{time_in}
+use Rattle.bsc_trace.specs.Texts.{IsLine, IsRow}
+use Rattle.bsc_trace.specs.declared.ladder.row.Course.{Course}
+use Rattle.bsc_trace.specs.declared.ladder.row.Course.TheVariants.{ToAll, ToOne, From}
+use Rattle.bsc_trace.specs.declared.ladder.row.Place.{Place}
+use Rattle.bsc_trace.specs.declared.ladder.row.Place.TheVariants.{Control, Station}
 use Rattle.bsc_chart.specs.Rows.{row_of}
 use Rattle.bsc_trace.specs.Lines.{TraceValue, transmission, silence, told}
 

@@ -1,3 +1,13 @@
+pub mod Escapes
+pub mod PictureRows
+pub mod Frames
+pub mod Elements
+pub mod Pictures
+pub mod Counts
+pub mod Clocks
+pub mod Cells
+pub mod Tables
+pub mod SummaryPages
 pub mod Errors
 pub mod Rows
 pub mod Ladders

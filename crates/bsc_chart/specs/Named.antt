@@ -3,8 +3,8 @@ use Rattle.std.specs.Prelude.{◌≡◌, ◌⊎◌, ℕ, List, Option, Some, Non
 use Rattle.std.specs.Prelude.{Err, codes}
 use Rattle.std.specs.Prelude.{if◌then◌else◌, string_bytes}
 use Rattle.std.specs.Str.{bytes_eq}
-use Rattle.bsc_asked.specs.ChartWords.{AskedChart}
-use Rattle.bsc_input.specs.declared.unreadable.Unreadable.{Unreadable}
+use Rattle.bsc_options.specs.ChartWords.{AskedChart}
+use Rattle.bsc_text.specs.declared.unreadable.Unreadable.{Unreadable}
 use Rattle.bsc_chart.specs.Asked.{HasFailed, IsEarly, drawing_of}
 use Rattle.bsc_chart.specs.Errors.{IsLineError}
 use Rattle.bsc_chart.specs.Inputs.{DrawsInput, HasStopped}

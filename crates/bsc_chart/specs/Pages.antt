@@ -2,12 +2,12 @@
 use Rattle.std.specs.Prelude.{◌≡◌, ℕ, ◌+◌, ◌&&◌, ◌||◌, nat_le, Bool, true, false, List, [], ◌∷◌}
 use Rattle.std.specs.Prelude.{◌++◌, length, if◌then◌else◌}
 use Rattle.std.specs.List.{filter}
-use Rattle.bsc_ladder.specs.Rows.{RowValue}
-use Rattle.bsc_ladder.specs.declared.row.Sign.{Sign}
-use Rattle.bsc_ladder.specs.declared.row.Sign.TheVariants.{Named}
-use Rattle.bsc_picture.specs.Pictures.{IsPicture}
-use Rattle.bsc_picture.specs.Rows.{rows_in}
-use Rattle.bsc_summary.specs.Pages.{IsPage}
+use Rattle.bsc_trace.specs.Rows.{RowValue}
+use Rattle.bsc_trace.specs.declared.ladder.row.Sign.{Sign}
+use Rattle.bsc_trace.specs.declared.ladder.row.Sign.TheVariants.{Named}
+use Rattle.bsc_chart.specs.Pictures.{IsPicture}
+use Rattle.bsc_chart.specs.PictureRows.{rows_in}
+use Rattle.bsc_chart.specs.SummaryPages.{IsPage}
 use Rattle.bsc_chart.specs.Ladders.{IsLadder, columns_after}
 use Rattle.bsc_chart.specs.Rows.{row_of}
 use Rattle.bsc_chart.specs.declared.pages.Page.{Page}

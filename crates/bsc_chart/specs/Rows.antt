@@ -5,11 +5,11 @@ use Rattle.bsc_frame.specs.Reading.{heard}
 use Rattle.bsc_frame.specs.Texts.{TextUnit}
 use Rattle.bsc_frame.specs.declared.message.Heard.{Heard as HeardValue}
 use Rattle.bsc_frame.specs.declared.message.Heard.TheVariants as message
-use Rattle.bsc_ladder.specs.Rows as row
-use Rattle.bsc_ladder.specs.Rows.{RowValue}
-use Rattle.bsc_ladder.specs.declared.row.Fate.{Fate}
-use Rattle.bsc_ladder.specs.declared.row.Fate.TheVariants.{Heard, Turned, Failed}
-use Rattle.bsc_print.specs.Names.{name_of, units_of}
+use Rattle.bsc_trace.specs.Rows as row
+use Rattle.bsc_trace.specs.Rows.{RowValue}
+use Rattle.bsc_trace.specs.declared.ladder.row.Fate.{Fate}
+use Rattle.bsc_trace.specs.declared.ladder.row.Fate.TheVariants.{Heard, Turned, Failed}
+use Rattle.bsc_text.specs.Names.{name_of, units_of}
 use Rattle.bsc_trace.specs.Lines.{TraceValue, transmission, silence, told}
 
 -- What became of a transmission that was heard as a message, as failed or as noise: what is heard

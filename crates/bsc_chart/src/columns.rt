@@ -4,8 +4,8 @@ ghost use Rattle.bsc_trace.specs.Lines.{value_in};
 ghost use Rattle.bsc_chart.specs.Ladders.{columns_after, columns_up_to, course_columns};
 ghost use Rattle.bsc_chart.specs.Ladders.{needed_columns, place_columns};
 
-use bsc_ladder::{Course, Mark, Place, Sign};
 use bsc_trace::TraceLine;
+use bsc_trace::ladder::{Course, Mark, Place, Sign};
 use std::alloc::Allocator;
 
 /// Returns how many columns a ladder with this many has after a line.

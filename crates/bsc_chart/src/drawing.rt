@@ -1,6 +1,6 @@
 //! How a ladder is drawn.
 
-use bsc_ladder::Style;
+use bsc_trace::ladder::Style;
 
 /// The form of a ladder.
 #[derive(Clone, Copy, Debug, PartialEq, Eq)]

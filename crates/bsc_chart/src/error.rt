@@ -1,8 +1,7 @@
 //! The reasons why a trace was not drawn.
 ghost use Rattle.std.specs.Prelude.{◌≡◌};
 
-use bsc_input::Unreadable;
-use bsc_print::PrintError;
+use bsc_text::{PrintError, Unreadable};
 use std::alloc::AllocError;
 use thiserror::Error;
 
@@ -15,7 +14,7 @@ pub enum ChartError {
     NotATraceAt { line: u64 },
 
     /// The line with this number, counted from 1, has more than
-    /// [`MAX_INPUT`](bsc_input::MAX_INPUT) octets. A carriage return at its end counts, its line
+    /// [`MAX_INPUT`](bsc_text::MAX_INPUT) octets. A carriage return at its end counts, its line
     /// feed does not.
     #[error("line {line}: too long")]
     TooLongAt { line: u64 },
@@ -33,7 +32,7 @@ pub enum ChartError {
     Lines,
 
     /// A picture, also that of a page, has room for no more than [`MAX_ARROWS`](crate::MAX_ARROWS)
-    /// arrows and [`MAX_ROWS`](bsc_picture::MAX_ROWS) rows.
+    /// arrows and [`MAX_ROWS`](crate::picture::MAX_ROWS) rows.
     #[error("more than 5000 arrows or 20000 rows: draw a part with --from and --to")]
     TooMany,
 

@@ -1,4 +1,4 @@
-//! Draws the ladder of a trace: the work of `bscline chart`.
+//! Draws the ladder of a trace, as a text, a picture or a page: the work of `bscline chart`.
 //!
 //! The transmissions are those of GA27-3004. The ladder is this project's own.
 #![tactic(auto)]
@@ -9,7 +9,9 @@ mod error;
 mod lines;
 mod named;
 mod pages;
+pub mod picture;
 mod rows;
+pub mod summary;
 mod text;
 mod words;
 

@@ -2,7 +2,7 @@
 ghost use Rattle.std.specs.Prelude.{◌≡◌, ◌≤◌, ℕ, length, Err, false, true, OnOk, IfErr, IfOk};
 ghost use Rattle.std.specs.Prelude.{IfSome, ◌&&◌, ◌∷◌, [], nat_le};
 ghost use Rattle.std.specs.Str.{bytes_eq};
-ghost use Rattle.bsc_ladder.specs.Texts.{Writes};
+ghost use Rattle.bsc_trace.specs.Texts.{Writes};
 ghost use Rattle.bsc_trace.specs.Lines.{value_in};
 ghost use Rattle.bsc_chart.specs.Errors.{IsDrawError, IsEndError, IsLineError};
 ghost use Rattle.bsc_chart.specs.Errors.{IsWrongOrPrintError, input_error};
@@ -13,13 +13,13 @@ ghost use Rattle.bsc_chart.specs.Pages.{IsEarlyOf, IsLateText, drawn_at, is_draw
 ghost use Rattle.bsc_chart.specs.Pages.{page_by, page_in, page_with, widened};
 
 use crate::pages::{Page, keep, tells_names, widen};
+use crate::picture::{Picture, write_svg};
+use crate::summary::write_html;
 use crate::text::write_line;
 use crate::{ChartError, Drawing, Form, Range};
-use bsc_input::{
+use bsc_text::{
     InputError, LineEnd, Unreadable, is_blank, read_line, split_at_first, without_return,
 };
-use bsc_picture::{Picture, write_svg};
-use bsc_summary::write_html;
 use bsc_trace::{TraceLine, read_trace_line};
 use std::alloc::Allocator;
 use std::io::{BufRead, BufReader, Read, Write};

@@ -1,8 +1,8 @@
 //! The ladder of the trace that the words of the command name: a file, or standard input.
 ghost use Rattle.std.specs.Prelude.{◌≡◌, OnOk, IfErr, IfOk, Ok, Some, ℕ, List, Option};
 ghost use Rattle.std.specs.Prelude.{option_map, string_bytes};
-ghost use Rattle.bsc_asked.specs.ChartWords.{chart_words};
-ghost use Rattle.bsc_input.specs.declared.unreadable.Unreadable.{Unreadable as UnreadableValue};
+ghost use Rattle.bsc_options.specs.ChartWords.{chart_words};
+ghost use Rattle.bsc_text.specs.declared.unreadable.Unreadable.{Unreadable as UnreadableValue};
 ghost use Rattle.bsc_chart.specs.Named.{HasFailedAs, HasFailedFile, HasFailedInput};
 ghost use Rattle.bsc_chart.specs.Named.{HasFailedTrace, HoldsOf, IsCharted, IsDrawn, IsEarlyTrace};
 ghost use Rattle.bsc_chart.specs.Named.{ChartsNamed, DrawsNamed, FailsAt, FailsChart, FailsNamed};
@@ -10,8 +10,8 @@ ghost use Rattle.bsc_chart.specs.Named.{IsFileError, IsLateTrace, IsUnread, file
 
 use crate::words::{read_drawing, text_of};
 use crate::{ChartError, Drawing, chart};
-use bsc_asked::ChartWords;
-use bsc_input::{STANDARD_INPUT, Unreadable};
+use bsc_options::ChartWords;
+use bsc_text::{STANDARD_INPUT, Unreadable};
 use std::alloc::Global;
 use std::io::{Read, Write};
 use thiserror::Error;

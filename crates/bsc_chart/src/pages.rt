@@ -5,14 +5,14 @@ ghost use Rattle.bsc_chart.specs.Pages.{arrow_count, blank_page, is_full, is_nam
 ghost use Rattle.bsc_chart.specs.Pages.{page_in, widened, with_kept, with_name, with_row};
 ghost use Rattle.bsc_chart.specs.Errors.{IsKeepError};
 ghost use Rattle.bsc_chart.specs.Rows.{row_of};
-ghost use Rattle.bsc_picture.specs.Rows.{kept_in};
+ghost use Rattle.bsc_chart.specs.PictureRows.{kept_in};
 
 use crate::ChartError;
 use crate::columns::columns_with;
+use crate::picture::{MAX_ROWS, PictureRow};
 use crate::rows::kept_row;
-use bsc_ladder::Sign;
-use bsc_picture::{MAX_ROWS, PictureRow};
 use bsc_trace::TraceLine;
+use bsc_trace::ladder::Sign;
 use std::alloc::Allocator;
 
 /// The maximum number of arrows of a picture.

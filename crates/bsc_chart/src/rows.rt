@@ -2,19 +2,19 @@
 ghost use Rattle.std.specs.Prelude.{◌≡◌, IfOk, OnOk};
 ghost use Rattle.std.specs.Io.KnownBytes.{Appends};
 ghost use Rattle.std.specs.List.{flat_map};
-ghost use Rattle.bsc_ladder.specs.Rows.{time_in};
-ghost use Rattle.bsc_ladder.specs.Texts.{IsRow, Writes};
-ghost use Rattle.bsc_picture.specs.Rows.{kept_in};
-ghost use Rattle.bsc_print.specs.Names.{name_of};
+ghost use Rattle.bsc_trace.specs.Rows.{time_in};
+ghost use Rattle.bsc_trace.specs.Texts.{IsRow, Writes};
+ghost use Rattle.bsc_chart.specs.PictureRows.{kept_in};
+ghost use Rattle.bsc_text.specs.Names.{name_of};
 ghost use Rattle.bsc_trace.specs.Lines.{value_in};
 ghost use Rattle.bsc_chart.specs.Rows.{failed_fate, note_of, row_of, seen_fate, unit_note};
 
+use crate::picture::{PictureRow, owned};
 use bsc_frame::laws::{one_reading, reading};
 use bsc_frame::{Heard, Message, Text, TextBuffer, decode};
-use bsc_ladder::{Fate, Layout, write_row};
-use bsc_picture::{PictureRow, owned};
-use bsc_print::{PrintError, put, write_heard_name};
+use bsc_text::{PrintError, put, write_heard_name};
 use bsc_trace::TraceLine;
+use bsc_trace::ladder::{Fate, Layout, write_row};
 use std::alloc::Allocator;
 use std::io::Write;
 

@@ -1,15 +1,15 @@
 //! The rows of a ladder as text.
 ghost use Rattle.std.specs.Prelude.{OnOk, ◌∷◌, []};
-ghost use Rattle.bsc_ladder.specs.Texts.{Writes};
+ghost use Rattle.bsc_trace.specs.Texts.{Writes};
 ghost use Rattle.bsc_trace.specs.Lines.{value_in};
 ghost use Rattle.bsc_chart.specs.Ladders.{AreLabels, IsLadder};
 
 use crate::Drawing;
 use crate::columns::{columns_with, labelled};
 use crate::rows::write_line_row;
-use bsc_ladder::{Layout, write_header};
-use bsc_print::PrintError;
+use bsc_text::PrintError;
 use bsc_trace::TraceLine;
+use bsc_trace::ladder::{Layout, write_header};
 use std::alloc::Allocator;
 use std::io::Write;
 

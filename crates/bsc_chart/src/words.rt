@@ -1,14 +1,13 @@
 //! The ladder that the words of the command ask for.
 ghost use Rattle.std.specs.Prelude.{◌≡◌, OnOk, IfErr, IfSome, IsOkAnd, option_map, string_bytes};
-ghost use Rattle.bsc_asked.specs.ChartWords.{chart_words};
+ghost use Rattle.bsc_options.specs.ChartWords.{chart_words};
 ghost use Rattle.bsc_chart.specs.Asked.{HasFailed, IsEarly, drawing_of, drawing_with, form_of};
 ghost use Rattle.bsc_chart.specs.Asked.{line_of, range_of, style_of, width_of, width_on};
 ghost use Rattle.bsc_chart.specs.Inputs.{DrawsInput};
 
 use crate::{ChartError, Drawing, Form, Range, chart};
-use bsc_asked::ChartWords;
-use bsc_ladder::Style;
-use bsc_options::number_within;
+use bsc_options::{ChartWords, number_within};
+use bsc_trace::ladder::Style;
 use std::alloc::Allocator;
 use std::io::{Read, Write};
 

@@ -26,12 +26,12 @@ pub enum Direction<S> {
 
 /// The connection of a program to a station, which ends when both of its directions are dropped.
 #[derive(Drop)]
-pub struct Reached<S> {
-    /// What the program hears.
-    pub hears: Direction<S>,
+pub struct Reached<I: Drop, O: Drop> {
+    /// What the program hears of the station.
+    pub heard: I,
 
-    /// What the program says.
-    pub says: Direction<S>,
+    /// What it says to the station.
+    pub said: O,
 }
 
 impl<S: Read> Read for Direction<S> {
@@ -70,28 +70,28 @@ pub fn reach<N: Net>(
     alloc: Global,
     at: ServedAt<'_>,
     patience: Duration,
-) -> Result<Reached<N::Stream>, ClientsError>
+) -> Result<Reached<Direction<N::Stream>, Direction<N::Stream>>, ClientsError>
     ensures failed { IfErr result (IsReachError at.entry) }
 {
     match at {
         ServedAt::Address { address, .. } => {
             let hosts = addresses(runtime, alloc, address)?;
-            let hears = first_answer(runtime, &hosts, patience)?;
-            hears.set_nodelay(true)?;
-            let says = hears.try_clone()?;
+            let heard = first_answer(runtime, &hosts, patience)?;
+            heard.set_nodelay(true)?;
+            let said = heard.try_clone()?;
             Ok(Reached {
-                hears: Direction::Tcp { stream: hears },
-                says: Direction::Tcp { stream: says },
+                heard: Direction::Tcp { stream: heard },
+                said: Direction::Tcp { stream: said },
             })
         }
         ServedAt::Path { path } => {
-            let Ok(hears) = UnixStream::connect(runtime, path) else {
+            let Ok(heard) = UnixStream::connect(runtime, path) else {
                 return Err(ClientsError::NobodyThere);
             };
-            let says = hears.try_clone()?;
+            let said = heard.try_clone()?;
             Ok(Reached {
-                hears: Direction::Unix { stream: hears },
-                says: Direction::Unix { stream: says },
+                heard: Direction::Unix { stream: heard },
+                said: Direction::Unix { stream: said },
             })
         }
     }

@@ -1,6 +1,6 @@
 -- The fault for an error of drawing says what the error says.
 use Rattle.std.proofs.Common.{ℕ, List, Option, inl, inr, subst, sym}
-use Rattle.bsc_asked.specs.ChartWords.{AskedChart}
+use Rattle.bsc_options.specs.ChartWords.{AskedChart}
 use Rattle.bsc_chart.specs.Named.{HasFailedTrace, IsEarlyTrace}
 use Rattle.bsc_chart.specs.declared.error.ChartError.{ChartError}
 use Rattle.bsc_chart.specs.declared.error.ChartError.TheVariants as chart

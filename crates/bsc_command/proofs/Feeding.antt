@@ -5,10 +5,10 @@ use Rattle.std.specs.Prelude.{IsErrOf}
 use Rattle.std.specs.List.{flat_map}
 use Rattle.std.specs.Io.KnownBytes.{Keeps}
 use Rattle.std.proofs.KnownBytes.{Appends-kept}
-use Rattle.bsc_feeding.specs.Answers.{EndsInFault, line_shown}
-use Rattle.bsc_feeding.specs.Feeding.{FeedsWords, HasFed, turned}
-use Rattle.bsc_feeding.specs.declared.error.FeedError.{FeedError}
-use Rattle.bsc_feeding.specs.declared.error.FeedError.TheVariants as feed
+use Rattle.bsc_clients.specs.Answers.{EndsInFault, line_shown}
+use Rattle.bsc_clients.specs.Feeding.{FeedsWords, HasFed, turned}
+use Rattle.bsc_clients.specs.declared.command.error.FeedError.{FeedError}
+use Rattle.bsc_clients.specs.declared.command.error.FeedError.TheVariants as feed
 use Rattle.bsc_command.specs.declared.fault.Fault.{Fault}
 use Rattle.bsc_command.specs.declared.fault.Fault.TheVariants as fault
 use Rattle.bsc_command.specs.Faults.{IsEarly, IsFeedFault, IsFeedingFault}

@@ -4,8 +4,8 @@ use Rattle.std.proofs.Common.{IsOkAnd, IsSomeAnd, inl, inr, take}
 use Rattle.std.specs.Io.KnownBytes.{Keeps}
 use Rattle.std.proofs.KnownBytes.{Appends-kept, Keeps-trans}
 use Rattle.clap.specs.Words.{Text}
-use Rattle.bsc_asked.specs.ChartWords.{AskedChart}
-use Rattle.bsc_asked.specs.Asked.{AskedValue, names, name, show, chart, run, station, feed, store}
+use Rattle.bsc_options.specs.ChartWords.{AskedChart}
+use Rattle.bsc_options.specs.Asked.{AskedValue, names, name, show, chart, run, station, feed, store}
 use Rattle.bsc_chart.specs.Asked.{HasFailed as HasFailedDrawing, drawing_of}
 use Rattle.bsc_chart.specs.Inputs.{DrawsInput, HasStopped as HasStoppedDrawing}
 use Rattle.bsc_chart.specs.Inputs.{StopsAt as StopsDrawingAt, is_misspelt as is_misread, values_of}
@@ -18,25 +18,25 @@ use Rattle.bsc_chart.specs.declared.named.TraceError.TheVariants as trace
 use Rattle.bsc_chart.specs.Named.{HasFailedAs as HasFailedDrawingAs, HoldsOf, IsCharted, IsDrawn}
 use Rattle.bsc_chart.specs.Named.{SaysOf}
 use Rattle.bsc_frame.specs.declared.message.Heard.{Heard}
-use Rattle.bsc_input.specs.Hexadecimal.{octets_of}
-use Rattle.bsc_input.specs.Lines.{lines_of}
-use Rattle.bsc_ladder.specs.Texts.{Writes}
-use Rattle.bsc_print.specs.Fronts.{AppendsFront}
-use Rattle.bsc_print.specs.Names.{Prints, name_line}
-use Rattle.bsc_print.specs.declared.printed.Detail.{Detail}
-use Rattle.bsc_print.specs.declared.printed.Detail.TheVariants.{Name, Units}
+use Rattle.bsc_text.specs.Hexadecimal.{octets_of}
+use Rattle.bsc_text.specs.InputLines.{lines_of}
+use Rattle.bsc_trace.specs.Texts.{Writes}
+use Rattle.bsc_text.specs.Fronts.{AppendsFront}
+use Rattle.bsc_text.specs.Names.{Prints, name_line}
+use Rattle.bsc_text.specs.declared.printed.Detail.{Detail}
+use Rattle.bsc_text.specs.declared.printed.Detail.TheVariants.{Name, Units}
 use Rattle.bsc_run.specs.Printed.{report_of}
-use Rattle.bsc_naming.specs.Inputs.{HasStopped, PrintsInput, StopsAt, is_misspelt, is_too_long}
-use Rattle.bsc_naming.specs.Lines.{PrintsLines, PrintsLinesFront}
-use Rattle.bsc_naming.specs.declared.error.NamingError.{NamingError}
-use Rattle.bsc_naming.specs.declared.error.NamingError.TheVariants as naming
+use Rattle.bsc_trace.specs.Inputs.{HasStopped, PrintsInput, StopsAt, is_misspelt, is_too_long}
+use Rattle.bsc_trace.specs.NamingLines.{PrintsLines, PrintsLinesFront}
+use Rattle.bsc_trace.specs.declared.naming.error.NamingError.{NamingError}
+use Rattle.bsc_trace.specs.declared.naming.error.NamingError.TheVariants as naming
 use Rattle.bsc_run.specs.Crossing.{streams_of}
 use Rattle.bsc_run.specs.Plays.{holding}
 use Rattle.bsc_run.specs.declared.error.RunError.{RunError}
 use Rattle.bsc_run.specs.declared.error.RunError.TheVariants as run_error
-use Rattle.bsc_running.specs.Running.{TextPaths, HasFailed, HasRun, IsRunDone}
-use Rattle.bsc_running.specs.declared.error.RunningError.{RunningError}
-use Rattle.bsc_running.specs.declared.error.RunningError.TheVariants as running
+use Rattle.bsc_run.specs.Running.{TextPaths, HasFailed, HasRun, IsRunDone}
+use Rattle.bsc_run.specs.declared.running_error.RunningError.{RunningError}
+use Rattle.bsc_run.specs.declared.running_error.RunningError.TheVariants as running
 use Rattle.bsc_words.specs.CommandLine.{asked_of}
 use Rattle.bsc_command.specs.declared.fault.Fault.{Fault}
 use Rattle.bsc_command.specs.declared.fault.Fault.TheVariants as fault

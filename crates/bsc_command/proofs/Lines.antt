@@ -3,8 +3,8 @@ use Rattle.std.proofs.Common.{◌≡◌, List, [], ◌∷◌, ◌++◌, refl, sy
 use Rattle.std.specs.List.{AllPass}
 use Rattle.std.proofs.lemmas.List.Elements.{All-append}
 use Rattle.std.proofs.lemmas.List.Sums.{AllPass-from_list_all}
-use Rattle.bsc_print.proofs.Escapes.{is_one_line}
-use Rattle.bsc_print.specs.Forms.{AreOctets, escaped, is_printable}
+use Rattle.bsc_text.proofs.Escapes.{is_one_line}
+use Rattle.bsc_text.specs.Forms.{AreOctets, escaped, is_printable}
 use Rattle.bsc_command.specs.Faults.{IsOneFaultLine, fault_line}
 
 name_printable : AllPass is_printable (codes "bscline: ")

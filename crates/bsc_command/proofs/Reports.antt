@@ -3,8 +3,8 @@ use Rattle.std.proofs.Common.{ℕ, List, Option, Result, Ok, Err, inl, inr}
 use Rattle.std.specs.Io.KnownBytes.{Keeps}
 use Rattle.std.proofs.KnownBytes.{Appends-kept}
 use Rattle.clap.specs.Words.{Text}
-use Rattle.bsc_asked.specs.Asked.{AskedValue, names, name, show, chart, run, station, feed, store}
-use Rattle.bsc_asked.specs.StationWords.{AskedWords}
+use Rattle.bsc_options.specs.Asked.{AskedValue, names, name, show, chart, run, station, feed, store}
+use Rattle.bsc_options.specs.StationWords.{AskedWords}
 use Rattle.bsc_attending.specs.Ending.{ending_text}
 use Rattle.bsc_attending.specs.Outcomes.{IsReported}
 use Rattle.bsc_attending.specs.declared.error.AttendingError.{AttendingError}

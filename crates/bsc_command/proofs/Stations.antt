@@ -2,7 +2,7 @@
 use Rattle.std.proofs.Common.{ℕ, Bool, true, false, if◌then◌else◌, List, Option, Err, inl, inr}
 use Rattle.std.proofs.Common.{subst, sym}
 use Rattle.clap.specs.declared.error.kind.ErrorKind.TheVariants as kind
-use Rattle.bsc_asked.specs.StationWords.{AskedWords}
+use Rattle.bsc_options.specs.StationWords.{AskedWords}
 use Rattle.bsc_attending.specs.Errors.{IsEarly as IsEarlyAttending}
 use Rattle.bsc_attending.specs.Outcomes.{IsAnswer}
 use Rattle.bsc_attending.specs.declared.error.AttendingError.{AttendingError}

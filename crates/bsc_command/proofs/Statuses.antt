@@ -4,8 +4,8 @@ use Rattle.bsc_attending.specs.declared.error.AttendingError.{AttendingError}
 use Rattle.bsc_attending.specs.declared.error.AttendingError.TheVariants as attending
 use Rattle.bsc_run.specs.declared.error.RunError.{RunError}
 use Rattle.bsc_run.specs.declared.error.RunError.TheVariants as run
-use Rattle.bsc_running.specs.declared.error.RunningError.{RunningError}
-use Rattle.bsc_running.specs.declared.error.RunningError.TheVariants as running
+use Rattle.bsc_run.specs.declared.running_error.RunningError.{RunningError}
+use Rattle.bsc_run.specs.declared.running_error.RunningError.TheVariants as running
 use Rattle.bsc_storing.specs.declared.error.StoringError.{StoringError}
 use Rattle.bsc_storing.specs.declared.error.StoringError.TheVariants as storing
 use Rattle.bsc_command.specs.declared.fault.Fault.{Fault}

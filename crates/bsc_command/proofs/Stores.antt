@@ -1,7 +1,7 @@
 -- The fault for words of `store` that are refused says why.
 use Rattle.std.proofs.Common.{◌≡◌, Bool, true, false, if◌then◌else◌, Err, inl, inr}
 use Rattle.clap.specs.declared.error.kind.ErrorKind.TheVariants as kind
-use Rattle.bsc_asked.specs.StoreWords.{AskedStore}
+use Rattle.bsc_options.specs.StoreWords.{AskedStore}
 use Rattle.bsc_options.specs.Errors.{is_conflict}
 use Rattle.bsc_options.specs.StoreWorks.{work_in}
 use Rattle.bsc_options.specs.declared.error.OptionError.{OptionError}

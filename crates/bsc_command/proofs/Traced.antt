@@ -3,8 +3,8 @@ use Rattle.std.proofs.Common.{ℕ, List, Bool, true, Option, Result, Ok, Err}
 use Rattle.std.specs.Prelude.{IfErr, OnOk}
 use Rattle.bsc_run.specs.Crossing.{streams_of}
 use Rattle.bsc_run.specs.Plays.{holding}
-use Rattle.bsc_running.specs.Running.{HasFailed, IsRunDone, TextPaths}
-use Rattle.bsc_running.specs.declared.error.RunningError.{RunningError}
+use Rattle.bsc_run.specs.Running.{HasFailed, IsRunDone, TextPaths}
+use Rattle.bsc_run.specs.declared.running_error.RunningError.{RunningError}
 use Rattle.bsc_command.specs.Program.{HasDoneRun, HasFailedWith}
 
 module _ {S D : Type 0} (contents remaining : S → Option (List ℕ)) (held : D → Option (List ℕ))

@@ -13,19 +13,19 @@ use Rattle.bsc_chart.specs.declared.error.ChartError.{ChartError}
 use Rattle.bsc_chart.specs.declared.error.ChartError.TheVariants as chart
 use Rattle.bsc_chart.specs.declared.named.TraceError.{TraceError}
 use Rattle.bsc_chart.specs.declared.named.TraceError.TheVariants as trace
-use Rattle.bsc_feeding.specs.declared.error.FeedError.{FeedError}
-use Rattle.bsc_feeding.specs.declared.error.FeedError.TheVariants as feed
-use Rattle.bsc_naming.specs.Errors.{IsLineError, IsNameError}
-use Rattle.bsc_naming.specs.declared.error.NamingError.TheVariants as naming
+use Rattle.bsc_clients.specs.declared.command.error.FeedError.{FeedError}
+use Rattle.bsc_clients.specs.declared.command.error.FeedError.TheVariants as feed
+use Rattle.bsc_trace.specs.Errors.{IsLineError, IsNameError}
+use Rattle.bsc_trace.specs.declared.naming.error.NamingError.TheVariants as naming
 use Rattle.bsc_options.specs.Errors.{is_conflict}
 use Rattle.bsc_options.specs.declared.error.OptionError.{OptionError}
-use Rattle.bsc_print.specs.Lines.{in_lines}
-use Rattle.bsc_print.specs.Forms.{AreOctets, escaped, is_printable}
+use Rattle.bsc_text.specs.Lines.{in_lines}
+use Rattle.bsc_text.specs.Forms.{AreOctets, escaped, is_printable}
 use Rattle.bsc_run.specs.declared.error.RunError.{RunError}
 use Rattle.bsc_run.specs.declared.error.RunError.TheVariants as run
-use Rattle.bsc_running.specs.declared.error.RunningError.{RunningError}
-use Rattle.bsc_running.specs.declared.error.RunningError.TheVariants as running
-use Rattle.bsc_running.specs.Errors.{IsEarly as IsEarlyRunning}
+use Rattle.bsc_run.specs.declared.running_error.RunningError.{RunningError}
+use Rattle.bsc_run.specs.declared.running_error.RunningError.TheVariants as running
+use Rattle.bsc_run.specs.Errors.{IsEarly as IsEarlyRunning}
 use Rattle.bsc_storing.specs.declared.error.StoringError.{StoringError}
 use Rattle.bsc_storing.specs.declared.error.StoringError.TheVariants as storing
 use Rattle.bsc_command.specs.declared.fault.Fault.{Fault}

@@ -3,32 +3,32 @@ use Rattle.std.specs.Prelude.{◌≡◌, ◌⊎◌, ℕ, Bool, List, [], Option,
 use Rattle.std.specs.Prelude.{Ok, Err, Some, true}
 use Rattle.clap.specs.Words.{HasKind, Text as WordText, kind_of}
 use Rattle.clap.specs.declared.error.Error.{Error}
-use Rattle.bsc_asked.specs.ChartWords.{AskedChart}
-use Rattle.bsc_asked.specs.StationWords.{AskedWords}
-use Rattle.bsc_asked.specs.StoreWords.{AskedStore}
-use Rattle.bsc_asked.specs.Asked.{AskedValue, names, name, show, chart, run, station, feed, store}
+use Rattle.bsc_options.specs.ChartWords.{AskedChart}
+use Rattle.bsc_options.specs.StationWords.{AskedWords}
+use Rattle.bsc_options.specs.StoreWords.{AskedStore}
+use Rattle.bsc_options.specs.Asked.{AskedValue, names, name, show, chart, run, station, feed, store}
 use Rattle.bsc_attending.specs.Outcomes.{IsAnswer, IsReported}
 use Rattle.bsc_attending.specs.declared.error.AttendingError.{AttendingError}
 use Rattle.bsc_attending.specs.declared.error.AttendingError.TheVariants as attending
 use Rattle.bsc_chart.specs.Named.{ChartsNamed, FailsChart, HasFailedTrace, IsCharted, file_of}
 use Rattle.bsc_chart.specs.declared.named.TraceError.{TraceError}
-use Rattle.bsc_feeding.specs.Answers.{EndsInFault}
-use Rattle.bsc_feeding.specs.Feeding.{HasFed}
-use Rattle.bsc_feeding.specs.declared.error.FeedError.TheVariants as feed_error
-use Rattle.bsc_input.specs.declared.unreadable.Unreadable.{Unreadable}
-use Rattle.bsc_input.specs.Hexadecimal.{octets_of}
-use Rattle.bsc_print.specs.Names.{Prints, name_line}
-use Rattle.bsc_print.specs.declared.printed.Detail.{Detail}
-use Rattle.bsc_print.specs.declared.printed.Detail.TheVariants.{Name, Units}
-use Rattle.bsc_naming.specs.Inputs.{HasStopped, PrintsInput}
-use Rattle.bsc_naming.specs.declared.error.NamingError.TheVariants.{NotHexadecimal}
+use Rattle.bsc_clients.specs.Answers.{EndsInFault}
+use Rattle.bsc_clients.specs.Feeding.{HasFed}
+use Rattle.bsc_clients.specs.declared.command.error.FeedError.TheVariants as feed_error
+use Rattle.bsc_text.specs.declared.unreadable.Unreadable.{Unreadable}
+use Rattle.bsc_text.specs.Hexadecimal.{octets_of}
+use Rattle.bsc_text.specs.Names.{Prints, name_line}
+use Rattle.bsc_text.specs.declared.printed.Detail.{Detail}
+use Rattle.bsc_text.specs.declared.printed.Detail.TheVariants.{Name, Units}
+use Rattle.bsc_trace.specs.Inputs.{HasStopped, PrintsInput}
+use Rattle.bsc_trace.specs.declared.naming.error.NamingError.TheVariants.{NotHexadecimal}
 use Rattle.bsc_options.specs.declared.error.OptionError.{OptionError}
 use Rattle.bsc_options.specs.StoreWorks.{WorkValue, work_in}
 use Rattle.bsc_run.specs.Crossing.{streams_of}
 use Rattle.bsc_run.specs.Plays.{holding}
-use Rattle.bsc_running.specs.Running.{HasFailed, IsRunDone, TextPaths}
-use Rattle.bsc_running.specs.declared.error.RunningError.{RunningError}
-use Rattle.bsc_running.specs.declared.error.RunningError.TheVariants.{BothStandardInput}
+use Rattle.bsc_run.specs.Running.{HasFailed, IsRunDone, TextPaths}
+use Rattle.bsc_run.specs.declared.running_error.RunningError.{RunningError}
+use Rattle.bsc_run.specs.declared.running_error.RunningError.TheVariants.{BothStandardInput}
 use Rattle.bsc_words.specs.CommandLine.{IsHelp, asked_of, faults_at}
 use Rattle.bsc_command.specs.declared.fault.Fault.{Fault}
 use Rattle.bsc_command.specs.declared.fault.Fault.TheVariants.{Naming, Charting, Running}

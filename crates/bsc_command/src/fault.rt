@@ -8,12 +8,11 @@ ghost use Rattle.bsc_command.specs.Faults.{status_of};
 
 use bsc_attending::AttendingError;
 use bsc_chart::{ChartError, TraceError};
-use bsc_feeding::FeedError;
-use bsc_naming::NamingError;
+use bsc_clients::command::FeedError;
 use bsc_options::OptionError;
-use bsc_run::RunError;
-use bsc_running::RunningError;
+use bsc_run::{RunError, RunningError};
 use bsc_storing::StoringError;
+use bsc_trace::naming::NamingError;
 use bsc_words::{Shown, wrong_words};
 use clap::error::ErrorKind;
 use std::alloc::{AllocError, Global};

@@ -1,5 +1,5 @@
 //! The command `bscline`, from its arguments to its exit status, over any reader, writer and
-//! machine. `bsc_naming`, `bsc_running` and `bsc_attending` do the work.
+//! machine. `bsc_trace`, `bsc_run` and `bsc_attending` do the work.
 //!
 //! The names of transmissions are those of GA27-3004. The command, its output, its errors and its
 //! exit statuses are this project's own.

@@ -1,9 +1,9 @@
 //! The work of the program, over any reader, writer and machine.
 ghost use Rattle.std.specs.Prelude.{◌≡◌, ℕ, Bool, OnOk, IfErr, List};
 ghost use Rattle.std.specs.Prelude.{IsTrue, Some, map, string_bytes, true};
-ghost use Rattle.bsc_asked.specs.Asked.{asked as asked_now, name as name_asked, run as run_asked};
-ghost use Rattle.bsc_asked.specs.ChartWords.{chart_words};
-ghost use Rattle.bsc_asked.specs.StoreWords.{store_words};
+ghost use Rattle.bsc_options.specs.Asked.{asked as asked_now, name as name_asked, run as run_asked};
+ghost use Rattle.bsc_options.specs.ChartWords.{chart_words};
+ghost use Rattle.bsc_options.specs.StoreWords.{store_words};
 ghost use Rattle.bsc_command.specs.Faults.{IsChartingFault, IsEarly, IsFeedFault, IsStoreFault};
 ghost use Rattle.bsc_command.specs.Faults.{IsTraceFault};
 ghost use Rattle.bsc_command.specs.Program.{HasDoneRun, HasFailedAs, HasFailedOn, HasFailedWith};
@@ -12,21 +12,20 @@ ghost use Rattle.bsc_chart.specs.Named.{ChartsNamed, FailsChart, IsCharted, file
 ghost use Rattle.bsc_chart.specs.declared.named.TraceError.{TraceError};
 ghost use Rattle.bsc_command.specs.Program.{HasFailedChart, HasFailedFeed, HasFailedReport};
 ghost use Rattle.bsc_command.specs.Program.{HasFailedStore, HasWork, IsFaultOf, IsReportedOn};
-ghost use Rattle.bsc_feeding.specs.Feeding.{HasFed};
-ghost use Rattle.bsc_running.specs.Errors.{IsEarly as IsEarlyRunning};
-ghost use Rattle.bsc_running.specs.Running.{paths_of};
+ghost use Rattle.bsc_clients.specs.Feeding.{HasFed};
+ghost use Rattle.bsc_run.specs.Errors.{IsEarly as IsEarlyRunning};
+ghost use Rattle.bsc_run.specs.Running.{paths_of};
 
 use crate::Fault;
 use crate::fault::{attending_fault, feeding_fault, running_fault, store_words_fault, trace_fault};
-use bsc_asked::{Asked, ChartWords, StoreWords};
 use bsc_attending::{Network, Stores, station};
 use bsc_chart::{Traces, draw_named};
-use bsc_feeding::{Stations, feed_at};
-use bsc_input::Files;
-use bsc_naming::{name, names, show};
-use bsc_options::read_store_work;
-use bsc_running::{Cables, RunWords, RunningError, run};
+use bsc_clients::command::{Stations, feed_at};
+use bsc_options::{Asked, ChartWords, StoreWords, read_store_work};
+use bsc_run::{Cables, RunWords, RunningError, run};
 use bsc_storing::{StoreFiles, store};
+use bsc_text::Files;
+use bsc_trace::naming::{name, names, show};
 use std::alloc::Global;
 use std::io::{Read, Write};
 

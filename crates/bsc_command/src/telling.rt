@@ -5,7 +5,7 @@ ghost use Rattle.std.specs.Io.KnownBytes.{Appends};
 ghost use Rattle.bsc_command.specs.Faults.{status_of, told_text};
 
 use crate::{Fault, status};
-use bsc_print::{Escaped, Lines};
+use bsc_text::{Escaped, Lines};
 use std::alloc::Global;
 use std::io;
 use std::io::Write;

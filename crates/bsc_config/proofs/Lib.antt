@@ -1,3 +1,5 @@
+pub mod ScriptItems
+pub mod Scripts
 pub mod Keys
 pub mod Items
 pub mod EachTerminal

@@ -3,7 +3,7 @@ use Rattle.std.specs.Prelude.{◌≡◌, ◌≤◌, ℕ, ◌+◌, ◌==◌, List
 use Rattle.std.specs.Prelude.{Result, Ok, Err, IsUtf8}
 use Rattle.toml.specs.Data.{Members}
 use Rattle.toml.specs.Parse.{parse_document}
-use Rattle.bsc_directory.specs.Refusals.{IsAccepted}
+use Rattle.bsc_bid.specs.Refusals.{IsAccepted}
 use Rattle.bsc_config.specs.declared.error.ConfigError.{ConfigError}
 use Rattle.bsc_config.specs.declared.error.ConfigError.TheVariants.{NotToml, Memory}
 use Rattle.bsc_config.specs.Faults.{Fault, Reports}

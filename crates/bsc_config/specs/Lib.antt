@@ -1,3 +1,7 @@
+pub mod Transmissions
+pub mod Events
+pub mod Actions
+pub mod Script
 pub mod Keys
 pub mod Faults
 pub mod Tables

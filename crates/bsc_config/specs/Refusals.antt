@@ -1,8 +1,8 @@
 -- The refusal of a line with the contents of a document.
 use Rattle.std.specs.Prelude.{◌≡◌}
-use Rattle.bsc_directory.specs.declared.refusal.SetupError.{SetupError}
-use Rattle.bsc_directory.specs.declared.refusal.SetupError.TheVariants as setup
-use Rattle.bsc_directory.specs.Refusals.{IsRefused}
+use Rattle.bsc_bid.specs.declared.refusal.SetupError.{SetupError}
+use Rattle.bsc_bid.specs.declared.refusal.SetupError.TheVariants as setup
+use Rattle.bsc_bid.specs.Refusals.{IsRefused}
 use Rattle.bsc_config.specs.declared.error.ConfigError.{ConfigError}
 use Rattle.bsc_config.specs.declared.error.ConfigError.TheVariants.{NoTerminal, TooManyTerminals}
 use Rattle.bsc_config.specs.declared.error.ConfigError.TheVariants.{SameAddresses, EmptyPollList}

@@ -6,8 +6,7 @@ ghost use Rattle.bsc_config.specs.Refusals.{IsRefusal};
 
 use crate::error::ConfigError;
 use crate::settings::Settings;
-use bsc_bid::{Setup, Terminal};
-use bsc_directory::Directory;
+use bsc_bid::{Directory, Setup, Terminal};
 use std::alloc::Global;
 use std::marker::Model;
 

@@ -1,7 +1,7 @@
 //! The reasons for refusing a configuration.
 
 use crate::key::{Key, UnknownKey};
-use bsc_directory::SetupError;
+use bsc_bid::SetupError;
 use std::alloc::{AllocError, AllocFailed};
 use thiserror::Error;
 

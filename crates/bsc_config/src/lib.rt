@@ -44,6 +44,7 @@ mod numbers;
 mod poll_list;
 mod present;
 mod reading;
+pub mod script;
 mod settings;
 mod terminals;
 mod values;

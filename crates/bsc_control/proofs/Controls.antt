@@ -12,17 +12,17 @@ use Rattle.bsc_bid.specs.Ready.{IsGoing, IsAtRest}
 use Rattle.bsc_bid.specs.Sender.{ReleaseStep, release_in}
 use Rattle.std.specs.Result.{OnOk, OnErr}
 use Rattle.std.specs.Prelude.{Result, Ok, Err}
-use Rattle.bsc_directory.specs.declared.limits.TheConstants.{MAX_TERMINALS, MAX_ENTRIES}
-use Rattle.bsc_directory.specs.declared.way.Way.{Way}
-use Rattle.bsc_directory.specs.declared.way.Way.TheVariants.{FromTerminal, ToTerminal}
-use Rattle.bsc_directory.specs.Addresses.{AreDistinct}
+use Rattle.bsc_bid.specs.declared.limits.TheConstants.{MAX_TERMINALS, MAX_ENTRIES}
+use Rattle.bsc_bid.specs.declared.way.Way.{Way}
+use Rattle.bsc_bid.specs.declared.way.Way.TheVariants.{FromTerminal, ToTerminal}
+use Rattle.bsc_bid.specs.Addresses.{AreDistinct}
 use Rattle.bsc_control.specs.Control.{ControlValue, HasEntries, terminals, peer_at, with_peer}
 use Rattle.bsc_control.specs.Kept.{IsOrderly, IsControl, Keeps, AfterHearing, AfterSilence}
 use Rattle.bsc_control.specs.Kept.{outbound_of}
 use Rattle.bsc_control.specs.Peer.{OutboundValue, PeerValue, IsOutbound, IsPeer, no_peer}
 use Rattle.bsc_control.specs.Peer.{with_outbound, offered, sent_forgotten, outbound_released}
 use Rattle.bsc_control.specs.Table.{Hears, ActsOnSilence}
-use Rattle.bsc_directory.specs.Ways.{IsSelection, select_of}
+use Rattle.bsc_bid.specs.Ways.{IsSelection, select_of}
 use Rattle.bsc_control.proofs.Noise.{noise_changes_nothing}
 use Rattle.bsc_control.proofs.Entries.{peer_with_outbound, peer_with_flag, peer_with_polled}
 use Rattle.bsc_control.proofs.Entries.{entries_with_peer}

@@ -6,14 +6,14 @@ use Rattle.std.specs.List.{All}
 use Rattle.bsc_bid.specs.Ready.{IsAtRest}
 use Rattle.bsc_bid.specs.Setup.{SetupValue}
 use Rattle.bsc_bid.specs.Terminal.{TerminalValue}
-use Rattle.bsc_directory.specs.declared.limits.TheConstants.{MAX_TERMINALS, MAX_ENTRIES}
+use Rattle.bsc_bid.specs.declared.limits.TheConstants.{MAX_TERMINALS, MAX_ENTRIES}
 use Rattle.bsc_control.specs.declared.task.Task.{Task}
-use Rattle.bsc_directory.specs.Addresses.{AreDistinct}
+use Rattle.bsc_bid.specs.Addresses.{AreDistinct}
 use Rattle.bsc_control.specs.Control.{ControlValue, HasEntries, peer, peer_at}
 use Rattle.bsc_control.specs.Kept.{SuitsTask, HasSettings, IsControl, IsNewControl}
 use Rattle.bsc_control.specs.Peer.{OutboundValue, PeerValue, IsNewPeer, no_outbound, no_peer}
 use Rattle.bsc_control.specs.Peer.{outbound_at, new_outbound}
-use Rattle.bsc_directory.specs.Refusals.{IsTerminalCount, AreEntries}
+use Rattle.bsc_bid.specs.Refusals.{IsTerminalCount, AreEntries}
 
 -- what holds of all elements and of the default holds at each place
 holds_of_all_and_default : {X : Type 0} (P : X → Type 0) (xs : List X) (d : X) → All P xs → P d → (k : ℕ)

@@ -12,7 +12,7 @@ use Rattle.bsc_bid.specs.Receiver.{ReceiverValue, new_receiver}
 use Rattle.bsc_bid.specs.Sender.{SenderStep}
 use Rattle.bsc_control.specs.declared.task.Replied.TheVariants.{Nothing}
 use Rattle.bsc_control.specs.declared.task.Task.TheVariants.{Selecting, Polling}
-use Rattle.bsc_directory.specs.declared.way.Way.TheVariants.{ToTerminal}
+use Rattle.bsc_bid.specs.declared.way.Way.TheVariants.{ToTerminal}
 use Rattle.bsc_control.specs.CallOrder.{After, Selection, way_at, way_from}
 use Rattle.bsc_control.specs.Control.{ControlValue, peer_at}
 use Rattle.bsc_control.specs.Control.{terminal_of_entry, current, peer, answer_step, with_peer}

@@ -17,8 +17,8 @@ use Rattle.bsc_control.specs.declared.task.Replied.TheVariants.{Nothing, Uninter
 use Rattle.bsc_control.specs.declared.task.Task.{Task}
 use Rattle.bsc_control.specs.declared.task.Task.TheVariants.{AtRest, Selecting, Sending, Polling}
 use Rattle.std.specs.List.{slice_get}
-use Rattle.bsc_directory.specs.declared.way.Way.TheVariants.{ToTerminal}
-use Rattle.bsc_directory.specs.Addresses.{IsAddressOf}
+use Rattle.bsc_bid.specs.declared.way.Way.TheVariants.{ToTerminal}
+use Rattle.bsc_bid.specs.Addresses.{IsAddressOf}
 use Rattle.bsc_control.specs.CallOrder.{After, Start, Selection, Interruption, Poll, next_call}
 use Rattle.bsc_control.specs.Control.{ControlValue, ControlStep, HasEntries, terminals, peer_at}
 use Rattle.bsc_control.specs.Control.{peer, current, quiet_step, answer_step}

@@ -15,14 +15,14 @@ use Rattle.bsc_bid.specs.Receiver.{new_receiver}
 use Rattle.bsc_frame.specs.Replies.{reply_in}
 use Rattle.bsc_bid.specs.Setup.{SetupValue}
 use Rattle.bsc_bid.specs.Terminal.{TerminalValue}
-use Rattle.bsc_directory.specs.declared.limits.TheConstants.{MAX_TERMINALS, MAX_ENTRIES}
+use Rattle.bsc_bid.specs.declared.limits.TheConstants.{MAX_TERMINALS, MAX_ENTRIES}
 use Rattle.bsc_control.specs.declared.task.Replied.{Replied}
 use Rattle.bsc_control.specs.declared.task.Replied.TheVariants.{Nothing, Uninterrupted, Interrupted}
 use Rattle.bsc_control.specs.declared.task.Task.{Task}
 use Rattle.bsc_control.specs.declared.task.Task.TheVariants.{AtRest, Selecting, Sending, Polling}
-use Rattle.bsc_directory.specs.declared.way.Way.{Way}
-use Rattle.bsc_directory.specs.declared.way.Way.TheVariants.{FromTerminal, ToTerminal}
-use Rattle.bsc_directory.specs.Addresses.{IsAddressOf, AreDistinct}
+use Rattle.bsc_bid.specs.declared.way.Way.{Way}
+use Rattle.bsc_bid.specs.declared.way.Way.TheVariants.{FromTerminal, ToTerminal}
+use Rattle.bsc_bid.specs.Addresses.{IsAddressOf, AreDistinct}
 use Rattle.bsc_control.specs.CallOrder.{Call, After, Start, Selection, Poll, next_call}
 use Rattle.bsc_control.specs.Peer.{OutboundValue, PeerValue, IsNewPeer, outbound_at}
 use Rattle.bsc_control.specs.Control.{ControlValue, HasEntries, terminals, peer_at, peer, current}

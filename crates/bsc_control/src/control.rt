@@ -3,25 +3,26 @@
 ghost use Rattle.std.specs.Prelude.{◌≡◌, ◌≤◌, ◌<◌, ◌↔◌, ℕ, length, true, false, Some, OnOk, OnErr};
 ghost use Rattle.std.specs.Prelude.{IfOk, IfErr};
 ghost use Rattle.bsc_bid.specs.Sender.{is_in_doubt, release_step};
-ghost use Rattle.bsc_directory.specs.declared.way.Way.{Way as WayValue};
-ghost use Rattle.bsc_directory.specs.Addresses.{IsAddressOf};
+ghost use Rattle.bsc_bid.specs.declared.way.Way.{Way as WayValue};
+ghost use Rattle.bsc_bid.specs.Addresses.{IsAddressOf};
 ghost use Rattle.bsc_control.specs.CallOrder.{is_polled};
 ghost use Rattle.bsc_control.specs.Control.{ControlValue, terminals, peer_at, with_peer};
 ghost use Rattle.bsc_control.specs.Control.{restarted};
 ghost use Rattle.bsc_control.specs.Kept.{IsControl, IsNewControl, outbound_of};
-ghost use Rattle.bsc_directory.specs.Refusals.{IsAccepted, IsRefused};
+ghost use Rattle.bsc_bid.specs.Refusals.{IsAccepted, IsRefused};
 ghost use Rattle.bsc_control.specs.Peer.{with_outbound, outbound_released, offered_to};
 ghost use Rattle.bsc_control.specs.Peer.{forgotten_to};
-ghost use Rattle.bsc_directory.specs.Ways.{IsSelection, select_of};
+ghost use Rattle.bsc_bid.specs.Ways.{IsSelection, select_of};
 ghost use Rattle.bsc_spool.specs.Spool.{GainsRecord, ForgetsRecords};
 ghost use Rattle.bsc_bid.specs.Stored.{FitsOffered};
 ghost use Rattle.bsc_control.specs.Stored.{kept_of_side, recalled_during, answer_during};
 
 use crate::procedure::Procedure;
 use crate::task::Task;
-use bsc_bid::{KeptSender, RecallError, ReleaseError, Setup, Station, Terminal};
+use bsc_bid::{
+    Directory, KeptSender, RecallError, ReleaseError, Setup, SetupError, Station, Terminal, Way,
+};
 use bsc_block::Record;
-use bsc_directory::{Directory, SetupError, Way};
 use bsc_frame::{Address, Heard, MessageBuffer};
 use bsc_spool::{Queue, Spool};
 use std::alloc::Allocator;
@@ -39,7 +40,7 @@ pub struct Control<A: Allocator> {
 
 impl<A: Allocator> Model for Control<A> {
     ghost use Rattle.std.specs.Prelude.{◌≡◌};
-    ghost use Rattle.bsc_directory.specs.Addresses.{numbered};
+    ghost use Rattle.bsc_bid.specs.Addresses.{numbered};
     ghost use Rattle.bsc_control.specs.Control.{ControlValue, terminals};
     ghost use Rattle.bsc_control.specs.Kept.{IsControl};
 

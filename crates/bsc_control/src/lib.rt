@@ -18,6 +18,6 @@ mod peer;
 mod procedure;
 mod task;
 
-pub use bsc_directory::{SetupError, Way};
+pub use bsc_bid::{SetupError, Way};
 pub use control::Control;
 pub use task::{Replied, Task};

@@ -6,8 +6,7 @@ ghost use Rattle.bsc_control.specs.Peer.{PeerValue, IsPeer, PeerReceives, IsNewP
 ghost use Rattle.bsc_control.specs.Peer.{restarted_outbound, restarted_peer};
 
 use crate::outbound::Outbound;
-use bsc_bid::{Receiver, Setup, Terminal};
-use bsc_directory::Way;
+use bsc_bid::{Receiver, Setup, Terminal, Way};
 use bsc_frame::{Heard, Reply};
 use bsc_spool::Spool;
 use std::alloc::{AllocError, Allocator};

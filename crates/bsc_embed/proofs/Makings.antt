@@ -1,10 +1,10 @@
 -- What is made by a handle that has nothing.
 use Rattle.std.proofs.Common.{◌≡◌, inl, inr, refl, sym, subst, ℕ, Bool, false, true}
 use Rattle.std.specs.Prelude.{Option, Some, None, Result, Ok, Err, is_some}
-use Rattle.bsc_handle.specs.declared.made.Made.{Made}
-use Rattle.bsc_interface.specs.Faults.{fault_number}
-use Rattle.bsc_interface.specs.declared.fault.Fault.{Fault}
-use Rattle.bsc_interface.specs.declared.fault.Fault.TheVariants.{Memory}
+use Rattle.bsc_embed.specs.declared.handles.made.Made.{Made}
+use Rattle.bsc_embed.specs.Faults.{fault_number}
+use Rattle.bsc_embed.specs.declared.interface.fault.Fault.{Fault}
+use Rattle.bsc_embed.specs.declared.interface.fault.Fault.TheVariants.{Memory}
 use Rattle.bsc_embed.specs.Making.{IsKept, IsMadeBy}
 
 -- A handle of which it was tested that nothing was made has nothing.

@@ -4,11 +4,11 @@ use Rattle.std.specs.Prelude.{◌≡◌, ℕ, Option, Some, None, Result}
 use Rattle.bsc_tributary.specs.Tributary.{TributaryValue}
 use Rattle.bsc_control.specs.Control.{ControlValue}
 use Rattle.bsc_line_model.specs.Line.{LineValue}
-use Rattle.bsc_handle.specs.declared.made.Made.{Made}
-use Rattle.bsc_handle.specs.declared.made.Made.TheVariants.{Terminal, Control, Line}
-use Rattle.bsc_interface.specs.Faults.{fault_number, number_of}
-use Rattle.bsc_interface.specs.declared.fault.Fault.{Fault}
-use Rattle.bsc_interface.specs.declared.fault.Fault.TheVariants.{NotMade, OtherKind}
+use Rattle.bsc_embed.specs.declared.handles.made.Made.{Made}
+use Rattle.bsc_embed.specs.declared.handles.made.Made.TheVariants.{Terminal, Control, Line}
+use Rattle.bsc_embed.specs.Faults.{fault_number, number_of}
+use Rattle.bsc_embed.specs.declared.interface.fault.Fault.{Fault}
+use Rattle.bsc_embed.specs.declared.interface.fault.Fault.TheVariants.{NotMade, OtherKind}
 
 -- What a call does: to what it is about, before and after, with its answer.
 abbrev pub Doing : Type 0 → Type 1

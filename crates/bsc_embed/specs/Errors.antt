@@ -1,7 +1,7 @@
 -- The texts of errors. This is the project's own.
 use Rattle.std.specs.Prelude.{ℕ, nat_le, if◌then◌else◌, List, [], length, Option, Some, None}
-use Rattle.bsc_interface.specs.Faults.{fault_at, fault_text}
-use Rattle.bsc_interface.specs.declared.fault.Fault.{Fault}
+use Rattle.bsc_embed.specs.Faults.{fault_at, fault_text}
+use Rattle.bsc_embed.specs.declared.interface.fault.Fault.{Fault}
 
 -- The text of an error that a buffer of this length takes: all of it, or none if there is no such
 -- error or too little room.

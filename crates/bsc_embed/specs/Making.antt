@@ -1,11 +1,11 @@
 -- What is made and freed by a handle. This is the project's own.
 use Rattle.std.specs.Prelude.{◌≡◌, ◌⊎◌, ℕ, Option, Some, None, Result, Ok, Err}
-use Rattle.bsc_handle.specs.declared.made.Made.{Made}
-use Rattle.bsc_handle.specs.declared.made.Made.TheVariants.{Terminal, Control, Line}
-use Rattle.bsc_interface.specs.Faults.{fault_number}
-use Rattle.bsc_interface.specs.declared.fault.Fault.{Fault}
-use Rattle.bsc_interface.specs.declared.fault.Fault.TheVariants.{AlreadyMade, Memory, NotMade}
-use Rattle.bsc_interface.specs.declared.fault.Fault.TheVariants.{OtherKind}
+use Rattle.bsc_embed.specs.declared.handles.made.Made.{Made}
+use Rattle.bsc_embed.specs.declared.handles.made.Made.TheVariants.{Terminal, Control, Line}
+use Rattle.bsc_embed.specs.Faults.{fault_number}
+use Rattle.bsc_embed.specs.declared.interface.fault.Fault.{Fault}
+use Rattle.bsc_embed.specs.declared.interface.fault.Fault.TheVariants.{AlreadyMade, Memory, NotMade}
+use Rattle.bsc_embed.specs.declared.interface.fault.Fault.TheVariants.{OtherKind}
 
 -- The handle has what was made; or there is no memory for it, and the handle has nothing.
 abbrev pub IsKept : Made → Option Made → ℕ → Type 0

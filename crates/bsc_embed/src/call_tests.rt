@@ -1,10 +1,10 @@
 //! Calls by handles, as C makes them.
 use crate::control::*;
 use crate::errors::bsc_error_text;
+use crate::handles::Handle;
+use crate::interface::{Sending, Settings, StoredAddress, StoredAddresses, StoredKept};
 use crate::line::*;
 use crate::terminal::*;
-use bsc_handle::Handle;
-use bsc_interface::{Sending, Settings, StoredAddress, StoredAddresses, StoredKept};
 use std::alloc::Global;
 use std::test::Fail;
 

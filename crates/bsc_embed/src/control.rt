@@ -1,21 +1,21 @@
 //! The calls of a control station.
 
 ghost use Rattle.std.specs.Prelude.{◌≡◌, nat_eq, not};
-ghost use Rattle.bsc_handle.specs.Handles.{made_in};
-ghost use Rattle.bsc_handle.specs.declared.made.Made.TheVariants.{Control};
-ghost use Rattle.bsc_control_calls.specs.Arrivals.{GetsArrivals, GetsArrived};
-ghost use Rattle.bsc_control_calls.specs.Hearing.{Hears, PassesSilence};
-ghost use Rattle.bsc_control_calls.specs.Keeping.{GetsKept, KeepsArrived, Recalls};
-ghost use Rattle.bsc_control_calls.specs.Making.{IsMade};
-ghost use Rattle.bsc_control_calls.specs.Offering.{GetsSending, Offers, Releases};
-ghost use Rattle.bsc_control_calls.specs.Running.{Restarts, SetsPolled, SetsUrgent};
+ghost use Rattle.bsc_embed.specs.Handles.{made_in};
+ghost use Rattle.bsc_embed.specs.declared.handles.made.Made.TheVariants.{Control};
+ghost use Rattle.bsc_embed.specs.ControlArrivals.{GetsArrivals, GetsArrived};
+ghost use Rattle.bsc_embed.specs.ControlHearing.{Hears, PassesSilence};
+ghost use Rattle.bsc_embed.specs.ControlKeeping.{GetsKept, KeepsArrived, Recalls};
+ghost use Rattle.bsc_embed.specs.ControlMaking.{IsMade};
+ghost use Rattle.bsc_embed.specs.ControlOffering.{GetsSending, Offers, Releases};
+ghost use Rattle.bsc_embed.specs.ControlRunning.{Restarts, SetsPolled, SetsUrgent};
 ghost use Rattle.bsc_embed.specs.Calls.{AtControl, Reading};
 ghost use Rattle.bsc_embed.specs.Making.{FreesControl, IsMadeBy};
 
+use crate::control_calls as calls;
+use crate::handles::{Handle, Made};
+use crate::interface::{Fault, Sending, Settings, StoredAddresses, StoredKept, number_of};
 use crate::keeping::keep;
-use bsc_control_calls as calls;
-use bsc_handle::{Handle, Made};
-use bsc_interface::{Fault, Sending, Settings, StoredAddresses, StoredKept, number_of};
 use std::alloc::Global;
 
 /// Does a call of the control station that a handle has, and gives the number of its answer.

@@ -3,7 +3,7 @@
 ghost use Rattle.std.specs.Prelude.{◌≡◌, ◌++◌, length, drop};
 ghost use Rattle.bsc_embed.specs.Errors.{text_within};
 
-use bsc_interface::Fault;
+use crate::interface::Fault;
 
 /// Stores what an error means, in English, at the front of the buffer, and returns the number of
 /// its octets. Returns 0, and leaves the buffer unchanged, if no error has this number or if the

@@ -1,11 +1,11 @@
 //! What was made is put on the heap of the program.
 
 ghost use Rattle.std.specs.Prelude.{◌≡◌, None};
-ghost use Rattle.bsc_handle.specs.Handles.{made_in};
+ghost use Rattle.bsc_embed.specs.Handles.{made_in};
 ghost use Rattle.bsc_embed.specs.Making.{IsKept};
 
-use bsc_handle::{Handle, Made};
-use bsc_interface::Fault;
+use crate::handles::{Handle, Made};
+use crate::interface::Fault;
 use std::alloc::Global;
 
 /// Puts what was made into a handle that has nothing. Returns 0, or the number of `Memory`.

@@ -1,24 +1,24 @@
 //! The calls of a line.
 
 ghost use Rattle.std.specs.Prelude.{◌≡◌, nat_eq, not};
-ghost use Rattle.bsc_handle.specs.Handles.{made_in};
-ghost use Rattle.bsc_handle.specs.declared.made.Made.TheVariants.{Line};
-ghost use Rattle.bsc_line_calls.specs.Channels.{ArrivalsFrom, ArrivalsTo, ArrivedFrom, ArrivedTo};
-ghost use Rattle.bsc_line_calls.specs.Channels.{SendingFrom, SendingTo};
-ghost use Rattle.bsc_line_calls.specs.Events.{Carries, CarriesSent, Loses, OffersAt, OffersFor};
-ghost use Rattle.bsc_line_calls.specs.Events.{PassesSilence, ReleasesFrom, ReleasesTo};
-ghost use Rattle.bsc_line_calls.specs.Events.{RestartsControl, RestartsTerminal, SetsPolled};
-ghost use Rattle.bsc_line_calls.specs.Events.{SetsReady, SetsUrgentAt, SetsUrgentFor};
-ghost use Rattle.bsc_line_calls.specs.Hearings.{CarriesEach};
-ghost use Rattle.bsc_line_calls.specs.Making.{MakesLine};
-ghost use Rattle.bsc_line_calls.specs.Transmissions.{PendingIs, TrustIs};
+ghost use Rattle.bsc_embed.specs.Handles.{made_in};
+ghost use Rattle.bsc_embed.specs.declared.handles.made.Made.TheVariants.{Line};
+ghost use Rattle.bsc_embed.specs.LineChannels.{ArrivalsFrom, ArrivalsTo, ArrivedFrom, ArrivedTo};
+ghost use Rattle.bsc_embed.specs.LineChannels.{SendingFrom, SendingTo};
+ghost use Rattle.bsc_embed.specs.LineEvents.{Carries, CarriesSent, Loses, OffersAt, OffersFor};
+ghost use Rattle.bsc_embed.specs.LineEvents.{PassesSilence, ReleasesFrom, ReleasesTo};
+ghost use Rattle.bsc_embed.specs.LineEvents.{RestartsControl, RestartsTerminal, SetsPolled};
+ghost use Rattle.bsc_embed.specs.LineEvents.{SetsReady, SetsUrgentAt, SetsUrgentFor};
+ghost use Rattle.bsc_embed.specs.LineHearings.{CarriesEach};
+ghost use Rattle.bsc_embed.specs.LineMaking.{MakesLine};
+ghost use Rattle.bsc_embed.specs.LineTransmissions.{PendingIs, TrustIs};
 ghost use Rattle.bsc_embed.specs.Calls.{AtLine, Reading};
 ghost use Rattle.bsc_embed.specs.Making.{FreesLine, IsMadeBy};
 
+use crate::handles::{Handle, Made};
+use crate::interface::{Fault, Sending, Settings, StoredAddresses, number_of};
 use crate::keeping::keep;
-use bsc_handle::{Handle, Made};
-use bsc_interface::{Fault, Sending, Settings, StoredAddresses, number_of};
-use bsc_line_calls as calls;
+use crate::line_calls as calls;
 use std::alloc::Global;
 
 /// Does a call of the line that a handle has, and gives the number of its answer.

@@ -1,21 +1,21 @@
 //! The calls of a terminal.
 
 ghost use Rattle.std.specs.Prelude.{◌≡◌};
-ghost use Rattle.bsc_handle.specs.Handles.{made_in};
-ghost use Rattle.bsc_handle.specs.declared.made.Made.TheVariants.{Terminal};
-ghost use Rattle.bsc_terminal_calls.specs.Arrivals.{GetsArrivals, GetsArrived};
-ghost use Rattle.bsc_terminal_calls.specs.Flags.{Restarts, SetsReady, SetsUrgent};
-ghost use Rattle.bsc_terminal_calls.specs.Hearing.{Hears, PassesSilence};
-ghost use Rattle.bsc_terminal_calls.specs.Keeping.{GetsKept, KeepsArrived, Recalls};
-ghost use Rattle.bsc_terminal_calls.specs.Making.{IsMade};
-ghost use Rattle.bsc_terminal_calls.specs.Offering.{GetsSending, Offers, Releases};
+ghost use Rattle.bsc_embed.specs.Handles.{made_in};
+ghost use Rattle.bsc_embed.specs.declared.handles.made.Made.TheVariants.{Terminal};
+ghost use Rattle.bsc_embed.specs.TerminalArrivals.{GetsArrivals, GetsArrived};
+ghost use Rattle.bsc_embed.specs.TerminalFlags.{Restarts, SetsReady, SetsUrgent};
+ghost use Rattle.bsc_embed.specs.TerminalHearing.{Hears, PassesSilence};
+ghost use Rattle.bsc_embed.specs.TerminalKeeping.{GetsKept, KeepsArrived, Recalls};
+ghost use Rattle.bsc_embed.specs.TerminalMaking.{IsMade};
+ghost use Rattle.bsc_embed.specs.TerminalOffering.{GetsSending, Offers, Releases};
 ghost use Rattle.bsc_embed.specs.Calls.{AtTerminal, Reading};
 ghost use Rattle.bsc_embed.specs.Making.{FreesTerminal, IsMadeBy};
 
+use crate::handles::{Handle, Made};
+use crate::interface::{Fault, Sending, Settings, StoredAddresses, StoredKept, number_of};
 use crate::keeping::keep;
-use bsc_handle::{Handle, Made};
-use bsc_interface::{Fault, Sending, Settings, StoredAddresses, StoredKept, number_of};
-use bsc_terminal_calls as calls;
+use crate::terminal_calls as calls;
 use std::alloc::Global;
 
 /// Does a call of the terminal that a handle has, and gives the number of its answer.

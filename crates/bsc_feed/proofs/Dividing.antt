@@ -5,10 +5,10 @@ use Rattle.std.proofs.Common.{append-nil, take-append-drop, arith, eqb-true}
 use Rattle.std.proofs.Math.Seq.{drop-append_seam}
 use Rattle.std.proofs.lemmas.List.Elements.{All-append, All-cons, All-head, All-nil, All-tail}
 use Rattle.std.specs.List.{concat, flat_map}
-use Rattle.bsc_input.specs.Parts.{after_octet, before_octet}
-use Rattle.bsc_input.specs.Reading.{HasNoFeed}
+use Rattle.bsc_text.specs.Parts.{after_octet, before_octet}
+use Rattle.bsc_text.specs.Reading.{HasNoFeed}
 use Rattle.bsc_carrier.proofs.Kept.{take_again}
-use Rattle.bsc_input.proofs.LineParts.{all_before, before_append, feed_at, no_feed_before}
+use Rattle.bsc_text.proofs.LineParts.{all_before, before_append, feed_at, no_feed_before}
 use Rattle.bsc_feed.specs.Lines.{AreLines, Divides, Fed, LinesValue, kept_of, with_feed}
 use Rattle.bsc_feed.specs.Lines.{ended, ends_line, goes_on}
 

@@ -4,7 +4,7 @@ use Rattle.std.specs.Prelude.{Ok, Err}
 use Rattle.std.specs.Prelude.{slice_set, unwrap_or}
 use Rattle.bsc_block.specs.Records.{record_of}
 use Rattle.bsc_block.specs.declared.record.RecordError.{RecordError}
-use Rattle.bsc_directory.specs.declared.way.Way.{Way}
+use Rattle.bsc_bid.specs.declared.way.Way.{Way}
 use Rattle.bsc_monitor.specs.Ends.{End, sending, receiving}
 use Rattle.bsc_monitor.specs.declared.attendance.Presence.{Presence}
 use Rattle.bsc_monitor.specs.declared.party.Party as party_of

@@ -2,11 +2,11 @@
 use Rattle.std.specs.Prelude.{ℕ, List, Option, Some, None, codes, option_map, if◌then◌else◌}
 use Rattle.std.specs.Option.{option_and_then}
 use Rattle.std.specs.Str.{bytes_eq}
-use Rattle.bsc_directory.specs.declared.way.Way.{Way}
-use Rattle.bsc_directory.specs.declared.way.Way.TheVariants.{FromTerminal, ToTerminal}
-use Rattle.bsc_input.specs.Numbers.{select_of, terminal_of}
-use Rattle.bsc_input.specs.Parts.{after_octet, before_octet}
-use Rattle.bsc_input.specs.Words.{after_word, first_word}
+use Rattle.bsc_bid.specs.declared.way.Way.{Way}
+use Rattle.bsc_bid.specs.declared.way.Way.TheVariants.{FromTerminal, ToTerminal}
+use Rattle.bsc_text.specs.Numbers.{select_of, terminal_of}
+use Rattle.bsc_text.specs.Parts.{after_octet, before_octet}
+use Rattle.bsc_text.specs.Words.{after_word, first_word}
 use Rattle.bsc_feed.specs.declared.channel.Channel.{Channel}
 use Rattle.bsc_feed.specs.declared.channel.Split.{Split}
 

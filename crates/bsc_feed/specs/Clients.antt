@@ -2,7 +2,7 @@
 use Rattle.std.specs.Prelude.{◌≡◌, ℕ, ◌+◌, Bool, true, false, not, ◌&&◌, List, [], Option, Some}
 use Rattle.std.specs.Prelude.{None}
 use Rattle.std.specs.Prelude.{replicate}
-use Rattle.bsc_input.specs.Lines.{is_skipped}
+use Rattle.bsc_text.specs.InputLines.{is_skipped}
 use Rattle.bsc_monitor.specs.declared.party.Party as party_of
 use Rattle.bsc_feed.specs.declared.client.Client.{Client}
 use Rattle.bsc_feed.specs.declared.limits.TheConstants.{MAX_PLACES}

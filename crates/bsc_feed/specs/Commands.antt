@@ -3,8 +3,8 @@ use Rattle.std.specs.Prelude.{◌≡◌, ℕ, Bool, true, false, List, [], codes
 use Rattle.std.specs.Prelude.{None, option_map, unwrap_or, if◌then◌else◌, Result, Ok, Err}
 use Rattle.std.specs.Option.{option_and_then}
 use Rattle.std.specs.Str.{bytes_eq}
-use Rattle.bsc_input.specs.Hexadecimal.{octets_of}
-use Rattle.bsc_input.specs.Words.{after_word, first_word}
+use Rattle.bsc_text.specs.Hexadecimal.{octets_of}
+use Rattle.bsc_text.specs.Words.{after_word, first_word}
 use Rattle.bsc_feed.specs.declared.channel.Channel.{Channel}
 use Rattle.bsc_feed.specs.declared.command.Command.{Command}
 use Rattle.bsc_feed.specs.declared.command.Command.TheVariants as asks

@@ -3,7 +3,7 @@ use Rattle.std.specs.Prelude.{◌≡◌, ◌≤◌, ℕ, nat_le, if◌then◌els
 use Rattle.std.specs.Prelude.{List, [], ◌∷◌, ◌++◌, length, take, drop, Option, Some, None}
 use Rattle.std.specs.List.{AllByRecursion, flat_map}
 use Rattle.std.specs.Str.Lines.{strip_carriage_return}
-use Rattle.bsc_input.specs.Reading.{HasNoFeed}
+use Rattle.bsc_text.specs.Reading.{HasNoFeed}
 use Rattle.bsc_feed.specs.declared.limits.TheConstants.{KEPT, MAX_LINE}
 
 -- A line with its line feed.

@@ -1,7 +1,7 @@
 -- Numbers of records, in decimal digits.
 use Rattle.std.specs.Prelude.{ℕ, ◌^◌, nat_lt, List, Option, Some, None, if◌then◌else◌}
 use Rattle.std.specs.Option.{option_and_then}
-use Rattle.bsc_input.specs.Numbers.{number_of}
+use Rattle.bsc_text.specs.Numbers.{number_of}
 
 -- The number, if it is below 2^32.
 abbrev pub if_counts : ℕ → Option ℕ

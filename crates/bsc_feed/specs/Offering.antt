@@ -1,7 +1,7 @@
 -- Records that are offered at a station while it runs.
 use Rattle.std.specs.Prelude.{◌≡◌, ℕ, List, [], ◌∷◌, ◌++◌, length, Bool, true, false, Result, OnOk}
 use Rattle.std.specs.Prelude.{OnErr, IfOk, Option, Some}
-use Rattle.bsc_directory.specs.declared.way.Way.{Way}
+use Rattle.bsc_bid.specs.declared.way.Way.{Way}
 use Rattle.bsc_monitor.specs.Ends.{End, sending, receiving}
 use Rattle.bsc_feed.specs.declared.fault.Fault.{Fault}
 

@@ -8,10 +8,10 @@ use Rattle.bsc_monitor.specs.Ends.{End, receiving}
 use Rattle.bsc_monitor.specs.Printed.{end_shown}
 use Rattle.bsc_monitor.specs.declared.attendance.Presence.{Presence}
 use Rattle.bsc_monitor.specs.declared.party.Party as party_of
-use Rattle.bsc_directory.specs.declared.way.Way.{Way}
-use Rattle.bsc_directory.specs.declared.way.Way.TheVariants.{FromTerminal}
-use Rattle.bsc_print.specs.Forms.{escaped}
-use Rattle.bsc_print.specs.declared.error.PrintError.{PrintError}
+use Rattle.bsc_bid.specs.declared.way.Way.{Way}
+use Rattle.bsc_bid.specs.declared.way.Way.TheVariants.{FromTerminal}
+use Rattle.bsc_text.specs.Forms.{escaped}
+use Rattle.bsc_text.specs.declared.error.PrintError.{PrintError}
 use Rattle.bsc_feed.specs.declared.told.Told.{Told}
 use Rattle.bsc_feed.specs.declared.told.Told.TheVariants.{Kept, Done, Refused, State, Arrived}
 use Rattle.bsc_feed.specs.declared.told.Told.TheVariants.{Delivered}

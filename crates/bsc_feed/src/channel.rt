@@ -4,8 +4,8 @@ ghost use Rattle.std.specs.Prelude.{◌≡◌, option_map};
 ghost use Rattle.bsc_feed.specs.Channels.{channel_at, channel_in, split_value, to_in};
 ghost use Rattle.bsc_feed.specs.Channels.{select_in as select};
 
-use bsc_directory::Way;
-use bsc_input::{select_number, spells, split_at_first, split_word, terminal_number};
+use bsc_bid::Way;
+use bsc_text::{select_number, spells, split_at_first, split_word, terminal_number};
 
 /// A channel, by its name: a terminal, by its number on the line, and the direction. Whether the
 /// line has it is not said.

@@ -6,7 +6,7 @@ ghost use Rattle.bsc_feed.specs.declared.limits.TheConstants.{KEPT};
 
 use crate::limits::{KEPT, MAX_LINE};
 use bsc_carrier::TwoBuffers;
-use bsc_input::{split_at_first, without_return};
+use bsc_text::{split_at_first, without_return};
 use std::marker::Model;
 
 /// Divides the octets of a client into lines, however they arrive. Of each line the first 513

@@ -3,7 +3,7 @@
 ghost use Rattle.std.specs.Prelude.{◌≡◌};
 ghost use Rattle.bsc_feed.specs.Commands.{command_keyword};
 
-use bsc_input::spells;
+use bsc_text::spells;
 
 /// The first word of a command.
 #[derive(Clone, Copy)]

@@ -1,7 +1,6 @@
 //! The limits of what a client says, and of the channels that it follows.
 
-use bsc_bid::limits::MAX_SELECTS;
-use bsc_directory::limits::MAX_TERMINALS;
+use bsc_bid::limits::{MAX_SELECTS, MAX_TERMINALS};
 
 /// The most octets of a line before its line feed.
 pub const MAX_LINE: usize = 512;

@@ -3,7 +3,7 @@
 ghost use Rattle.std.specs.Prelude.{◌≡◌};
 ghost use Rattle.bsc_feed.specs.Numbers.{count_of as count};
 
-use bsc_input::read_number;
+use bsc_text::read_number;
 
 /// Returns a number of records: one to ten digits, below 2^32.
 pub(crate) fn count_of(word: &[u8]) -> Option<u32>

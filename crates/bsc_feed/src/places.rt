@@ -2,7 +2,7 @@
 
 ghost use Rattle.std.specs.Prelude.{◌≡◌, ◌<◌, option_map, true};
 ghost use Rattle.bsc_bid.specs.declared.limits.TheConstants.{MAX_SELECTS};
-ghost use Rattle.bsc_directory.specs.declared.limits.TheConstants.{MAX_TERMINALS};
+ghost use Rattle.bsc_bid.specs.declared.limits.TheConstants.{MAX_TERMINALS};
 ghost use Rattle.bsc_feed.specs.Places.{end_at as at_place, has_way as way_there, IsFound};
 ghost use Rattle.bsc_feed.specs.Places.{is_there, IsNamed, terminal_at as terminal, way_at as way};
 ghost use Rattle.bsc_feed.specs.Places.{place_of as place};
@@ -10,9 +10,8 @@ ghost use Rattle.bsc_monitor.specs.EndValues.{end_of};
 
 use crate::Channel;
 use crate::limits::PLACES;
-use bsc_bid::limits::MAX_SELECTS;
-use bsc_directory::Way;
-use bsc_directory::limits::MAX_TERMINALS;
+use bsc_bid::Way;
+use bsc_bid::limits::{MAX_SELECTS, MAX_TERMINALS};
 use bsc_monitor::{ChannelEnd, Party};
 
 /// Returns the terminal of the channel at a place, counted from 0 among those of the station.

@@ -1,7 +1,7 @@
 //! Reads the line of a command.
 
 ghost use Rattle.std.specs.Prelude.{◌≡◌, option_map};
-ghost use Rattle.bsc_input.specs.Hexadecimal.{octets_of};
+ghost use Rattle.bsc_text.specs.Hexadecimal.{octets_of};
 ghost use Rattle.bsc_feed.specs.Commands.{IsRead, asked_after, asked_alone, asked_by, asked_in};
 ghost use Rattle.bsc_feed.specs.Commands.{asked_with, follow_from, follow_in, offer_hex_in};
 ghost use Rattle.bsc_feed.specs.Commands.{offer_in, offer_octets, or_not_a_command, poll_in};
@@ -12,7 +12,7 @@ use crate::channel::{Split, split_channel};
 use crate::keyword::{Keyword, read_keyword};
 use crate::number::count_of;
 use crate::{Channel, Command, Fault};
-use bsc_input::{read_octets, spells, split_word};
+use bsc_text::{read_octets, spells, split_word};
 use std::alloc::Allocator;
 
 /// Returns the command of a line, of which the line feed and one carriage return before it are

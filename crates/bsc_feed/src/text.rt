@@ -13,15 +13,14 @@ ghost use Rattle.bsc_feed.specs.Texts.{visits_shown};
 ghost use Rattle.bsc_monitor.specs.EndValues.{end_of};
 ghost use Rattle.bsc_monitor.specs.Ends.{sending};
 ghost use Rattle.bsc_monitor.specs.Printed.{end_shown};
-ghost use Rattle.bsc_print.specs.Forms.{escaped};
+ghost use Rattle.bsc_text.specs.Forms.{escaped};
 
 use crate::Served;
 use crate::places::{end_at, has_place, terminal_at, way_at};
 use crate::told::Told;
-use bsc_directory::Way;
+use bsc_bid::Way;
 use bsc_monitor::{ChannelEnd, Party, Presence};
-use bsc_print::{Form, PrintError, put, write_in_form};
-use bsc_report::{doubt_text, write_channel_name};
+use bsc_text::{Form, PrintError, doubt_text, put, write_channel_name, write_in_form};
 use std::alloc::Allocator;
 use std::io::Write;
 

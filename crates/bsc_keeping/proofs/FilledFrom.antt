@@ -4,13 +4,13 @@ use Rattle.std.proofs.Common.{replicate, slice_index_or, refl, sym, ap, subst, a
 use Rattle.std.specs.Prelude.{Bool, if◌then◌else◌}
 use Rattle.std.specs.List.{slice_get}
 use Rattle.std.proofs.lemmas.Option.{same_Some, slice_get-get_or}
-use Rattle.bsc_kept.specs.Contents.{Contents, IsNext, in_numbers, mark_at, records_from}
-use Rattle.bsc_kept.specs.declared.store.Found.{Found}
-use Rattle.bsc_kept.specs.declared.store.Progress.{Progress}
+use Rattle.bsc_spool.specs.Contents.{Contents, IsNext, in_numbers, mark_at, records_from}
+use Rattle.bsc_spool.specs.declared.store.Found.{Found}
+use Rattle.bsc_spool.specs.declared.store.Progress.{Progress}
 use Rattle.bsc_bid.specs.declared.kept.KeptSender.{KeptSender}
-use Rattle.bsc_kept.specs.declared.channel.Channel.{Channel}
-use Rattle.bsc_kept.specs.declared.ends.Receiving.{Receiving}
-use Rattle.bsc_kept.specs.declared.ends.Sending.{Sending}
+use Rattle.bsc_spool.specs.declared.channel.Channel.{Channel}
+use Rattle.bsc_spool.specs.declared.ends.Receiving.{Receiving}
+use Rattle.bsc_spool.specs.declared.ends.Sending.{Sending}
 use Rattle.bsc_keeping.specs.Filled.{AddsAll, AddsChannel, AddsEach, AddsForgotten, forgotten_of}
 use Rattle.bsc_keeping.specs.Filled.{offered_all, offered_each, recalled_each, recalled_of}
 use Rattle.bsc_keeping.specs.Filled.{sent_again}

@@ -9,7 +9,7 @@ use Rattle.bsc_control.specs.Control.{ControlValue, peer_at, with_peer}
 use Rattle.bsc_control.specs.Peer.{PeerValue, forgotten_to, no_outbound, no_peer, outbound_at}
 use Rattle.bsc_control.specs.Peer.{sent_forgotten}
 use Rattle.bsc_control.specs.Stored.{kept_of_side}
-use Rattle.bsc_kept.specs.declared.store.Store as store_of
+use Rattle.bsc_spool.specs.declared.store.Store as store_of
 use Rattle.bsc_monitor.specs.Forgetting.{ForgetsSent, ForgetsSentTo, nothing, further}
 use Rattle.bsc_monitor.specs.declared.party.Party as party_of
 use Rattle.bsc_spool.specs.Spool.{ForgetsRecords, SpoolValue}

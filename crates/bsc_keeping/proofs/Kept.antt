@@ -2,8 +2,8 @@
 use Rattle.std.proofs.Common.{◌≡◌, ℕ, Bool, true, false, List, Option, Result, Ok}
 use Rattle.std.proofs.Common.{Err, refl, sym, ◌∙◌, ap, subst, inl, inr}
 use Rattle.bsc_bid.specs.declared.kept.KeptSender.{KeptSender}
-use Rattle.bsc_kept.specs.declared.fault.StoreFault.{StoreFault}
-use Rattle.bsc_kept.specs.declared.store.Store as store_of
+use Rattle.bsc_spool.specs.declared.fault.StoreFault.{StoreFault}
+use Rattle.bsc_spool.specs.declared.store.Store as store_of
 use Rattle.std.specs.declared.io.Read as read
 use Rattle.std.specs.declared.io.Write as write
 use Rattle.bsc_bid.specs.declared.station.Station as station_of

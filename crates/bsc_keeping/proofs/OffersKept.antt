@@ -9,9 +9,9 @@ use Rattle.bsc_control.specs.Control.{ControlValue, peer_at}
 use Rattle.bsc_control.specs.Peer.{PeerValue, no_outbound, no_peer, offered}
 use Rattle.bsc_control.specs.Peer.{offered_to, outbound_at}
 use Rattle.bsc_control.specs.Stored.{kept_of_side}
-use Rattle.bsc_kept.specs.declared.ends.Sending.{Sending}
-use Rattle.bsc_kept.specs.declared.ends.Receiving.{Receiving}
-use Rattle.bsc_kept.specs.declared.store.Store as store_of
+use Rattle.bsc_spool.specs.declared.ends.Sending.{Sending}
+use Rattle.bsc_spool.specs.declared.ends.Receiving.{Receiving}
+use Rattle.bsc_spool.specs.declared.store.Store as store_of
 use Rattle.bsc_monitor.specs.declared.party.Party as party_of
 use Rattle.bsc_keeping.specs.AllKept.{HasAll, HasArrived}
 use Rattle.bsc_keeping.specs.Changes.{known_now, records_of, sending_now}

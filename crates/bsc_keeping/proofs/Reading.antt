@@ -1,10 +1,10 @@
 -- What is known of a store that was read, if reading gives what it has.
 use Rattle.std.proofs.Common.{◌≡◌, ◌∙◌, ℕ, ℤ, Some, refl, subst}
 use Rattle.std.specs.List.{slice_get}
-use Rattle.bsc_kept.specs.Contents.{Contents, GivesBack, IsNext, IsRead, never, again}
-use Rattle.bsc_kept.specs.declared.store.Found.{Found}
-use Rattle.bsc_kept.specs.declared.channel.Channel.{Channel}
-use Rattle.bsc_kept.specs.declared.store.Store as store_of
+use Rattle.bsc_spool.specs.Contents.{Contents, GivesBack, IsNext, IsRead, never, again}
+use Rattle.bsc_spool.specs.declared.store.Found.{Found}
+use Rattle.bsc_spool.specs.declared.channel.Channel.{Channel}
+use Rattle.bsc_spool.specs.declared.store.Store as store_of
 use Rattle.bsc_keeping.proofs.FilledFrom.{IsAt, finds_next}
 
 module _ {K : Type 0} (store : store_of.Ghosts K) where

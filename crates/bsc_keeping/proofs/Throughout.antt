@@ -1,7 +1,7 @@
 -- A session is kept throughout if each of its steps is.
 use Rattle.std.proofs.Common.{ℕ, List, [], Option, Ok, Err}
 use Rattle.bsc_bid.specs.declared.kept.KeptSender.{KeptSender}
-use Rattle.bsc_kept.specs.declared.store.Store as store_of
+use Rattle.bsc_spool.specs.declared.store.Store as store_of
 use Rattle.bsc_connections.specs.Parts.{SessionParts}
 use Rattle.bsc_connections.specs.Connections.{ConnectionValue}
 use Rattle.bsc_connections.specs.Histories.{Happening}

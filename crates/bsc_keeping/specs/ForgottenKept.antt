@@ -1,7 +1,7 @@
 -- What is kept has all that is to be kept of a station also once the station has forgotten records.
 use Rattle.std.specs.Prelude.{ℕ, Option}
 use Rattle.bsc_bid.specs.declared.kept.KeptSender.{KeptSender}
-use Rattle.bsc_kept.specs.declared.store.Store as store_of
+use Rattle.bsc_spool.specs.declared.store.Store as store_of
 use Rattle.bsc_keeping.specs.AllKept.{HasAll}
 use Rattle.bsc_keeping.specs.declared.keeper.Keeper.{Keeper}
 use Rattle.bsc_monitor.specs.declared.party.Party as party_of

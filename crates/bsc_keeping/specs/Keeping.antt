@@ -2,9 +2,9 @@
 use Rattle.std.specs.Prelude.{◌≡◌, ◌⊎◌, ℕ, Bool, List, [], ◌∷◌, Option, Some, Result, Ok, Err}
 use Rattle.std.specs.Prelude.{OnOk, OnErr, IfErr}
 use Rattle.bsc_bid.specs.declared.kept.KeptSender.{KeptSender}
-use Rattle.bsc_kept.specs.declared.change.Change.{Change}
-use Rattle.bsc_kept.specs.declared.fault.StoreFault.{StoreFault}
-use Rattle.bsc_kept.specs.declared.store.Store as store_of
+use Rattle.bsc_spool.specs.declared.change.Change.{Change}
+use Rattle.bsc_spool.specs.declared.fault.StoreFault.{StoreFault}
+use Rattle.bsc_spool.specs.declared.store.Store as store_of
 use Rattle.bsc_connections.specs.declared.awaited.LiveError.{LiveError}
 use Rattle.bsc_connections.specs.declared.awaited.LiveError.TheVariants.{Unkept}
 use Rattle.bsc_connections.specs.Histories.{Happening, WasHeard, WasSilent}

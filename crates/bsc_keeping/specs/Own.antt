@@ -2,10 +2,10 @@
 use Rattle.std.specs.Prelude.{ℕ, zero, suc, List, [], ◌∷◌, ◌++◌, length, slice_index_or, slice_get}
 use Rattle.std.specs.Prelude.{Option, Some, None}
 use Rattle.bsc_bid.specs.Terminal.{TerminalValue}
-use Rattle.bsc_kept.specs.declared.channel.Channel.{Channel}
-use Rattle.bsc_kept.specs.declared.channel.Channel.TheVariants.{From, To}
-use Rattle.bsc_kept.specs.declared.ends.Sending.{Sending}
-use Rattle.bsc_kept.specs.declared.ends.Receiving.{Receiving}
+use Rattle.bsc_spool.specs.declared.channel.Channel.{Channel}
+use Rattle.bsc_spool.specs.declared.channel.Channel.TheVariants.{From, To}
+use Rattle.bsc_spool.specs.declared.ends.Sending.{Sending}
+use Rattle.bsc_spool.specs.declared.ends.Receiving.{Receiving}
 use Rattle.bsc_keeping.specs.declared.own_text.Owner.{Owner}
 use Rattle.bsc_keeping.specs.declared.own_text.Owner.TheVariants.{Control, Terminal}
 

@@ -4,7 +4,7 @@ use Rattle.std.specs.List.{flat_map}
 use Rattle.std.specs.Fmt.{decimal}
 use Rattle.bsc_bid.specs.Terminal.{TerminalValue}
 use Rattle.bsc_config.specs.Settings.{ConfigValue}
-use Rattle.bsc_print.specs.Names.{chars_shown}
+use Rattle.bsc_text.specs.Names.{chars_shown}
 use Rattle.bsc_keeping.specs.declared.own_text.Owner.{Owner}
 use Rattle.bsc_keeping.specs.declared.own_text.Owner.TheVariants.{Control, Terminal}
 

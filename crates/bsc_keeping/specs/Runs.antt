@@ -5,10 +5,10 @@ use Rattle.bsc_frame.specs.declared.message.Heard.{Heard}
 use Rattle.bsc_frame.specs.declared.message.Message.{Message}
 use Rattle.bsc_bid.specs.declared.kept.KeptSender.{KeptSender}
 use Rattle.bsc_bid.specs.declared.station.Station as station_of
-use Rattle.bsc_directory.specs.Ways.{select_of}
-use Rattle.bsc_directory.specs.declared.way.Way.{Way}
-use Rattle.bsc_kept.specs.declared.fault.StoreFault.{StoreFault}
-use Rattle.bsc_kept.specs.declared.store.Store as store_of
+use Rattle.bsc_bid.specs.Ways.{select_of}
+use Rattle.bsc_bid.specs.declared.way.Way.{Way}
+use Rattle.bsc_spool.specs.declared.fault.StoreFault.{StoreFault}
+use Rattle.bsc_spool.specs.declared.store.Store as store_of
 use Rattle.bsc_connections.specs.declared.awaited.LiveError.{LiveError}
 use Rattle.bsc_connections.specs.Attending.{Session, Steps}
 use Rattle.bsc_connections.specs.Connections.{ConnectionValue}

@@ -2,7 +2,7 @@
 
 ghost use Rattle.std.specs.Prelude.{◌≡◌, ◌++◌, ◌∷◌, [], IfOk, OnOk};
 ghost use Rattle.std.specs.List.{flat_map};
-ghost use Rattle.bsc_kept.specs.declared.change.Change.TheVariants.{Arrived};
+ghost use Rattle.bsc_spool.specs.declared.change.Change.TheVariants.{Arrived};
 ghost use Rattle.bsc_keeping.specs.Changes.{in_doubt_of, known_changes, printed_changes};
 ghost use Rattle.bsc_keeping.specs.Changes.{arrived_changes, sending_changes, receiving_changes};
 ghost use Rattle.bsc_keeping.specs.Changes.{changes_of, number_kept, record_kept};
@@ -11,8 +11,8 @@ use crate::{Prints, Sends};
 use bsc_bid::KeptSender;
 use bsc_block::limits::MAX_FULL;
 use bsc_block::{Record, Records};
-use bsc_kept::{Change, Channel, Receiving, Sending, StoreFault};
 use bsc_monitor::Party;
+use bsc_spool::{Change, Channel, Receiving, Sending, StoreFault};
 use std::alloc::{Allocator, Global};
 
 /// Returns a number as a store keeps it. Fails with `Refused` if it is 2^32 or more.

@@ -2,9 +2,9 @@
 
 ghost use Rattle.std.specs.Prelude.{◌≡◌, [], map, replicate, Some};
 ghost use Rattle.std.specs.Prelude.{IfOk, OnOk, if◌then◌else◌};
-ghost use Rattle.bsc_kept.specs.Contents.{Contents, GivesBack, IsRead};
-ghost use Rattle.bsc_kept.specs.declared.channel.Channel.{Channel as ChannelValue};
-ghost use Rattle.bsc_kept.specs.declared.store.Found.{Found as FoundValue};
+ghost use Rattle.bsc_spool.specs.Contents.{Contents, GivesBack, IsRead};
+ghost use Rattle.bsc_spool.specs.declared.channel.Channel.{Channel as ChannelValue};
+ghost use Rattle.bsc_spool.specs.declared.store.Found.{Found as FoundValue};
 ghost use Rattle.bsc_keeping.specs.Filling.{apart_from_kept};
 ghost use Rattle.bsc_keeping.specs.Filled.{AddsChannel, AddsEach, AddsForgotten, IsFilledFrom};
 ghost use Rattle.bsc_keeping.specs.Filled.{IsControlFilledFrom, IsTerminalFilledFrom, KeepsFrom};
@@ -18,8 +18,8 @@ use crate::{Keeper, Own};
 use bsc_bid::KeptSender;
 use bsc_block::Record;
 use bsc_control::Control;
-use bsc_kept::{Progress, Receiving, Sending, Store, StoreFault};
 use bsc_monitor::LineTerminal;
+use bsc_spool::{Progress, Receiving, Sending, Store, StoreFault};
 use std::alloc::{Allocator, Global};
 
 /// Returns what a sender recalls.

@@ -6,8 +6,8 @@ ghost use Rattle.bsc_bid.specs.declared.kept.KeptSender.{KeptSender as KeptSende
 use bsc_bid::KeptSender;
 use bsc_block::Record;
 use bsc_control::Control;
-use bsc_kept::StoreFault;
 use bsc_monitor::{Forgets, LineTerminal, Party};
+use bsc_spool::StoreFault;
 use std::alloc::Allocator;
 
 /// A new station that is made again: it takes the records that are kept, and recalls what is kept

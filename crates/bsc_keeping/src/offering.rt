@@ -5,7 +5,7 @@ ghost use Rattle.bsc_keeping.specs.Offers.{OffersIf, OffersOn, channel_to, is_en
 
 use crate::changes::record_of;
 use bsc_block::Record;
-use bsc_kept::{Change, Channel, Sending, Store, StoreFault};
+use bsc_spool::{Change, Channel, Sending, Store, StoreFault};
 
 /// Returns the channel to this selection address of this terminal, if it is one of these.
 fn channel_to(ends: &[Sending], terminal: usize, select: usize) -> Option<Channel>

@@ -10,7 +10,7 @@ use crate::Owner;
 use crate::own_text::own_text;
 use bsc_bid::Terminal;
 use bsc_config::Config;
-use bsc_kept::{Channel, Receiving, Sending};
+use bsc_spool::{Channel, Receiving, Sending};
 use std::alloc::{AllocError, Global};
 
 /// What is to be known of a station to keep its records: the text by which a store belongs to it,

@@ -8,7 +8,7 @@ ghost use Rattle.bsc_keeping.specs.OwnText.{own_text_of};
 
 use bsc_bid::Terminal;
 use bsc_config::Config;
-use bsc_print::{Form, PrintError, put, write_in_form};
+use bsc_text::{Form, PrintError, put, write_in_form};
 use std::alloc::{AllocError, Global};
 use std::io::Write;
 

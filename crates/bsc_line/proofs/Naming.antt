@@ -5,8 +5,8 @@ use Rattle.bsc_frame.specs.declared.message.Message.TheVariants as m
 use Rattle.bsc_frame.specs.declared.message.Heard.{Heard}
 use Rattle.bsc_frame.specs.declared.message.Heard.TheVariants.{Whole}
 use Rattle.bsc_bid.specs.Terminal.{TerminalValue}
-use Rattle.bsc_directory.specs.declared.way.Way.{Way}
-use Rattle.bsc_directory.specs.Addresses.{IsAddressOf}
+use Rattle.bsc_bid.specs.declared.way.Way.{Way}
+use Rattle.bsc_bid.specs.Addresses.{IsAddressOf}
 use Rattle.bsc_line.specs.declared.addressing.Named.TheVariants.{Address, Nobody, Nothing}
 use Rattle.bsc_line_model.specs.Trust.{AllHear, IsAddressedAfter}
 use Rattle.bsc_line.specs.Naming.{named_in}

@@ -10,7 +10,7 @@ use Rattle.bsc_tributary.specs.Tributary.{TributaryValue, spool_at}
 use Rattle.bsc_control.specs.declared.task.Replied.{Replied}
 use Rattle.bsc_control.specs.declared.task.Task.{Task}
 use Rattle.bsc_control.specs.declared.task.Task.TheVariants.{AtRest, Selecting, Sending, Polling}
-use Rattle.bsc_directory.specs.declared.way.Way.{Way}
+use Rattle.bsc_bid.specs.declared.way.Way.{Way}
 use Rattle.bsc_control.specs.Peer.{OutboundValue, outbound_at}
 use Rattle.bsc_control.specs.Control.{ControlValue, terminals, peer, current}
 use Rattle.bsc_control.specs.Table.{select_address}

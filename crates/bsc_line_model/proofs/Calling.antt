@@ -5,8 +5,8 @@ use Rattle.std.proofs.Common.{subst, get_or-set_other, get_or-set_same}
 use Rattle.bsc_frame.specs.declared.message.Message.TheVariants as m
 use Rattle.bsc_bid.specs.Receiver.{new_receiver}
 use Rattle.bsc_tributary.specs.Tributary.{TributaryValue}
-use Rattle.bsc_directory.specs.declared.way.Way.{Way}
-use Rattle.bsc_directory.specs.declared.way.Way.TheVariants.{FromTerminal, ToTerminal}
+use Rattle.bsc_bid.specs.declared.way.Way.{Way}
+use Rattle.bsc_bid.specs.declared.way.Way.TheVariants.{FromTerminal, ToTerminal}
 use Rattle.bsc_control.specs.declared.task.Replied.TheVariants.{Nothing}
 use Rattle.bsc_control.specs.Peer.{PeerValue, no_peer}
 use Rattle.bsc_control.specs.Control.{ControlValue, ControlStep, peer_at, terminal_of_entry}

@@ -8,7 +8,7 @@ use Rattle.bsc_frame.specs.declared.message.Heard.{Heard}
 use Rattle.bsc_tributary.specs.Tributary.{TributaryValue}
 use Rattle.bsc_tributary.specs.Kept.{AfterSilence, KeepsSetupAndMode}
 use Rattle.bsc_tributary.proofs.Addresses.{none_passes_without_position}
-use Rattle.bsc_directory.specs.declared.way.Way.{Way}
+use Rattle.bsc_bid.specs.declared.way.Way.{Way}
 use Rattle.bsc_control.specs.Control.{ControlValue, terminals as addresses_of}
 use Rattle.bsc_control.specs.Kept.{IsControl, Keeps as ControlKeeps}
 use Rattle.bsc_line_model.specs.declared.transmission.Speaker.{Speaker}

@@ -31,8 +31,8 @@ use Rattle.bsc_tributary.specs.Tributary.{rooms_after, spool_at, empty_spool}
 use Rattle.bsc_control.specs.declared.task.Task.{Task}
 use Rattle.bsc_control.specs.declared.task.Task.TheVariants as k
 use Rattle.bsc_control.specs.declared.task.Replied.{Replied}
-use Rattle.bsc_directory.specs.declared.way.Way.{Way}
-use Rattle.bsc_directory.specs.declared.way.Way.TheVariants.{FromTerminal, ToTerminal}
+use Rattle.bsc_bid.specs.declared.way.Way.{Way}
+use Rattle.bsc_bid.specs.declared.way.Way.TheVariants.{FromTerminal, ToTerminal}
 use Rattle.bsc_control.specs.Peer.{PeerValue, OutboundValue, no_peer, outbound_at, with_outbound}
 use Rattle.bsc_control.specs.Peer.{outbound_after}
 use Rattle.bsc_control.specs.Control.{ControlValue, ControlStep, peer_at, peer, current}

@@ -27,8 +27,8 @@ use Rattle.bsc_tributary.specs.Tributary.{receive_step, rooms_after, spool_at, e
 use Rattle.bsc_tributary.specs.Kept.{IsNoCall, Stores}
 use Rattle.bsc_control.specs.declared.task.Task.{Task}
 use Rattle.bsc_control.specs.declared.task.Task.TheVariants.{AtRest, Selecting, Sending, Polling}
-use Rattle.bsc_directory.specs.declared.way.Way.{Way}
-use Rattle.bsc_directory.specs.declared.way.Way.TheVariants.{FromTerminal, ToTerminal}
+use Rattle.bsc_bid.specs.declared.way.Way.{Way}
+use Rattle.bsc_bid.specs.declared.way.Way.TheVariants.{FromTerminal, ToTerminal}
 use Rattle.bsc_control.specs.Peer.{PeerValue, OutboundValue, outbound_at}
 use Rattle.bsc_control.specs.Control.{ControlValue, peer_at, peer, current}
 use Rattle.bsc_control.specs.Kept.{outbound_of}

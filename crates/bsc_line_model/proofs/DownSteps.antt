@@ -28,9 +28,9 @@ use Rattle.bsc_tributary.specs.Tributary.{quiet_step, rooms_after, spool_at}
 use Rattle.bsc_tributary.specs.Kept.{IsNoCall}
 use Rattle.bsc_control.specs.declared.task.Task.{Task}
 use Rattle.bsc_control.specs.declared.task.Task.TheVariants as k
-use Rattle.bsc_directory.specs.declared.way.Way.{Way}
-use Rattle.bsc_directory.specs.declared.way.Way.TheVariants.{FromTerminal, ToTerminal}
-use Rattle.bsc_directory.specs.Addresses.{IsAddressOf}
+use Rattle.bsc_bid.specs.declared.way.Way.{Way}
+use Rattle.bsc_bid.specs.declared.way.Way.TheVariants.{FromTerminal, ToTerminal}
+use Rattle.bsc_bid.specs.Addresses.{IsAddressOf}
 use Rattle.bsc_control.specs.Peer.{PeerValue, IsPeer, no_peer, outbound_at}
 use Rattle.bsc_control.specs.Control.{ControlValue, peer, current, terminals}
 use Rattle.bsc_control.specs.Table.{select_address}

@@ -23,8 +23,8 @@ use Rattle.bsc_tributary.specs.Called.{called_as}
 use Rattle.bsc_tributary.specs.Tributary.{TributaryValue, TributaryStep, Hears, mode_step}
 use Rattle.bsc_tributary.specs.Tributary.{receive_step, call_step, selection_step, rooms_after}
 use Rattle.bsc_tributary.specs.Tributary.{without_line, quiet_step, spool_at, empty_spool}
-use Rattle.bsc_directory.specs.declared.way.Way.TheVariants.{ToTerminal}
-use Rattle.bsc_directory.specs.declared.way.Way.{Way}
+use Rattle.bsc_bid.specs.declared.way.Way.TheVariants.{ToTerminal}
+use Rattle.bsc_bid.specs.declared.way.Way.{Way}
 use Rattle.bsc_line_model.proofs.Staying.{TerminalStays}
 use Rattle.bsc_bid.proofs.Resting.{cut_at_rest}
 

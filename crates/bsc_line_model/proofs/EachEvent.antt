@@ -4,7 +4,7 @@ use Rattle.std.proofs.Common.{ap, subst}
 use Rattle.std.proofs.lemmas.List.{get_or_default}
 use Rattle.bsc_tributary.specs.Tributary.{TributaryValue}
 use Rattle.bsc_tributary.specs.Kept.{IsTributary, KeepsSetupAndMode}
-use Rattle.bsc_directory.specs.declared.way.Way.TheVariants.{ToTerminal}
+use Rattle.bsc_bid.specs.declared.way.Way.TheVariants.{ToTerminal}
 use Rattle.bsc_control.specs.Control.{ControlValue, peer_at}
 use Rattle.bsc_control.specs.Peer.{PeerValue}
 use Rattle.bsc_line_model.specs.declared.transmission.Speaker.{Speaker}

@@ -3,8 +3,8 @@ use Rattle.std.proofs.Common.{◌≡◌, ◌≢◌, ◌<◌, inl, inr, ℕ, zero
 use Rattle.std.proofs.Common.{take, refl, ap, arith}
 use Rattle.bsc_bid.specs.Channel.{Channel}
 use Rattle.bsc_bid.specs.Sender.{is_in_doubt}
-use Rattle.bsc_directory.specs.declared.way.Way.{Way}
-use Rattle.bsc_directory.specs.declared.way.Way.TheVariants.{FromTerminal, ToTerminal}
+use Rattle.bsc_bid.specs.declared.way.Way.{Way}
+use Rattle.bsc_bid.specs.declared.way.Way.TheVariants.{FromTerminal, ToTerminal}
 use Rattle.bsc_line_model.specs.Line.{IsChannel, channel_of, phase_of}
 use Rattle.bsc_line_model.specs.Rounds.{IsReadyForVisit, IsPolledEntry, entry_at}
 use Rattle.bsc_line_model.specs.Examples.{record_a, record_b, both_records, before_arrivals}

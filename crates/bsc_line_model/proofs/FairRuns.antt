@@ -7,7 +7,7 @@ use Rattle.bsc_frame.specs.declared.message.Message.{Message}
 use Rattle.bsc_frame.specs.declared.message.Heard.TheVariants.{Whole}
 use Rattle.bsc_bid.specs.Fair.{IsFairlyHeard}
 use Rattle.bsc_tributary.specs.Tributary.{spool_at}
-use Rattle.bsc_directory.specs.declared.way.Way.TheVariants.{ToTerminal}
+use Rattle.bsc_bid.specs.declared.way.Way.TheVariants.{ToTerminal}
 use Rattle.bsc_control.specs.Control.{ControlValue, peer_at}
 use Rattle.bsc_line_model.specs.declared.transmission.Transmission.{Transmission}
 use Rattle.bsc_line_model.specs.declared.transmission.Speaker.{Speaker}

@@ -3,8 +3,8 @@ use Rattle.std.proofs.Common.{◌≡◌, ◌⊎◌, inl, inr, ℕ, ◌<◌, leng
 use Rattle.std.proofs.Common.{subst, arith}
 use Rattle.std.proofs.lemmas.Bool.{cases_lt}
 use Rattle.bsc_bid.specs.Channel.{Channel, Land, Learn, Makes}
-use Rattle.bsc_directory.specs.declared.way.Way.{Way}
-use Rattle.bsc_directory.specs.declared.way.Way.TheVariants.{FromTerminal, ToTerminal}
+use Rattle.bsc_bid.specs.declared.way.Way.{Way}
+use Rattle.bsc_bid.specs.declared.way.Way.TheVariants.{FromTerminal, ToTerminal}
 use Rattle.bsc_line_model.specs.Line.{LineValue, terminal_at, terminal_count, IsWay, IsChannel}
 use Rattle.bsc_line_model.specs.Line.{channel_of}
 use Rattle.bsc_line_model.specs.ChannelSteps.{MovesNothing, MovesAddressed}

@@ -6,8 +6,8 @@ use Rattle.bsc_bid.specs.Channel.{channel}
 use Rattle.bsc_bid.specs.Setup.{SetupValue}
 use Rattle.bsc_bid.specs.Terminal.{TerminalValue}
 use Rattle.bsc_tributary.specs.Tributary.{spool_at, empty_spool}
-use Rattle.bsc_directory.specs.declared.way.Way.{Way}
-use Rattle.bsc_directory.specs.declared.way.Way.TheVariants.{FromTerminal, ToTerminal}
+use Rattle.bsc_bid.specs.declared.way.Way.{Way}
+use Rattle.bsc_bid.specs.declared.way.Way.TheVariants.{FromTerminal, ToTerminal}
 use Rattle.bsc_control.specs.Peer.{OutboundValue, IsPeer, IsNewPeer, no_peer, no_outbound}
 use Rattle.bsc_control.specs.Peer.{new_outbound}
 use Rattle.bsc_control.specs.Control.{peer_at}

@@ -23,9 +23,9 @@ use Rattle.bsc_tributary.specs.Kept.{SuitsMode}
 use Rattle.bsc_control.specs.declared.task.Task.{Task}
 use Rattle.bsc_control.specs.declared.task.Task.TheVariants as k
 use Rattle.bsc_control.specs.declared.task.Replied.TheVariants.{Nothing}
-use Rattle.bsc_directory.specs.declared.way.Way.{Way}
-use Rattle.bsc_directory.specs.declared.way.Way.TheVariants.{FromTerminal, ToTerminal}
-use Rattle.bsc_directory.specs.Addresses.{IsAddressOf, address_for}
+use Rattle.bsc_bid.specs.declared.way.Way.{Way}
+use Rattle.bsc_bid.specs.declared.way.Way.TheVariants.{FromTerminal, ToTerminal}
+use Rattle.bsc_bid.specs.Addresses.{IsAddressOf, address_for}
 use Rattle.bsc_control.specs.Peer.{OutboundValue, IsPeer, no_peer, no_outbound}
 use Rattle.bsc_control.specs.Control.{peer_at, peer, current, terminals, terminal_of_entry}
 use Rattle.bsc_control.specs.CallOrder.{way_from, first_call, wrapped, is_polled, polled_place}

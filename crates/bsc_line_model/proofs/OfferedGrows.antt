@@ -12,8 +12,8 @@ use Rattle.bsc_bid.specs.Terminal.{TerminalValue}
 use Rattle.bsc_bid.specs.Channel.{Channel, Offer, Learn}
 use Rattle.bsc_tributary.specs.Tributary.{TributaryValue, after_release, restarted}
 use Rattle.bsc_spool.specs.Queue.{with_offered}
-use Rattle.bsc_directory.specs.declared.way.Way.{Way}
-use Rattle.bsc_directory.specs.declared.way.Way.TheVariants.{FromTerminal, ToTerminal}
+use Rattle.bsc_bid.specs.declared.way.Way.{Way}
+use Rattle.bsc_bid.specs.declared.way.Way.TheVariants.{FromTerminal, ToTerminal}
 use Rattle.bsc_control.specs.Control.{ControlValue, peer_at}
 use Rattle.bsc_control.specs.Kept.{outbound_of}
 use Rattle.bsc_line_model.specs.declared.transmission.Speaker.{Speaker}

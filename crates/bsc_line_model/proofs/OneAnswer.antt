@@ -14,8 +14,8 @@ use Rattle.bsc_tributary.specs.declared.mode.Mode.TheVariants.{Control, Receivin
 use Rattle.bsc_tributary.specs.Called.{called_as}
 use Rattle.bsc_tributary.specs.Tributary.{TributaryValue}
 use Rattle.bsc_tributary.specs.Kept.{AfterHearing, IsNoCall, TakesLine}
-use Rattle.bsc_directory.specs.declared.way.Way.{Way}
-use Rattle.bsc_directory.specs.declared.way.Way.TheVariants.{FromTerminal, ToTerminal}
+use Rattle.bsc_bid.specs.declared.way.Way.{Way}
+use Rattle.bsc_bid.specs.declared.way.Way.TheVariants.{FromTerminal, ToTerminal}
 use Rattle.bsc_control.specs.Control.{terminals as addresses_of}
 use Rattle.bsc_line_model.specs.Line.{LineValue, terminal_at, terminal_count}
 use Rattle.bsc_line_model.specs.Terminals.{answer_of}

@@ -24,8 +24,8 @@ use Rattle.bsc_control.specs.declared.task.Replied.{Replied}
 use Rattle.bsc_control.specs.declared.task.Replied.TheVariants.{Nothing}
 use Rattle.bsc_control.specs.declared.task.Task.{Task}
 use Rattle.bsc_control.specs.declared.task.Task.TheVariants as k
-use Rattle.bsc_directory.specs.declared.way.Way.TheVariants.{FromTerminal}
-use Rattle.bsc_directory.specs.Addresses.{IsAddressOf}
+use Rattle.bsc_bid.specs.declared.way.Way.TheVariants.{FromTerminal}
+use Rattle.bsc_bid.specs.Addresses.{IsAddressOf}
 use Rattle.bsc_control.specs.Peer.{PeerValue}
 use Rattle.bsc_control.specs.Control.{ControlValue, peer_at, peer, current, terminals}
 use Rattle.bsc_control.specs.CallOrder.{way_from, place_after, polled_place}

@@ -13,8 +13,8 @@ use Rattle.bsc_bid.specs.declared.sender.ReleaseError.TheVariants as r
 use Rattle.bsc_bid.specs.Sender.{SenderValue, ReleaseStep, release_in, release_step, released}
 use Rattle.bsc_bid.specs.Sender.{not_released}
 use Rattle.bsc_tributary.specs.Tributary.{TributaryValue, spool_at, after_release}
-use Rattle.bsc_directory.specs.declared.way.Way.{Way}
-use Rattle.bsc_directory.specs.declared.way.Way.TheVariants.{FromTerminal, ToTerminal}
+use Rattle.bsc_bid.specs.declared.way.Way.{Way}
+use Rattle.bsc_bid.specs.declared.way.Way.TheVariants.{FromTerminal, ToTerminal}
 use Rattle.bsc_control.specs.Peer.{PeerValue, OutboundValue, no_peer, no_outbound, outbound_at}
 use Rattle.bsc_control.specs.Peer.{with_outbound, outbound_released}
 use Rattle.bsc_control.specs.Control.{ControlValue, peer_at, with_peer}

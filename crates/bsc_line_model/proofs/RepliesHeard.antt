@@ -25,8 +25,8 @@ use Rattle.bsc_tributary.specs.Tributary.{TributaryValue, TributaryStep, Hears, 
 use Rattle.bsc_tributary.specs.Tributary.{receive_step, rooms_after, spool_at, empty_spool}
 use Rattle.bsc_tributary.specs.Kept.{AfterHearing, IsNoCall}
 use Rattle.bsc_control.specs.declared.task.Replied.{Replied}
-use Rattle.bsc_directory.specs.declared.way.Way.{Way}
-use Rattle.bsc_directory.specs.declared.way.Way.TheVariants.{FromTerminal, ToTerminal}
+use Rattle.bsc_bid.specs.declared.way.Way.{Way}
+use Rattle.bsc_bid.specs.declared.way.Way.TheVariants.{FromTerminal, ToTerminal}
 use Rattle.bsc_control.specs.Peer.{PeerValue, outbound_at}
 use Rattle.bsc_control.specs.Control.{ControlValue, peer_at, peer, current}
 use Rattle.bsc_tributary.proofs.InMode.{hear_step_no_call}

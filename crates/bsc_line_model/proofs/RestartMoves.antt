@@ -2,7 +2,7 @@
 use Rattle.std.proofs.Common.{◌<◌, ap, ◌∙◌, subst, sym, refl, length, Ok}
 use Rattle.bsc_bid.specs.Channel.{channel}
 use Rattle.bsc_tributary.specs.Tributary.{spool_at, restarted as restarted_tributary}
-use Rattle.bsc_directory.specs.declared.way.Way.TheVariants.{FromTerminal, ToTerminal}
+use Rattle.bsc_bid.specs.declared.way.Way.TheVariants.{FromTerminal, ToTerminal}
 use Rattle.bsc_control.specs.Peer.{PeerValue, OutboundValue, outbound_at}
 use Rattle.bsc_control.specs.Control.{peer_at}
 use Rattle.bsc_line_model.specs.declared.transmission.Speaker.{Speaker}

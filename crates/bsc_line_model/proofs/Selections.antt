@@ -18,8 +18,8 @@ use Rattle.bsc_bid.specs.declared.phase.Phase.TheVariants.{Idle, Unanswered}
 use Rattle.bsc_bid.specs.Ready.{AreWaiting, CountsOn}
 use Rattle.bsc_bid.specs.Answer.{ack}
 use Rattle.bsc_bid.specs.Sender.{text_of}
-use Rattle.bsc_directory.specs.declared.way.Way.{Way}
-use Rattle.bsc_directory.specs.declared.way.Way.TheVariants.{ToTerminal}
+use Rattle.bsc_bid.specs.declared.way.Way.{Way}
+use Rattle.bsc_bid.specs.declared.way.Way.TheVariants.{ToTerminal}
 use Rattle.bsc_control.specs.Peer.{OutboundValue, IsPeer, IsOutbound, no_peer, no_outbound}
 use Rattle.bsc_control.specs.Peer.{outbound_at}
 use Rattle.bsc_control.specs.Control.{ControlValue, peer, current}

@@ -3,8 +3,8 @@ use Rattle.std.proofs.Common.{ℕ, ◌<◌, List, length, sym, subst, arith}
 use Rattle.bsc_bid.specs.Channel.{channel, IsSound}
 use Rattle.bsc_bid.specs.Terminal.{TerminalValue}
 use Rattle.bsc_tributary.specs.Tributary.{TributaryValue, spool_at}
-use Rattle.bsc_directory.specs.declared.way.Way.{Way}
-use Rattle.bsc_directory.specs.declared.way.Way.TheVariants.{FromTerminal, ToTerminal}
+use Rattle.bsc_bid.specs.declared.way.Way.{Way}
+use Rattle.bsc_bid.specs.declared.way.Way.TheVariants.{FromTerminal, ToTerminal}
 use Rattle.bsc_control.specs.Peer.{PeerValue, IsPeer, no_peer, outbound_at}
 use Rattle.bsc_control.specs.Control.{ControlValue, peer_at}
 use Rattle.bsc_line_model.specs.Line.{LineValue, terminal_in, terminal_at, IsWay, channel_of}

@@ -14,8 +14,8 @@ use Rattle.bsc_tributary.specs.Tributary.{TributaryValue, spool_at, restarted as
 use Rattle.bsc_control.specs.declared.task.Replied.{Replied}
 use Rattle.bsc_control.specs.declared.task.Task.{Task}
 use Rattle.bsc_control.specs.declared.task.Task.TheVariants.{AtRest, Selecting, Sending, Polling}
-use Rattle.bsc_directory.specs.declared.way.Way.{Way}
-use Rattle.bsc_directory.specs.declared.way.Way.TheVariants.{FromTerminal, ToTerminal}
+use Rattle.bsc_bid.specs.declared.way.Way.{Way}
+use Rattle.bsc_bid.specs.declared.way.Way.TheVariants.{FromTerminal, ToTerminal}
 use Rattle.bsc_control.specs.Peer.{PeerValue, OutboundValue, outbound_at}
 use Rattle.bsc_control.specs.Control.{ControlValue, peer_at, peer, current}
 use Rattle.bsc_line_model.specs.declared.transmission.Speaker.{Speaker}

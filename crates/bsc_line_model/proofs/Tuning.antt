@@ -15,9 +15,9 @@ use Rattle.bsc_tributary.specs.Called.{called_as}
 use Rattle.bsc_bid.specs.Terminal.{HasDistinctAddresses}
 use Rattle.bsc_tributary.specs.Tributary.{TributaryValue}
 use Rattle.bsc_tributary.specs.Kept.{IsModeCalled, IsModeAfter}
-use Rattle.bsc_directory.specs.declared.way.Way.{Way}
-use Rattle.bsc_directory.specs.declared.way.Way.TheVariants.{FromTerminal, ToTerminal}
-use Rattle.bsc_directory.specs.Addresses.{IsAddressOf}
+use Rattle.bsc_bid.specs.declared.way.Way.{Way}
+use Rattle.bsc_bid.specs.declared.way.Way.TheVariants.{FromTerminal, ToTerminal}
+use Rattle.bsc_bid.specs.Addresses.{IsAddressOf}
 use Rattle.bsc_line_model.specs.Trust.{EachOf, IsMissed, IsHeardFairly, is_call, IsAddressedAfter}
 use Rattle.bsc_line_model.specs.Kept.{IsTuned}
 

@@ -28,7 +28,7 @@ use Rattle.bsc_tributary.specs.Tributary.{TributaryValue, TributaryStep, Hears, 
 use Rattle.bsc_tributary.specs.Tributary.{call_step, poll_step, act_step, answer_step, rooms_after}
 use Rattle.bsc_tributary.specs.Tributary.{without_line, spool_at}
 use Rattle.bsc_tributary.specs.Kept.{IsNoCall}
-use Rattle.bsc_directory.specs.declared.way.Way.TheVariants.{FromTerminal}
+use Rattle.bsc_bid.specs.declared.way.Way.TheVariants.{FromTerminal}
 use Rattle.bsc_tributary.proofs.InMode.{hear_step_no_call}
 use Rattle.bsc_line_model.specs.Rounds.{block_count}
 use Rattle.bsc_line_model.proofs.BlockCounts.{CutLaws, HasFirstBlock, IsEnd, first_block_of_queue}

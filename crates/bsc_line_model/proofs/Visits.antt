@@ -11,8 +11,8 @@ use Rattle.bsc_spool.specs.Queue.{QueueValue, waiting}
 use Rattle.bsc_bid.specs.declared.phase.Phase.TheVariants.{Idle}
 use Rattle.bsc_bid.specs.Sender.{is_in_doubt}
 use Rattle.bsc_tributary.specs.Tributary.{spool_at}
-use Rattle.bsc_directory.specs.declared.way.Way.{Way}
-use Rattle.bsc_directory.specs.declared.way.Way.TheVariants.{FromTerminal, ToTerminal}
+use Rattle.bsc_bid.specs.declared.way.Way.{Way}
+use Rattle.bsc_bid.specs.declared.way.Way.TheVariants.{FromTerminal, ToTerminal}
 use Rattle.bsc_control.specs.Peer.{PeerValue, OutboundValue, IsPeer, IsOutbound, no_peer}
 use Rattle.bsc_control.specs.Peer.{no_outbound, outbound_at, is_selectable}
 use Rattle.bsc_control.specs.Control.{peer_at, peer, current}

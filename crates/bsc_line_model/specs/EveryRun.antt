@@ -1,6 +1,6 @@
 -- What every run of events keeps, whether or not the line is trusted after it.
 use Rattle.std.specs.Prelude.{◌≡◌, ◌↔◌, ◌<◌, ◌++◌, ℕ, List, Result}
-use Rattle.bsc_directory.specs.declared.way.Way.{Way}
+use Rattle.bsc_bid.specs.declared.way.Way.{Way}
 use Rattle.bsc_line_model.specs.declared.error.Stopped.{Stopped}
 use Rattle.bsc_line_model.specs.declared.event.Event.{Event}
 use Rattle.bsc_line_model.specs.Line.{LineValue, terminal_at, terminal_count, IsChannel}

@@ -6,8 +6,8 @@ use Rattle.bsc_bid.specs.Channel.{Channel, channel}
 use Rattle.bsc_bid.specs.Receiver.{new_receiver}
 use Rattle.bsc_tributary.specs.declared.mode.Mode.TheVariants as mode
 use Rattle.bsc_tributary.specs.Tributary.{TributaryValue, tributary_of, spool_at}
-use Rattle.bsc_directory.specs.declared.way.Way.{Way}
-use Rattle.bsc_directory.specs.declared.way.Way.TheVariants.{FromTerminal, ToTerminal}
+use Rattle.bsc_bid.specs.declared.way.Way.{Way}
+use Rattle.bsc_bid.specs.declared.way.Way.TheVariants.{FromTerminal, ToTerminal}
 use Rattle.bsc_control.specs.Peer.{no_peer, no_outbound}
 use Rattle.bsc_control.specs.Control.{ControlValue, peer_at}
 use Rattle.bsc_control.specs.Kept.{outbound_of}

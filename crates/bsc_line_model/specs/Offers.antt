@@ -7,8 +7,8 @@ use Rattle.bsc_bid.specs.declared.sender.ReleaseError.{ReleaseError}
 use Rattle.bsc_bid.specs.declared.sender.ReleaseError.TheVariants as r
 use Rattle.bsc_bid.specs.Sender.{release_step}
 use Rattle.bsc_tributary.specs.Tributary.{spool_at, after_release}
-use Rattle.bsc_directory.specs.declared.way.Way.{Way}
-use Rattle.bsc_directory.specs.declared.way.Way.TheVariants.{FromTerminal, ToTerminal}
+use Rattle.bsc_bid.specs.declared.way.Way.{Way}
+use Rattle.bsc_bid.specs.declared.way.Way.TheVariants.{FromTerminal, ToTerminal}
 use Rattle.bsc_control.specs.Peer.{offered_to, with_outbound, outbound_released}
 use Rattle.bsc_control.specs.Control.{peer_at, with_peer}
 use Rattle.bsc_control.specs.Kept.{outbound_of}

@@ -17,7 +17,7 @@ use Rattle.bsc_bid.specs.Sender.{released}
 use Rattle.bsc_bid.specs.Receiver.{new_receiver, heard_step}
 use Rattle.bsc_tributary.specs.declared.mode.Mode.{Mode}
 use Rattle.bsc_tributary.specs.declared.mode.Mode.TheVariants as mode
-use Rattle.bsc_directory.specs.declared.way.Way.TheVariants.{FromTerminal}
+use Rattle.bsc_bid.specs.declared.way.Way.TheVariants.{FromTerminal}
 use Rattle.bsc_control.specs.declared.task.Replied.TheVariants.{Nothing}
 use Rattle.bsc_control.specs.declared.task.Task.TheVariants.{AtRest, Polling}
 use Rattle.bsc_control.specs.Peer.{no_outbound}

@@ -10,9 +10,9 @@ use Rattle.bsc_spool.specs.Queue.{QueueValue, waiting}
 use Rattle.bsc_bid.specs.Channel.{Channel}
 use Rattle.bsc_bid.specs.Sender.{is_in_doubt}
 use Rattle.bsc_tributary.specs.Tributary.{spool_at}
-use Rattle.bsc_directory.specs.declared.way.Way.{Way}
-use Rattle.bsc_directory.specs.declared.way.Way.TheVariants.{ToTerminal}
-use Rattle.bsc_directory.specs.Addresses.{IsAddressOf}
+use Rattle.bsc_bid.specs.declared.way.Way.{Way}
+use Rattle.bsc_bid.specs.declared.way.Way.TheVariants.{ToTerminal}
+use Rattle.bsc_bid.specs.Addresses.{IsAddressOf}
 use Rattle.bsc_control.specs.Peer.{OutboundValue}
 use Rattle.bsc_control.specs.Control.{ControlValue, peer_at, terminals, current}
 use Rattle.bsc_control.specs.CallOrder.{Call, first_call, place_after, is_polled, polled_place}

@@ -8,8 +8,8 @@ use Rattle.bsc_frame.specs.declared.message.Heard.{Heard}
 use Rattle.bsc_frame.specs.declared.message.Heard.TheVariants.{Whole, Noise}
 use Rattle.bsc_bid.specs.Fair.{IsFairlyHeard}
 use Rattle.bsc_bid.specs.Terminal.{TerminalValue}
-use Rattle.bsc_directory.specs.declared.way.Way.{Way}
-use Rattle.bsc_directory.specs.Addresses.{IsAddressOf}
+use Rattle.bsc_bid.specs.declared.way.Way.{Way}
+use Rattle.bsc_bid.specs.Addresses.{IsAddressOf}
 
 -- P holds of each of the first n terminals
 abbrev pub EachOf : ℕ → (ℕ → Type 0) → Type 0

@@ -1,8 +1,8 @@
 -- Why a station cannot be fed.
 use Rattle.bsc_clients.specs.declared.error.ClientsError.{ClientsError}
 use Rattle.bsc_clients.specs.declared.error.ClientsError.TheVariants as clients
-use Rattle.bsc_feeding.specs.declared.error.FeedError.{FeedError}
-use Rattle.bsc_feeding.specs.declared.error.FeedError.TheVariants as feed
+use Rattle.bsc_clients.specs.declared.command.error.FeedError.{FeedError}
+use Rattle.bsc_clients.specs.declared.command.error.FeedError.TheVariants as feed
 
 -- The error for a station that could not be reached.
 abbrev pub reach_error : ClientsError → FeedError

@@ -1,7 +1,7 @@
 -- When progress is shown, and of what work.
 use Rattle.std.specs.Prelude.{◌≡◌, Bool, false, IfSome, Option, None, Some}
-use Rattle.bsc_progress.specs.declared.counts.Work.{Work}
-use Rattle.bsc_progress.specs.declared.progress_line.ProgressLine.{ProgressLine}
+use Rattle.bsc_text.specs.declared.progress.counts.Work.{Work}
+use Rattle.bsc_text.specs.declared.progress.progress_line.ProgressLine.{ProgressLine}
 
 -- Only on a terminal, and only of work.
 abbrev pub is_shown : Bool → Option Work → Bool

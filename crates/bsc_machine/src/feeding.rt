@@ -5,8 +5,8 @@ ghost use Rattle.bsc_machine.specs.Feeding.{reach_error};
 
 use crate::machine::Machine;
 use bsc_attending::served_at;
-use bsc_clients::{ClientsError, Direction, Reached as Connected, reach};
-use bsc_feeding::{FeedError, Reached, Stations};
+use bsc_clients::command::{FeedError, Stations};
+use bsc_clients::{ClientsError, Direction, Reached, reach};
 use bsc_options::read_serves;
 use std::net::Net;
 use std::time::Duration;
@@ -35,10 +35,7 @@ impl<R: AllocGlobal + Net> Stations for Machine<'_, R> {
         let at = served_at(read_serves(address, true));
         let patience = Duration::from_secs(PATIENCE_SECONDS);
         match reach(self.runtime, self.runtime.alloc(), at, patience) {
-            Ok(Connected { hears, says }) => Ok(Reached {
-                heard: hears,
-                said: says,
-            }),
+            Ok(reached) => Ok(reached),
             Err(error) => Err(unreached(error)),
         }
     }

@@ -5,11 +5,11 @@ ghost use Rattle.bsc_machine.specs.Showing.{IsOf, is_shown, shows};
 
 use crate::screen::{Progress, Screen, progress};
 use bsc_carrier::Cable;
+use bsc_carrier::loopback::{LoopbackError, connect};
 use bsc_chart::Traces;
-use bsc_input::{Files, InputError, Unreadable, read_input};
-use bsc_loopback::{LoopbackError, connect};
-use bsc_progress::Work;
-use bsc_running::Cables;
+use bsc_run::Cables;
+use bsc_text::progress::Work;
+use bsc_text::{Files, InputError, Unreadable, read_input};
 use std::cell::Cell;
 use std::env;
 use std::fs::File;

@@ -14,10 +14,10 @@ use bsc_attending::{Network, Opened, Reachable, Wanted};
 use bsc_clients::{Clients, ClientsError, ServedAt};
 use bsc_monitor::Beginning;
 use bsc_options::Place;
-use bsc_progress::Work;
 use bsc_sockets::{
     Begun, ConnectionSettings, Listening, Reading, Sockets, SocketsError, Writing, listen,
 };
+use bsc_text::progress::Work;
 use std::alloc::Global;
 use std::fs::File;
 use std::io::Write;

@@ -3,7 +3,7 @@
 ghost use Rattle.std.specs.Prelude.{◌≡◌};
 ghost use Rattle.bsc_machine.specs.Showing.{IsOf, is_shown, shows};
 
-use bsc_progress::{ProgressLine, Timer, Work, write_cleared};
+use bsc_text::progress::{ProgressLine, Timer, Work, write_cleared};
 use std::cell::Cell;
 use std::io;
 use std::io::{Error, ErrorKind, Write};

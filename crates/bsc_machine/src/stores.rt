@@ -3,7 +3,7 @@
 use crate::machine::Machine;
 use crate::store_limit::StorePaths;
 use bsc_attending::Stores;
-use bsc_kept::{Change, Channel, Found, Progress, Store, StoreFault};
+use bsc_spool::{Change, Channel, Found, Progress, Store, StoreFault};
 use bsc_store::TableStore;
 use bsc_storing::{Opened, StoreFiles};
 use sqlite::{File, FileStore};

@@ -5,7 +5,7 @@ use Rattle.std.specs.List.{slice_split, onto_first}
 use Rattle.std.specs.Str.Lines.{lines, lines_of_parts, strip_carriage_return}
 use Rattle.std.proofs.lemmas.List.Splits.{length-slice_split}
 use borrow.Author.Tests.{ne_eqb}
-use Rattle.bsc_input.specs.Lines.{parts_of}
+use Rattle.bsc_text.specs.InputLines.{parts_of}
 
 lines_of_one_more_part : (x : List ℕ) (parts : List (List ℕ)) → 0 < length parts → lines_of_parts (x ∷ parts)
     ≡ strip_carriage_return x ∷ lines_of_parts parts

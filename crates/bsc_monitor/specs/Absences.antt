@@ -8,7 +8,7 @@ use Rattle.std.specs.List.{list_any}
 use Rattle.bsc_carrier.specs.declared.limits.TheConstants.{MAX_CONNECTIONS}
 use Rattle.bsc_connections.specs.Histories.{Happening, HasClosed, HasJoined, WasHeard, WasSent}
 use Rattle.bsc_connections.specs.Histories.{WasSilent}
-use Rattle.bsc_directory.specs.declared.limits.TheConstants.{MAX_TERMINALS}
+use Rattle.bsc_bid.specs.declared.limits.TheConstants.{MAX_TERMINALS}
 use Rattle.bsc_frame.specs.Reading.{heard}
 use Rattle.bsc_frame.specs.declared.message.Heard.{Heard}
 use Rattle.bsc_frame.specs.declared.message.Heard.TheVariants.{Failed, Noise, Whole}

@@ -7,7 +7,7 @@ use Rattle.bsc_control.specs.declared.task.Replied.TheVariants.{Nothing}
 use Rattle.bsc_control.specs.declared.task.Task.{Task}
 use Rattle.bsc_control.specs.declared.task.Task.TheVariants.{Polling}
 use Rattle.bsc_control.specs.Control.{ControlValue}
-use Rattle.bsc_directory.specs.declared.limits.TheConstants.{MAX_TERMINALS}
+use Rattle.bsc_bid.specs.declared.limits.TheConstants.{MAX_TERMINALS}
 use Rattle.bsc_monitor.specs.Visits.{polled_still}
 use Rattle.bsc_monitor.specs.declared.answering.Answering.{Answering}
 

@@ -1,7 +1,7 @@
 -- The records that arrive at a station are printed once each.
 use Rattle.std.specs.Prelude.{◌≡◌, ℕ, ◌<◌, List, length, max, slice_index}
-use Rattle.bsc_directory.specs.declared.way.Way.{Way}
-use Rattle.bsc_report.specs.Channels.{channel_name}
+use Rattle.bsc_bid.specs.declared.way.Way.{Way}
+use Rattle.bsc_text.specs.Channels.{channel_name}
 use Rattle.bsc_monitor.specs.declared.arrivals.Channel.{Channel}
 use Rattle.bsc_monitor.specs.Printed.{arrival_lines, records_at}
 use Rattle.bsc_monitor.specs.declared.record_lines.RecordLines.{RecordLines}

@@ -1,9 +1,9 @@
 -- How far a station has come.
 use Rattle.std.specs.Prelude.{ℕ, length}
-use Rattle.bsc_directory.specs.declared.way.Way.{Way}
-use Rattle.bsc_directory.specs.declared.way.Way.TheVariants.{FromTerminal, ToTerminal}
-use Rattle.bsc_progress.specs.Counts.{counted, counts_of, doubts_of}
-use Rattle.bsc_progress.specs.declared.counts.Counts.{Counts}
+use Rattle.bsc_bid.specs.declared.way.Way.{Way}
+use Rattle.bsc_bid.specs.declared.way.Way.TheVariants.{FromTerminal, ToTerminal}
+use Rattle.bsc_text.specs.Counts.{counted, counts_of, doubts_of}
+use Rattle.bsc_text.specs.declared.progress.counts.Counts.{Counts}
 use Rattle.bsc_monitor.specs.Ends.{End, sending, receiving}
 
 -- The counts of a channel: what is known at its sending end, or arrived at its receiving end.

@@ -1,8 +1,8 @@
 -- The state of the channels that end at a station.
 use Rattle.std.specs.Prelude.{ℕ, ◌<◌, nat_lt, zero, suc, Bool, false, not, ◌||◌, ◌&&◌}
 use Rattle.std.specs.Prelude.{List, length}
-use Rattle.bsc_directory.specs.declared.way.Way.{Way}
-use Rattle.bsc_directory.specs.declared.way.Way.TheVariants.{FromTerminal, ToTerminal}
+use Rattle.bsc_bid.specs.declared.way.Way.{Way}
+use Rattle.bsc_bid.specs.declared.way.Way.TheVariants.{FromTerminal, ToTerminal}
 use Rattle.bsc_control.specs.Control.{ControlValue, peer_at}
 use Rattle.bsc_control.specs.Kept.{outbound_of}
 use Rattle.bsc_spool.specs.Queue.{QueueValue}

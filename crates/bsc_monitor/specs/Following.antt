@@ -1,7 +1,7 @@
 -- The records that arrive at a station are printed a few at a time.
 use Rattle.std.specs.Prelude.{◌≡◌, ℕ, zero, suc, ◌+◌, ◌-◌, ◌<◌, List, length, take, drop, min}
 use Rattle.std.specs.Prelude.{slice_index}
-use Rattle.bsc_report.specs.Channels.{channel_name}
+use Rattle.bsc_text.specs.Channels.{channel_name}
 use Rattle.bsc_monitor.specs.Arrivals.{arrived_on}
 use Rattle.bsc_monitor.specs.Printed.{lines_from}
 use Rattle.bsc_monitor.specs.declared.record_lines.RecordLines.{RecordLines}

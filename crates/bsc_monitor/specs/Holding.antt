@@ -8,11 +8,11 @@ use Rattle.bsc_frame.specs.declared.message.Heard.{Heard}
 use Rattle.bsc_frame.specs.declared.message.Heard.TheVariants.{Whole}
 use Rattle.bsc_frame.specs.declared.message.Message.TheVariants.{Call, Eot}
 use Rattle.bsc_frame.specs.Reading.{heard}
-use Rattle.bsc_report.specs.Traces.{transmission_line}
-use Rattle.bsc_report.specs.declared.trace.Fate.{Fate}
-use Rattle.bsc_report.specs.declared.trace.Fate.TheVariants as fate
-use Rattle.bsc_report.specs.declared.trace.Who.{Who}
-use Rattle.bsc_report.specs.declared.trace.Who.TheVariants.{Control}
+use Rattle.bsc_text.specs.Traces.{transmission_line}
+use Rattle.bsc_text.specs.declared.trace.Fate.{Fate}
+use Rattle.bsc_text.specs.declared.trace.Fate.TheVariants as fate
+use Rattle.bsc_text.specs.declared.trace.Who.{Who}
+use Rattle.bsc_text.specs.declared.trace.Who.TheVariants.{Control}
 use Rattle.bsc_monitor.specs.Traces.{IsTraced}
 use Rattle.bsc_monitor.specs.declared.held.Calls.{Calls}
 use Rattle.bsc_monitor.specs.declared.held.Calls.TheVariants as calls

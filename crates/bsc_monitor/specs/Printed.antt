@@ -3,11 +3,11 @@ use Rattle.std.specs.Prelude.{ℕ, suc, Bool, if◌then◌else◌, List, [], ◌
 use Rattle.std.specs.Prelude.{Option, Some, None}
 use Rattle.std.specs.List.{flat_map}
 use Rattle.std.specs.Fmt.{decimal}
-use Rattle.bsc_directory.specs.declared.way.Way.{Way}
-use Rattle.bsc_directory.specs.declared.way.Way.TheVariants.{FromTerminal, ToTerminal}
-use Rattle.bsc_print.specs.Forms.{in_form}
-use Rattle.bsc_print.specs.declared.form.Form.{Form}
-use Rattle.bsc_report.specs.Channels.{channel_name, doubt_shown, each_below, record_line}
+use Rattle.bsc_bid.specs.declared.way.Way.{Way}
+use Rattle.bsc_bid.specs.declared.way.Way.TheVariants.{FromTerminal, ToTerminal}
+use Rattle.bsc_text.specs.Forms.{in_form}
+use Rattle.bsc_text.specs.declared.form.Form.{Form}
+use Rattle.bsc_text.specs.Channels.{channel_name, doubt_shown, each_below, record_line}
 use Rattle.bsc_monitor.specs.Ends.{End, sending, receiving}
 use Rattle.bsc_monitor.specs.declared.record_lines.RecordLines.{RecordLines}
 

@@ -7,7 +7,7 @@ use Rattle.bsc_monitor.specs.Telling.{ShowsEvent, Trace}
 use Rattle.bsc_monitor.specs.Watching.{Output, PrintsArrivals}
 use Rattle.bsc_monitor.specs.declared.held.Calls.{Calls}
 use Rattle.bsc_monitor.specs.declared.party.Party as party_of
-use Rattle.bsc_report.specs.declared.trace.Who.{Who}
+use Rattle.bsc_text.specs.declared.trace.Who.{Who}
 
 -- The errors of a line of the trace.
 abbrev pub IsTraceFault : LiveError → Type 0

@@ -6,9 +6,9 @@ use Rattle.bsc_connections.specs.Histories.{Happening, HadClient}
 use Rattle.bsc_control.specs.Control.{ControlValue}
 use Rattle.bsc_control.specs.declared.task.Task.{Task}
 use Rattle.bsc_control.specs.declared.task.Task.TheVariants.{Polling}
-use Rattle.bsc_report.specs.Traces.{time_shown}
-use Rattle.bsc_report.specs.declared.trace.Who.{Who}
-use Rattle.bsc_report.specs.declared.trace.Who.TheVariants.{Control, Terminal}
+use Rattle.bsc_text.specs.Traces.{time_shown}
+use Rattle.bsc_text.specs.declared.trace.Who.{Who}
+use Rattle.bsc_text.specs.declared.trace.Who.TheVariants.{Control, Terminal}
 use Rattle.bsc_trust.specs.declared.distrust.Distrust.{Distrust}
 use Rattle.bsc_monitor.specs.Answering.{unanswered}
 use Rattle.bsc_monitor.specs.Holding.{CallLine, TracesNext, held_for, held_shown}

@@ -15,11 +15,11 @@ use Rattle.bsc_carrier.specs.declared.error.CarrierError.TheVariants as carrier
 use Rattle.bsc_carrier.specs.declared.fault.DeviceFault.{DeviceFault}
 use Rattle.bsc_carrier.specs.declared.fault.DeviceFault.TheVariants as fault
 use Rattle.bsc_frame.specs.Reading.{heard}
-use Rattle.bsc_report.specs.Traces.{silence_line, time_shown, told_line, transmission_line}
-use Rattle.bsc_report.specs.Traces.{who_shown}
-use Rattle.bsc_report.specs.declared.trace.Fate.TheVariants as fate
-use Rattle.bsc_report.specs.declared.trace.Who.{Who}
-use Rattle.bsc_report.specs.declared.trace.Who.TheVariants.{Control, Connection}
+use Rattle.bsc_text.specs.Traces.{silence_line, time_shown, told_line, transmission_line}
+use Rattle.bsc_text.specs.Traces.{who_shown}
+use Rattle.bsc_text.specs.declared.trace.Fate.TheVariants as fate
+use Rattle.bsc_text.specs.declared.trace.Who.{Who}
+use Rattle.bsc_text.specs.declared.trace.Who.TheVariants.{Control, Connection}
 use Rattle.bsc_trust.specs.Reasons.{reason_text}
 use Rattle.bsc_trust.specs.declared.distrust.Distrust.{Distrust}
 

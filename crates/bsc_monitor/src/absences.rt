@@ -15,9 +15,9 @@ ghost use Rattle.bsc_monitor.specs.Absences.{with_stranger, with_time_out};
 
 use crate::attendance::{AbsenceLimits, Attendance, Presence};
 use crate::terminal_news::TerminalNews;
+use bsc_bid::limits::MAX_TERMINALS;
 use bsc_carrier::limits::MAX_CONNECTIONS;
 use bsc_connections::Note;
-use bsc_directory::limits::MAX_TERMINALS;
 use bsc_frame::{Heard, Message, Reply, TextBuffer, decode};
 
 /// What an event is to the terminals.

@@ -7,9 +7,9 @@ ghost use Rattle.bsc_monitor.specs.Answering.{new_answering};
 ghost use Rattle.bsc_monitor.specs.Answering.{poll_over, told_after, unanswered, unreplied};
 ghost use Rattle.bsc_monitor.specs.Answering.{untold};
 
+use bsc_bid::limits::MAX_TERMINALS;
 use bsc_connections::Note;
 use bsc_control::{Control, Replied, Task};
-use bsc_directory::limits::MAX_TERMINALS;
 use std::alloc::Allocator;
 
 /// Which terminals have not answered, as far as it was told.

@@ -2,7 +2,7 @@
 
 ghost use Rattle.std.specs.Prelude.{◌≡◌, ◌<◌, ◌≤◌, ◌-◌, length, drop, take, Ok, OnOk, false, true};
 ghost use Rattle.std.specs.Io.KnownBytes.{Appends};
-ghost use Rattle.bsc_report.specs.Channels.{channel_name, each_below};
+ghost use Rattle.bsc_text.specs.Channels.{channel_name, each_below};
 ghost use Rattle.bsc_monitor.specs.Printed.{arrival_line, lines_from, number_shown};
 ghost use Rattle.bsc_monitor.specs.Arrivals.{AreCounted, AsManyArePrinted, MoreArePrinted};
 ghost use Rattle.bsc_monitor.specs.Arrivals.{arrivals_of};
@@ -11,8 +11,7 @@ ghost use Rattle.bsc_monitor.specs.Arrivals.{channel_arrivals, channel_at, count
 use crate::{Party, Received, RecordLines};
 use bsc_block::Records;
 use bsc_control::Way;
-use bsc_print::{PrintError, put, write_in_form};
-use bsc_report::write_channel_name;
+use bsc_text::{PrintError, put, write_channel_name, write_in_form};
 use std::alloc::Allocator;
 use std::io::Write;
 

@@ -8,8 +8,7 @@ ghost use Rattle.bsc_monitor.specs.Traces.{not_allowed_line, serving_line, start
 ghost use Rattle.bsc_monitor.specs.Traces.{waiting_for_control, waiting_line, wanted_shown};
 
 use crate::trace::{write_closed, write_joined};
-use bsc_print::{PrintError, put};
-use bsc_report::write_time;
+use bsc_text::{PrintError, put, write_time};
 use std::io::Write;
 use std::net::SocketAddr;
 

@@ -11,7 +11,7 @@ use std::alloc::Allocator;
 impl<A: Allocator> Party for Control<A> {
     ghost use Rattle.std.specs.Prelude.{length};
     ghost use Rattle.bsc_control.specs.Control.{peer_at};
-    ghost use Rattle.bsc_directory.specs.declared.way.Way.TheVariants.{FromTerminal};
+    ghost use Rattle.bsc_bid.specs.declared.way.Way.TheVariants.{FromTerminal};
     ghost use Rattle.bsc_monitor.specs.Ends.{control_end};
 
     type Memory = A;

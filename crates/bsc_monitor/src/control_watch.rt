@@ -20,7 +20,7 @@ use crate::watch::Watch;
 use crate::{AbsenceLimits, Limits, Meter, Party, Presence, Presences, Timer};
 use bsc_connections::{LiveError, Monitor, Note, Pace};
 use bsc_control::{Control, Task};
-use bsc_report::Who;
+use bsc_text::Who;
 use bsc_trust::Trust;
 use std::alloc::Allocator;
 use std::io::Write;
@@ -149,7 +149,7 @@ impl<'a, A: Allocator + Copy, T: Timer + Meter + Drop, W: Write, D: Write, B: Al
     ghost use Rattle.bsc_monitor.specs.Progress.{pace_after, pace_with, visited_in};
     ghost use Rattle.bsc_monitor.specs.Refusing.{Refuses};
     ghost use Rattle.bsc_monitor.specs.Telling.{ControlShows, calls_in, trace_of};
-    ghost use Rattle.bsc_report.specs.declared.trace.Who.TheVariants.{Control};
+    ghost use Rattle.bsc_text.specs.declared.trace.Who.TheVariants.{Control};
     ghost use Rattle.bsc_monitor.specs.Trusting.{called_by, is_admitted};
     ghost use Rattle.bsc_trust.specs.Trust.{may_answer};
     ghost use Rattle.bsc_monitor.specs.Watching.{Counts, Sees, output_of};

@@ -6,7 +6,7 @@ ghost use Rattle.bsc_monitor.specs.EndValues.{end_of};
 
 use crate::{ChannelEnd, Party};
 use bsc_control::Way;
-use bsc_progress::Counts;
+use bsc_text::progress::Counts;
 use std::alloc::Allocator;
 
 /// Returns how far a station has come that has done this many events or rounds.

@@ -12,7 +12,7 @@ use bsc_bid::Station;
 use bsc_bid::limits::MAX_TRIES;
 use bsc_connections::{LiveError, Monitor, Note, Pace};
 use bsc_frame::{Heard, Message, MessageBuffer, Reply};
-use bsc_report::Who;
+use bsc_text::Who;
 use bsc_trust::Trust;
 use std::alloc::Allocator;
 use std::io::Write;

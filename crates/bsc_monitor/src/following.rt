@@ -2,13 +2,13 @@
 
 ghost use Rattle.std.specs.Prelude.{◌≡◌, ◌<◌, ◌+◌, ◌-◌, length, min, IfOk, OnOk};
 ghost use Rattle.std.specs.Io.KnownBytes.{Appends};
-ghost use Rattle.bsc_report.specs.Channels.{each_below};
+ghost use Rattle.bsc_text.specs.Channels.{each_below};
 ghost use Rattle.bsc_monitor.specs.Following.{AreSomeCounted, left_after, next_lines, some_lines};
 ghost use Rattle.bsc_monitor.specs.Following.{unprinted_on};
 
 use crate::arrivals::{channel_of, print_records};
 use crate::{Party, RecordLines};
-use bsc_print::PrintError;
+use bsc_text::PrintError;
 use std::alloc::Allocator;
 use std::io::Write;
 

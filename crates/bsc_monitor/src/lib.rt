@@ -49,7 +49,7 @@ mod watch;
 
 pub use attendance::{AbsenceLimits, Presence};
 pub use beginning::Beginning;
-pub use bsc_progress::{Meter, Timer};
+pub use bsc_text::progress::{Meter, Timer};
 pub use channel_end::ChannelEnd;
 pub use control_watch::ControlWatch;
 pub use counting::station_counts;

@@ -240,7 +240,7 @@ impl<A: Allocator> Station for LineTerminal<A> {
 
 impl<A: Allocator> Party for LineTerminal<A> {
     ghost use Rattle.std.specs.Prelude.{length};
-    ghost use Rattle.bsc_directory.specs.declared.way.Way.TheVariants.{ToTerminal};
+    ghost use Rattle.bsc_bid.specs.declared.way.Way.TheVariants.{ToTerminal};
     ghost use Rattle.bsc_monitor.specs.Ends.{terminal_end};
 
     type Memory = A;

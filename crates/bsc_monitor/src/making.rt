@@ -6,9 +6,9 @@ ghost use Rattle.bsc_control.specs.Peer.{no_peer};
 ghost use Rattle.bsc_tributary.specs.Kept.{IsNewTerminal};
 
 use crate::LineTerminal;
+use bsc_bid::directory_laws::distinct_addresses;
 use bsc_config::Config;
 use bsc_control::Control;
-use bsc_directory::laws::distinct_addresses;
 use std::alloc::{AllocError, Allocator};
 
 /// Returns the control station of the line, with nothing to send. Fails only if an allocation

@@ -8,7 +8,7 @@ ghost use Rattle.bsc_monitor.specs.Offers.{AreRecords, IsFirstRefused};
 
 use bsc_block::limits::MAX_FULL;
 use bsc_block::{Record, RecordError};
-use bsc_input::{split_line, without_return};
+use bsc_text::{split_line, without_return};
 use std::alloc::Allocator;
 use thiserror::Error;
 

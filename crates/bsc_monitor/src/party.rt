@@ -1,7 +1,7 @@
 //! A station and the channels that end at it.
 
 ghost use Rattle.std.specs.Prelude.{◌≡◌, ◌<◌, ℕ};
-ghost use Rattle.bsc_directory.specs.declared.way.Way.{Way as WayValue};
+ghost use Rattle.bsc_bid.specs.declared.way.Way.{Way as WayValue};
 ghost use Rattle.bsc_monitor.specs.Ends.{End, IsWay, receiving};
 ghost use Rattle.bsc_monitor.specs.EndValues.{end_of};
 

@@ -1,6 +1,6 @@
 //! The form of the lines of the records that arrive.
 
-use bsc_print::Form;
+use bsc_text::Form;
 
 /// How the records that arrive are printed, one line each.
 #[derive(Clone, Copy)]

@@ -3,7 +3,7 @@
 ghost use Rattle.std.specs.Prelude.{◌≡◌, ◌++◌, ◌<◌, codes, length, OnOk};
 ghost use Rattle.std.specs.Fmt.{decimal};
 ghost use Rattle.std.specs.Io.KnownBytes.{Appends};
-ghost use Rattle.bsc_report.specs.Channels.{doubt_shown};
+ghost use Rattle.bsc_text.specs.Channels.{doubt_shown};
 ghost use Rattle.bsc_monitor.specs.Ends.{IsWay};
 ghost use Rattle.bsc_monitor.specs.EndValues.{end_of};
 ghost use Rattle.bsc_monitor.specs.Printed.{end_shown, channel_lines, repeated_lines};
@@ -12,8 +12,7 @@ ghost use Rattle.bsc_monitor.specs.Printed.{station_report, terminal_lines};
 use crate::{ChannelEnd, Party};
 use bsc_block::Records;
 use bsc_control::Way;
-use bsc_print::{Form, PrintError, put};
-use bsc_report::{doubt_text, write_channel_name, write_records};
+use bsc_text::{Form, PrintError, doubt_text, put, write_channel_name, write_records};
 use std::alloc::Allocator;
 use std::io::Write;
 

@@ -5,7 +5,7 @@ ghost use Rattle.std.specs.Io.KnownBytes.{Appends};
 ghost use Rattle.bsc_monitor.specs.Terminals.{moved_by, news_line, told_answering};
 ghost use Rattle.bsc_monitor.specs.Terminals.{told_leaving};
 
-use bsc_print::PrintError;
+use bsc_text::PrintError;
 use std::io::Write;
 
 /// What is told of a terminal, in a line of its own.

@@ -7,7 +7,7 @@ use crate::watch::Watch;
 use crate::{LineTerminal, Meter, Party, Timer};
 use bsc_carrier::CarrierError;
 use bsc_connections::{LiveError, Monitor, Note, Pace};
-use bsc_report::Who;
+use bsc_text::Who;
 use std::alloc::Allocator;
 use std::io::Write;
 
@@ -76,7 +76,7 @@ impl<'a, A: Allocator + Copy, T: Timer + Meter + Drop, W: Write, D: Write, B: Al
     ghost use Rattle.bsc_monitor.specs.Refusing.{Refuses};
     ghost use Rattle.bsc_monitor.specs.Telling.{TerminalShows, trace_of};
     ghost use Rattle.bsc_monitor.specs.declared.held.Calls.TheVariants.{Heard};
-    ghost use Rattle.bsc_report.specs.declared.trace.Who.TheVariants.{Terminal};
+    ghost use Rattle.bsc_text.specs.declared.trace.Who.TheVariants.{Terminal};
     ghost use Rattle.bsc_monitor.specs.Watching.{Sees, closing_of, closing_told, output_of};
 
     ghost has_ended = { λ w. w.ended };

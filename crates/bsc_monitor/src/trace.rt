@@ -4,9 +4,9 @@ ghost use Rattle.std.specs.Prelude.{◌≡◌, ◌++◌, IfErr, None, OnOk};
 ghost use Rattle.std.specs.Io.KnownBytes.{Appends};
 ghost use Rattle.bsc_connections.specs.Notes.{told_by};
 ghost use Rattle.bsc_frame.specs.Reading.{heard};
-ghost use Rattle.bsc_print.specs.Names.{name_of};
-ghost use Rattle.bsc_report.specs.Traces.{octets_shown, silence_line, time_shown};
-ghost use Rattle.bsc_report.specs.Traces.{transmission_line};
+ghost use Rattle.bsc_text.specs.Names.{name_of};
+ghost use Rattle.bsc_text.specs.Traces.{octets_shown, silence_line, time_shown};
+ghost use Rattle.bsc_text.specs.Traces.{transmission_line};
 ghost use Rattle.bsc_monitor.specs.Traces.{IsTraced, ShowsChange, closed_line, closed_shown};
 ghost use Rattle.bsc_monitor.specs.Traces.{connection_shown, distrust_line};
 ghost use Rattle.bsc_monitor.specs.Traces.{error_shown, fault_shown, joined_line, joined_shown};
@@ -18,8 +18,9 @@ use bsc_carrier::{CarrierError, DeviceFault};
 use bsc_connections::{Note, Refusal};
 use bsc_frame::laws::{one_reading, reading};
 use bsc_frame::{TextBuffer, decode};
-use bsc_print::{PrintError, put, write_heard_name};
-use bsc_report::{Fate, Who, write_octets, write_start, write_time, write_who};
+use bsc_text::{
+    Fate, PrintError, Who, put, write_heard_name, write_octets, write_start, write_time, write_who,
+};
 use bsc_trust::Distrust;
 use std::alloc::Allocator;
 use std::io::Write;

@@ -6,7 +6,7 @@ ghost use Rattle.bsc_monitor.specs.TrustReport.{advice_shown, measured_line, sha
 ghost use Rattle.bsc_monitor.specs.TrustReport.{slowest_line, trust_report, trusted_line};
 
 use crate::trace::write_distrust;
-use bsc_print::{PrintError, put};
+use bsc_text::{PrintError, put};
 use bsc_trust::{Distrust, Trust};
 use std::io::Write;
 

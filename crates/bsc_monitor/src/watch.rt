@@ -2,7 +2,7 @@
 
 ghost use Rattle.std.specs.Prelude.{◌≡◌, ◌+◌, IfErr, IfOk, OnOk, true};
 ghost use Rattle.bsc_connections.specs.Notes.{told_by};
-ghost use Rattle.bsc_progress.specs.Counts.{saturated};
+ghost use Rattle.bsc_text.specs.Counts.{saturated};
 ghost use Rattle.bsc_monitor.specs.Telling.{BeginsLine, ShowsDistrust, ShowsEvent, ShowsLine};
 ghost use Rattle.bsc_monitor.specs.Telling.{ShowsNews, ShowsTerminals, is_off_line, trace_of};
 ghost use Rattle.bsc_monitor.specs.Terminals.{news_line};
@@ -19,8 +19,7 @@ use crate::terminal_news::{TerminalNews, TerminalsTold, write_news};
 use crate::trace::{write_change, write_distrust, write_note};
 use crate::{Meter, Party, RecordLines, Timer, Tracing};
 use bsc_connections::{LiveError, Note};
-use bsc_print::PrintError;
-use bsc_report::write_time;
+use bsc_text::{PrintError, write_time};
 use bsc_trust::Distrust;
 use std::alloc::{AllocError, Allocator};
 use std::io::Write;

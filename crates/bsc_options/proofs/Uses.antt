@@ -5,8 +5,8 @@ use Rattle.std.proofs.Common.{string_bytes}
 use Rattle.std.specs.Prelude.{String, count_by}
 use Rattle.std.proofs.lemmas.List.Sums.{count_by_more_no, count_by_more_yes, sum_by-cons}
 use Rattle.std.proofs.lemmas.List.Sums.{sum_by-take-le}
-use Rattle.bsc_asked.specs.StationWords.{asked_words}
-use Rattle.bsc_asked.specs.declared.station_words.StationWords.{StationWords}
+use Rattle.bsc_options.specs.StationWords.{asked_words}
+use Rattle.bsc_options.specs.declared.station_words.StationWords.{StationWords}
 use Rattle.bsc_options.specs.declared.settings.Role.{Role}
 use Rattle.bsc_options.specs.Inputs.{is_input, one_if, path_in, uses_of_input}
 

@@ -4,15 +4,15 @@ use Rattle.std.specs.Prelude.{replicate, slice_set, Option, Some, None, MatchOpt
 use Rattle.std.specs.Prelude.{Result, Ok, Err, MatchResult}
 use Rattle.std.specs.Net.Grammar.{IsIpText}
 use Rattle.std.specs.declared.net.ip_addr.IpAddr.{IpAddr}
-use Rattle.bsc_asked.specs.StationWords.{AskedWords}
-use Rattle.bsc_input.specs.Parts.{after_octet, before_octet}
-use Rattle.bsc_directory.specs.declared.limits.TheConstants.{MAX_TERMINALS}
-use Rattle.bsc_peers.specs.Lists.{listed}
-use Rattle.bsc_peers.specs.NetworkTexts.{IsNetworkText, Reads}
-use Rattle.bsc_peers.specs.declared.network.Network.{Network}
-use Rattle.bsc_peers.specs.declared.network.NetworkError.{NetworkError}
-use Rattle.bsc_peers.specs.declared.networks.Networks.{Networks}
-use Rattle.bsc_peers.specs.declared.networks.TheConstants.{MAX_NETWORKS}
+use Rattle.bsc_options.specs.StationWords.{AskedWords}
+use Rattle.bsc_text.specs.Parts.{after_octet, before_octet}
+use Rattle.bsc_bid.specs.declared.limits.TheConstants.{MAX_TERMINALS}
+use Rattle.bsc_trust.specs.Lists.{listed}
+use Rattle.bsc_trust.specs.NetworkTexts.{IsNetworkText, Reads}
+use Rattle.bsc_trust.specs.declared.network.Network.{Network}
+use Rattle.bsc_trust.specs.declared.network.NetworkError.{NetworkError}
+use Rattle.bsc_trust.specs.declared.networks.Networks.{Networks}
+use Rattle.bsc_trust.specs.declared.networks.TheConstants.{MAX_NETWORKS}
 use Rattle.bsc_trust.specs.Peers.{given_for}
 use Rattle.bsc_options.specs.Offers.{number_in}
 use Rattle.bsc_options.specs.declared.admission.Admission.{Admission}

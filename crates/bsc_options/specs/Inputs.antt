@@ -1,8 +1,8 @@
 -- How often the options of a station name standard input.
 use Rattle.std.specs.Prelude.{ℕ, ◌+◌, nat_lt, Bool, List, ◌∷◌, map, count_by, bytes_eq, codes}
 use Rattle.std.specs.Prelude.{unwrap_or, if◌then◌else◌}
-use Rattle.bsc_asked.specs.StationWords.{AskedWords}
-use Rattle.bsc_input.specs.Parts.{after_octet}
+use Rattle.bsc_options.specs.StationWords.{AskedWords}
+use Rattle.bsc_text.specs.Parts.{after_octet}
 use Rattle.bsc_options.specs.declared.settings.Role.{Role}
 use Rattle.bsc_options.specs.declared.settings.Role.TheVariants.{Control, Terminal}
 

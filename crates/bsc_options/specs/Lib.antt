@@ -1,3 +1,7 @@
+pub mod ChartWords
+pub mod StationWords
+pub mod StoreWords
+pub mod Asked
 pub mod Errors
 pub mod Readings
 pub mod Numbers

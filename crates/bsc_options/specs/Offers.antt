@@ -1,6 +1,6 @@
 -- What is offered at the control station.
 use Rattle.std.specs.Prelude.{ℕ, List, Option, Some, None, option_map}
-use Rattle.bsc_input.specs.Parts.{after_octet, before_octet}
+use Rattle.bsc_text.specs.Parts.{after_octet, before_octet}
 use Rattle.bsc_options.specs.Numbers.{number_within}
 use Rattle.bsc_options.specs.declared.offers.Offer.{Offer}
 

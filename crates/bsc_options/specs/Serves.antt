@@ -2,7 +2,7 @@
 use Rattle.std.specs.Prelude.{ℕ, Bool, true, false, List, [], ◌∷◌, Option, Some, None, option_map}
 use Rattle.std.specs.Prelude.{codes, if◌then◌else◌}
 use Rattle.std.specs.Str.{bytes_eq}
-use Rattle.bsc_input.specs.Parts.{after_octet, before_octet}
+use Rattle.bsc_text.specs.Parts.{after_octet, before_octet}
 use Rattle.bsc_options.specs.declared.serves.Serves.{Serves}
 use Rattle.bsc_options.specs.declared.serves.Serves.TheVariants.{Address, Path}
 

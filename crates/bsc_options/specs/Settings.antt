@@ -3,9 +3,9 @@ use Rattle.std.specs.Prelude.{ℕ, ◌-◌, ◌*◌, ◌/◌, ◌^◌, ◌==◌,
 use Rattle.std.specs.Prelude.{Bool, true, false, option_map}
 use Rattle.std.specs.Prelude.{List, [], ◌∷◌, Option, Some, None, is_some, ok_or, Result, Ok, Err}
 use Rattle.std.specs.Prelude.{if◌then◌else◌}
-use Rattle.bsc_asked.specs.StationWords.{AskedWords}
-use Rattle.bsc_print.specs.declared.form.Form.{Form}
-use Rattle.bsc_print.specs.declared.form.Form.TheVariants.{Hexadecimal, Text, Bytes}
+use Rattle.bsc_options.specs.StationWords.{AskedWords}
+use Rattle.bsc_text.specs.declared.form.Form.{Form}
+use Rattle.bsc_text.specs.declared.form.Form.TheVariants.{Hexadecimal, Text, Bytes}
 use Rattle.bsc_monitor.specs.declared.attendance.AbsenceLimits.{AbsenceLimits}
 use Rattle.bsc_monitor.specs.declared.rounds.Limits.{Limits}
 use Rattle.bsc_monitor.specs.declared.watch.Printing.{Printing}

@@ -2,7 +2,7 @@
 use Rattle.std.specs.Prelude.{ℕ, ◌-◌, ◌^◌, ◌||◌, Bool, true, false, List, Option, Some, None}
 use Rattle.std.specs.Prelude.{is_some, ok_or, option_map, Result, Ok, codes, if◌then◌else◌}
 use Rattle.std.specs.Str.{bytes_eq}
-use Rattle.bsc_asked.specs.StoreWords.{AskedStore}
+use Rattle.bsc_options.specs.StoreWords.{AskedStore}
 use Rattle.bsc_options.specs.declared.error.OptionError.{OptionError}
 use Rattle.bsc_options.specs.declared.error.OptionError.TheVariants as error
 use Rattle.bsc_options.specs.declared.settings.Role.{Role}

@@ -1,17 +1,15 @@
 //! The peers that may connect, and those that answer for terminals.
 
 ghost use Rattle.std.specs.Prelude.{◌≡◌, ℕ, List, Result, map, string_bytes};
-ghost use Rattle.bsc_asked.specs.StationWords.{asked_words};
+ghost use Rattle.bsc_options.specs.StationWords.{asked_words};
 ghost use Rattle.bsc_options.specs.Admission.{AddsNetwork, AddsPeer, HasNoNetwork, IsAdmission};
 ghost use Rattle.bsc_options.specs.Admission.{IsNobody, ReadsFrom, ReadsPeer};
 ghost use Rattle.bsc_options.specs.declared.error.OptionError.{OptionError as OptionErrorValue};
 
-use crate::OptionError;
 use crate::numbers::octet_in;
 use crate::splitting::split_at;
-use bsc_asked::StationWords;
-use bsc_peers::{Network, Networks};
-use bsc_trust::TerminalPeers;
+use crate::{OptionError, StationWords};
+use bsc_trust::{Network, Networks, TerminalPeers};
 use std::net::IpAddr;
 
 /// The addresses from which terminals answer, as they are given.

@@ -1,14 +1,13 @@
 //! The rules by which options fit the station and one another.
 
 ghost use Rattle.std.specs.Prelude.{◌≡◌, is_some, map, option_map, string_bytes};
-ghost use Rattle.bsc_asked.specs.StationWords.{asked_words};
+ghost use Rattle.bsc_options.specs.StationWords.{asked_words};
 ghost use Rattle.bsc_options.specs.Settings.{fits_place, fits_role, fits_together, is_any};
 ghost use Rattle.bsc_options.specs.Settings.{unless as error_unless};
 
 use crate::inputs::repeats_input;
 use crate::serves::is_at_address;
-use crate::{OptionError, Role};
-use bsc_asked::StationWords;
+use crate::{OptionError, Role, StationWords};
 
 /// Returns an error if a rule is broken.
 pub(crate) fn unless(is_broken: bool, why: OptionError) -> Result<(), OptionError>

@@ -1,13 +1,12 @@
 //! The uses of standard input.
 
 ghost use Rattle.std.specs.Prelude.{◌≡◌};
-ghost use Rattle.bsc_asked.specs.StationWords.{asked_words};
+ghost use Rattle.bsc_options.specs.StationWords.{asked_words};
 ghost use Rattle.bsc_options.specs.Inputs.{is_input, path_in, repeats_input as is_repeated};
 
-use crate::Role;
 use crate::splitting::split_at;
-use bsc_asked::StationWords;
-use bsc_input::STANDARD_INPUT;
+use crate::{Role, StationWords};
+use bsc_text::STANDARD_INPUT;
 
 /// Whether a path is standard input.
 fn is_standard_input(path: &str) -> bool

@@ -1,7 +1,7 @@
 //! The settings in the options of a station.
 
 ghost use Rattle.std.specs.Prelude.{◌≡◌, option_map, string_bytes};
-ghost use Rattle.bsc_asked.specs.StationWords.{asked_words};
+ghost use Rattle.bsc_options.specs.StationWords.{asked_words};
 ghost use Rattle.bsc_options.specs.Readings.{Gives};
 ghost use Rattle.bsc_options.specs.Settings.{absence_in, absent_idle_rounds, absent_pause};
 ghost use Rattle.bsc_options.specs.Settings.{form_in, limits_in};
@@ -12,10 +12,9 @@ ghost use Rattle.bsc_options.specs.Settings.{settings_in, settings_value, times_
 use crate::checks::{check_together, is_given, unless};
 use crate::numbers::{number_within, octet_in};
 use crate::serves::serves_of;
-use crate::{OptionError, Serves};
-use bsc_asked::StationWords;
+use crate::{OptionError, Serves, StationWords};
 use bsc_monitor::{AbsenceLimits, Limits, Printing, RecordLines, Tracing};
-use bsc_print::Form;
+use bsc_text::Form;
 
 /// The gap in milliseconds, unless given.
 const GAP: u64 = 50;

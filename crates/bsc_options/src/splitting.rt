@@ -1,7 +1,7 @@
 //! Splitting a text at a character.
 
 ghost use Rattle.std.specs.Prelude.{◌≡◌, ◌<◌, option_map};
-ghost use Rattle.bsc_input.specs.Parts.{after_octet, before_octet};
+ghost use Rattle.bsc_text.specs.Parts.{after_octet, before_octet};
 
 /// Returns the text before the first separator, an ASCII character, and the text after it; all of
 /// the text and `None` if there is none.

@@ -1,7 +1,7 @@
 //! What is to be done with the store of a station.
 
 ghost use Rattle.std.specs.Prelude.{◌≡◌, option_map, string_bytes};
-ghost use Rattle.bsc_asked.specs.StoreWords.{store_words};
+ghost use Rattle.bsc_options.specs.StoreWords.{store_words};
 ghost use Rattle.bsc_options.specs.Readings.{Gives};
 ghost use Rattle.bsc_options.specs.StoreWorks.{channel_read, count_in, first_in, fits_task};
 ghost use Rattle.bsc_options.specs.StoreWorks.{no_word, one_word, task_in, task_value, two_words};
@@ -12,8 +12,7 @@ use crate::checks::{is_given, unless};
 use crate::numbers::count_of;
 use crate::offers::channel_of;
 use crate::settings::{role_of, text_of};
-use crate::{OptionError, Role};
-use bsc_asked::StoreWords;
+use crate::{OptionError, Role, StoreWords};
 
 /// A channel at a station: its terminal, and the selection address of that terminal, counted from
 /// 0. A channel from a terminal has the address 0.

@@ -9,10 +9,10 @@ use Rattle.bsc_control.specs.Control.{ControlValue, peer_at, with_peer}
 use Rattle.bsc_control.specs.Kept.{outbound_of}
 use Rattle.bsc_control.specs.Peer.{PeerValue, no_peer, outbound_at}
 use Rattle.bsc_control.proofs.PeerLists.{value_kept_by_set}
-use Rattle.bsc_kept.specs.Contents.{Contents, records_from}
-use Rattle.bsc_kept.specs.declared.channel.Channel.{Channel}
-use Rattle.bsc_kept.specs.declared.channel.Channel.TheVariants.{From}
-use Rattle.bsc_kept.specs.declared.ends.Receiving.{Receiving}
+use Rattle.bsc_spool.specs.Contents.{Contents, records_from}
+use Rattle.bsc_spool.specs.declared.channel.Channel.{Channel}
+use Rattle.bsc_spool.specs.declared.channel.Channel.TheVariants.{From}
+use Rattle.bsc_spool.specs.declared.ends.Receiving.{Receiving}
 use Rattle.bsc_keeping.specs.Filled.{AddsAll, AddsChannel, AddsEach, AddsForgotten, forgotten_of}
 use Rattle.bsc_keeping.specs.Filling.{GainsFrom}
 use Rattle.bsc_keeping.specs.Own.{each_of, polled_at, terminal_at}

@@ -21,11 +21,11 @@ use Rattle.bsc_control.specs.Kept.{outbound_of}
 use Rattle.bsc_control.specs.Peer.{OutboundValue, PeerValue, restarted_outbound, restarted_peer}
 use Rattle.bsc_control.specs.Peer.{no_outbound, sent_forgotten}
 use Rattle.bsc_control.specs.Stored.{kept_of_side, without_records}
-use Rattle.bsc_kept.specs.Contents.{Contents, records_from}
-use Rattle.bsc_kept.specs.declared.channel.Channel.{Channel}
-use Rattle.bsc_kept.specs.declared.channel.Channel.TheVariants.{From}
-use Rattle.bsc_kept.specs.declared.ends.Receiving.{Receiving}
-use Rattle.bsc_kept.specs.declared.ends.Sending.{Sending}
+use Rattle.bsc_spool.specs.Contents.{Contents, records_from}
+use Rattle.bsc_spool.specs.declared.channel.Channel.{Channel}
+use Rattle.bsc_spool.specs.declared.channel.Channel.TheVariants.{From}
+use Rattle.bsc_spool.specs.declared.ends.Receiving.{Receiving}
+use Rattle.bsc_spool.specs.declared.ends.Sending.{Sending}
 use Rattle.bsc_keeping.specs.Changes.{in_doubt_of}
 use Rattle.bsc_keeping.specs.Ends.{kept_at_control}
 use Rattle.bsc_keeping.specs.Filled.{KeepsFrom, forgotten_of, receiving_from, sending_from}

@@ -6,7 +6,7 @@ use Rattle.std.proofs.lemmas.Bool.{and_from, lt-ltb}
 use Rattle.std.proofs.lemmas.List.{length-map}
 use Rattle.bsc_spool.specs.Queue.{waiting}
 use Rattle.bsc_bid.specs.Terminal.{TerminalValue}
-use Rattle.bsc_directory.specs.Addresses.{AreDistinct}
+use Rattle.bsc_bid.specs.Addresses.{AreDistinct}
 use Rattle.bsc_control.specs.Control.{ControlValue, peer_at, restarted}
 use Rattle.bsc_control.specs.Kept.{outbound_of}
 use Rattle.bsc_control.specs.Peer.{OutboundValue, PeerValue, no_outbound, no_peer, outbound_at}
@@ -16,9 +16,9 @@ use Rattle.bsc_control.specs.Stored.{kept_of_side}
 use Rattle.bsc_control.proofs.PeerLists.{value_kept_by_set}
 use Rattle.bsc_control.proofs.Replacing.{replaced}
 use Rattle.bsc_control.proofs.Restarting.{outbound_of_restarted, peer_at_restarted}
-use Rattle.bsc_kept.specs.Contents.{Contents}
-use Rattle.bsc_kept.specs.declared.change.Change.TheVariants.{Known, Offered}
-use Rattle.bsc_kept.specs.declared.channel.Channel.{Channel}
+use Rattle.bsc_spool.specs.Contents.{Contents}
+use Rattle.bsc_spool.specs.declared.change.Change.TheVariants.{Known, Offered}
+use Rattle.bsc_spool.specs.declared.channel.Channel.{Channel}
 use Rattle.bsc_keeping.specs.Ends.{kept_at_control}
 use Rattle.bsc_keeping.specs.Offers.{channel_to}
 use Rattle.bsc_keeping.specs.OffersKept.{control_with}

@@ -15,8 +15,8 @@ use Rattle.bsc_control.specs.Kept.{IsNewControl, outbound_of}
 use Rattle.bsc_control.specs.Peer.{OutboundValue, PeerValue, new_outbound, no_outbound}
 use Rattle.bsc_control.specs.Peer.{no_peer, restarted_outbound, sent_forgotten}
 use Rattle.bsc_control.specs.Stored.{IsBegunAs, kept_of_side, outbound_recalled}
-use Rattle.bsc_kept.specs.Contents.{Contents}
-use Rattle.bsc_kept.specs.declared.channel.Channel.TheVariants.{From}
+use Rattle.bsc_spool.specs.Contents.{Contents}
+use Rattle.bsc_spool.specs.declared.channel.Channel.TheVariants.{From}
 use Rattle.bsc_keeping.specs.Filled.{forgotten_of, offered_each, recalled_each, recalled_of}
 use Rattle.bsc_keeping.specs.Filled.{sent_again}
 use Rattle.bsc_keeping.specs.Filling.{offered_at, recalled_at}

@@ -5,11 +5,11 @@ use Rattle.std.proofs.lemmas.List.{map-append}
 use Rattle.std.specs.List.{AllByRecursion, AllPairs, flat_map}
 use Rattle.std.specs.Prelude.{slice_index_or}
 use Rattle.bsc_bid.specs.Terminal.{HasDistinctAddresses, TerminalValue, own_addresses}
-use Rattle.bsc_directory.specs.Addresses.{AreDistinct, addresses}
-use Rattle.bsc_kept.specs.declared.channel.Channel.{Channel}
-use Rattle.bsc_kept.specs.declared.channel.Channel.TheVariants.{From, To}
-use Rattle.bsc_kept.specs.declared.ends.Receiving.{Receiving}
-use Rattle.bsc_kept.specs.declared.ends.Sending.{Sending}
+use Rattle.bsc_bid.specs.Addresses.{AreDistinct, addresses}
+use Rattle.bsc_spool.specs.declared.channel.Channel.{Channel}
+use Rattle.bsc_spool.specs.declared.channel.Channel.TheVariants.{From, To}
+use Rattle.bsc_spool.specs.declared.ends.Receiving.{Receiving}
+use Rattle.bsc_spool.specs.declared.ends.Sending.{Sending}
 use Rattle.bsc_keeping.specs.Own.{each_of, polled_at, receiving_of, selection_of, selections_at}
 use Rattle.bsc_keeping.specs.Own.{selections_of, sending_of, sends_from, spool_of, spools_of}
 use Rattle.bsc_keeping.specs.Own.{terminal_at}

@@ -9,12 +9,12 @@ use Rattle.std.proofs.lemmas.List.{drop-append-le, drop-drop, drop-map, drop_at,
 use Rattle.std.proofs.lemmas.List.{length-drop, length-map, map-append}
 use Rattle.bsc_block.proofs.Forgotten.{length_forgotten}
 use Rattle.bsc_bid.specs.declared.kept.KeptSender.{KeptSender}
-use Rattle.bsc_kept.specs.Contents.{Contents, records_from}
-use Rattle.bsc_kept.specs.declared.change.Change.TheVariants.{Arrived, Known, Printed}
-use Rattle.bsc_kept.specs.declared.channel.Channel.{Channel}
-use Rattle.bsc_kept.specs.declared.ends.Receiving.{Receiving}
-use Rattle.bsc_kept.specs.declared.ends.Sending.{Sending}
-use Rattle.bsc_kept.specs.declared.store.Found.{Found}
+use Rattle.bsc_spool.specs.Contents.{Contents, records_from}
+use Rattle.bsc_spool.specs.declared.change.Change.TheVariants.{Arrived, Known, Printed}
+use Rattle.bsc_spool.specs.declared.channel.Channel.{Channel}
+use Rattle.bsc_spool.specs.declared.ends.Receiving.{Receiving}
+use Rattle.bsc_spool.specs.declared.ends.Sending.{Sending}
+use Rattle.bsc_spool.specs.declared.store.Found.{Found}
 use Rattle.bsc_keeping.specs.Changes.{arrived_changes, in_doubt_of, known_changes, known_now}
 use Rattle.bsc_keeping.specs.Changes.{printed_changes, received_now}
 use Rattle.bsc_restarts.specs.Kept.{HasAllReceived, HasSentIf}

@@ -18,10 +18,10 @@ use Rattle.bsc_control.specs.Peer.{OutboundValue, PeerValue, forgotten_to, no_ou
 use Rattle.bsc_control.specs.Peer.{outbound_at, sent_forgotten}
 use Rattle.bsc_control.specs.Stored.{kept_of_side}
 use Rattle.bsc_control.proofs.PeerLists.{value_kept_by_set}
-use Rattle.bsc_kept.specs.Contents.{Contents, records_from}
-use Rattle.bsc_kept.specs.declared.channel.Channel.{Channel}
-use Rattle.bsc_kept.specs.declared.ends.Receiving.{Receiving}
-use Rattle.bsc_kept.specs.declared.ends.Sending.{Sending}
+use Rattle.bsc_spool.specs.Contents.{Contents, records_from}
+use Rattle.bsc_spool.specs.declared.channel.Channel.{Channel}
+use Rattle.bsc_spool.specs.declared.ends.Receiving.{Receiving}
+use Rattle.bsc_spool.specs.declared.ends.Sending.{Sending}
 use Rattle.bsc_monitor.specs.Forgetting.{ForgetsArrivedFor, ForgetsArrivedFrom, ForgetsOwn}
 use Rattle.bsc_monitor.specs.Forgetting.{ForgetsSent, further, nothing}
 use Rattle.bsc_monitor.specs.LineTerminal.{LineTerminalValue}

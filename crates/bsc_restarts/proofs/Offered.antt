@@ -4,10 +4,10 @@ use Rattle.std.proofs.Common.{length, drop, Option, None, Some, sym, ap, subst, 
 use Rattle.std.proofs.lemmas.List.{drop-append-le, length-append, map-append}
 use Rattle.std.specs.Prelude.{ℤ}
 use Rattle.bsc_bid.specs.declared.kept.KeptSender.{KeptSender}
-use Rattle.bsc_kept.specs.Contents.{Contents, records_from}
-use Rattle.bsc_kept.specs.declared.change.Change.TheVariants.{Offered}
-use Rattle.bsc_kept.specs.declared.channel.Channel.{Channel}
-use Rattle.bsc_kept.specs.declared.store.Found.{Found}
+use Rattle.bsc_spool.specs.Contents.{Contents, records_from}
+use Rattle.bsc_spool.specs.declared.change.Change.TheVariants.{Offered}
+use Rattle.bsc_spool.specs.declared.channel.Channel.{Channel}
+use Rattle.bsc_spool.specs.declared.store.Found.{Found}
 use Rattle.bsc_restarts.specs.Crashes.{KeepsOne, found_at}
 use Rattle.bsc_restarts.specs.Kept.{HasAllSent, HasSentIf}
 use Rattle.bsc_restarts.proofs.OneSide.{OnlySide}

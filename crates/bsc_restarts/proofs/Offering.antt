@@ -8,9 +8,9 @@ use Rattle.bsc_control.specs.Control.{ControlValue}
 use Rattle.bsc_control.specs.Kept.{outbound_of}
 use Rattle.bsc_control.specs.Peer.{OutboundValue, offered}
 use Rattle.bsc_control.specs.Stored.{outbound_recalled, recalled_during}
-use Rattle.bsc_kept.specs.Contents.{Contents}
-use Rattle.bsc_kept.specs.declared.channel.Channel.{Channel}
-use Rattle.bsc_kept.specs.declared.ends.Sending.{Sending}
+use Rattle.bsc_spool.specs.Contents.{Contents}
+use Rattle.bsc_spool.specs.declared.channel.Channel.{Channel}
+use Rattle.bsc_spool.specs.declared.ends.Sending.{Sending}
 use Rattle.bsc_keeping.specs.Filled.{offered_all, offered_each, recalled_each, recalled_of}
 use Rattle.bsc_keeping.specs.Filled.{sent_again}
 use Rattle.bsc_keeping.specs.Filling.{offered_at, recalled_at}

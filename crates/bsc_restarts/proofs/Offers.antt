@@ -11,7 +11,7 @@ use Rattle.bsc_spool.specs.Queue.{waiting}
 use Rattle.bsc_bid.specs.Terminal.{HasDistinctAddresses, TerminalValue}
 use Rattle.bsc_bid.specs.declared.kept.KeptSender.{KeptSender}
 use Rattle.bsc_tributary.specs.Kept.{IsTributary}
-use Rattle.bsc_directory.specs.Addresses.{AreDistinct}
+use Rattle.bsc_bid.specs.Addresses.{AreDistinct}
 use Rattle.bsc_control.specs.Control.{ControlValue, peer_at}
 use Rattle.bsc_control.specs.Kept.{IsControl, outbound_of}
 use Rattle.bsc_control.specs.Peer.{OutboundValue, PeerValue, no_outbound, no_peer, offered}
@@ -19,13 +19,13 @@ use Rattle.bsc_control.specs.Peer.{offered_to, outbound_at, with_outbound}
 use Rattle.bsc_control.specs.Stored.{kept_of_side}
 use Rattle.bsc_control.proofs.PeerLists.{value_kept_by_set}
 use Rattle.bsc_control.proofs.Replacing.{replaced}
-use Rattle.bsc_kept.specs.Contents.{Contents}
-use Rattle.bsc_kept.specs.declared.change.Change.TheVariants.{Offered}
-use Rattle.bsc_kept.specs.declared.channel.Channel.{Channel}
-use Rattle.bsc_kept.specs.declared.ends.Receiving.{Receiving}
-use Rattle.bsc_kept.specs.declared.ends.Sending.{Sending}
-use Rattle.bsc_kept.specs.declared.fault.StoreFault.{StoreFault}
-use Rattle.bsc_kept.specs.declared.store.Store as store_of
+use Rattle.bsc_spool.specs.Contents.{Contents}
+use Rattle.bsc_spool.specs.declared.change.Change.TheVariants.{Offered}
+use Rattle.bsc_spool.specs.declared.channel.Channel.{Channel}
+use Rattle.bsc_spool.specs.declared.ends.Receiving.{Receiving}
+use Rattle.bsc_spool.specs.declared.ends.Sending.{Sending}
+use Rattle.bsc_spool.specs.declared.fault.StoreFault.{StoreFault}
+use Rattle.bsc_spool.specs.declared.store.Store as store_of
 use Rattle.bsc_monitor.specs.LineTerminal.{LineTerminalValue}
 use Rattle.bsc_keeping.specs.Ends.{kept_at_control}
 use Rattle.bsc_keeping.specs.Offers.{KeepsOffer, OffersIf, channel_of, channel_to, is_end_to}

@@ -5,11 +5,11 @@ use Rattle.std.proofs.lemmas.Bool.{and_parts}
 use Rattle.std.proofs.lemmas.Bool.Decides.{nat_tests}
 use Rattle.std.specs.List.{AllByRecursion, find}
 use Rattle.bsc_bid.specs.declared.kept.KeptSender.{KeptSender}
-use Rattle.bsc_kept.specs.Contents.{Contents}
-use Rattle.bsc_kept.specs.declared.change.Change.{Change}
-use Rattle.bsc_kept.specs.declared.channel.Channel.{Channel}
-use Rattle.bsc_kept.specs.declared.ends.Receiving.{Receiving}
-use Rattle.bsc_kept.specs.declared.ends.Sending.{Sending}
+use Rattle.bsc_spool.specs.Contents.{Contents}
+use Rattle.bsc_spool.specs.declared.change.Change.{Change}
+use Rattle.bsc_spool.specs.declared.channel.Channel.{Channel}
+use Rattle.bsc_spool.specs.declared.ends.Receiving.{Receiving}
+use Rattle.bsc_spool.specs.declared.ends.Sending.{Sending}
 use Rattle.bsc_keeping.specs.Offers.{channel_of, channel_to, is_end_to}
 use Rattle.bsc_restarts.specs.Crashes.{AllDiffer, KeepsOne, channel_in}
 use Rattle.bsc_restarts.specs.Kept.{HasAllReceived, HasReceivedOn, HasSentIf, HasSentOn}

@@ -1,9 +1,9 @@
 -- Changes of channels that differ are kept each on its own channel.
 use Rattle.std.proofs.Common.{◌≡◌, ◌≢◌, ◌∙◌, List, [], ◌∷◌, ◌++◌, map, refl, sym, subst}
 use Rattle.std.specs.List.{AllByRecursion, flat_map}
-use Rattle.bsc_kept.specs.Contents.{Contents}
-use Rattle.bsc_kept.specs.declared.change.Change.{Change}
-use Rattle.bsc_kept.specs.declared.channel.Channel.{Channel}
+use Rattle.bsc_spool.specs.Contents.{Contents}
+use Rattle.bsc_spool.specs.declared.change.Change.{Change}
+use Rattle.bsc_spool.specs.declared.channel.Channel.{Channel}
 use Rattle.bsc_restarts.specs.Crashes.{AllDiffer, HasChanged, KeepsEach, channel_in}
 
 -- changes of one channel

@@ -10,19 +10,19 @@ use Rattle.bsc_bid.specs.Terminal.{HasDistinctAddresses, TerminalValue}
 use Rattle.bsc_bid.specs.declared.phase.Phase.{Phase}
 use Rattle.bsc_bid.specs.declared.phase.Phase.TheVariants.{Held, Idle, InDoubt, Unanswered}
 use Rattle.bsc_bid.specs.declared.sender.ReleaseError.TheVariants.{CountMismatch}
-use Rattle.bsc_directory.specs.Addresses.{AreDistinct}
-use Rattle.bsc_directory.specs.Ways.{select_of}
-use Rattle.bsc_directory.specs.declared.way.Way.{Way}
+use Rattle.bsc_bid.specs.Addresses.{AreDistinct}
+use Rattle.bsc_bid.specs.Ways.{select_of}
+use Rattle.bsc_bid.specs.declared.way.Way.{Way}
 use Rattle.bsc_feed.specs.declared.fault.Fault.{Fault}
 use Rattle.bsc_control.specs.Control.{ControlValue, peer_at}
 use Rattle.bsc_control.specs.Kept.{IsControl, outbound_of}
 use Rattle.bsc_control.specs.Peer.{PeerValue, no_peer, outbound_released, with_outbound}
 use Rattle.bsc_control.proofs.Controls.{selection_within_outbounds}
 use Rattle.bsc_control.proofs.PeerLists.{value_kept_by_set}
-use Rattle.bsc_kept.specs.Contents.{Contents}
-use Rattle.bsc_kept.specs.declared.channel.Channel.{Channel}
-use Rattle.bsc_kept.specs.declared.fault.StoreFault.{StoreFault}
-use Rattle.bsc_kept.specs.declared.store.Store as store_of
+use Rattle.bsc_spool.specs.Contents.{Contents}
+use Rattle.bsc_spool.specs.declared.channel.Channel.{Channel}
+use Rattle.bsc_spool.specs.declared.fault.StoreFault.{StoreFault}
+use Rattle.bsc_spool.specs.declared.store.Store as store_of
 use Rattle.bsc_monitor.specs.LineTerminal.{LineTerminalValue}
 use Rattle.bsc_keeping.specs.Ends.{kept_at_control}
 use Rattle.bsc_keeping.specs.Offers.{KeepsOffer}

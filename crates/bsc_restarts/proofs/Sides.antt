@@ -9,8 +9,8 @@ use Rattle.bsc_control.specs.Kept.{outbound_of}
 use Rattle.bsc_control.specs.Peer.{OutboundValue, PeerValue, no_outbound, no_peer, outbound_at}
 use Rattle.bsc_control.specs.Peer.{with_outbound}
 use Rattle.bsc_control.proofs.PeerLists.{value_kept_by_set}
-use Rattle.bsc_kept.specs.declared.channel.Channel.{Channel}
-use Rattle.bsc_kept.specs.declared.ends.Sending.{Sending}
+use Rattle.bsc_spool.specs.declared.channel.Channel.{Channel}
+use Rattle.bsc_spool.specs.declared.ends.Sending.{Sending}
 use Rattle.bsc_keeping.specs.Own.{channel_to, each_of, selection_of, selections_at, sending_end}
 use Rattle.bsc_keeping.specs.Own.{terminal_at}
 use Rattle.bsc_restarts.proofs.Lists.{at_set, length_of_set, other_of_set}

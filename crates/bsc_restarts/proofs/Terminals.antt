@@ -10,10 +10,10 @@ use Rattle.bsc_bid.specs.Sender.{restarted_sender}
 use Rattle.bsc_bid.specs.Stored.{FitsOffered, RecallStep, RecallsKept, kept_of, new_sender}
 use Rattle.bsc_bid.specs.Stored.{recall_step}
 use Rattle.bsc_bid.specs.Terminal.{TerminalValue}
-use Rattle.bsc_kept.specs.Contents.{Contents, records_from}
-use Rattle.bsc_kept.specs.declared.channel.Channel.{Channel}
-use Rattle.bsc_kept.specs.declared.channel.Channel.TheVariants.{From}
-use Rattle.bsc_kept.specs.declared.ends.Receiving.{Receiving}
+use Rattle.bsc_spool.specs.Contents.{Contents, records_from}
+use Rattle.bsc_spool.specs.declared.channel.Channel.{Channel}
+use Rattle.bsc_spool.specs.declared.channel.Channel.TheVariants.{From}
+use Rattle.bsc_spool.specs.declared.ends.Receiving.{Receiving}
 use Rattle.bsc_keeping.specs.Filled.{AddsAll, AddsChannel, AddsEach, AddsForgotten, forgotten_of}
 use Rattle.bsc_keeping.specs.Filled.{offered_all, recalled_of, sent_again}
 use Rattle.bsc_keeping.specs.Filling.{GainsFor, own_offered, own_recalled}

@@ -11,7 +11,7 @@ use Rattle.bsc_bid.specs.Stored.{FitsOffered}
 use Rattle.bsc_bid.specs.Ready.{IsAtRest, IsGoing}
 use Rattle.bsc_bid.specs.declared.phase.Phase.TheVariants.{Idle}
 use Rattle.bsc_bid.specs.Terminal.{TerminalValue}
-use Rattle.bsc_directory.specs.Addresses.{AreDistinct}
+use Rattle.bsc_bid.specs.Addresses.{AreDistinct}
 use Rattle.bsc_control.specs.Control.{ControlValue, HasEntries, current, peer, peer_at, terminals}
 use Rattle.bsc_control.specs.Kept.{HasSettings, IsControl, IsNewControl, IsOrderly, SuitsTask}
 use Rattle.bsc_control.specs.Kept.{outbound_of}
@@ -20,9 +20,9 @@ use Rattle.bsc_control.specs.Stored.{kept_of_side}
 use Rattle.bsc_control.specs.declared.task.Replied.TheVariants.{Interrupted, Nothing, Uninterrupted}
 use Rattle.bsc_control.specs.declared.task.Task.{Task}
 use Rattle.bsc_control.specs.declared.task.Task.TheVariants.{AtRest, Polling, Selecting, Sending}
-use Rattle.bsc_kept.specs.Contents.{Contents, records_from}
-use Rattle.bsc_kept.specs.declared.channel.Channel.{Channel}
-use Rattle.bsc_kept.specs.declared.channel.Channel.TheVariants.{From}
+use Rattle.bsc_spool.specs.Contents.{Contents, records_from}
+use Rattle.bsc_spool.specs.declared.channel.Channel.{Channel}
+use Rattle.bsc_spool.specs.declared.channel.Channel.TheVariants.{From}
 use Rattle.bsc_keeping.specs.Ends.{kept_at_control}
 use Rattle.bsc_keeping.specs.Filled.{IsControlFilledFrom}
 use Rattle.bsc_keeping.specs.Own.{channel_to, polled_at, receiving_of, selection_of, selections_at}

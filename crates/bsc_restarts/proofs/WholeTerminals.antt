@@ -11,9 +11,9 @@ use Rattle.bsc_bid.specs.Stored.{FitsOffered, kept_of}
 use Rattle.bsc_bid.specs.declared.kept.KeptSender.{KeptSender}
 use Rattle.bsc_tributary.specs.Kept.{IsTributary, SuitsMode}
 use Rattle.bsc_tributary.specs.Tributary.{TributaryValue, spool_at}
-use Rattle.bsc_kept.specs.Contents.{Contents, records_from}
-use Rattle.bsc_kept.specs.declared.channel.Channel.TheVariants.{From}
-use Rattle.bsc_kept.specs.declared.store.Found.{Found}
+use Rattle.bsc_spool.specs.Contents.{Contents, records_from}
+use Rattle.bsc_spool.specs.declared.channel.Channel.TheVariants.{From}
+use Rattle.bsc_spool.specs.declared.store.Found.{Found}
 use Rattle.bsc_monitor.specs.LineTerminal.{LineTerminalValue}
 use Rattle.bsc_keeping.specs.Changes.{in_doubt_of}
 use Rattle.bsc_keeping.specs.Filled.{doubt_of, forgotten_of}

@@ -6,8 +6,8 @@ use Rattle.bsc_tributary.specs.Kept.{IsNewTerminal, IsTributary}
 use Rattle.bsc_control.specs.Control.{ControlValue, terminals}
 use Rattle.bsc_control.specs.Kept.{IsControl, IsNewControl}
 use Rattle.bsc_control.specs.Stored.{apart_from_records}
-use Rattle.bsc_kept.specs.Contents.{Contents}
-use Rattle.bsc_kept.specs.declared.channel.Channel.{Channel}
+use Rattle.bsc_spool.specs.Contents.{Contents}
+use Rattle.bsc_spool.specs.declared.channel.Channel.{Channel}
 use Rattle.bsc_monitor.specs.LineTerminal.{LineTerminalValue}
 use Rattle.bsc_keeping.specs.Ends.{kept_at_control}
 use Rattle.bsc_keeping.specs.Filled.{IsControlFilledFrom, IsTerminalFilledFrom, KeepsFrom}

@@ -3,9 +3,9 @@ use Rattle.std.specs.Prelude.{◌≡◌, ◌<◌, ℕ, Bool, List, length, drop,
 use Rattle.bsc_bid.specs.Stored.{kept_of, FitsOffered}
 use Rattle.bsc_bid.specs.declared.kept.KeptSender.{KeptSender}
 use Rattle.bsc_block.specs.Records.{after_forgotten, forgotten}
-use Rattle.bsc_kept.specs.Contents.{Contents, records_from}
-use Rattle.bsc_kept.specs.declared.channel.Channel.{Channel}
-use Rattle.bsc_kept.specs.declared.channel.Channel.TheVariants.{From}
+use Rattle.bsc_spool.specs.Contents.{Contents, records_from}
+use Rattle.bsc_spool.specs.declared.channel.Channel.{Channel}
+use Rattle.bsc_spool.specs.declared.channel.Channel.TheVariants.{From}
 use Rattle.bsc_control.specs.Control.{ControlValue, peer_at, terminals}
 use Rattle.bsc_control.specs.Control.{restarted as restarted_control}
 use Rattle.bsc_control.specs.Kept.{IsControl, IsNewControl, outbound_of}

@@ -1,12 +1,12 @@
 -- What a store has once changes were kept in it, and what a crash leaves of it.
 use Rattle.std.specs.Prelude.{◌≡◌, ◌≢◌, ◌⊎◌, ⊤, ℕ, ℤ, List, [], ◌∷◌, ◌++◌}
 use Rattle.std.specs.List.{AllByRecursion}
-use Rattle.bsc_kept.specs.Contents.{Contents}
-use Rattle.bsc_kept.specs.declared.change.Change.{Change}
-use Rattle.bsc_kept.specs.declared.change.Change.TheVariants.{Arrived, Known, Offered, Printed}
-use Rattle.bsc_kept.specs.declared.channel.Channel.{Channel}
-use Rattle.bsc_kept.specs.declared.store.Found.{Found}
-use Rattle.bsc_kept.specs.declared.store.Store as store_of
+use Rattle.bsc_spool.specs.Contents.{Contents}
+use Rattle.bsc_spool.specs.declared.change.Change.{Change}
+use Rattle.bsc_spool.specs.declared.change.Change.TheVariants.{Arrived, Known, Offered, Printed}
+use Rattle.bsc_spool.specs.declared.channel.Channel.{Channel}
+use Rattle.bsc_spool.specs.declared.store.Found.{Found}
+use Rattle.bsc_spool.specs.declared.store.Store as store_of
 
 -- The channel of a change.
 abbrev pub channel_in : Change → Channel

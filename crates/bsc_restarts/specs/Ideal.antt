@@ -1,8 +1,8 @@
 -- A store that is nothing but what it has. It shows that what is asked of a store can be met.
 use Rattle.std.specs.Prelude.{◌≡◌, ◌⊎◌, ⊤}
-use Rattle.bsc_kept.specs.Contents.{Contents, IsNext, in_numbers}
-use Rattle.bsc_kept.specs.declared.channel.Channel.{Channel}
-use Rattle.bsc_kept.specs.declared.store.Store as store_of
+use Rattle.bsc_spool.specs.Contents.{Contents, IsNext, in_numbers}
+use Rattle.bsc_spool.specs.declared.channel.Channel.{Channel}
+use Rattle.bsc_spool.specs.declared.store.Store as store_of
 use Rattle.bsc_restarts.specs.Crashes.{IsSame, KeepsEach}
 
 -- It keeps what it is given, a crash leaves what it had or all of a step, and reading gives what it

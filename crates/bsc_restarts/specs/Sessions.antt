@@ -2,14 +2,14 @@
 use Rattle.std.specs.Prelude.{◌≢◌, ◌⊎◌, ℕ, Bool, true, List, [], Option, Result}
 use Rattle.bsc_bid.specs.declared.kept.KeptSender.{KeptSender}
 use Rattle.bsc_bid.specs.declared.station.Station as station_of
-use Rattle.bsc_kept.specs.Contents.{Contents}
-use Rattle.bsc_kept.specs.declared.channel.Channel.{Channel}
-use Rattle.bsc_kept.specs.declared.ends.Receiving.{Receiving}
-use Rattle.bsc_kept.specs.declared.ends.Sending.{Sending}
-use Rattle.bsc_kept.specs.declared.fault.StoreFault.{StoreFault}
-use Rattle.bsc_kept.specs.declared.store.Store as store_of
-use Rattle.bsc_directory.specs.Ways.{select_of}
-use Rattle.bsc_directory.specs.declared.way.Way.{Way}
+use Rattle.bsc_spool.specs.Contents.{Contents}
+use Rattle.bsc_spool.specs.declared.channel.Channel.{Channel}
+use Rattle.bsc_spool.specs.declared.ends.Receiving.{Receiving}
+use Rattle.bsc_spool.specs.declared.ends.Sending.{Sending}
+use Rattle.bsc_spool.specs.declared.fault.StoreFault.{StoreFault}
+use Rattle.bsc_spool.specs.declared.store.Store as store_of
+use Rattle.bsc_bid.specs.Ways.{select_of}
+use Rattle.bsc_bid.specs.declared.way.Way.{Way}
 use Rattle.bsc_monitor.specs.declared.party.Party as party_of
 use Rattle.bsc_keeping.specs.Keeping.{KeepsStep}
 use Rattle.bsc_keeping.specs.Offers.{KeepsOffer}

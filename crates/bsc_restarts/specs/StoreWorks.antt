@@ -6,11 +6,11 @@ use Rattle.bsc_tributary.specs.Tributary.{after_release, restarted}
 use Rattle.bsc_control.specs.Control.{ControlValue, peer_at, with_peer}
 use Rattle.bsc_control.specs.Kept.{outbound_of}
 use Rattle.bsc_control.specs.Peer.{outbound_released, with_outbound}
-use Rattle.bsc_kept.specs.Contents.{Contents}
-use Rattle.bsc_kept.specs.declared.change.Change.TheVariants.{Known, Offered}
-use Rattle.bsc_kept.specs.declared.channel.Channel.{Channel}
-use Rattle.bsc_kept.specs.declared.ends.Receiving.{Receiving}
-use Rattle.bsc_kept.specs.declared.ends.Sending.{Sending}
+use Rattle.bsc_spool.specs.Contents.{Contents}
+use Rattle.bsc_spool.specs.declared.change.Change.TheVariants.{Known, Offered}
+use Rattle.bsc_spool.specs.declared.channel.Channel.{Channel}
+use Rattle.bsc_spool.specs.declared.ends.Receiving.{Receiving}
+use Rattle.bsc_spool.specs.declared.ends.Sending.{Sending}
 use Rattle.bsc_monitor.specs.LineTerminal.{LineTerminalValue, line_terminal_of}
 use Rattle.bsc_keeping.specs.Offers.{channel_to}
 use Rattle.bsc_restarts.specs.Crashes.{KeepsOne}

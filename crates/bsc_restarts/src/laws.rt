@@ -4,10 +4,10 @@
 ghost use Rattle.std.specs.Prelude.{Bool, List, Some};
 ghost use Rattle.bsc_bid.specs.Terminal.{HasDistinctAddresses, TerminalValue};
 ghost use Rattle.bsc_tributary.specs.Kept.{IsTributary};
-ghost use Rattle.bsc_directory.specs.Addresses.{AreDistinct};
+ghost use Rattle.bsc_bid.specs.Addresses.{AreDistinct};
 ghost use Rattle.bsc_control.specs.Control.{restarted};
-ghost use Rattle.bsc_kept.specs.Contents.{Contents, GivesBack};
-ghost use Rattle.bsc_kept.specs.declared.channel.Channel.{Channel as ChannelValue};
+ghost use Rattle.bsc_spool.specs.Contents.{Contents, GivesBack};
+ghost use Rattle.bsc_spool.specs.declared.channel.Channel.{Channel as ChannelValue};
 ghost use Rattle.bsc_monitor.specs.LineTerminal.{LineTerminalValue};
 ghost use Rattle.bsc_keeping.specs.Ends.{kept_at_control};
 ghost use Rattle.bsc_keeping.specs.OffersKept.{control_with, terminal_with};
@@ -35,9 +35,9 @@ use bsc_bid::Station;
 use bsc_bid::laws::recalls;
 use bsc_control::Control;
 use bsc_control::laws::made_again;
-use bsc_kept::Store;
 use bsc_monitor::{Forgets, LineTerminal, Party, Polls};
 use bsc_serving::Feeds;
+use bsc_spool::Store;
 use std::alloc::Allocator;
 
 /// A new station that is filled from a store that has all that is to be kept of a station is that

@@ -24,7 +24,7 @@ use Rattle.bsc_line_model.specs.Line.{LineValue}
 use Rattle.bsc_line_model.specs.Kept.{IsLine}
 use Rattle.bsc_line_model.specs.Offers.{OffersAt, OffersFor}
 use Rattle.bsc_line_model.specs.Runs.{Does}
-use Rattle.bsc_script.specs.Events.{Event as Asked, offer_at, offer_for, lose, heard_each}
+use Rattle.bsc_config.specs.Events.{Event as Asked, offer_at, offer_for, lose, heard_each}
 use Rattle.bsc_run.specs.Crossing.{connection_count, ItemsCross, Streams}
 use Rattle.bsc_run.specs.declared.error.StepError.{StepError}
 use Rattle.bsc_run.specs.declared.error.StepError.TheVariants as step

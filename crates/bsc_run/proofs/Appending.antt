@@ -5,8 +5,8 @@ use Rattle.std.specs.Prelude.{OnOk, OnErr}
 use Rattle.std.specs.Io.KnownBytes.{Appends}
 use Rattle.std.proofs.KnownBytes.{Appends-trans}
 use Rattle.std.proofs.lemmas.Result.{on_ok_weaker}
-use Rattle.bsc_print.specs.Fronts.{AppendsFront, Extends}
-use Rattle.bsc_print.proofs.Fronts.{extends_by, extends_trans}
+use Rattle.bsc_text.specs.Fronts.{AppendsFront, Extends}
+use Rattle.bsc_text.proofs.Fronts.{extends_by, extends_trans}
 
 -- two texts, if the second was written
 pub two_on_ok : {T E : Type 0} (a b c : Option (List ℕ)) (x y : List ℕ) (r : Result T E)

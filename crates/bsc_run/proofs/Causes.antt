@@ -6,8 +6,8 @@ use Rattle.std.proofs.lemmas.List.{get_or-map, length-map}
 use Rattle.std.specs.Prelude.{IfErr}
 use Rattle.bsc_carrier.specs.declared.error.CarrierError.{CarrierError}
 use Rattle.bsc_line_model.specs.declared.error.LineError.{LineError}
-use Rattle.bsc_script.specs.Actions.{NumberedEvent}
-use Rattle.bsc_script.specs.Events.{Event as Asked}
+use Rattle.bsc_config.specs.Actions.{NumberedEvent}
+use Rattle.bsc_config.specs.Events.{Event as Asked}
 use Rattle.bsc_run.specs.declared.error.RunError.{RunError}
 use Rattle.bsc_run.specs.declared.error.RunError.TheVariants.{Output, Socket, Memory, Refused}
 use Rattle.bsc_run.specs.declared.error.StepError.{StepError}

@@ -11,8 +11,8 @@ use Rattle.bsc_bid.specs.Channel.{Channel}
 use Rattle.bsc_bid.specs.Setup.{SetupValue}
 use Rattle.bsc_bid.specs.Terminal.{TerminalValue}
 use Rattle.bsc_carrier.specs.Cable.{CableValue}
-use Rattle.bsc_directory.specs.declared.way.Way.{Way}
-use Rattle.bsc_directory.specs.declared.way.Way.TheVariants.{FromTerminal, ToTerminal}
+use Rattle.bsc_bid.specs.declared.way.Way.{Way}
+use Rattle.bsc_bid.specs.declared.way.Way.TheVariants.{FromTerminal, ToTerminal}
 use Rattle.bsc_line_model.specs.declared.error.Stopped.{Stopped}
 use Rattle.bsc_line_model.specs.declared.event.Event.{Event}
 use Rattle.bsc_line_model.specs.declared.event.Event.TheVariants as event
@@ -27,10 +27,10 @@ use Rattle.bsc_line_model.specs.Rounds.{RunsDeliverVisit, RunsDeliverRound}
 use Rattle.bsc_line_model.specs.Rounds.{entry_at, sent_times, visit_length, round_length}
 use Rattle.bsc_line_model.proofs.NewChannels.{new_channels}
 use Rattle.bsc_line_model.proofs.Refusals.{nothing_changed}
-use Rattle.bsc_script.specs.Actions.{NumberedEvent}
-use Rattle.bsc_script.specs.Events.{Event as Asked, offer_at, offer_for, carry, lose, heard}
-use Rattle.bsc_script.specs.Events.{heard_each, silence, ready, polled, urgent_at, urgent_for}
-use Rattle.bsc_script.specs.Events.{release}
+use Rattle.bsc_config.specs.Actions.{NumberedEvent}
+use Rattle.bsc_config.specs.Events.{Event as Asked, offer_at, offer_for, carry, lose, heard}
+use Rattle.bsc_config.specs.Events.{heard_each, silence, ready, polled, urgent_at, urgent_for}
+use Rattle.bsc_config.specs.Events.{release}
 use Rattle.bsc_run.specs.Crossing.{Streams}
 use Rattle.bsc_run.specs.declared.error.RunError.{RunError}
 use Rattle.bsc_run.specs.LineRuns.{asked_for, script_offers, PlaysVisit, PlaysRound}

@@ -5,11 +5,11 @@ use Rattle.std.proofs.Common.{Option}
 use Rattle.std.specs.List.{All}
 use Rattle.std.specs.Io.KnownBytes.{Appends}
 use Rattle.std.proofs.KnownBytes.{Appends-trans}
-use Rattle.bsc_script.specs.Events.{Event as Asked}
+use Rattle.bsc_config.specs.Events.{Event as Asked}
 use Rattle.bsc_run.specs.Changes.{changes, changes_since, event_lines}
 use Rattle.bsc_run.specs.Traces.{if_traced, lines_of, number_if}
 use Rattle.std.proofs.lemmas.List.Elements.{All-append, All-cons, All-head, All-nil, All-tail}
-use Rattle.bsc_directory.specs.declared.way.Way.TheVariants.{FromTerminal, ToTerminal}
+use Rattle.bsc_bid.specs.declared.way.Way.TheVariants.{FromTerminal, ToTerminal}
 use Rattle.bsc_line_model.specs.declared.event.Event.{Event}
 use Rattle.bsc_line_model.specs.Line.{LineValue, terminal_count, IsChannel}
 use Rattle.bsc_line_model.specs.Offers.{select_count}

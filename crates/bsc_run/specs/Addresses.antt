@@ -4,8 +4,8 @@ use Rattle.std.specs.Prelude.{Option, Some, None, slice_get}
 use Rattle.std.specs.List.{flat_map}
 use Rattle.std.specs.Fmt.{decimal}
 use Rattle.bsc_bid.specs.Terminal.{TerminalValue}
-use Rattle.bsc_report.specs.Channels.{each_below}
-use Rattle.bsc_report.specs.Traces.{time_shown}
+use Rattle.bsc_text.specs.Channels.{each_below}
+use Rattle.bsc_text.specs.Traces.{time_shown}
 
 -- An address, after a space.
 abbrev pub address_shown : List ℕ → List ℕ

@@ -8,8 +8,8 @@ use Rattle.bsc_line_model.specs.declared.event.Event.{Event}
 use Rattle.bsc_line_model.specs.Kept.{IsNewLine}
 use Rattle.bsc_line_model.specs.Line.{LineValue}
 use Rattle.bsc_config.specs.Settings.{ConfigValue}
-use Rattle.bsc_print.specs.declared.error.PrintError.{PrintError}
-use Rattle.bsc_script.specs.Actions.{NumberedEvent}
+use Rattle.bsc_text.specs.declared.error.PrintError.{PrintError}
+use Rattle.bsc_config.specs.Actions.{NumberedEvent}
 use Rattle.bsc_run.specs.declared.error.RunError.{RunError}
 use Rattle.bsc_run.specs.declared.error.RunError.TheVariants.{Output, Socket, Memory, Refused}
 use Rattle.bsc_run.specs.Addresses.{addresses_traced}

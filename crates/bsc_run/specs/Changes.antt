@@ -5,13 +5,13 @@ use Rattle.std.specs.Prelude.{length, drop, codes}
 use Rattle.std.specs.List.{flat_map}
 use Rattle.std.specs.Fmt.{decimal}
 use Rattle.bsc_bid.specs.Sender.{is_in_doubt}
-use Rattle.bsc_directory.specs.declared.way.Way.{Way}
-use Rattle.bsc_directory.specs.declared.way.Way.TheVariants.{FromTerminal, ToTerminal}
+use Rattle.bsc_bid.specs.declared.way.Way.{Way}
+use Rattle.bsc_bid.specs.declared.way.Way.TheVariants.{FromTerminal, ToTerminal}
 use Rattle.bsc_line_model.specs.declared.event.Event.{Event}
 use Rattle.bsc_line_model.specs.Line.{LineValue, terminal_count, channel_of, phase_of}
 use Rattle.bsc_line_model.specs.Offers.{select_count}
-use Rattle.bsc_report.specs.Traces.{told_line}
-use Rattle.bsc_script.specs.Events.{Event as Asked}
+use Rattle.bsc_text.specs.Traces.{told_line}
+use Rattle.bsc_config.specs.Events.{Event as Asked}
 use Rattle.bsc_run.specs.declared.standing.ChannelStanding.{ChannelStanding}
 use Rattle.bsc_run.specs.Traces.{doubt_of, lines_of, place_shown, record_shown}
 

@@ -1,12 +1,12 @@
 -- How far a run has come.
 use Rattle.std.specs.Prelude.{ℕ, length}
 use Rattle.bsc_bid.specs.Sender.{is_in_doubt}
-use Rattle.bsc_directory.specs.declared.way.Way.{Way}
-use Rattle.bsc_directory.specs.declared.way.Way.TheVariants.{FromTerminal, ToTerminal}
+use Rattle.bsc_bid.specs.declared.way.Way.{Way}
+use Rattle.bsc_bid.specs.declared.way.Way.TheVariants.{FromTerminal, ToTerminal}
 use Rattle.bsc_line_model.specs.Line.{LineValue, terminal_count, channel_of, phase_of}
 use Rattle.bsc_line_model.specs.Offers.{select_count}
-use Rattle.bsc_progress.specs.Counts.{both, counted, counts_of, doubts_of}
-use Rattle.bsc_progress.specs.declared.counts.Counts.{Counts}
+use Rattle.bsc_text.specs.Counts.{both, counted, counts_of, doubts_of}
+use Rattle.bsc_text.specs.declared.progress.counts.Counts.{Counts}
 
 -- The counts of a channel: what its sending end knows, and what arrived at the other.
 abbrev pub channel_counts : LineValue → ℕ → Way → Counts

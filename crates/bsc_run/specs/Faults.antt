@@ -4,10 +4,10 @@ use Rattle.std.specs.Prelude.{is_some, Result, Ok, Err}
 use Rattle.std.specs.List.{Any}
 use Rattle.bsc_carrier.specs.declared.error.CarrierError.{CarrierError}
 use Rattle.bsc_line_model.specs.declared.error.LineError.{LineError}
-use Rattle.bsc_print.specs.declared.error.PrintError.{PrintError}
-use Rattle.bsc_print.specs.declared.error.PrintError.TheVariants as print
-use Rattle.bsc_script.specs.Actions.{NumberedEvent}
-use Rattle.bsc_script.specs.Events.{Event as Asked, carry, heard, heard_each}
+use Rattle.bsc_text.specs.declared.error.PrintError.{PrintError}
+use Rattle.bsc_text.specs.declared.error.PrintError.TheVariants as print
+use Rattle.bsc_config.specs.Actions.{NumberedEvent}
+use Rattle.bsc_config.specs.Events.{Event as Asked, carry, heard, heard_each}
 use Rattle.bsc_run.specs.declared.error.StepError.{StepError}
 use Rattle.bsc_run.specs.declared.error.StepError.TheVariants as step
 use Rattle.bsc_run.specs.declared.error.RunError.{RunError}

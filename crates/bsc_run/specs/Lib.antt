@@ -12,3 +12,5 @@ pub mod Plays
 pub mod Causes
 pub mod Runs
 pub mod Counting
+pub mod Errors
+pub mod Running

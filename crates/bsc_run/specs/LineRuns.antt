@@ -2,8 +2,8 @@
 -- the delivery within a visit and a round hold.
 use Rattle.std.specs.Prelude.{◌≡◌, ◌≤◌, ◌&&◌, ℕ, IsTrue, nat_eq, if◌then◌else◌, List, [], ◌∷◌, ◌++◌}
 use Rattle.std.specs.Prelude.{length, map, take, drop, replicate, All, Result, Ok, OnOk}
-use Rattle.bsc_directory.specs.declared.way.Way.{Way}
-use Rattle.bsc_directory.specs.declared.way.Way.TheVariants.{FromTerminal, ToTerminal}
+use Rattle.bsc_bid.specs.declared.way.Way.{Way}
+use Rattle.bsc_bid.specs.declared.way.Way.TheVariants.{FromTerminal, ToTerminal}
 use Rattle.bsc_line_model.specs.declared.event.Event.{Event}
 use Rattle.bsc_line_model.specs.declared.event.Event.TheVariants.{CarrySent}
 use Rattle.bsc_line_model.specs.Line.{LineValue, IsChannel}
@@ -13,10 +13,10 @@ use Rattle.bsc_line_model.specs.EveryRun.{KeepsLine}
 use Rattle.bsc_line_model.specs.StepLaws.{offered_on}
 use Rattle.bsc_line_model.specs.Rounds.{BeginsVisit, IsVisited, IsRoundDone, SameDelays, entry_at}
 use Rattle.bsc_line_model.specs.Rounds.{visit_length, round_length, first_visit}
-use Rattle.bsc_script.specs.Actions.{NumberedEvent}
-use Rattle.bsc_script.specs.Events.{Event as Asked, offer_at, offer_for, carry, lose, heard}
-use Rattle.bsc_script.specs.Events.{heard_each, silence, ready, polled, urgent_at, urgent_for}
-use Rattle.bsc_script.specs.Events.{release}
+use Rattle.bsc_config.specs.Actions.{NumberedEvent}
+use Rattle.bsc_config.specs.Events.{Event as Asked, offer_at, offer_for, carry, lose, heard}
+use Rattle.bsc_config.specs.Events.{heard_each, silence, ready, polled, urgent_at, urgent_for}
+use Rattle.bsc_config.specs.Events.{release}
 use Rattle.bsc_run.specs.declared.error.RunError.{RunError}
 
 -- The record that an event of a script offers to channel (t, way), if it offers one to it.

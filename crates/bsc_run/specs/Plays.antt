@@ -7,8 +7,8 @@ use Rattle.bsc_line_model.specs.declared.error.LineError.{LineError}
 use Rattle.bsc_line_model.specs.declared.event.Event.{Event}
 use Rattle.bsc_line_model.specs.Line.{LineValue}
 use Rattle.bsc_line_model.specs.Kept.{IsLine}
-use Rattle.bsc_script.specs.Actions.{NumberedEvent}
-use Rattle.bsc_script.specs.Events.{Event as Asked}
+use Rattle.bsc_config.specs.Actions.{NumberedEvent}
+use Rattle.bsc_config.specs.Events.{Event as Asked}
 use Rattle.bsc_run.specs.declared.error.RunError.{RunError}
 use Rattle.bsc_run.specs.declared.error.RunError.TheVariants.{Refused}
 use Rattle.bsc_run.specs.LineRuns.{RunsLine}

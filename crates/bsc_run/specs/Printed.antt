@@ -5,16 +5,16 @@ use Rattle.std.specs.Prelude.{codes}
 use Rattle.std.specs.List.{flat_map}
 use Rattle.std.specs.Fmt.{decimal}
 use Rattle.bsc_frame.specs.declared.message.Heard.TheVariants.{Whole}
-use Rattle.bsc_print.specs.Names.{name_line}
-use Rattle.bsc_print.specs.declared.form.Form.TheVariants.{Hexadecimal}
-use Rattle.bsc_report.specs.Channels.{channel_name, doubt_shown, record_line, each_below}
-use Rattle.bsc_report.specs.Traces.{who_shown}
-use Rattle.bsc_report.specs.declared.trace.Who.{Who}
-use Rattle.bsc_report.specs.declared.trace.Who.TheVariants as who
+use Rattle.bsc_text.specs.Names.{name_line}
+use Rattle.bsc_text.specs.declared.form.Form.TheVariants.{Hexadecimal}
+use Rattle.bsc_text.specs.Channels.{channel_name, doubt_shown, record_line, each_below}
+use Rattle.bsc_text.specs.Traces.{who_shown}
+use Rattle.bsc_text.specs.declared.trace.Who.{Who}
+use Rattle.bsc_text.specs.declared.trace.Who.TheVariants as who
 use Rattle.bsc_bid.specs.Channel.{Channel}
 use Rattle.bsc_bid.specs.Sender.{is_in_doubt}
-use Rattle.bsc_directory.specs.declared.way.Way.{Way}
-use Rattle.bsc_directory.specs.declared.way.Way.TheVariants.{FromTerminal, ToTerminal}
+use Rattle.bsc_bid.specs.declared.way.Way.{Way}
+use Rattle.bsc_bid.specs.declared.way.Way.TheVariants.{FromTerminal, ToTerminal}
 use Rattle.bsc_line_model.specs.declared.transmission.Speaker.{Speaker}
 use Rattle.bsc_line_model.specs.declared.transmission.Speaker.TheVariants.{Control, Terminal}
 use Rattle.bsc_line_model.specs.declared.transmission.Transmission.{Transmission}

@@ -1,12 +1,12 @@
 -- The effect of a run of a script on the line of a configuration, and the text that it prints.
 use Rattle.std.specs.Prelude.{◌≡◌, ℕ, Bool, IsTrue, List, length, take, Option, Result}
 use Rattle.std.specs.Io.KnownBytes.{Appends}
-use Rattle.bsc_directory.specs.declared.way.Way.{Way}
+use Rattle.bsc_bid.specs.declared.way.Way.{Way}
 use Rattle.bsc_line_model.specs.Line.{LineValue, IsChannel}
 use Rattle.bsc_line_model.specs.Headline.{spooled_on}
 use Rattle.bsc_line_model.specs.Kept.{IsNewLine}
 use Rattle.bsc_config.specs.Settings.{ConfigValue}
-use Rattle.bsc_script.specs.Actions.{NumberedEvent}
+use Rattle.bsc_config.specs.Actions.{NumberedEvent}
 use Rattle.bsc_run.specs.declared.error.RunError.{RunError}
 use Rattle.bsc_run.specs.Crossing.{Streams}
 use Rattle.bsc_run.specs.LineRuns.{script_offers}

@@ -10,21 +10,21 @@ use Rattle.bsc_frame.specs.Wire.{wire}
 use Rattle.bsc_frame.specs.declared.message.Heard.{Heard}
 use Rattle.bsc_frame.specs.declared.message.Heard.TheVariants.{Whole}
 use Rattle.bsc_frame.specs.declared.message.Message.{Message}
-use Rattle.bsc_print.specs.Forms.{escaped}
-use Rattle.bsc_report.specs.Channels.{each_below}
-use Rattle.bsc_report.specs.Traces.{silence_shown, told_line, transmission_line}
-use Rattle.bsc_report.specs.declared.trace.Fate.{Fate}
-use Rattle.bsc_report.specs.declared.trace.Fate.TheVariants as fate
-use Rattle.bsc_directory.specs.declared.way.Way.{Way}
-use Rattle.bsc_directory.specs.declared.way.Way.TheVariants.{FromTerminal, ToTerminal}
+use Rattle.bsc_text.specs.Forms.{escaped}
+use Rattle.bsc_text.specs.Channels.{each_below}
+use Rattle.bsc_text.specs.Traces.{silence_shown, told_line, transmission_line}
+use Rattle.bsc_text.specs.declared.trace.Fate.{Fate}
+use Rattle.bsc_text.specs.declared.trace.Fate.TheVariants as fate
+use Rattle.bsc_bid.specs.declared.way.Way.{Way}
+use Rattle.bsc_bid.specs.declared.way.Way.TheVariants.{FromTerminal, ToTerminal}
 use Rattle.bsc_line_model.specs.declared.transmission.Transmission.{Transmission}
 use Rattle.bsc_line_model.specs.declared.event.Event.{Event}
 use Rattle.bsc_line_model.specs.declared.event.Event.TheVariants as event
 use Rattle.bsc_line_model.specs.Hearing.{octets_in}
 use Rattle.bsc_line_model.specs.Line.{LineValue}
-use Rattle.bsc_script.specs.Events.{Event as Asked, offer_at, offer_for, carry, lose, heard}
-use Rattle.bsc_script.specs.Events.{heard_each, silence, ready, polled, urgent_at, urgent_for}
-use Rattle.bsc_script.specs.Events.{release}
+use Rattle.bsc_config.specs.Events.{Event as Asked, offer_at, offer_for, carry, lose, heard}
+use Rattle.bsc_config.specs.Events.{heard_each, silence, ready, polled, urgent_at, urgent_for}
+use Rattle.bsc_config.specs.Events.{release}
 use Rattle.bsc_run.specs.Printed.{who_of}
 
 -- Whether a message was heard that is another than the one that was sent. Two messages are the same

@@ -10,10 +10,10 @@ ghost use Rattle.bsc_line_model.specs.declared.error.LineError.{LineError as Why
 ghost use Rattle.bsc_line_model.specs.declared.event.Event.TheVariants as event;
 ghost use Rattle.bsc_line_model.specs.Kept.{IsLine};
 ghost use Rattle.bsc_line_model.specs.Runs.{Does};
-ghost use Rattle.bsc_script.specs.Actions.{event_in};
+ghost use Rattle.bsc_config.specs.Actions.{event_in};
 ghost use Rattle.bsc_run.specs.Crossing.{connection_count, streams_of};
-ghost use Rattle.bsc_script.specs.Events.{carry, heard as heard_event, heard_each};
-ghost use Rattle.bsc_script.specs.Events.{lose as lose_event};
+ghost use Rattle.bsc_config.specs.Events.{carry, heard as heard_event, heard_each};
+ghost use Rattle.bsc_config.specs.Events.{lose as lose_event};
 ghost use Rattle.bsc_run.specs.Faults.{HasCause, IsCableFault, IsTraceFault};
 ghost use Rattle.bsc_run.specs.Faults.{IsTraceFaultOrRefusal, told};
 ghost use Rattle.bsc_run.specs.Hearing.{IsRefusedEach, ReadsAsSent, WasSent};
@@ -26,10 +26,10 @@ use crate::error::StepError;
 use crate::marks::trace_mark;
 use crate::trace::{trace_heard, trace_items, trace_lost};
 use bsc_carrier::{Cable, Octets};
+use bsc_config::script::{Action, HeardOctets};
 use bsc_frame::laws::{one_reading, reading};
 use bsc_frame::{Wire, encode};
 use bsc_line::{Line, LineError, Speaker};
-use bsc_script::{Action, HeardOctets};
 use std::alloc::Allocator;
 use std::io::{Read, Write};
 

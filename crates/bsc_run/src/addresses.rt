@@ -8,8 +8,7 @@ ghost use Rattle.bsc_run.specs.Addresses.{address_line, address_line_of, address
 ghost use Rattle.bsc_run.specs.Addresses.{address_shown, addresses_traced};
 
 use bsc_bid::Terminal;
-use bsc_print::{PrintError, put};
-use bsc_report::write_time;
+use bsc_text::{PrintError, put, write_time};
 use std::io::Write;
 
 /// Writes the selection addresses of a terminal, each after a space.

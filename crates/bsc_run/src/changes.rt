@@ -14,8 +14,7 @@ use crate::standing::{ChannelStanding, LineStanding};
 use bsc_block::Records;
 use bsc_control::Way;
 use bsc_line::Line;
-use bsc_print::{PrintError, put};
-use bsc_report::write_time;
+use bsc_text::{PrintError, put, write_time};
 use std::alloc::Allocator;
 use std::io::Write;
 

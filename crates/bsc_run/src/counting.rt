@@ -6,7 +6,7 @@ ghost use Rattle.bsc_run.specs.Counting.{channel_counts, line_counts, terminal_c
 
 use bsc_control::Way;
 use bsc_line::Line;
-use bsc_progress::{Counts, Meter};
+use bsc_text::progress::{Counts, Meter};
 use std::alloc::Allocator;
 
 /// Shows how far a run has come that has performed this many events, if it is time.

@@ -11,8 +11,8 @@ ghost use Rattle.bsc_run.specs.Crossing.{ItemsCross, streams_of};
 
 use crate::error::StepError;
 use bsc_carrier::{Cable, CarrierError, Octets};
+use bsc_config::script::HeardOctets;
 use bsc_line::Speaker;
-use bsc_script::HeardOctets;
 use std::alloc::{AllocError, Allocator};
 use std::io::{Read, Write};
 

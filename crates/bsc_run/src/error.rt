@@ -5,7 +5,7 @@ ghost use Rattle.bsc_run.specs.Faults.{fault_at, print_fault};
 
 use bsc_carrier::CarrierError;
 use bsc_line::LineError;
-use bsc_print::PrintError;
+use bsc_text::PrintError;
 use std::alloc::{AllocError, AllocFailed};
 use thiserror::Error;
 

@@ -2,16 +2,15 @@
 
 ghost use Rattle.std.specs.Prelude.{OnOk, IfErr, IsTrue, is_some};
 ghost use Rattle.std.specs.Io.KnownBytes.{Appends};
-ghost use Rattle.bsc_script.specs.Actions.{event_in};
-ghost use Rattle.bsc_script.specs.Events.{offer_at, offer_for, polled as polled_event};
-ghost use Rattle.bsc_script.specs.Events.{ready as ready_event, urgent_at, urgent_for};
+ghost use Rattle.bsc_config.specs.Actions.{event_in};
+ghost use Rattle.bsc_config.specs.Events.{offer_at, offer_for, polled as polled_event};
+ghost use Rattle.bsc_config.specs.Events.{ready as ready_event, urgent_at, urgent_for};
 ghost use Rattle.bsc_run.specs.Traces.{doubt_of, if_traced, mark, mark_line, place_shown};
 ghost use Rattle.bsc_run.specs.Traces.{record_shown};
 
+use bsc_config::script::Action;
 use bsc_control::Way;
-use bsc_print::{Form, PrintError, put, write_in_form};
-use bsc_report::write_time;
-use bsc_script::Action;
+use bsc_text::{Form, PrintError, put, write_in_form, write_time};
 use std::alloc::Allocator;
 use std::io::Write;
 

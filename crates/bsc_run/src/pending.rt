@@ -2,12 +2,11 @@
 
 ghost use Rattle.std.specs.Prelude.{◌≡◌, Some, OnOk, IfErr};
 ghost use Rattle.std.specs.Io.KnownBytes.{Appends};
-ghost use Rattle.bsc_print.specs.Fronts.{Extends};
+ghost use Rattle.bsc_text.specs.Fronts.{Extends};
 ghost use Rattle.bsc_run.specs.Printed.{pending_line, who_of};
 
 use bsc_line::{Line, Speaker, Transmission};
-use bsc_print::{PrintError, put, write_name};
-use bsc_report::{Who, write_who};
+use bsc_text::{PrintError, Who, put, write_name, write_who};
 use std::alloc::Allocator;
 use std::io::Write;
 

@@ -3,8 +3,8 @@
 
 ghost use Rattle.std.specs.Prelude.{◌≡◌, map, OnOk, IfErr, IsTrue};
 ghost use Rattle.std.specs.Io.KnownBytes.{Appends};
-ghost use Rattle.bsc_print.specs.Fronts.{Extends};
-ghost use Rattle.bsc_script.specs.Actions.{event_in, numbered};
+ghost use Rattle.bsc_text.specs.Fronts.{Extends};
+ghost use Rattle.bsc_config.specs.Actions.{event_in, numbered};
 ghost use Rattle.bsc_run.specs.Crossing.{streams_of};
 ghost use Rattle.bsc_run.specs.Faults.{TellsLine};
 ghost use Rattle.bsc_run.specs.Causes.{HasEventCause, HasStepCause, IsEnded};
@@ -21,11 +21,11 @@ use crate::pending::write_pending;
 use crate::report::write_report;
 use crate::standing::line_standing;
 use bsc_carrier::Cable;
+use bsc_config::script::{Action, Step};
 use bsc_line::Line;
 use bsc_line_model::laws::{every_run, headline, round, visit};
-use bsc_print::PrintError;
-use bsc_progress::Meter;
-use bsc_script::{Action, Step};
+use bsc_text::PrintError;
+use bsc_text::progress::Meter;
 use std::alloc::Allocator;
 use std::io::{Read, Write};
 

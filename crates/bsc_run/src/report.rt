@@ -4,14 +4,15 @@
 ghost use Rattle.std.specs.Prelude.{◌≡◌, ◌<◌, OnOk};
 ghost use Rattle.std.specs.Io.KnownBytes.{Appends};
 ghost use Rattle.bsc_line_model.specs.Line.{terminal_count, IsChannel, channel_of};
-ghost use Rattle.bsc_print.specs.Fronts.{Extends};
+ghost use Rattle.bsc_text.specs.Fronts.{Extends};
 ghost use Rattle.bsc_run.specs.Printed.{counts_shown, channel_lines, terminal_lines, trust_line};
 ghost use Rattle.bsc_run.specs.Printed.{report_of};
 
 use bsc_control::Way;
 use bsc_line::Line;
-use bsc_print::{Form, PrintError, put, put_numbered};
-use bsc_report::{doubt_text, write_channel_name, write_records};
+use bsc_text::{
+    Form, PrintError, doubt_text, put, put_numbered, write_channel_name, write_records,
+};
 use std::alloc::Allocator;
 use std::io::Write;
 

@@ -5,7 +5,7 @@ ghost use Rattle.std.specs.Prelude.{slice_index_or};
 ghost use Rattle.std.specs.Io.KnownBytes.{Appends};
 ghost use Rattle.bsc_frame.specs.Wire.{wire};
 ghost use Rattle.bsc_line_model.specs.Hearing.{octets_in};
-ghost use Rattle.bsc_report.specs.Traces.{octets_shown};
+ghost use Rattle.bsc_text.specs.Traces.{octets_shown};
 ghost use Rattle.bsc_run.specs.Traces.{fate_if, heard_line, if_sent, if_traced};
 ghost use Rattle.bsc_run.specs.Traces.{is_turned as is_other, item_line, item_lines, lost_line};
 
@@ -13,8 +13,7 @@ use crate::pending::who_of;
 use bsc_frame::laws::{one_reading, reading};
 use bsc_frame::{Heard, Message, TextBuffer, Wire, decode, encode};
 use bsc_line::{Line, Transmission};
-use bsc_print::{PrintError, write_heard_name, write_name};
-use bsc_report::{Fate, write_octets, write_start};
+use bsc_text::{Fate, PrintError, write_heard_name, write_name, write_octets, write_start};
 use std::alloc::Allocator;
 use std::io::Write;
 

@@ -7,8 +7,8 @@ use Rattle.std.specs.Prelude.{nat_eq}
 use Rattle.bsc_control.specs.Control.{ControlValue, peer_at, with_peer}
 use Rattle.bsc_control.specs.Peer.{PeerValue, OutboundValue, no_outbound, no_peer, offered_to}
 use Rattle.bsc_control.specs.Peer.{outbound_at}
-use Rattle.bsc_directory.specs.declared.way.Way.{Way}
-use Rattle.bsc_directory.specs.declared.way.Way.TheVariants.{FromTerminal, ToTerminal}
+use Rattle.bsc_bid.specs.declared.way.Way.{Way}
+use Rattle.bsc_bid.specs.declared.way.Way.TheVariants.{FromTerminal, ToTerminal}
 use Rattle.bsc_serving.specs.Feeding.{offered_control}
 
 module _ (c : ControlValue) (t s : ℕ) (codes : List ℕ) where

@@ -1,11 +1,11 @@
 -- Programs ask the same station all the time, and the same keeps its records.
 use Rattle.std.proofs.Common.{◌≡◌, ◌∙◌, ℕ, Bool, true, List, Option, None, Some, Result}
 use Rattle.std.proofs.Common.{Ok, Err, ap, refl}
-use Rattle.bsc_directory.specs.declared.way.Way.{Way}
+use Rattle.bsc_bid.specs.declared.way.Way.{Way}
 use Rattle.bsc_feed.specs.declared.fault.Fault.{Fault}
 use Rattle.bsc_feed.specs.Answering.{Serving, serving}
 use Rattle.bsc_feed.specs.Offering.{OffersBy}
-use Rattle.bsc_kept.specs.declared.fault.StoreFault.{StoreFault}
+use Rattle.bsc_spool.specs.declared.fault.StoreFault.{StoreFault}
 use Rattle.bsc_monitor.specs.declared.attendance.Presence.{Presence}
 use Rattle.bsc_monitor.specs.declared.party.Party as party_of
 use Rattle.bsc_serving.specs.Feds.{ChangesStation, HasKeptNumber, KeepsAndOffers, KeepsIfDone}

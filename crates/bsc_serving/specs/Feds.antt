@@ -3,10 +3,10 @@ use Rattle.std.specs.Prelude.{◌≡◌, ℕ, Bool, List, Option, None, Some, Re
 use Rattle.std.specs.Prelude.{slice_get}
 use Rattle.bsc_connections.specs.declared.awaited.LiveError.{LiveError}
 use Rattle.bsc_connections.specs.declared.awaited.LiveError.TheVariants.{Memory, Unkept}
-use Rattle.bsc_directory.specs.declared.way.Way.{Way}
+use Rattle.bsc_bid.specs.declared.way.Way.{Way}
 use Rattle.bsc_feed.specs.declared.fault.Fault.{Fault}
 use Rattle.bsc_feed.specs.declared.fault.Fault.TheVariants.{NoSuchTerminal, NotKept}
-use Rattle.bsc_kept.specs.declared.fault.StoreFault.{StoreFault}
+use Rattle.bsc_spool.specs.declared.fault.StoreFault.{StoreFault}
 use Rattle.bsc_monitor.specs.declared.attendance.Presence.{Presence}
 use Rattle.bsc_serving.specs.declared.fed.Fed.{Fed}
 

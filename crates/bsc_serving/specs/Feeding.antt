@@ -6,9 +6,9 @@ use Rattle.bsc_bid.specs.declared.sender.ReleaseError.{ReleaseError}
 use Rattle.bsc_control.specs.Control.{ControlValue, peer_at, with_peer}
 use Rattle.bsc_control.specs.Kept.{IsControl, outbound_of}
 use Rattle.bsc_control.specs.Peer.{outbound_released, with_outbound}
-use Rattle.bsc_directory.specs.Ways.{IsSelection, select_of}
-use Rattle.bsc_directory.specs.declared.way.Way.{Way}
-use Rattle.bsc_directory.specs.declared.way.Way.TheVariants.{FromTerminal, ToTerminal}
+use Rattle.bsc_bid.specs.Ways.{IsSelection, select_of}
+use Rattle.bsc_bid.specs.declared.way.Way.{Way}
+use Rattle.bsc_bid.specs.declared.way.Way.TheVariants.{FromTerminal, ToTerminal}
 use Rattle.bsc_feed.specs.Faults.{release_fault}
 use Rattle.bsc_feed.specs.declared.fault.Fault.{Fault}
 use Rattle.bsc_feed.specs.declared.fault.Fault.TheVariants.{NotATerminal}

@@ -1,12 +1,12 @@
 -- What is kept of what programs offer.
 use Rattle.std.specs.Prelude.{◌≡◌, ℕ, Bool, List, [], ◌∷◌, Option, Some, Result}
 use Rattle.bsc_bid.specs.declared.kept.KeptSender.{KeptSender}
-use Rattle.bsc_directory.specs.Ways.{select_of}
-use Rattle.bsc_directory.specs.declared.way.Way.{Way}
-use Rattle.bsc_kept.specs.declared.change.Change.TheVariants.{Offered}
-use Rattle.bsc_kept.specs.declared.channel.Channel.{Channel}
-use Rattle.bsc_kept.specs.declared.fault.StoreFault.{StoreFault}
-use Rattle.bsc_kept.specs.declared.store.Store as store_of
+use Rattle.bsc_bid.specs.Ways.{select_of}
+use Rattle.bsc_bid.specs.declared.way.Way.{Way}
+use Rattle.bsc_spool.specs.declared.change.Change.TheVariants.{Offered}
+use Rattle.bsc_spool.specs.declared.channel.Channel.{Channel}
+use Rattle.bsc_spool.specs.declared.fault.StoreFault.{StoreFault}
+use Rattle.bsc_spool.specs.declared.store.Store as store_of
 use Rattle.bsc_keeping.specs.Keeping.{KeepsStep}
 use Rattle.bsc_keeping.specs.Offers.{KeepsOffer, channel_to}
 use Rattle.bsc_keeping.specs.declared.keeper.Keeper.{Keeper}

@@ -1,6 +1,6 @@
 -- What a station does for programs, in a run of a station whose records are kept.
 use Rattle.std.specs.Prelude.{◌⊎◌, ℕ, Bool, List, Result, Ok}
-use Rattle.bsc_directory.specs.declared.way.Way.{Way}
+use Rattle.bsc_bid.specs.declared.way.Way.{Way}
 use Rattle.bsc_feed.specs.declared.fault.Fault.{Fault}
 use Rattle.bsc_keeping.specs.Runs.{ForPrograms}
 

@@ -5,9 +5,9 @@ ghost use Rattle.bsc_serving.specs.Feds.{KeepsRelease};
 
 use crate::failing::Failing;
 use crate::{Feeds, Keeps};
+use bsc_bid::Way;
 use bsc_block::{Format, Record};
 use bsc_connections::LiveError;
-use bsc_directory::Way;
 use bsc_feed::{Fault, Served};
 use bsc_monitor::{ChannelEnd, Party, Presence, Received};
 

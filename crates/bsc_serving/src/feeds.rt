@@ -1,15 +1,15 @@
 //! Stations that programs may feed.
 
 ghost use Rattle.std.specs.Prelude.{◌≡◌, ◌<◌, ◌≤◌, ℕ, Bool, List, OnErr, Result, length};
-ghost use Rattle.bsc_directory.specs.declared.way.Way.{Way as WayValue};
+ghost use Rattle.bsc_bid.specs.declared.way.Way.{Way as WayValue};
 ghost use Rattle.bsc_feed.specs.declared.fault.Fault.{Fault as FaultValue};
 ghost use Rattle.bsc_feed.specs.Offering.{IsSending, OffersBy};
 ghost use Rattle.bsc_monitor.specs.Ends.{IsWay};
 ghost use Rattle.bsc_serving.specs.Feeding.{needs_no_keeping};
 
+use bsc_bid::Way;
 use bsc_block::{Format, Record};
 use bsc_control::Control;
-use bsc_directory::Way;
 use bsc_feed::Fault;
 use bsc_keeping::Sends;
 use bsc_monitor::{ChannelEnd, LineTerminal, Party};

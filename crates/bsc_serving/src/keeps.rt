@@ -1,16 +1,16 @@
 //! What keeps the records of a station while programs feed it, and what knows of its terminals.
 
 ghost use Rattle.std.specs.Prelude.{◌≡◌, ℕ, Bool, List, Option, Result, IfOk, OnOk};
-ghost use Rattle.bsc_directory.specs.Ways.{select_of};
-ghost use Rattle.bsc_directory.specs.declared.way.Way.{Way as WayValue};
-ghost use Rattle.bsc_kept.specs.declared.fault.StoreFault.{StoreFault as StoreFaultValue};
+ghost use Rattle.bsc_bid.specs.Ways.{select_of};
+ghost use Rattle.bsc_bid.specs.declared.way.Way.{Way as WayValue};
+ghost use Rattle.bsc_spool.specs.declared.fault.StoreFault.{StoreFault as StoreFaultValue};
 ghost use Rattle.bsc_monitor.specs.declared.attendance.Presence.{Presence as PresenceValue};
 
+use bsc_bid::Way;
 use bsc_block::Record;
-use bsc_directory::Way;
 use bsc_keeping::{Keeper, Prints, Sends};
-use bsc_kept::{Store, StoreFault};
 use bsc_monitor::{Party, Presence, Presences};
+use bsc_spool::{Store, StoreFault};
 
 /// What keeps the records of a station of type `S` while programs feed it, and knows which
 /// terminals are there that the station calls.

@@ -16,8 +16,8 @@ use bsc_bid::Station;
 use bsc_connections::LiveError;
 use bsc_feed::Served;
 use bsc_keeping::{Keeper, Prints};
-use bsc_kept::Store;
 use bsc_monitor::{Forgets, Party, Polls, Presences};
+use bsc_spool::Store;
 use std::alloc::{AllocError, Global};
 use std::io::{Read, Write};
 

@@ -2,9 +2,9 @@
 use Rattle.std.proofs.Common.{◌≡◌, ℕ, zero, suc, true, List, [], ◌∷◌, Option, Some, None, slice_get, slice_set, refl}
 use Rattle.std.specs.Net.Socket.{socket_ip}
 use Rattle.std.specs.declared.net.SocketAddr.{SocketAddr}
-use Rattle.bsc_peers.specs.Lists.{listed}
-use Rattle.bsc_peers.specs.Networks.{allows}
-use Rattle.bsc_peers.specs.declared.networks.Networks.{Networks}
+use Rattle.bsc_trust.specs.Lists.{listed}
+use Rattle.bsc_trust.specs.Networks.{allows}
+use Rattle.bsc_trust.specs.declared.networks.Networks.{Networks}
 use Rattle.bsc_sockets.specs.Beginning.{HasAdmitted, peer_may}
 use Rattle.bsc_sockets.specs.Standings.{StandingsValue, after_joining}
 use Rattle.bsc_sockets.specs.declared.standings.Standing.{Standing}

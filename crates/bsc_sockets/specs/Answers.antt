@@ -9,9 +9,9 @@ use Rattle.bsc_connections.specs.declared.awaited.Awaited.TheVariants.{NotAccept
 use Rattle.bsc_connections.specs.declared.awaited.Awaited.TheVariants.{TimeOut, Stopped, Client}
 use Rattle.bsc_connections.specs.declared.awaited.LiveError.{LiveError}
 use Rattle.bsc_connections.specs.declared.awaited.LiveError.TheVariants.{Wait, Memory}
-use Rattle.bsc_peers.specs.Lists.{listed}
-use Rattle.bsc_peers.specs.Networks.{allows}
-use Rattle.bsc_peers.specs.declared.networks.Networks.{Networks}
+use Rattle.bsc_trust.specs.Lists.{listed}
+use Rattle.bsc_trust.specs.Networks.{allows}
+use Rattle.bsc_trust.specs.declared.networks.Networks.{Networks}
 use Rattle.bsc_sockets.specs.Ready.{WasServed}
 use Rattle.bsc_sockets.specs.declared.sockets.Peer.{Peer}
 

@@ -3,9 +3,9 @@ use Rattle.std.specs.Prelude.{◌≡◌, ◌<◌, ℕ, Bool, true, List, [], Opt
 use Rattle.std.specs.Prelude.{option_map, slice_get}
 use Rattle.std.specs.Net.Socket.{socket_ip}
 use Rattle.std.specs.declared.net.socket_addr.SocketAddr.{SocketAddr}
-use Rattle.bsc_peers.specs.Lists.{listed}
-use Rattle.bsc_peers.specs.Networks.{allows}
-use Rattle.bsc_peers.specs.declared.networks.Networks.{Networks}
+use Rattle.bsc_trust.specs.Lists.{listed}
+use Rattle.bsc_trust.specs.Networks.{allows}
+use Rattle.bsc_trust.specs.declared.networks.Networks.{Networks}
 use Rattle.bsc_sockets.specs.Standings.{StandingsValue, new_standings, peer_of, standings_value}
 use Rattle.bsc_sockets.specs.declared.standings.Standing.{Standing}
 use Rattle.bsc_sockets.specs.declared.standings.Standings.{Standings}

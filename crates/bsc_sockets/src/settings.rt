@@ -1,6 +1,6 @@
 //! How a station waits, and for what.
 
-use bsc_peers::Networks;
+use bsc_trust::Networks;
 use std::os::fd::RawFd;
 use std::time::Duration;
 

@@ -7,8 +7,8 @@ use Rattle.sqlite.specs.declared.types.Value.TheVariants.{Int, Blob}
 use Rattle.sqlite.specs.State.{HasCleanDisk}
 use Rattle.sqlite.specs.Held.{Held, state}
 use Rattle.sqlite.proofs.StateLemmas.{survives_then}
-use Rattle.bsc_kept.specs.declared.channel.Channel.{Channel}
-use Rattle.bsc_kept.specs.declared.store.Found.{Found}
+use Rattle.bsc_spool.specs.declared.channel.Channel.{Channel}
+use Rattle.bsc_spool.specs.declared.store.Found.{Found}
 use Rattle.bsc_store.specs.declared.checks.Marks.{Marks}
 use Rattle.bsc_store.specs.Checks.{HasCheck, check_of}
 use Rattle.bsc_store.specs.Reading.{IsRecord, OnlyRead}

@@ -6,7 +6,7 @@ use Rattle.sqlite.specs.declared.error.Error.{Error}
 use Rattle.sqlite.specs.State.{State, Executes, ExecutesInside, IsRolledBack, KeepsCommit}
 use Rattle.sqlite.specs.Held.{Held, state}
 use Rattle.sqlite.specs.Steps.{FailsToCommit}
-use Rattle.bsc_kept.specs.declared.change.Change.{Change}
+use Rattle.bsc_spool.specs.declared.change.Change.{Change}
 use Rattle.bsc_store.specs.declared.checks.Marks.{Marks}
 use Rattle.bsc_store.specs.Tables.{text_of, values_of, Ran}
 

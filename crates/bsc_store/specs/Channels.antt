@@ -1,7 +1,7 @@
 -- What the tables have of a channel.
 use Rattle.std.specs.Prelude.{ℕ, List, codes}
-use Rattle.bsc_kept.specs.declared.channel.Channel.{Channel}
-use Rattle.bsc_kept.specs.declared.channel.Channel.TheVariants.{From, To}
+use Rattle.bsc_spool.specs.declared.channel.Channel.{Channel}
+use Rattle.bsc_spool.specs.declared.channel.Channel.TheVariants.{From, To}
 
 -- The word for the direction.
 abbrev pub way_of : Channel → List ℕ

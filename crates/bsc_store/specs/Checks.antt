@@ -5,10 +5,10 @@ use Rattle.std.specs.Int.{w32, to_le_bytes}
 use Rattle.md5.specs.Md5.{md5}
 use Rattle.sqlite.specs.Order.{Row, column}
 use Rattle.sqlite.specs.declared.types.Value.TheVariants.{Blob}
-use Rattle.bsc_kept.specs.declared.channel.Channel.{Channel}
-use Rattle.bsc_kept.specs.declared.change.Change.{Change}
-use Rattle.bsc_kept.specs.declared.change.Change.TheVariants.{Offered, Known, Arrived, Printed}
-use Rattle.bsc_kept.specs.declared.store.Found.{Found}
+use Rattle.bsc_spool.specs.declared.channel.Channel.{Channel}
+use Rattle.bsc_spool.specs.declared.change.Change.{Change}
+use Rattle.bsc_spool.specs.declared.change.Change.TheVariants.{Offered, Known, Arrived, Printed}
+use Rattle.bsc_spool.specs.declared.store.Found.{Found}
 use Rattle.bsc_store.specs.declared.checks.Marks.{Marks}
 use Rattle.bsc_store.specs.declared.checks.TheConstants.{CHECK_OCTETS}
 use Rattle.bsc_store.specs.Channels.{way_of, address_of}

@@ -3,8 +3,8 @@ use Rattle.sqlite.specs.declared.error.ErrorCode.{ErrorCode}
 use Rattle.sqlite.specs.declared.error.ErrorCode.TheVariants as code
 use Rattle.sqlite.specs.declared.error.Error.{Error}
 use Rattle.sqlite.specs.declared.error.Error.TheVariants.{SqliteFailure}
-use Rattle.bsc_kept.specs.declared.fault.StoreFault.{StoreFault}
-use Rattle.bsc_kept.specs.declared.fault.StoreFault.TheVariants as fault
+use Rattle.bsc_spool.specs.declared.fault.StoreFault.{StoreFault}
+use Rattle.bsc_spool.specs.declared.fault.StoreFault.TheVariants as fault
 
 -- The fault for an error code.
 abbrev pub coded : ErrorCode → StoreFault

@@ -14,13 +14,13 @@ use Rattle.sqlite_schema.specs.declared.schema.Schema.{Schema}
 use Rattle.sqlite.specs.Listing.{understood}
 use Rattle.bsc_block.specs.Records.{record_of}
 use Rattle.bsc_block.specs.declared.limits.TheConstants.{MAX_FULL}
-use Rattle.bsc_kept.specs.declared.channel.Channel.{Channel}
-use Rattle.bsc_kept.specs.declared.store.Progress.{Progress}
-use Rattle.bsc_kept.specs.declared.store.Found.{Found}
-use Rattle.bsc_kept.specs.declared.fault.StoreFault.{StoreFault}
-use Rattle.bsc_kept.specs.declared.fault.StoreFault.TheVariants as fault
+use Rattle.bsc_spool.specs.declared.channel.Channel.{Channel}
+use Rattle.bsc_spool.specs.declared.store.Progress.{Progress}
+use Rattle.bsc_spool.specs.declared.store.Found.{Found}
+use Rattle.bsc_spool.specs.declared.fault.StoreFault.{StoreFault}
+use Rattle.bsc_spool.specs.declared.fault.StoreFault.TheVariants as fault
 use Rattle.bsc_store.specs.Faults.{fault_for, unread}
-use Rattle.bsc_kept.specs.Names.{named}
+use Rattle.bsc_spool.specs.Names.{named}
 use Rattle.bsc_store.specs.declared.queries.Query.{Query}
 use Rattle.bsc_store.specs.declared.queries.Query.TheVariants as query
 use Rattle.bsc_store.specs.declared.queries.Side.{Side}

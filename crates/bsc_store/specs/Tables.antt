@@ -7,9 +7,9 @@ use Rattle.sqlite.specs.declared.types.Value.TheVariants.{Int, Text, Blob}
 use Rattle.sqlite.specs.State.{Executes, HasCleanDisk, Survives}
 use Rattle.sqlite.specs.Effect.{Database}
 use Rattle.sqlite.specs.Held.{Held, state}
-use Rattle.bsc_kept.specs.declared.change.Change.{Change}
-use Rattle.bsc_kept.specs.declared.change.Change.TheVariants.{Offered, Known, Arrived}
-use Rattle.bsc_kept.specs.declared.change.Change.TheVariants.{Printed}
+use Rattle.bsc_spool.specs.declared.change.Change.{Change}
+use Rattle.bsc_spool.specs.declared.change.Change.TheVariants.{Offered, Known, Arrived}
+use Rattle.bsc_spool.specs.declared.change.Change.TheVariants.{Printed}
 use Rattle.bsc_store.specs.declared.checks.Marks.{Marks}
 use Rattle.bsc_store.specs.Channels.{way_of, address_of}
 use Rattle.bsc_store.specs.Checks.{check_of, marks_after}

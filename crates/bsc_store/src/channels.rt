@@ -2,7 +2,7 @@
 ghost use Rattle.std.specs.Prelude.{◌≡◌};
 ghost use Rattle.bsc_store.specs.Channels.{way_of, address_of};
 
-use bsc_kept::Channel;
+use bsc_spool::Channel;
 
 /// Returns the word for the direction, as the tables have it.
 pub(crate) fn way(channel: &Channel) -> &'static str

@@ -7,7 +7,7 @@ ghost use Rattle.std.specs.Int.{w32, to_le_bytes};
 ghost use Rattle.bsc_store.specs.Checks.{digest_of};
 
 use crate::channels::{address, way};
-use bsc_kept::Channel;
+use bsc_spool::Channel;
 use md5::{Digest, Md5};
 
 /// How many octets of the digest are the check of a record.

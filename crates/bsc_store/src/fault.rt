@@ -2,7 +2,7 @@
 ghost use Rattle.std.specs.Prelude.{◌≡◌};
 ghost use Rattle.bsc_store.specs.Faults.{coded as coded_as, fault_for, unread as unread_as};
 
-use bsc_kept::StoreFault;
+use bsc_spool::StoreFault;
 use sqlite::{Error as SqlError, ErrorCode};
 
 /// Returns the fault for an error code of the database.

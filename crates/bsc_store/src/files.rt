@@ -8,7 +8,7 @@ ghost use Rattle.bsc_store.specs.Reading.{IsOpenedStore};
 use crate::fault::fault_of;
 use crate::making::make_empty;
 use crate::store::TableStore;
-use bsc_kept::StoreFault;
+use bsc_spool::StoreFault;
 use sqlite::{Connection, File, FileStore};
 use std::fs::{exists, metadata};
 use std::rt::HostRuntime;

@@ -1,4 +1,4 @@
-//! The store of a station in a database: the `Store` of `bsc_kept` over tables, in a file or in
+//! The store of a station in a database: the `Store` of `bsc_spool` over tables, in a file or in
 //! memory. All changes of one step of a station are committed at once.
 //!
 //! The file is one of SQLite, whose tables `docs/STORE.md` describes.

@@ -20,7 +20,7 @@ use crate::fault::fault_of;
 use crate::queries::{Query, Side};
 use crate::writing::commit;
 use crate::{reading, tables};
-use bsc_kept::{Change, Channel, Found, Progress, Store, StoreFault};
+use bsc_spool::{Change, Channel, Found, Progress, Store, StoreFault};
 use sqlite::{Alter, Connection, Error as SqlError, params};
 
 /// The store of a station, in the tables of a database.

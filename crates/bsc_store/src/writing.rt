@@ -11,7 +11,7 @@ ghost use Rattle.bsc_store.specs.Tables.{Ran, RanAll, IsAfter, IsAsBefore, Survi
 use crate::channels::{address, way};
 use crate::checks::{CHECK_OCTETS, Marks, digest};
 use bsc_block::Record;
-use bsc_kept::{Change, Channel};
+use bsc_spool::{Change, Channel};
 use sqlite::{Alter, Connection, Error, ErrorCode, Transaction, params};
 
 const OFFER: &str =

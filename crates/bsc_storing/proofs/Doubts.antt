@@ -3,8 +3,8 @@ use Rattle.std.proofs.Common.{◌≡◌, ◌+◌, ◌==◌, ◌||◌, not, false
 use Rattle.std.proofs.lemmas.Bool.{cases_Bool, ne_eqb}
 use Rattle.bsc_spool.specs.Queue.{QueueValue}
 use Rattle.bsc_bid.specs.Sender.{SenderValue, release_step}
-use Rattle.bsc_kept.specs.declared.channel.Channel.{Channel}
-use Rattle.bsc_kept.specs.declared.store.Progress.{Progress}
+use Rattle.bsc_spool.specs.declared.channel.Channel.{Channel}
+use Rattle.bsc_spool.specs.declared.store.Progress.{Progress}
 use Rattle.bsc_storing.specs.Releases.{release_of, phase_at, Releases, IsReleaseOfBid}
 use Rattle.bsc_storing.specs.Releases.{compared, is_apart, fits, FindsApart}
 

@@ -3,9 +3,9 @@ use Rattle.std.proofs.Common.{◌≡◌, ◌∙◌, ℕ, List, Option, Some, Non
 use Rattle.std.proofs.Common.{ap, sym, subst, codes, IsSomeAnd}
 use Rattle.std.specs.Prelude.{ok_or}
 use Rattle.std.specs.Io.KnownBytes.{Appends}
-use Rattle.bsc_kept.specs.declared.channel.Channel.{Channel}
-use Rattle.bsc_kept.specs.declared.change.Change.TheVariants.{Offered}
-use Rattle.bsc_kept.specs.declared.store.Store as store_of
+use Rattle.bsc_spool.specs.declared.channel.Channel.{Channel}
+use Rattle.bsc_spool.specs.declared.change.Change.TheVariants.{Offered}
+use Rattle.bsc_spool.specs.declared.store.Store as store_of
 use Rattle.bsc_options.specs.declared.store_works.StoreChannel.{StoreChannel}
 use Rattle.bsc_storing.specs.declared.kept_line.KeptLine.{KeptLine}
 use Rattle.bsc_storing.specs.declared.name.ChannelName.{ChannelName}

@@ -4,17 +4,17 @@ use Rattle.std.specs.Prelude.{length}
 use Rattle.std.specs.Prelude.{Option, Some, None}
 use Rattle.std.specs.Io.KnownBytes.{Appends}
 use Rattle.bsc_bid.specs.declared.limits.TheConstants.{MAX_SELECTS}
-use Rattle.bsc_kept.specs.declared.change.Change.{Change}
-use Rattle.bsc_kept.specs.declared.channel.Channel.{Channel}
-use Rattle.bsc_kept.specs.declared.store.Progress.{Progress}
-use Rattle.bsc_kept.specs.declared.store.Store as store_of
+use Rattle.bsc_spool.specs.declared.change.Change.{Change}
+use Rattle.bsc_spool.specs.declared.channel.Channel.{Channel}
+use Rattle.bsc_spool.specs.declared.store.Progress.{Progress}
+use Rattle.bsc_spool.specs.declared.store.Store as store_of
 use Rattle.bsc_storing.specs.declared.kept_line.KeptLine.{KeptLine}
 use Rattle.bsc_storing.specs.declared.name.ChannelName.{ChannelName}
 use Rattle.bsc_storing.specs.declared.reconciling.Verdict.{Verdict}
 use Rattle.bsc_storing.specs.declared.reconciling.Verdict.TheVariants.{Settled, Ends, Apart}
 use Rattle.bsc_storing.specs.declared.reconciling.Ended.{Ended}
 use Rattle.bsc_storing.specs.declared.reconciling.Unfit.{Unfit}
-use Rattle.bsc_report.specs.Channels.{each_below}
+use Rattle.bsc_text.specs.Channels.{each_below}
 use Rattle.bsc_storing.specs.Lines.{all_ended_shown, unfit_at}
 use Rattle.bsc_storing.specs.Names.{channel_at, name_at, receives_on, sends_on}
 use Rattle.bsc_storing.specs.Releases.{compared}

@@ -1,12 +1,12 @@
 -- The errors of the work on a store.
 use Rattle.bsc_config.specs.declared.error.ConfigError.{ConfigError}
 use Rattle.bsc_config.specs.declared.error.ConfigError.TheVariants as config
-use Rattle.bsc_input.specs.declared.texts.TextError.{TextError}
-use Rattle.bsc_input.specs.declared.texts.TextError.TheVariants as text
-use Rattle.bsc_kept.specs.declared.fault.StoreFault.{StoreFault}
-use Rattle.bsc_kept.specs.declared.fault.StoreFault.TheVariants as fault
-use Rattle.bsc_print.specs.declared.error.PrintError.{PrintError}
-use Rattle.bsc_print.specs.declared.error.PrintError.TheVariants as print
+use Rattle.bsc_text.specs.declared.texts.TextError.{TextError}
+use Rattle.bsc_text.specs.declared.texts.TextError.TheVariants as text
+use Rattle.bsc_spool.specs.declared.fault.StoreFault.{StoreFault}
+use Rattle.bsc_spool.specs.declared.fault.StoreFault.TheVariants as fault
+use Rattle.bsc_text.specs.declared.error.PrintError.{PrintError}
+use Rattle.bsc_text.specs.declared.error.PrintError.TheVariants as print
 use Rattle.bsc_storing.specs.declared.error.StoringError.{StoringError}
 use Rattle.bsc_storing.specs.declared.error.StoringError.TheVariants as storing
 

@@ -2,18 +2,18 @@
 use Rattle.std.specs.Prelude.{◌≡◌, ◌+◌, ℕ, zero, suc, Bool, true, false, List, [], ◌∷◌, ◌++◌, codes}
 use Rattle.std.specs.Prelude.{Option, Some, None, length, slice_index_or, ◌-◌, nat_lt}
 use Rattle.std.specs.Prelude.{if◌then◌else◌}
-use Rattle.bsc_directory.specs.declared.way.Way.TheVariants.{FromTerminal}
-use Rattle.bsc_report.specs.Channels.{each_below}
+use Rattle.bsc_bid.specs.declared.way.Way.TheVariants.{FromTerminal}
+use Rattle.bsc_text.specs.Channels.{each_below}
 use Rattle.std.specs.Fmt.{decimal}
 use Rattle.std.specs.Io.KnownBytes.{Appends}
 use Rattle.bsc_bid.specs.declared.limits.TheConstants.{MAX_SELECTS}
-use Rattle.bsc_kept.specs.declared.channel.Channel.{Channel}
-use Rattle.bsc_kept.specs.declared.store.Progress.{Progress}
-use Rattle.bsc_kept.specs.declared.store.Store as store_of
+use Rattle.bsc_spool.specs.declared.channel.Channel.{Channel}
+use Rattle.bsc_spool.specs.declared.store.Progress.{Progress}
+use Rattle.bsc_spool.specs.declared.store.Store as store_of
 use Rattle.bsc_options.specs.declared.settings.Role.{Role}
 use Rattle.bsc_options.specs.declared.settings.Role.TheVariants.{Control, Terminal}
-use Rattle.bsc_print.specs.Forms.{in_form}
-use Rattle.bsc_print.specs.declared.form.Form.{Form}
+use Rattle.bsc_text.specs.Forms.{in_form}
+use Rattle.bsc_text.specs.declared.form.Form.{Form}
 use Rattle.bsc_storing.specs.declared.kept_line.KeptLine.{KeptLine}
 use Rattle.bsc_storing.specs.declared.name.ChannelName.{ChannelName}
 use Rattle.bsc_storing.specs.declared.reconciling.Ended.{Ended}

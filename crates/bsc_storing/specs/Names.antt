@@ -2,14 +2,14 @@
 use Rattle.std.specs.Prelude.{◌==◌, ◌||◌, ◌-◌, not, ℕ, Bool, true, false, List, length}
 use Rattle.std.specs.Prelude.{Option, Some, None, option_map, slice_get, if◌then◌else◌}
 use Rattle.bsc_bid.specs.Terminal.{TerminalValue}
-use Rattle.bsc_directory.specs.declared.way.Way.{Way}
-use Rattle.bsc_directory.specs.declared.way.Way.TheVariants.{FromTerminal, ToTerminal}
-use Rattle.bsc_kept.specs.declared.channel.Channel.{Channel}
-use Rattle.bsc_kept.specs.declared.channel.Channel.TheVariants.{From, To}
+use Rattle.bsc_bid.specs.declared.way.Way.{Way}
+use Rattle.bsc_bid.specs.declared.way.Way.TheVariants.{FromTerminal, ToTerminal}
+use Rattle.bsc_spool.specs.declared.channel.Channel.{Channel}
+use Rattle.bsc_spool.specs.declared.channel.Channel.TheVariants.{From, To}
 use Rattle.bsc_options.specs.declared.settings.Role.{Role}
 use Rattle.bsc_options.specs.declared.settings.Role.TheVariants.{Control, Terminal}
 use Rattle.bsc_options.specs.declared.store_works.StoreChannel.{StoreChannel}
-use Rattle.bsc_report.specs.Channels.{channel_name}
+use Rattle.bsc_text.specs.Channels.{channel_name}
 use Rattle.bsc_storing.specs.declared.kept_line.KeptLine.{KeptLine}
 use Rattle.bsc_storing.specs.declared.name.ChannelName.{ChannelName}
 use Rattle.bsc_storing.specs.declared.name.ShownName.{ShownName}

@@ -8,10 +8,10 @@ use Rattle.bsc_bid.specs.declared.phase.Phase.TheVariants.{Idle, InDoubt}
 use Rattle.bsc_bid.specs.declared.sender.ReleaseError.{ReleaseError}
 use Rattle.bsc_bid.specs.declared.sender.ReleaseError.TheVariants.{NotInDoubt, CountMismatch}
 use Rattle.bsc_bid.specs.Sender.{SenderValue, ReleaseStep, release_step}
-use Rattle.bsc_kept.specs.declared.channel.Channel.{Channel}
-use Rattle.bsc_kept.specs.declared.change.Change.{Change}
-use Rattle.bsc_kept.specs.declared.change.Change.TheVariants.{Known}
-use Rattle.bsc_kept.specs.declared.store.Progress.{Progress}
+use Rattle.bsc_spool.specs.declared.channel.Channel.{Channel}
+use Rattle.bsc_spool.specs.declared.change.Change.{Change}
+use Rattle.bsc_spool.specs.declared.change.Change.TheVariants.{Known}
+use Rattle.bsc_spool.specs.declared.store.Progress.{Progress}
 use Rattle.bsc_storing.specs.declared.reconciling.Verdict.{Verdict}
 use Rattle.bsc_storing.specs.declared.reconciling.Verdict.TheVariants.{Settled, Ends, Apart}
 

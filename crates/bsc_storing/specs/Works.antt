@@ -4,19 +4,19 @@ use Rattle.std.specs.Prelude.{None, Ok, Err, Result, IsSomeAnd, ℤ, pos, Bool, 
 use Rattle.std.specs.Fmt.{decimal}
 use Rattle.std.specs.Str.Lines.{lines}
 use Rattle.std.specs.Io.KnownBytes.{Appends}
-use Rattle.bsc_kept.specs.declared.channel.Channel.{Channel}
-use Rattle.bsc_kept.specs.declared.change.Change.{Change}
-use Rattle.bsc_kept.specs.declared.change.Change.TheVariants.{Offered}
-use Rattle.bsc_kept.specs.declared.store.Found.{Found}
-use Rattle.bsc_kept.specs.declared.store.Progress.{Progress}
-use Rattle.bsc_kept.specs.declared.store.Store as store_of
+use Rattle.bsc_spool.specs.declared.channel.Channel.{Channel}
+use Rattle.bsc_spool.specs.declared.change.Change.{Change}
+use Rattle.bsc_spool.specs.declared.change.Change.TheVariants.{Offered}
+use Rattle.bsc_spool.specs.declared.store.Found.{Found}
+use Rattle.bsc_spool.specs.declared.store.Progress.{Progress}
+use Rattle.bsc_spool.specs.declared.store.Store as store_of
 use Rattle.bsc_options.specs.declared.store_works.StoreChannel.{StoreChannel}
 use Rattle.bsc_options.specs.declared.settings.Role.{Role}
 use Rattle.bsc_options.specs.declared.settings.Role.TheVariants as role
 use Rattle.bsc_keeping.specs.declared.own_text.Owner.{Owner}
 use Rattle.bsc_keeping.specs.declared.own_text.Owner.TheVariants as owner
-use Rattle.bsc_print.specs.declared.form.Form.{Form}
-use Rattle.bsc_print.specs.declared.form.Form.TheVariants.{Text, Hexadecimal}
+use Rattle.bsc_text.specs.declared.form.Form.{Form}
+use Rattle.bsc_text.specs.declared.form.Form.TheVariants.{Text, Hexadecimal}
 use Rattle.bsc_storing.specs.declared.error.StoringError.{StoringError}
 use Rattle.bsc_storing.specs.declared.error.StoringError.TheVariants as storing
 use Rattle.bsc_storing.specs.declared.kept_line.KeptLine.{KeptLine}

@@ -7,8 +7,8 @@ ghost use Rattle.bsc_storing.specs.Works.{PrintsLines, PrintsNext};
 
 use crate::error::{StoringError, of_store};
 use bsc_block::Record;
-use bsc_kept::{Channel, Store, StoreFault};
-use bsc_print::{Form, PrintError, put, write_in_form};
+use bsc_spool::{Channel, Store, StoreFault};
+use bsc_text::{Form, PrintError, put, write_in_form};
 use std::alloc::Global;
 use std::io::Write;
 

@@ -9,10 +9,9 @@ use crate::error::{StoringError, of_store};
 use crate::stores::StoreFiles;
 use crate::work::{Work, do_work};
 use bsc_config::{Config, read_config};
-use bsc_input::{Files, read_text};
 use bsc_keeping::{Own, Owner};
 use bsc_options::{Role, StoreWork};
-use bsc_print::Form;
+use bsc_text::{Files, Form, read_text};
 use std::alloc::Global;
 use std::io::{Read, Write};
 

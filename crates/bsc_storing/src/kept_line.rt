@@ -6,13 +6,12 @@ ghost use Rattle.bsc_storing.specs.Names.{receives_on, receiving_name, sending_n
 ghost use Rattle.bsc_storing.specs.Names.{to_terminal as channel_to};
 
 use crate::name::{ChannelName, ShownName};
-use bsc_bid::Terminal;
 use bsc_bid::limits::MAX_SELECTS;
-use bsc_directory::Way;
+use bsc_bid::{Terminal, Way};
 use bsc_frame::Address;
-use bsc_input::read_octets;
-use bsc_kept::{Channel, StoreFault};
 use bsc_options::{Role, StoreChannel, number_within};
+use bsc_spool::{Channel, StoreFault};
+use bsc_text::read_octets;
 use std::alloc::Global;
 
 /// The line of a store, and its station.

@@ -1,6 +1,6 @@
 //! Channels, as they are printed.
 
-use bsc_directory::Way;
+use bsc_bid::Way;
 use std::fmt;
 
 /// The name of a channel, as in a report: the number of its terminal, counted from 0, and the way.
@@ -19,7 +19,7 @@ pub struct ShownName {
 
 impl fmt::Display for ShownName {
     ghost use Rattle.std.specs.Prelude.{Some};
-    ghost use Rattle.bsc_report.specs.Channels.{channel_name};
+    ghost use Rattle.bsc_text.specs.Channels.{channel_name};
 
     ghost output = { λ it. Some (channel_name it.addresses it.name.terminal it.name.way) };
 

@@ -1,9 +1,9 @@
 //! Offering records in a store.
 ghost use Rattle.std.specs.Prelude.{◌≡◌, IfOk, OnOk, map};
-ghost use Rattle.bsc_kept.specs.declared.change.Change.TheVariants.{Offered};
+ghost use Rattle.bsc_spool.specs.declared.change.Change.TheVariants.{Offered};
 
 use bsc_block::Record;
-use bsc_kept::{Change, Channel, Store, StoreFault};
+use bsc_spool::{Change, Channel, Store, StoreFault};
 use std::alloc::Global;
 
 /// Returns the change by which a record is offered on a channel.

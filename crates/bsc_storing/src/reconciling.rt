@@ -2,7 +2,7 @@
 
 ghost use Rattle.std.specs.Prelude.{◌≡◌, ◌<◌, ◌+◌, IfOk, OnOk, codes, length};
 ghost use Rattle.std.specs.Io.KnownBytes.{Appends};
-ghost use Rattle.bsc_report.specs.Channels.{each_below};
+ghost use Rattle.bsc_text.specs.Channels.{each_below};
 ghost use Rattle.bsc_storing.specs.Endings.{AddsIfAny, AddsPlaces, AddsTerminals, EndsDoubts};
 ghost use Rattle.bsc_storing.specs.Endings.{FindsUnfit, IsComparedIfAny, KeepsIfAny, added};
 ghost use Rattle.bsc_storing.specs.Lines.{all_ended_shown, difference_shown, ended_at, unfit_at};
@@ -16,8 +16,8 @@ use crate::releasing::release;
 use crate::status::{name_at, write_name};
 use bsc_bid::ReleaseError;
 use bsc_bid::limits::MAX_SELECTS;
-use bsc_kept::{Change, Channel, Progress, Store, StoreFault};
 use bsc_options::Role;
+use bsc_spool::{Change, Channel, Progress, Store, StoreFault};
 use std::alloc::Global;
 use std::io::Write;
 

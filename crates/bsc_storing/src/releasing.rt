@@ -3,7 +3,7 @@ ghost use Rattle.std.specs.Prelude.{◌≡◌};
 ghost use Rattle.bsc_storing.specs.Releases.{release_of};
 
 use bsc_bid::ReleaseError;
-use bsc_kept::{Change, Channel, Progress};
+use bsc_spool::{Change, Channel, Progress};
 
 /// Returns the change that ends the doubt of a channel, of which the other end has `count` records:
 /// as many are known, and none is in doubt. The errors are `NotInDoubt` if there is no doubt, and

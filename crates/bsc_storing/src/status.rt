@@ -8,10 +8,10 @@ ghost use Rattle.bsc_storing.specs.Names.{name_at, name_shown};
 use crate::error::{StoringError, of_store};
 use crate::kept_line::KeptLine;
 use crate::name::{ChannelName, ShownName};
+use bsc_bid::Way;
 use bsc_bid::limits::MAX_SELECTS;
-use bsc_directory::Way;
-use bsc_kept::{Progress, Store};
-use bsc_report::write_channel_name;
+use bsc_spool::{Progress, Store};
+use bsc_text::write_channel_name;
 use std::io::Write;
 
 /// Writes the name of a channel of a line.

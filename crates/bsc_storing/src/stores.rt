@@ -1,6 +1,6 @@
 //! The stores of a machine.
 
-use bsc_kept::{Store, StoreFault};
+use bsc_spool::{Store, StoreFault};
 
 /// A store that was opened, and the text of the line and the station to which it belongs.
 #[derive(Drop)]

@@ -1,7 +1,7 @@
 //! What is to be done with a store.
 
 ghost use Rattle.std.specs.Prelude.{◌≡◌, codes, map, IfOk, OnOk, ok_or};
-ghost use Rattle.bsc_kept.specs.declared.change.Change.TheVariants.{Offered};
+ghost use Rattle.bsc_spool.specs.declared.change.Change.TheVariants.{Offered};
 ghost use Rattle.std.specs.Io.KnownBytes.{Appends};
 ghost use Rattle.std.specs.Str.Lines.{lines};
 ghost use Rattle.bsc_storing.specs.declared.error.StoringError.TheVariants.{NoChannel};
@@ -19,10 +19,10 @@ use crate::status::{write_name, write_status};
 use crate::stores::{Opened, StoreFiles};
 use bsc_block::Record;
 use bsc_block::limits::MAX_FULL;
-use bsc_kept::{Channel, Store, StoreFault};
 use bsc_monitor::{OfferError, read_records};
 use bsc_options::StoreChannel;
-use bsc_print::Form;
+use bsc_spool::{Channel, Store, StoreFault};
+use bsc_text::Form;
 use std::alloc::Global;
 use std::io::Write;
 

@@ -1,3 +1,8 @@
+pub mod HeardNames
+pub mod Lines
+pub mod Lists
+pub mod Parts
+pub mod Printed
 pub mod MarkLines
 pub mod Numbers
 pub mod OctetWords

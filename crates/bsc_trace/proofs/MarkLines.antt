@@ -1,9 +1,9 @@
 -- The text of a mark is all of it, if it does not tell the addresses of a station.
 use Rattle.std.proofs.Common.{◌≡◌, ◌≢◌, ℕ, List, Bool, true, false, codes, Option, Some, None, IfSome}
 use Rattle.std.proofs.Common.{option_and_then, option_map, unwrap_or, if◌then◌else◌, bytes_eq, refl}
-use Rattle.bsc_ladder.specs.declared.row.Place.{Place}
-use Rattle.bsc_ladder.specs.declared.row.Place.TheVariants.{Station}
-use Rattle.bsc_ladder.specs.declared.row.Sign.TheVariants.{Named}
+use Rattle.bsc_trace.specs.declared.ladder.row.Place.{Place}
+use Rattle.bsc_trace.specs.declared.ladder.row.Place.TheVariants.{Station}
+use Rattle.bsc_trace.specs.declared.ladder.row.Sign.TheVariants.{Named}
 use Rattle.bsc_trace.specs.Marks.{MarkedValue, NumberedValue, after_this, answering_at, arrived_by}
 use Rattle.bsc_trace.specs.Marks.{arrived_from, connection_in, named_or_answering}
 use Rattle.bsc_trace.specs.Marks.{arrived_mark, arrived_to, control_mark, doubt_at, doubt_by}
@@ -12,7 +12,7 @@ use Rattle.bsc_trace.specs.Marks.{named_at, numbered_of, selects_in, sign_in}
 use Rattle.bsc_trace.specs.Marks.{station_mark, terminal_mark, told_mark, trust_mark}
 use Rattle.bsc_trace.specs.ReadBack.{TextsAreKept}
 use Rattle.bsc_trace.specs.Words.{column_in}
-use Rattle.bsc_input.specs.Words.{after_word, first_word}
+use Rattle.bsc_text.specs.Words.{after_word, first_word}
 
 abbrev pub Keeps : List ℕ → Option MarkedValue → Type 0
 Keeps text o = IfSome o (λ m. m.mark.sign ≢ Named → m.text ≡ text)

@@ -9,10 +9,10 @@ use Rattle.std.specs.List.{list_all}
 use Rattle.std.specs.Result.{result_ok}
 use Rattle.hex.specs.Hex.{IsBytes, decode_of, encode_lower, is_hex_digit}
 use Rattle.hex.proofs.HexLemmas.{decode_of-encode_lower, decode_of-ok}
-use Rattle.bsc_input.specs.Hexadecimal.{is_space, octets_of}
-use Rattle.bsc_input.specs.Lines.{is_blank}
-use Rattle.bsc_print.specs.Forms.{AreOctets}
-use Rattle.bsc_print.specs.Names.{chars_shown}
+use Rattle.bsc_text.specs.Hexadecimal.{is_space, octets_of}
+use Rattle.bsc_text.specs.InputLines.{is_blank}
+use Rattle.bsc_text.specs.Forms.{AreOctets}
+use Rattle.bsc_text.specs.Names.{chars_shown}
 use Rattle.bsc_trace.specs.Lines.{octets_given}
 use Rattle.bsc_trace.proofs.PlainWords.{IsWord, not_that, word_by}
 

@@ -8,12 +8,12 @@ use Rattle.std.proofs.lemmas.List.Splits.{length-slice_split, slice_split-cons_n
 use Rattle.std.proofs.lemmas.List.Splits.{slice_split-cons_yes}
 use Rattle.std.proofs.lemmas.List.Sums.{sum_by-append, sum_by-cons}
 use Rattle.std.specs.List.{list_all, onto_first}
-use Rattle.bsc_input.specs.Parts.{parts_at}
-use Rattle.bsc_input.proofs.Splitting.{before_first_some}
-use Rattle.bsc_naming.specs.Lines.{last_part}
-use Rattle.bsc_naming.proofs.Lists.{NonePasses, position-append}
-use Rattle.bsc_naming.proofs.Parts.{last_part_more}
-use Rattle.bsc_input.specs.Words.{after_word, first_word}
+use Rattle.bsc_text.specs.Parts.{parts_at}
+use Rattle.bsc_text.proofs.Splitting.{before_first_some}
+use Rattle.bsc_trace.specs.NamingLines.{last_part}
+use Rattle.bsc_trace.proofs.Lists.{NonePasses, position-append}
+use Rattle.bsc_trace.proofs.Parts.{last_part_more}
+use Rattle.bsc_text.specs.Words.{after_word, first_word}
 
 -- no octet is a space
 abbrev pub IsWord : List ℕ → Type 0

@@ -3,8 +3,8 @@ use Rattle.std.proofs.Common.{◌≡◌, ◌<◌, ℕ, ◌^◌, List, ◌∷◌,
 use Rattle.std.proofs.Common.{refl, sym, ap, ◌∙◌, append_assoc, arith, bytes_eq}
 use Rattle.std.proofs.lemmas.Bool.{cond-false, cond-true, false_from_ne_true}
 use Rattle.std.proofs.lemmas.Slice.Eq.{bytes_eq-Decides}
-use Rattle.bsc_print.specs.Names.{chars_shown, name_of}
-use Rattle.bsc_report.specs.Traces.{fate_shown, hearer_shown, silence_shown, told_line, who_shown}
+use Rattle.bsc_text.specs.Names.{chars_shown, name_of}
+use Rattle.bsc_text.specs.Traces.{fate_shown, hearer_shown, silence_shown, told_line, who_shown}
 use Rattle.bsc_trace.specs.Lines.{TraceValue, octets_given, silence, told_at, transmission}
 use Rattle.bsc_trace.specs.Lines.{value_after, value_of, value_told}
 use Rattle.bsc_trace.specs.Marks.{marked_of}

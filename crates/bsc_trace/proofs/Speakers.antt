@@ -9,17 +9,17 @@ use Rattle.bsc_frame.specs.declared.message.Heard.TheVariants.{Whole, Failed, No
 use Rattle.bsc_frame.specs.declared.message.Message.TheVariants.{Eot, Call, Enq, Reply, Text}
 use Rattle.bsc_frame.specs.declared.reply.Reply.{Reply as ReplyName}
 use Rattle.bsc_frame.specs.declared.reply.Reply.TheVariants.{Ack0, Ack1, Nak, Wack, Rvi}
-use Rattle.bsc_ladder.specs.declared.row.Course.{Course}
-use Rattle.bsc_ladder.specs.declared.row.Course.TheVariants.{ToAll, ToOne, From}
-use Rattle.bsc_ladder.specs.declared.row.Fate.{Fate}
-use Rattle.bsc_print.specs.Names.{end_name, name_of}
-use Rattle.bsc_report.specs.Traces.{fate_shown, hearer_shown, who_shown}
-use Rattle.bsc_report.specs.declared.trace.Fate.{Fate as Printed}
-use Rattle.bsc_report.specs.declared.trace.Fate.TheVariants as printed
-use Rattle.bsc_report.specs.declared.trace.Who.{Who}
-use Rattle.bsc_report.specs.declared.trace.Who.TheVariants.{Control, Terminal, Connection}
+use Rattle.bsc_trace.specs.declared.ladder.row.Course.{Course}
+use Rattle.bsc_trace.specs.declared.ladder.row.Course.TheVariants.{ToAll, ToOne, From}
+use Rattle.bsc_trace.specs.declared.ladder.row.Fate.{Fate}
+use Rattle.bsc_text.specs.Names.{end_name, name_of}
+use Rattle.bsc_text.specs.Traces.{fate_shown, hearer_shown, who_shown}
+use Rattle.bsc_text.specs.declared.trace.Fate.{Fate as Printed}
+use Rattle.bsc_text.specs.declared.trace.Fate.TheVariants as printed
+use Rattle.bsc_text.specs.declared.trace.Who.{Who}
+use Rattle.bsc_text.specs.declared.trace.Who.TheVariants.{Control, Terminal, Connection}
 use Rattle.bsc_trace.specs.ReadBack.{IsColumn, IsStation, course_of, fate_of}
-use Rattle.bsc_input.specs.Words.{after_word, first_word}
+use Rattle.bsc_text.specs.Words.{after_word, first_word}
 use Rattle.bsc_trace.specs.Speaking.{HeadValue, SpokenValue, from_column}
 use Rattle.bsc_trace.specs.Speaking.{heard_by, sender_by, sender_in, sent_from, spoken_after}
 use Rattle.bsc_trace.specs.Speaking.{spoken_by, spoken_of, spoken_to, to_one}

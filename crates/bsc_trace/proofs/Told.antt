@@ -3,11 +3,11 @@ use Rattle.std.proofs.Common.{◌≡◌, ℕ, ◌||◌, List, [], ◌∷◌, ◌
 use Rattle.std.proofs.Common.{sym, ap, ◌∙◌, subst, append_assoc, inl, inr, true≢false, bytes_eq}
 use Rattle.std.proofs.lemmas.Slice.Eq.{bytes_eq-Decides}
 use Rattle.std.specs.List.{AllByRecursion}
-use Rattle.bsc_report.specs.Traces.{silence_shown, who_shown}
-use Rattle.bsc_report.specs.declared.trace.Who.{Who}
-use Rattle.bsc_report.specs.declared.trace.Who.TheVariants.{Control, Terminal, Connection}
+use Rattle.bsc_text.specs.Traces.{silence_shown, who_shown}
+use Rattle.bsc_text.specs.declared.trace.Who.{Who}
+use Rattle.bsc_text.specs.declared.trace.Who.TheVariants.{Control, Terminal, Connection}
 use Rattle.bsc_trace.specs.ReadBack.{BeginsAsTold, IsStation, first_words, is_one_of, words_after}
-use Rattle.bsc_input.specs.Words.{first_word}
+use Rattle.bsc_text.specs.Words.{first_word}
 use Rattle.bsc_trace.specs.Speaking.{sender_by, spoken_of}
 use Rattle.bsc_trace.specs.Words.{fate_in}
 use Rattle.bsc_trace.proofs.Speakers.{no_fate, no_sender}

@@ -1,3 +1,9 @@
+pub mod Rows
+pub mod Arrows
+pub mod Texts
+pub mod Errors
+pub mod NamingLines
+pub mod Inputs
 pub mod Words
 pub mod Speaking
 pub mod Marks

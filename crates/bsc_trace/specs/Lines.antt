@@ -3,13 +3,13 @@ use Rattle.std.specs.Prelude.{ℕ, ◌==◌, List, [], ◌∷◌, codes, Option,
 use Rattle.std.specs.Prelude.{if◌then◌else◌}
 use Rattle.std.specs.Option.{option_and_then}
 use Rattle.std.specs.Str.{bytes_eq}
-use Rattle.bsc_input.specs.Hexadecimal.{octets_of}
-use Rattle.bsc_input.specs.Lines.{is_blank}
-use Rattle.bsc_input.specs.Parts.{after_octet, before_octet, parts_at}
-use Rattle.bsc_ladder.specs.declared.row.Course.{Course}
-use Rattle.bsc_ladder.specs.declared.row.Fate.{Fate}
-use Rattle.bsc_ladder.specs.declared.row.Mark.{Mark}
-use Rattle.bsc_naming.specs.Lines.{last_part}
+use Rattle.bsc_text.specs.Hexadecimal.{octets_of}
+use Rattle.bsc_text.specs.InputLines.{is_blank}
+use Rattle.bsc_text.specs.Parts.{after_octet, before_octet, parts_at}
+use Rattle.bsc_trace.specs.declared.ladder.row.Course.{Course}
+use Rattle.bsc_trace.specs.declared.ladder.row.Fate.{Fate}
+use Rattle.bsc_trace.specs.declared.ladder.row.Mark.{Mark}
+use Rattle.bsc_trace.specs.NamingLines.{last_part}
 use Rattle.bsc_trace.specs.Marks.{MarkedValue, marked_of}
 use Rattle.bsc_trace.specs.Speaking.{SpokenValue, spoken_of}
 use Rattle.bsc_trace.specs.Words.{is_time}

@@ -3,14 +3,14 @@ use Rattle.std.specs.Prelude.{ℕ, List, codes, Option, Some, None, option_map, 
 use Rattle.std.specs.Prelude.{if◌then◌else◌}
 use Rattle.std.specs.Option.{option_and_then}
 use Rattle.std.specs.Str.{bytes_eq}
-use Rattle.bsc_input.specs.Parts.{after_octet, before_octet}
-use Rattle.bsc_input.specs.Words.{after_word, first_word}
-use Rattle.bsc_ladder.specs.declared.row.Mark.{Mark}
-use Rattle.bsc_ladder.specs.declared.row.Place.{Place}
-use Rattle.bsc_ladder.specs.declared.row.Place.TheVariants.{Control, Station}
-use Rattle.bsc_ladder.specs.declared.row.Sign.{Sign}
-use Rattle.bsc_ladder.specs.declared.row.Sign.TheVariants.{Told, Named, Arrived, DoubtBegins}
-use Rattle.bsc_ladder.specs.declared.row.Sign.TheVariants.{DoubtEnds, Restart, TrustEnds}
+use Rattle.bsc_text.specs.Parts.{after_octet, before_octet}
+use Rattle.bsc_text.specs.Words.{after_word, first_word}
+use Rattle.bsc_trace.specs.declared.ladder.row.Mark.{Mark}
+use Rattle.bsc_trace.specs.declared.ladder.row.Place.{Place}
+use Rattle.bsc_trace.specs.declared.ladder.row.Place.TheVariants.{Control, Station}
+use Rattle.bsc_trace.specs.declared.ladder.row.Sign.{Sign}
+use Rattle.bsc_trace.specs.declared.ladder.row.Sign.TheVariants.{Told, Named, Arrived, DoubtBegins}
+use Rattle.bsc_trace.specs.declared.ladder.row.Sign.TheVariants.{DoubtEnds, Restart, TrustEnds}
 use Rattle.bsc_trace.specs.Words.{column_in}
 use Rattle.bsc_trace.specs.declared.marks.Marked.{Marked}
 use Rattle.bsc_trace.specs.declared.marks.Numbered.{Numbered}

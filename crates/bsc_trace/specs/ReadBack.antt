@@ -5,21 +5,21 @@ use Rattle.std.specs.Fmt.{decimal}
 use Rattle.std.specs.List.{list_any}
 use Rattle.std.specs.Str.{bytes_eq}
 use Rattle.bsc_frame.specs.declared.message.Heard.{Heard}
-use Rattle.bsc_ladder.specs.declared.row.Course.{Course}
-use Rattle.bsc_ladder.specs.declared.row.Course.TheVariants.{ToAll, ToOne, From}
-use Rattle.bsc_ladder.specs.declared.row.Fate.{Fate}
-use Rattle.bsc_ladder.specs.declared.row.Fate.TheVariants as fate
-use Rattle.bsc_ladder.specs.declared.row.Sign.TheVariants.{Named}
-use Rattle.bsc_print.specs.Forms.{AreOctets}
-use Rattle.bsc_report.specs.Traces.{silence_line, silence_shown, told_line, transmission_line}
-use Rattle.bsc_report.specs.Traces.{who_shown}
-use Rattle.bsc_report.specs.declared.trace.Fate.{Fate as Printed}
-use Rattle.bsc_report.specs.declared.trace.Fate.TheVariants as printed
-use Rattle.bsc_report.specs.declared.trace.Who.{Who}
-use Rattle.bsc_report.specs.declared.trace.Who.TheVariants.{Control, Terminal, Connection}
+use Rattle.bsc_trace.specs.declared.ladder.row.Course.{Course}
+use Rattle.bsc_trace.specs.declared.ladder.row.Course.TheVariants.{ToAll, ToOne, From}
+use Rattle.bsc_trace.specs.declared.ladder.row.Fate.{Fate}
+use Rattle.bsc_trace.specs.declared.ladder.row.Fate.TheVariants as fate
+use Rattle.bsc_trace.specs.declared.ladder.row.Sign.TheVariants.{Named}
+use Rattle.bsc_text.specs.Forms.{AreOctets}
+use Rattle.bsc_text.specs.Traces.{silence_line, silence_shown, told_line, transmission_line}
+use Rattle.bsc_text.specs.Traces.{who_shown}
+use Rattle.bsc_text.specs.declared.trace.Fate.{Fate as Printed}
+use Rattle.bsc_text.specs.declared.trace.Fate.TheVariants as printed
+use Rattle.bsc_text.specs.declared.trace.Who.{Who}
+use Rattle.bsc_text.specs.declared.trace.Who.TheVariants.{Control, Terminal, Connection}
 use Rattle.bsc_trace.specs.Lines.{TraceValue, silence, told_at, transmission, value_of}
 use Rattle.bsc_trace.specs.Marks.{marked_of}
-use Rattle.bsc_input.specs.Words.{first_word}
+use Rattle.bsc_text.specs.Words.{first_word}
 use Rattle.bsc_trace.specs.Speaking.{spoken_of}
 
 -- The line is a text and a line feed, and the text has this value.

@@ -3,10 +3,10 @@ use Rattle.std.specs.Prelude.{ℕ, ◌||◌, List, codes, Option, Some, None, op
 use Rattle.std.specs.Prelude.{if◌then◌else◌}
 use Rattle.std.specs.Option.{option_and_then}
 use Rattle.std.specs.Str.{bytes_eq}
-use Rattle.bsc_input.specs.Words.{after_word, first_word}
-use Rattle.bsc_ladder.specs.declared.row.Course.{Course}
-use Rattle.bsc_ladder.specs.declared.row.Course.TheVariants.{ToAll, ToOne, From}
-use Rattle.bsc_ladder.specs.declared.row.Fate.{Fate}
+use Rattle.bsc_text.specs.Words.{after_word, first_word}
+use Rattle.bsc_trace.specs.declared.ladder.row.Course.{Course}
+use Rattle.bsc_trace.specs.declared.ladder.row.Course.TheVariants.{ToAll, ToOne, From}
+use Rattle.bsc_trace.specs.declared.ladder.row.Fate.{Fate}
 use Rattle.bsc_trace.specs.Words.{column_in, fate_in}
 use Rattle.bsc_trace.specs.declared.speaking.Head.{Head}
 use Rattle.bsc_trace.specs.declared.speaking.Spoken.{Spoken}

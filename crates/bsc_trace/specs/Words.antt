@@ -3,10 +3,10 @@ use Rattle.std.specs.Prelude.{ℕ, ◌+◌, ◌-◌, ◌*◌, ◌==◌, ◌&&◌
 use Rattle.std.specs.Prelude.{Option, Some, None, if◌then◌else◌}
 use Rattle.std.specs.Char.{is_ascii_digit}
 use Rattle.std.specs.Str.{bytes_eq}
-use Rattle.bsc_input.specs.Numbers.{has_digits}
-use Rattle.bsc_ladder.specs.declared.row.Fate.{Fate}
-use Rattle.bsc_ladder.specs.declared.row.Fate.TheVariants.{Sent, Heard, Turned, Ignored, Lost}
-use Rattle.bsc_ladder.specs.declared.row.Fate.TheVariants.{Withheld}
+use Rattle.bsc_text.specs.Numbers.{has_digits}
+use Rattle.bsc_trace.specs.declared.ladder.row.Fate.{Fate}
+use Rattle.bsc_trace.specs.declared.ladder.row.Fate.TheVariants.{Sent, Heard, Turned, Ignored, Lost}
+use Rattle.bsc_trace.specs.declared.ladder.row.Fate.TheVariants.{Withheld}
 
 -- Whether a word is a time: 1 to 20 decimal digits.
 abbrev pub is_time : List ℕ → Bool

@@ -4,13 +4,13 @@ ghost use Rattle.bsc_trace.specs.Lines.{other_at, transmission_at, value_after, 
 ghost use Rattle.bsc_trace.specs.Lines.{value_timed};
 ghost use Rattle.bsc_trace.specs.Speaking.{spoken_in};
 
+use crate::ladder::{Course, Fate, Mark};
 use crate::marks::{Marked, read_mark};
+use crate::naming::last_word;
 use crate::octets::read_given;
 use crate::speaking::{Spoken, read_spoken};
 use crate::words::is_time;
-use bsc_input::{spells, split_word};
-use bsc_ladder::{Course, Fate, Mark};
-use bsc_naming::last_word;
+use bsc_text::{spells, split_word};
 use std::alloc::{AllocError, Allocator};
 
 /// A line of a trace.

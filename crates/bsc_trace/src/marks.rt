@@ -7,9 +7,9 @@ ghost use Rattle.bsc_trace.specs.Marks.{mark_at as mark_with, mark_by, marked, m
 ghost use Rattle.bsc_trace.specs.Marks.{marked_of, named_at, numbered_in, numbered_of};
 ghost use Rattle.bsc_trace.specs.Marks.{selects_in, sign_in, terminal_mark, trust_mark};
 
+use crate::ladder::{Mark, Place, Sign};
 use crate::words::read_column;
-use bsc_input::{spells, split_at_first, split_word};
-use bsc_ladder::{Mark, Place, Sign};
+use bsc_text::{spells, split_at_first, split_word};
 
 /// A mark, and its text.
 #[derive(Clone, Copy)]

@@ -2,7 +2,7 @@
 ghost use Rattle.std.specs.Prelude.{◌≡◌, IfOk, option_map};
 ghost use Rattle.bsc_trace.specs.Lines.{octets_given};
 
-use bsc_input::{is_blank, read_octets, spells};
+use bsc_text::{is_blank, read_octets, spells};
 use std::alloc::{AllocError, Allocator};
 
 /// Reads octets: hexadecimal text, or `-` for none. `None` if the word is neither.

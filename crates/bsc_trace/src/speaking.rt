@@ -3,9 +3,9 @@ ghost use Rattle.std.specs.Prelude.{◌≡◌, option_map};
 ghost use Rattle.bsc_trace.specs.Speaking.{from_column, head_in, sender_in, spoken_after};
 ghost use Rattle.bsc_trace.specs.Speaking.{spoken_by, spoken_in, spoken_of, spoken_to, to_one};
 
+use crate::ladder::{Course, Fate};
 use crate::words::{read_column, read_fate};
-use bsc_input::{spells, split_word};
-use bsc_ladder::{Course, Fate};
+use bsc_text::{spells, split_word};
 
 /// The beginning of a line for a transmission.
 #[derive(Clone, Copy)]

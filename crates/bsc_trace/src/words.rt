@@ -2,8 +2,8 @@
 ghost use Rattle.std.specs.Prelude.{◌≡◌};
 ghost use Rattle.bsc_trace.specs.Words.{column_in, fate_in, is_time as is_time_text};
 
-use bsc_input::{has_digits, spells};
-use bsc_ladder::Fate;
+use crate::ladder::Fate;
+use bsc_text::{has_digits, spells};
 
 /// Whether the word is a time: 1 to 20 decimal digits.
 pub(crate) fn is_time(word: &[u8]) -> bool

@@ -1,3 +1,7 @@
+pub mod Addresses
+pub mod Networks
+pub mod NetworkTexts
+pub mod Lists
 pub mod Connections
 pub mod Answers
 pub mod Peers

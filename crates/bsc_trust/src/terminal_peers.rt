@@ -2,9 +2,9 @@
 
 ghost use Rattle.std.specs.Prelude.{◌≡◌, ◌==◌, None, replicate, slice_set};
 ghost use Rattle.bsc_trust.specs.Peers.{number_of, is_given_as, is_given, given_for, forbids};
-ghost use Rattle.bsc_directory.specs.declared.limits.TheConstants.{MAX_TERMINALS};
+ghost use Rattle.bsc_bid.specs.declared.limits.TheConstants.{MAX_TERMINALS};
 
-use bsc_directory::limits::MAX_TERMINALS;
+use bsc_bid::limits::MAX_TERMINALS;
 use std::net::IpAddr;
 
 /// The addresses from which terminals answer, as far as they are given. An IPv4 address is the same

@@ -5,7 +5,7 @@ use Rattle.std.specs.Str.{bytes_eq}
 use Rattle.clap.specs.Words.{App, Kinds, Row, Text, fault_of, first_of, new_app, subcommand_of}
 use Rattle.clap.specs.declared.error.kind.ErrorKind.{ErrorKind}
 use Rattle.clap.specs.declared.error.kind.ErrorKind.TheVariants.{DisplayHelp, DisplayVersion}
-use Rattle.bsc_asked.specs.Asked.{AskedValue, names, name, show, chart, run, station, feed, store}
+use Rattle.bsc_options.specs.Asked.{AskedValue, names, name, show, chart, run, station, feed, store}
 use Rattle.bsc_words.specs.Options.{flag, is_true_text, option, optional, required, rest, value_at}
 use Rattle.bsc_words.specs.Options.{values_of, with_rules, with_shapes}
 use Rattle.bsc_words.specs.StationWords.{station_app, words_in}

@@ -3,7 +3,7 @@ use Rattle.std.specs.Prelude.{List, [], ◌∷◌, map, Bool, Option, codes, opt
 use Rattle.clap.specs.Words.{App, Row, Text, count_of, first_of, new_app}
 use Rattle.bsc_words.specs.Options.{counted, flag, is_true_text, option, required, value_at}
 use Rattle.bsc_words.specs.Options.{value_list, values_of, with_rules}
-use Rattle.bsc_asked.specs.StationWords.{AskedWords}
+use Rattle.bsc_options.specs.StationWords.{AskedWords}
 use Rattle.bsc_words.specs.declared.station_words.Flags.{Flags}
 use Rattle.bsc_words.specs.declared.station_words.Lists.{Lists}
 use Rattle.bsc_words.specs.declared.station_words.Numbers.{Numbers}

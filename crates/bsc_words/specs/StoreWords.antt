@@ -3,7 +3,7 @@ use Rattle.std.specs.Prelude.{List, [], ◌∷◌, codes}
 use Rattle.clap.specs.Words.{App, Row, first_of, new_app}
 use Rattle.bsc_words.specs.Options.{flag, is_true_text, option, optional, required, value_at}
 use Rattle.bsc_words.specs.Options.{with_rules}
-use Rattle.bsc_asked.specs.StoreWords.{AskedStore}
+use Rattle.bsc_options.specs.StoreWords.{AskedStore}
 
 -- The command `store FILE WORK`, with up to two more words, and the options of `init` and
 -- `arrived`.

@@ -1,12 +1,12 @@
 //! The arguments of `bscline station`.
 ghost use Rattle.std.specs.Prelude.{◌≡◌, IfOk};
 ghost use Rattle.clap.specs.Words.{found_of, rows_of};
-ghost use Rattle.bsc_asked.specs.StationWords.{asked_words};
+ghost use Rattle.bsc_options.specs.StationWords.{asked_words};
 ghost use Rattle.bsc_words.specs.StationWords.{flags_in, list_texts, lists_in, number_texts};
 ghost use Rattle.bsc_words.specs.StationWords.{numbers_in, words_in};
 
 use crate::values::{is_given, option_text, option_texts, required_text};
-use bsc_asked::StationWords;
+use bsc_options::StationWords;
 use clap::ArgMatches;
 use std::alloc::{AllocError, Global};
 

@@ -1,11 +1,11 @@
 //! The arguments of `bscline store`.
 ghost use Rattle.std.specs.Prelude.{◌≡◌, IfOk};
 ghost use Rattle.clap.specs.Words.{found_of, rows_of};
-ghost use Rattle.bsc_asked.specs.StoreWords.{store_words as words_asked};
+ghost use Rattle.bsc_options.specs.StoreWords.{store_words as words_asked};
 ghost use Rattle.bsc_words.specs.StoreWords.{store_words_in};
 
 use crate::values::{is_given, option_text, required_text};
-use bsc_asked::StoreWords;
+use bsc_options::StoreWords;
 use clap::ArgMatches;
 use std::alloc::{AllocError, Global};
 

@@ -9,9 +9,9 @@
 #![tactic(auto)]
 
 use anyhow::{Result, bail};
-use bsc_asked::ChartWords;
 use bsc_chart::draw;
-use bsc_input::{read_input, split_at_first};
+use bsc_options::ChartWords;
+use bsc_text::{read_input, split_at_first};
 use std::alloc::Global;
 use std::io;
 use std::io::{BufWriter, Read, Write};

@@ -1,14 +1,14 @@
 //! The line on standard error and the exit status of faults that no session of these tests shows.
 
 use bsc_attending::AttendingError;
+use bsc_carrier::loopback::LoopbackError;
 use bsc_chart::{ChartError, TraceError};
 use bsc_command::{Fault, fail, status};
 use bsc_connections::LiveError;
-use bsc_input::{TextError, Unreadable};
-use bsc_loopback::LoopbackError;
-use bsc_naming::NamingError;
-use bsc_running::RunningError;
+use bsc_run::RunningError;
 use bsc_sockets::SocketsError;
+use bsc_text::{TextError, Unreadable};
+use bsc_trace::naming::NamingError;
 use std::alloc::Global;
 use std::test::Fail;
 

@@ -4,7 +4,7 @@
 use crate::machine::Machine;
 use crate::pieces::Input;
 use bsc_chart::Traces;
-use bsc_input::{Files, InputError, Unreadable};
+use bsc_text::{Files, InputError, Unreadable};
 use std::io::ErrorKind;
 use test_fixtures::configurations::{THREE_ADDRESSES, TWO_TERMINALS};
 

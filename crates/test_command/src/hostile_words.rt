@@ -9,10 +9,10 @@ use crate::session::play;
 use bsc_attending::AttendingError;
 use bsc_block::RecordError;
 use bsc_command::Fault;
-use bsc_input::{TextError, Unreadable};
 use bsc_monitor::OfferError;
-use bsc_running::RunningError;
+use bsc_run::RunningError;
 use bsc_storing::StoringError;
+use bsc_text::{TextError, Unreadable};
 use std::alloc::{AllocError, Global};
 use std::test::Fail;
 

@@ -2,7 +2,8 @@
 
 use crate::machine::Machine;
 use crate::record::Record;
-use bsc_feeding::{FeedError, Reached, Stations};
+use bsc_clients::Reached;
+use bsc_clients::command::{FeedError, Stations};
 use bsc_serving::{Called, Programs};
 use std::alloc::Global;
 use std::collections::VecDeque;

@@ -2,12 +2,12 @@
 
 use crate::machine::Scene;
 use crate::wires::Wires;
-use bsc_progress::{Counts, Meter, Timer, Work};
+use bsc_text::progress::{Counts, Meter, Timer, Work};
 use std::alloc::Global;
 use std::cell::{Cell, RefCell};
 use std::io;
 use std::io::{Error, ErrorKind, Write};
-use test_memory::Memory;
+use test_fixtures::Memory;
 
 /// Octets that are written in one place and compared in another.
 pub(crate) type Octets = RefCell<Vec<u8>>;

@@ -24,8 +24,8 @@ use crate::files::{POLLED_PRINTED, POLLED_TRACED};
 use crate::machine::{SILENT, Scene};
 use crate::record::{Record, has};
 use crate::stores::keep;
-use bsc_input::MAX_INPUT;
 use bsc_sockets::SocketsError;
+use bsc_text::MAX_INPUT;
 use std::alloc::Global;
 use std::test::Fail;
 

@@ -6,7 +6,7 @@ use crate::session::{add, number};
 use bsc_attending::Stores;
 use bsc_block::Record as Card;
 use bsc_frame::Address;
-use bsc_kept::{Change, Channel, Found, Progress, Store, StoreFault};
+use bsc_spool::{Change, Channel, Found, Progress, Store, StoreFault};
 use bsc_storing::{Opened, StoreFiles};
 use std::alloc::Global;
 use std::test::Fail;

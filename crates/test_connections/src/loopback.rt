@@ -3,8 +3,8 @@
 
 ghost use Rattle.std.specs.Prelude.{◌≤◌, length};
 
+use bsc_carrier::loopback::{LoopbackError, connect};
 use bsc_carrier::{Cable, CarrierError, Octets};
-use bsc_loopback::{LoopbackError, connect};
 use std::alloc::Global;
 use std::cell::Cell;
 use std::io;

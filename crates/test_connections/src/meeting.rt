@@ -1,10 +1,10 @@
 //! A station that listens, and the peers that connected to it, on a machine with a clock that a
 //! test moves, and with a host that has the addresses that a test names.
 
-use bsc_peers::{Network, NetworkError, Networks};
 use bsc_sockets::{
     Begun, ConnectionSettings, Listening, Peers, Reception, SocketsError, connect, listen,
 };
+use bsc_trust::{Network, NetworkError, Networks};
 use std::alloc::{Allocator, Global};
 use std::cell::Cell;
 use std::io;

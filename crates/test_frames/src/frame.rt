@@ -3,8 +3,7 @@
 ghost use Rattle.std.specs.Prelude.{◌<◌};
 
 use bsc_frame::{Heard, Message, TextBuffer, Wire, decode, decode_short, encode};
-use bsc_input::read_octets;
-use bsc_print::{Detail, write_shown};
+use bsc_text::{Detail, read_octets, write_shown};
 use std::alloc::{AllocError, Global};
 use std::test::Fail;
 

@@ -3,8 +3,8 @@
 
 use crate::fake::{Fake, NO_FILE};
 use bsc_chart::Traces;
-use bsc_input::{Files, InputError, MAX_INPUT, Unreadable};
 use bsc_machine::Streams;
+use bsc_text::{Files, InputError, MAX_INPUT, Unreadable};
 use std::fs;
 use std::io::Read;
 use std::rt::HostRuntime;

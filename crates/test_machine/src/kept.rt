@@ -3,8 +3,8 @@
 use bsc_attending::Stores;
 use bsc_block::Record;
 use bsc_frame::Address;
-use bsc_kept::{Change, Channel, Found, Progress, Store, StoreFault};
 use bsc_machine::{Machine, Streams};
+use bsc_spool::{Change, Channel, Found, Progress, Store, StoreFault};
 use bsc_storing::StoreFiles;
 use std::fs;
 use std::rt::HostRuntime;

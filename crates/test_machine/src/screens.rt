@@ -3,8 +3,8 @@
 use crate::fake::{Fake, NO_FILE};
 use bsc_attending::Network;
 use bsc_machine::Streams;
-use bsc_progress::{Counts, Meter, Timer, Work};
-use bsc_running::Cables;
+use bsc_run::Cables;
+use bsc_text::progress::{Counts, Meter, Timer, Work};
 use std::cell::Cell;
 use std::io::{ErrorKind, Write};
 use std::test::Fail;

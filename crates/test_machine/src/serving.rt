@@ -2,8 +2,8 @@
 
 use crate::fake::{Fake, NO_FILE};
 use bsc_attending::{Network, Reachable};
+use bsc_clients::command::{FeedError, Stations};
 use bsc_clients::{ClientsError, ServedAt};
-use bsc_feeding::{FeedError, Stations};
 use bsc_machine::Streams;
 use bsc_serving::{Called, Programs};
 use std::io;

@@ -8,7 +8,7 @@ use crate::stations::{control_of, sending_control};
 use bsc_connections::{Connection, LiveError, SocketRecords};
 use bsc_control::Control;
 use bsc_monitor::{ControlWatch, Ended, LastWatch, Limits, Printing, Tracing, write_report};
-use bsc_print::PrintError;
+use bsc_text::PrintError;
 use std::alloc::Global;
 use std::test::Fail;
 use test_fixtures::Full;

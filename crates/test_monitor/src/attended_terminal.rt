@@ -7,7 +7,7 @@ use crate::stations::terminal_of;
 use bsc_carrier::CarrierError;
 use bsc_connections::LiveError;
 use bsc_monitor::{LineTerminal, Printing, RecordLines, Tracing, write_report};
-use bsc_print::Form;
+use bsc_text::Form;
 use std::alloc::Global;
 use std::io::{ErrorKind, Write};
 use std::test::Fail;

@@ -8,8 +8,8 @@ use bsc_control::Control;
 use bsc_monitor::{
     AbsenceLimits, ControlWatch, Limits, LineTerminal, Printing, RecordLines, TerminalWatch, Watch,
 };
-use bsc_print::Form;
-use bsc_progress::{Counts, Meter, Timer};
+use bsc_text::Form;
+use bsc_text::progress::{Counts, Meter, Timer};
 use bsc_trust::{TerminalPeers, Trust};
 use std::alloc::Global;
 use std::io;

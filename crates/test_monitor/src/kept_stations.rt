@@ -10,12 +10,12 @@ use bsc_connections::{LiveError, Monitor, Note, Pace};
 use bsc_control::Control;
 use bsc_frame::Wire;
 use bsc_keeping::{Keeper, Keeping, Own, Owner, Prints, Sends, begin_control, begin_terminal};
-use bsc_kept::StoreFault;
 use bsc_monitor::{LineTerminal, Party, new_control, new_terminal};
+use bsc_spool::StoreFault;
 use std::alloc::Global;
 use std::test::Fail;
+use test_fixtures::Memory;
 use test_fixtures::configurations::THREE_ADDRESSES;
-use test_memory::Memory;
 
 /// Returns the configuration of the tests.
 fn line(alloc: Global) -> Result<Config, Fail> {

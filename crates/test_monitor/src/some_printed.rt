@@ -3,7 +3,7 @@
 use crate::stations::{add, control_of};
 use bsc_control::Control;
 use bsc_monitor::{Party, RecordLines, print_some};
-use bsc_print::Form;
+use bsc_text::Form;
 use std::alloc::Global;
 use std::test::Fail;
 use test_fixtures::Full;

@@ -1,8 +1,8 @@
 //! The work of `bscline feed`, over a station that says what the test has it say.
 
-use bsc_feeding::FeedError::{Closed, Input, NotOneLine, Output, Refused, TooLong};
-use bsc_feeding::{FeedError, feed};
-use bsc_input::MAX_INPUT;
+use bsc_clients::command::FeedError::{Closed, Input, NotOneLine, Output, Refused, TooLong};
+use bsc_clients::command::{FeedError, feed};
+use bsc_text::MAX_INPUT;
 use std::alloc::Global;
 use std::io;
 use std::io::{ErrorKind, Read, Write};

@@ -7,12 +7,11 @@ use bsc_connections::LiveError;
 use bsc_control::Control;
 use bsc_frame::Address;
 use bsc_keeping::{Keeper, Own, Owner, begin_control};
-use bsc_kept::{Change, Channel, Store};
 use bsc_serving::Serving;
+use bsc_spool::{Change, Channel, Store};
 use std::alloc::Global;
 use std::test::Fail;
-use test_fixtures::on_heap;
-use test_memory::Memory;
+use test_fixtures::{Memory, on_heap};
 
 /// Returns what keeps the records of a control station, which is made again from its store.
 fn begun(

@@ -19,8 +19,8 @@
 //! | `ends`, `closes` | the last program ends its connection, or the station does |
 
 use crate::acts::{number, split};
-use crate::sockets::{Station, at, connects, fails_at_last, hears, hears_nothing, sends};
-use bsc_clients::{Reached, ServedAt, Stream};
+use crate::sockets::{Program, Station, at, connects, fails_at_last, hears, hears_nothing, sends};
+use bsc_clients::{ServedAt, Stream};
 use bsc_serving::{Called, Programs};
 use std::io::ErrorKind;
 use std::net::TcpStream;
@@ -60,7 +60,7 @@ struct Stage<'a> {
     rt: &'a HostRuntime,
     station: Station<'a>,
     streams: Vec<Stream>,
-    programs: Vec<Reached<TcpStream>>,
+    programs: Vec<Program>,
 }
 
 impl Stage<'_> {
@@ -87,8 +87,8 @@ impl Stage<'_> {
         let (place, octets) = split(rest);
         let (place, octets) = (number(place)?, octets.as_bytes());
         match word {
-            "says" => Ok(sends(&mut self.program(place)?.says, octets)),
-            "hears" => Ok(hears(&mut self.program(place)?.hears, octets)),
+            "says" => Ok(sends(&mut self.program(place)?.said, octets)),
+            "hears" => Ok(hears(&mut self.program(place)?.heard, octets)),
             "reads" => Ok(hears(self.stream(place)?, octets)),
             "writes" => Ok(sends(self.stream(place)?, octets)),
             "idle" => Ok(hears_nothing(self.stream(place)?)),
@@ -98,7 +98,7 @@ impl Stage<'_> {
     }
 
     /// Returns a program.
-    fn program(&mut self, number: usize) -> Result<&mut Reached<TcpStream>, Fail> {
+    fn program(&mut self, number: usize) -> Result<&mut Program, Fail> {
         match self.programs.get_mut(number) {
             Some(program) => Ok(program),
             None => Err(Fail::new("no such program")),

@@ -1,6 +1,6 @@
 //! A station that listens for programs, and waits until one may have to be served.
 
-use bsc_clients::{Clients, ClientsError, Reached, ServedAt, Stream, reach};
+use bsc_clients::{Clients, ClientsError, Direction, Reached, ServedAt, Stream, reach};
 use bsc_serving::Programs;
 use mio::unix::SourceFd;
 use mio::{Events, Interest, Poll, Token};
@@ -17,6 +17,9 @@ pub(crate) struct Station<'a> {
     poll: Poll,
     events: Events,
 }
+
+/// A program that is connected.
+pub(crate) type Program = Reached<Direction<TcpStream>, Direction<TcpStream>>;
 
 /// An address at which a station listens, which anyone may reach or not.
 pub(crate) fn at(address: &str, anyone: bool) -> ServedAt<'_> {
@@ -56,7 +59,7 @@ pub(crate) fn connects(
     rt: &HostRuntime,
     address: Option<SocketAddr>,
     path: &str,
-) -> Result<Reached<TcpStream>, Fail> {
+) -> Result<Program, Fail> {
     let patience = Duration::from_secs(10);
     let Some(address) = address else {
         return Ok(reach(rt, rt.alloc(), ServedAt::Path { path }, patience)?);

@@ -3,13 +3,13 @@
 
 use crate::runs::REPORT;
 use crate::sweeps::{line_of, offers_of};
-use bsc_asked::ChartWords;
 use bsc_carrier::Cable;
+use bsc_carrier::loopback::{LoopbackError, connect};
 use bsc_chart::draw;
-use bsc_input::{Files, InputError, Unreadable};
-use bsc_loopback::{LoopbackError, connect};
-use bsc_progress::{Unmetered, Work};
-use bsc_running::{Cables, RunWords, RunningError, run};
+use bsc_options::ChartWords;
+use bsc_run::{Cables, RunWords, RunningError, run};
+use bsc_text::progress::{Unmetered, Work};
+use bsc_text::{Files, InputError, Unreadable};
 use std::alloc::Global;
 use std::net::Net;
 use std::test::Fail;

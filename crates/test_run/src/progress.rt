@@ -3,7 +3,7 @@
 use crate::watched::{NO_TROUBLE, Plan};
 use crate::worked::{COUNTED_TWICE, POLLED, Worked};
 use crate::written::run_in_memory;
-use bsc_progress::{Counts, Meter, ProgressLine, Timer, Work};
+use bsc_text::progress::{Counts, Meter, ProgressLine, Timer, Work};
 use std::alloc::Global;
 use std::test::Fail;
 use test_fixtures::configurations::TWO_TERMINALS;

@@ -5,7 +5,7 @@ use crate::progress::counts_of;
 use crate::runs::REPORT;
 use crate::watched::{NO_TROUBLE, Plan, TRACED};
 use crate::written::{run_in_memory, run_over_sockets};
-use bsc_progress::Counts;
+use bsc_text::progress::Counts;
 use std::alloc::{AllocError, Global};
 use std::test::Fail;
 use test_fixtures::configurations::TWO_TERMINALS;

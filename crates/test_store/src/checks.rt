@@ -3,7 +3,7 @@
 
 use crate::facts::{Side, are_kept};
 use crate::files::{LINE, Task, create, delete, resumed, within};
-use bsc_kept::{Channel, NamedChannel, Store, StoreFault};
+use bsc_spool::{Channel, NamedChannel, Store, StoreFault};
 use std::fs;
 use std::rt::HostRuntime;
 use std::test::Fail;

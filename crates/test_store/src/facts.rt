@@ -2,7 +2,7 @@
 
 use bsc_block::Record;
 use bsc_frame::Address;
-use bsc_kept::{Change, Channel, Found, Store, StoreFault};
+use bsc_spool::{Change, Channel, Found, Store, StoreFault};
 
 /// Returns the address of the terminal of the tests.
 fn address() -> Result<Address, StoreFault> {

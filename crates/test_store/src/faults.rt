@@ -1,7 +1,7 @@
 //! Each fault, by its name, and that what is kept is as it was.
 
 use crate::files::{LINE, Task, create, delete, is_in_use, resumed, within};
-use bsc_kept::StoreFault;
+use bsc_spool::StoreFault;
 use std::fs;
 use std::rt::HostRuntime;
 use std::test::Fail;

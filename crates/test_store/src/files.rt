@@ -5,7 +5,7 @@ use crate::checks::{are_checked, is_damaged};
 use crate::cut::{has_step, keep_step};
 use crate::facts::{from_terminal, to_terminal};
 use crate::kept::{fill, is_filled, is_unchanged, keeps_many};
-use bsc_kept::{Store, StoreFault};
+use bsc_spool::{Store, StoreFault};
 use bsc_store::TableStore;
 use sqlite::{Connection, MemStore, params};
 use std::alloc::Global;

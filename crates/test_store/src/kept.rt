@@ -3,7 +3,7 @@
 
 use crate::facts::{Fact, Side, are_kept, change, counts};
 use crate::files::{LINE, Task, copied, create, delete, in_memory, within};
-use bsc_kept::{Channel, Store, StoreFault};
+use bsc_spool::{Channel, Store, StoreFault};
 use std::alloc::Global;
 use std::fs;
 use std::rt::HostRuntime;

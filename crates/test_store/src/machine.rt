@@ -2,12 +2,11 @@
 
 use crate::facts::{Fact, change};
 use crate::lines::OWN;
-use bsc_asked::StoreWords;
-use bsc_input::{Files, InputError, Unreadable};
-use bsc_kept::{Change, Channel, Found, Progress, Store, StoreFault};
-use bsc_options::read_store_work;
+use bsc_options::{StoreWords, read_store_work};
+use bsc_spool::{Change, Channel, Found, Progress, Store, StoreFault};
 use bsc_store::TableStore;
 use bsc_storing::{Opened, StoreFiles, StoringError, store};
+use bsc_text::{Files, InputError, Unreadable};
 use sqlite::{Connection, MemStore};
 use std::alloc::{AllocError, Global};
 use std::io::Write;

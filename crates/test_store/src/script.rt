@@ -14,7 +14,7 @@
 use crate::facts::{Fact, from_terminal};
 use crate::machine::{Machine, is_unprinted, keep, no_stores, told};
 use bsc_frame::Address;
-use bsc_kept::{Channel, StoreFault};
+use bsc_spool::{Channel, StoreFault};
 use std::alloc::Global;
 use std::test::Fail;
 

@@ -1,6 +1,6 @@
 //! The text of a line in a store, right and damaged.
 
-use bsc_kept::StoreFault;
+use bsc_spool::StoreFault;
 use bsc_storing::read_line_text;
 use std::alloc::Global;
 use std::test::Fail;

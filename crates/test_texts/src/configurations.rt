@@ -4,7 +4,7 @@
 use crate::inputs::repeated;
 use bsc_bid::{Setup, Terminal};
 use bsc_config::{Config, ConfigError, read_config};
-use bsc_input::MAX_INPUT;
+use bsc_text::MAX_INPUT;
 use std::alloc::Global;
 use std::test::Fail;
 use test_fixtures::configurations::TWO_TERMINALS;

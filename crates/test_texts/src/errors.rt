@@ -4,13 +4,12 @@ use bsc_bid::{ReleaseError, SettingError, TerminalError};
 use bsc_block::{FormatError, RecordError};
 use bsc_carrier::{CarrierError, DeviceFault};
 use bsc_config::ConfigError;
+use bsc_config::script::ScriptError;
 use bsc_connections::LiveError;
 use bsc_control::SetupError;
 use bsc_frame::AddressError;
-use bsc_input::{InputError, Unreadable};
-use bsc_peers::NetworkError;
-use bsc_print::PrintError;
-use bsc_script::ScriptError;
+use bsc_text::{InputError, PrintError, Unreadable};
+use bsc_trust::NetworkError;
 use std::io::ErrorKind;
 use std::test::Fail;
 

@@ -1,5 +1,5 @@
 //! Texts at paths: what the files of a machine have, and why a file has none.
-use bsc_input::{Files, InputError, MAX_INPUT, STANDARD_INPUT, TextError, Unreadable, read_text};
+use bsc_text::{Files, InputError, MAX_INPUT, STANDARD_INPUT, TextError, Unreadable, read_text};
 use std::alloc::Global;
 
 /// The path of every file.

@@ -1,6 +1,6 @@
 //! Properties of inputs that no contract states: calls that succeed, streams that fail, and refused
 //! growths.
-use bsc_input::{InputError, LineEnd, MAX_INPUT, Unreadable, read_input, read_line, read_octets};
+use bsc_text::{InputError, LineEnd, MAX_INPUT, Unreadable, read_input, read_line, read_octets};
 use std::alloc::{AllocError, Global};
 use std::io;
 use std::io::{BufReader, Error, ErrorKind, Read};

@@ -1,5 +1,5 @@
-//! Tests of the texts that the libraries read and print: inputs, configurations, scripts,
-//! errors, and the names of transmissions.
+//! Tests of the texts that the libraries read and print: inputs, configurations, scripts, errors,
+//! the names of transmissions, and ladders as texts, pictures and pages.
 //!
 //! All of these texts are this project's own; the transmissions, settings and events in them are
 //! those of the line procedure (GA27-3004).
@@ -10,11 +10,17 @@ mod configurations;
 #[cfg(test)]
 mod errors;
 #[cfg(test)]
+mod faults;
+#[cfg(test)]
 mod files;
 #[cfg(test)]
 mod inputs;
 #[cfg(test)]
+mod ladders;
+#[cfg(test)]
 mod naming;
+#[cfg(test)]
+mod pictures;
 #[cfg(test)]
 mod scripts;
 #[cfg(test)]

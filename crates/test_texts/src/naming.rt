@@ -1,7 +1,7 @@
 //! The names of transmissions, of lines and of traces.
 
 use crate::inputs::Broken;
-use bsc_naming::{NamingError, name, names, show};
+use bsc_trace::naming::{NamingError, name, names, show};
 use std::alloc::{Allocator, Global};
 use std::io::{ErrorKind, Write};
 use std::ops::Range;

@@ -1,8 +1,8 @@
 //! Scripts that are read, lines that are not events, and the longest lines and scripts.
 
 use crate::inputs::repeated;
-use bsc_input::MAX_INPUT;
-use bsc_script::{ScriptError, read_script};
+use bsc_config::script::{ScriptError, read_script};
+use bsc_text::MAX_INPUT;
 use std::alloc::{AllocError, Global};
 use std::test::Fail;
 use test_alloc::{Refusal, Refusing};

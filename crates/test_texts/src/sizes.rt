@@ -5,8 +5,8 @@
 use crate::inputs::repeated;
 use crate::naming::Call::{Name, Names, Show};
 use crate::naming::{Call, is_due, print};
-use bsc_input::MAX_INPUT;
-use bsc_naming::NamingError;
+use bsc_text::MAX_INPUT;
+use bsc_trace::naming::NamingError;
 use std::alloc::{AllocError, Global};
 use std::test::Fail;
 use test_alloc::{Refusal, Refusing};

@@ -1,6 +1,6 @@
 //! Which stations take no part in what goes on.
 
-use bsc_directory::limits::MAX_TERMINALS;
+use bsc_bid::limits::MAX_TERMINALS;
 use bsc_line::Speaker;
 
 /// The control station, and each terminal.

@@ -1,7 +1,7 @@
 //! Which terminal may be called next.
 
+use bsc_bid::limits::{MAX_ENTRIES, MAX_TERMINALS};
 use bsc_control::Way;
-use bsc_directory::limits::{MAX_ENTRIES, MAX_TERMINALS};
 use std::alloc::{AllocError, Global};
 
 /// The poll list, the terminals in it that are polled, and how far the control station can be.

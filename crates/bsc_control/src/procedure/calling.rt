@@ -11,7 +11,7 @@ ghost use Rattle.bsc_control.specs.Table.{next_call_step, call_past_step, rest_s
 use crate::peer::Peer;
 use crate::procedure::Procedure;
 use crate::task::{Replied, Task};
-use bsc_directory::Way;
+use bsc_bid::Way;
 use bsc_frame::MessageBuffer;
 use std::alloc::Allocator;
 

@@ -8,7 +8,7 @@ ghost use Rattle.bsc_line_model.specs.Rounds.{selection_length as selection, pol
 ghost use Rattle.bsc_line.specs.Counts.{entry_length, in_u64};
 
 use crate::line::Line;
-use bsc_directory::limits::MAX_TERMINALS;
+use bsc_bid::limits::MAX_TERMINALS;
 use bsc_line_model::laws::seen_terminals;
 use std::alloc::Allocator;
 

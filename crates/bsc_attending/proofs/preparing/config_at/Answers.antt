@@ -1,7 +1,7 @@
 -- Shows that the error is that of the text that was read.
 use Rattle.std.proofs.Common.{rules, ◌≡◌, subst, sym, IfErr, Err}
 use Rattle.bsc_config.specs.Answers.{IsRefusedFor}
-use Rattle.bsc_input.specs.Texts.{IsTextAt}
+use Rattle.bsc_text.specs.InputTexts.{IsTextAt}
 use Rattle.bsc_attending.specs.Errors.{config_error}
 use Rattle.bsc_attending.specs.Preparing.{HasNoConfig}
 use Rattle.bsc_attending.proofs.Prepared.{no_config}

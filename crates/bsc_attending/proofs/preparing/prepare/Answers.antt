@@ -1,6 +1,6 @@
 -- Shows that the station is that of the configuration that was read.
 use Rattle.std.proofs.Common.{rules, ◌≡◌, subst, sym, IfErr, Ok, Err}
-use Rattle.bsc_asked.specs.StationWords.{asked_words}
+use Rattle.bsc_options.specs.StationWords.{asked_words}
 use Rattle.bsc_attending.specs.Preparing.{HasNoStation, IsStationOf, IsUnprepared, ReadsConfig}
 use Rattle.bsc_attending.proofs.Prepared.{is_prepared, is_unprepared}
 use Rattle.bsc_attending.proofs.preparing.prepare.Goals as goal

@@ -1,5 +1,5 @@
 -- Shows that what the station answers and prints comes after it was prepared.
-use Rattle.bsc_asked.specs.StationWords.{asked_words}
+use Rattle.bsc_options.specs.StationWords.{asked_words}
 use Rattle.bsc_attending.proofs.Outcomes.{answer_begun, asked_after, report_begun}
 use Rattle.bsc_attending.proofs.stations.prepare_and_run.Goals as goal
 

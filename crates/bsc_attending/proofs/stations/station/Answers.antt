@@ -1,6 +1,6 @@
 -- Shows that what the station answers comes after the options were read.
 use Rattle.std.proofs.Common.{rules, ◌≡◌, Ok, inr}
-use Rattle.bsc_asked.specs.StationWords.{asked_words}
+use Rattle.bsc_options.specs.StationWords.{asked_words}
 use Rattle.bsc_options.specs.Admission.{IsAdmission}
 use Rattle.bsc_options.specs.Settings.{settings_in, settings_value}
 use Rattle.bsc_attending.proofs.Outcomes.{reported_by}

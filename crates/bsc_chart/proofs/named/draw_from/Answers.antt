@@ -1,5 +1,5 @@
 -- Shows that the trace that is named is drawn.
-use Rattle.bsc_asked.specs.ChartWords.{chart_words}
+use Rattle.bsc_options.specs.ChartWords.{chart_words}
 use Rattle.bsc_chart.specs.Named.{file_of}
 use Rattle.bsc_chart.proofs.TraceErrors.{file_drawn, file_failed, input_drawn, input_failed}
 use Rattle.bsc_chart.proofs.TraceErrors.{fails_file, fails_input, names_file, names_input}

@@ -1,6 +1,6 @@
 -- Shows that what is told of the trace is told of the words.
 use Rattle.std.proofs.Common.{option_map, subst, sym}
-use Rattle.bsc_asked.specs.ChartWords.{chart_words}
+use Rattle.bsc_options.specs.ChartWords.{chart_words}
 use Rattle.bsc_chart.proofs.TraceErrors.{charted, failed, late_traces, named_charted}
 use Rattle.bsc_chart.proofs.TraceErrors.{named_failed, words_failed, wrong_words}
 use Rattle.bsc_chart.proofs.named.draw_named.Goals as goal

@@ -1,7 +1,7 @@
 -- One more record is written after a bar.
 use Rattle.std.proofs.KnownBytes.{Appends-trans}
 use Rattle.bsc_frame.specs.Units.{text_unit}
-use Rattle.bsc_print.proofs.Lists.{flat_map_take_more}
+use Rattle.bsc_text.proofs.Lists.{flat_map_take_more}
 use Rattle.bsc_chart.specs.Rows.{unit_note}
 use Rattle.bsc_chart.proofs.rows.write_records.Goals as goal
 

@@ -1,5 +1,5 @@
 -- Shows that the fault of drawing says what its error says.
-use Rattle.bsc_asked.specs.ChartWords.{chart_words}
+use Rattle.bsc_options.specs.ChartWords.{chart_words}
 use Rattle.bsc_command.proofs.Charts.{trace_early, trace_failed, trace_is_fault}
 use Rattle.bsc_command.proofs.program.draw_chart.Goals as goal
 

@@ -1,7 +1,7 @@
 -- Shows that the fault of a station says what its error says.
 use Rattle.std.proofs.Common.{rules, ◌≡◌, subst, sym}
-use Rattle.bsc_asked.specs.Asked.{asked as asked_now, station}
-use Rattle.bsc_asked.specs.StationWords.{asked_words}
+use Rattle.bsc_options.specs.Asked.{asked as asked_now, station}
+use Rattle.bsc_options.specs.StationWords.{asked_words}
 use Rattle.bsc_command.specs.Program.{HasFailedAs, HasFailedReport, IsFaultOf}
 use Rattle.bsc_command.proofs.Stations.{station_early, station_failed, station_fault}
 use Rattle.bsc_command.proofs.program.perform.Goals as goal

@@ -1,6 +1,6 @@
 -- Shows that the run says the same of some writer of its trace.
-use Rattle.bsc_running.specs.Errors.{IsEarly}
-use Rattle.bsc_running.specs.Running.{paths_of}
+use Rattle.bsc_run.specs.Errors.{IsEarly}
+use Rattle.bsc_run.specs.Running.{paths_of}
 use Rattle.bsc_command.proofs.Traced.{done_traced, failed_traced, first_early}
 use Rattle.bsc_command.proofs.program.run_traced.Goals as goal
 

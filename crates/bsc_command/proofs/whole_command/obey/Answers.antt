@@ -1,7 +1,7 @@
 -- Shows that the fault for words that are refused is one of these words.
 use Rattle.std.proofs.Common.{rules, ◌≡◌, [], List, inr, map, string_bytes, subst}
 use Rattle.std.proofs.lemmas.Result.{IfErr-weaker, on_ok_weaker}
-use Rattle.bsc_asked.specs.Asked.{asked as asked_now}
+use Rattle.bsc_options.specs.Asked.{asked as asked_now}
 use Rattle.clap.specs.Words.{HasKind, Text}
 use Rattle.bsc_words.specs.CommandLine.{asked_of, faults_at}
 use Rattle.bsc_command.specs.Program.{HasFailedReport, IsFailure, IsReportedOn}

@@ -1,8 +1,8 @@
 -- What was made is in the handle, or the reason why not is told.
 use Rattle.std.proofs.Common.{sym, subst, ◌∙◌}
-use Rattle.bsc_handle.specs.Handles.{made_in}
-use Rattle.bsc_handle.specs.declared.made.Made.TheVariants.{Control}
-use Rattle.bsc_control_calls.specs.Making.{IsMade}
+use Rattle.bsc_embed.specs.Handles.{made_in}
+use Rattle.bsc_embed.specs.declared.handles.made.Made.TheVariants.{Control}
+use Rattle.bsc_embed.specs.ControlMaking.{IsMade}
 use Rattle.bsc_embed.proofs.Makings.{has_nothing, made_and_kept}
 use Rattle.bsc_embed.proofs.control.bsc_control_new.Goals as goal
 

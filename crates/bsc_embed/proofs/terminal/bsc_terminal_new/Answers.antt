@@ -1,8 +1,8 @@
 -- What was made is in the handle, or the reason why not is told.
 use Rattle.std.proofs.Common.{sym, ap, subst, ◌∙◌}
-use Rattle.bsc_handle.specs.Handles.{made_in}
-use Rattle.bsc_handle.specs.declared.made.Made.TheVariants.{Terminal}
-use Rattle.bsc_terminal_calls.specs.Making.{IsMade}
+use Rattle.bsc_embed.specs.Handles.{made_in}
+use Rattle.bsc_embed.specs.declared.handles.made.Made.TheVariants.{Terminal}
+use Rattle.bsc_embed.specs.TerminalMaking.{IsMade}
 use Rattle.bsc_embed.proofs.Makings.{has_nothing, made_and_kept, not_made}
 use Rattle.bsc_embed.proofs.terminal.bsc_terminal_new.Goals as goal
 

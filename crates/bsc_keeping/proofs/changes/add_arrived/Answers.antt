@@ -2,8 +2,8 @@
 use Rattle.std.proofs.Common.{◌≡◌, ◌+◌, ◌-◌, ◌∙◌, ℕ, List, ◌∷◌, [], ap, arith, take, drop, map, slice_get, Some}
 use Rattle.std.proofs.lemmas.Option.{slice_get-get_or}
 use Rattle.bsc_block.proofs.Waiting.{waiting_at, waiting_within}
-use Rattle.bsc_kept.specs.declared.change.Change.{Change}
-use Rattle.bsc_kept.specs.declared.change.Change.TheVariants.{Arrived}
+use Rattle.bsc_spool.specs.declared.change.Change.{Change}
+use Rattle.bsc_spool.specs.declared.change.Change.TheVariants.{Arrived}
 use Rattle.bsc_keeping.proofs.Lists.{added_more, map_take_more}
 use Rattle.bsc_keeping.proofs.changes.add_arrived.Goals as goal
 

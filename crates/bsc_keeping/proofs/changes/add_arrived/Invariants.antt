@@ -1,6 +1,6 @@
 -- The records so far are added.
 use Rattle.std.proofs.Common.{◌≡◌, ◌++◌, ◌-◌, ◌≤◌, take, drop, map}
-use Rattle.bsc_kept.specs.declared.change.Change.TheVariants.{Arrived}
+use Rattle.bsc_spool.specs.declared.change.Change.TheVariants.{Arrived}
 use Rattle.bsc_keeping.proofs.changes.add_arrived.Given as goal
 
 abbrev pub invariant-records : goal.invariant-records

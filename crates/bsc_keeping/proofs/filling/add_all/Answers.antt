@@ -1,7 +1,7 @@
 -- One more record is gained, which is the next one that the store has.
 use Rattle.std.proofs.Common.{◌≡◌, ◌+◌, ap, subst, sym, rules, arith, w64, to_z, of_z}
-use Rattle.bsc_kept.specs.Contents.{never, again}
-use Rattle.bsc_kept.specs.declared.store.Progress.{Progress}
+use Rattle.bsc_spool.specs.Contents.{never, again}
+use Rattle.bsc_spool.specs.declared.store.Progress.{Progress}
 use Rattle.bsc_keeping.proofs.FilledFrom.{IsAt, from_first, gained_next, moves_on}
 use Rattle.bsc_keeping.proofs.FilledFrom.{added_whole}
 use Rattle.bsc_keeping.proofs.Reading.{is_as_before, next_arrived, then}

@@ -1,6 +1,6 @@
 -- The records so far are added, and of what the store has the rest is left.
-use Rattle.bsc_kept.specs.Contents.{Contents, GivesBack, IsRead, records_from}
-use Rattle.bsc_kept.specs.declared.channel.Channel.{Channel}
+use Rattle.bsc_spool.specs.Contents.{Contents, GivesBack, IsRead, records_from}
+use Rattle.bsc_spool.specs.declared.channel.Channel.{Channel}
 use Rattle.bsc_keeping.specs.Filled.{AddsAll}
 use Rattle.bsc_keeping.proofs.FilledFrom.{IsAt}
 use Rattle.bsc_keeping.proofs.filling.add_all.Given as goal

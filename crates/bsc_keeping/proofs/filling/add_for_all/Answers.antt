@@ -1,7 +1,7 @@
 -- The records of one more channel are added.
 use Rattle.std.proofs.Common.{◌<◌, ◌∙◌, ap, get_or, length, subst}
 use Rattle.bsc_control.proofs.PeerLists.{map_with_one_more}
-use Rattle.bsc_kept.specs.Contents.{Contents, never}
+use Rattle.bsc_spool.specs.Contents.{Contents, never}
 use Rattle.bsc_keeping.specs.Filled.{receiving_from}
 use Rattle.bsc_keeping.proofs.FilledFrom.{each_gained, reads_first, rests_on}
 use Rattle.bsc_keeping.proofs.Reading.{is_as_before, then}

@@ -1,7 +1,7 @@
 -- The channels so far are filled.
 use Rattle.std.proofs.Common.{◌≡◌, ◌++◌, drop, map, take}
-use Rattle.bsc_kept.specs.Contents.{Contents, GivesBack, IsRead}
-use Rattle.bsc_kept.specs.declared.channel.Channel.{Channel}
+use Rattle.bsc_spool.specs.Contents.{Contents, GivesBack, IsRead}
+use Rattle.bsc_spool.specs.declared.channel.Channel.{Channel}
 use Rattle.bsc_keeping.specs.Filled.{AddsEach, receiving_from}
 use Rattle.bsc_keeping.proofs.filling.add_for_all.Given as goal
 

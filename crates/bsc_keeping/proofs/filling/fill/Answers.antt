@@ -1,6 +1,6 @@
 -- The station has what its store had at the beginning, since reading has changed nothing of that.
 use Rattle.std.proofs.Common.{◌≡◌, ◌∙◌, ap, map, subst, sym}
-use Rattle.bsc_kept.specs.Contents.{IsRead}
+use Rattle.bsc_spool.specs.Contents.{IsRead}
 use Rattle.bsc_keeping.specs.Filled.{AddsEach, offered_each, receiving_from, recalled_each}
 use Rattle.bsc_keeping.specs.Filled.{sending_from}
 use Rattle.bsc_keeping.proofs.Reading.{is_as_before, then}

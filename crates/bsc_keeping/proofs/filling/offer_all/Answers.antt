@@ -1,7 +1,7 @@
 -- One more record is offered, which is the next one that the store has.
 use Rattle.std.proofs.Common.{◌≡◌, ◌+◌, ap, refl, subst, sym, rules, arith, w64, to_z, of_z}
-use Rattle.bsc_kept.specs.Contents.{never, again}
-use Rattle.bsc_kept.specs.declared.store.Progress.{Progress}
+use Rattle.bsc_spool.specs.Contents.{never, again}
+use Rattle.bsc_spool.specs.declared.store.Progress.{Progress}
 use Rattle.bsc_keeping.proofs.FilledFrom.{IsAt, from_first, moves_on, offered_next, offered_whole}
 use Rattle.bsc_keeping.proofs.Reading.{is_as_before, next_offered, then}
 use Rattle.bsc_keeping.proofs.filling.offer_all.Goals as goal

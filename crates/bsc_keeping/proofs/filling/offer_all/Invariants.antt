@@ -1,7 +1,7 @@
 -- The records so far are offered, and of what the store has the rest is left.
 use Rattle.std.proofs.Common.{◌≡◌}
-use Rattle.bsc_kept.specs.Contents.{Contents, GivesBack, IsRead, records_from}
-use Rattle.bsc_kept.specs.declared.channel.Channel.{Channel}
+use Rattle.bsc_spool.specs.Contents.{Contents, GivesBack, IsRead, records_from}
+use Rattle.bsc_spool.specs.declared.channel.Channel.{Channel}
 use Rattle.bsc_keeping.specs.Filled.{offered_all}
 use Rattle.bsc_keeping.proofs.FilledFrom.{IsAt}
 use Rattle.bsc_keeping.proofs.filling.offer_all.Given as goal

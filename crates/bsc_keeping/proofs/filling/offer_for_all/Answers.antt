@@ -1,6 +1,6 @@
 -- The records of one more channel are offered.
 use Rattle.std.proofs.Common.{refl}
-use Rattle.bsc_kept.specs.Contents.{never}
+use Rattle.bsc_spool.specs.Contents.{never}
 use Rattle.bsc_keeping.proofs.FilledFrom.{each_offered, reads_item}
 use Rattle.bsc_keeping.proofs.Reading.{is_as_before, then}
 use Rattle.bsc_keeping.proofs.filling.offer_for_all.Goals as goal

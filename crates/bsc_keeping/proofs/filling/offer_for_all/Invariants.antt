@@ -1,7 +1,7 @@
 -- The records of the channels so far are offered.
 use Rattle.std.proofs.Common.{◌≡◌, drop}
-use Rattle.bsc_kept.specs.Contents.{Contents, GivesBack, IsRead}
-use Rattle.bsc_kept.specs.declared.channel.Channel.{Channel}
+use Rattle.bsc_spool.specs.Contents.{Contents, GivesBack, IsRead}
+use Rattle.bsc_spool.specs.declared.channel.Channel.{Channel}
 use Rattle.bsc_keeping.specs.Filled.{offered_each}
 use Rattle.bsc_keeping.proofs.filling.offer_for_all.Given as goal
 

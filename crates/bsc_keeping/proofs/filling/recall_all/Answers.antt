@@ -1,7 +1,7 @@
 -- What is kept of one more channel is recalled.
 use Rattle.std.proofs.Common.{◌<◌, ◌∙◌, ap, get_or, length, refl, subst}
 use Rattle.bsc_control.proofs.PeerLists.{map_with_one_more}
-use Rattle.bsc_kept.specs.Contents.{Contents, never, again}
+use Rattle.bsc_spool.specs.Contents.{Contents, never, again}
 use Rattle.bsc_keeping.specs.Filled.{sending_from}
 use Rattle.bsc_keeping.proofs.FilledFrom.{each_recalled, reads_first, rests_on}
 use Rattle.bsc_keeping.proofs.Reading.{is_as_before}

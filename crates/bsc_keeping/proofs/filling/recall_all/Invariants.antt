@@ -1,7 +1,7 @@
 -- What is kept of the channels so far is recalled.
 use Rattle.std.proofs.Common.{◌≡◌, ◌++◌, drop, map, take}
-use Rattle.bsc_kept.specs.Contents.{Contents, GivesBack, IsRead}
-use Rattle.bsc_kept.specs.declared.channel.Channel.{Channel}
+use Rattle.bsc_spool.specs.Contents.{Contents, GivesBack, IsRead}
+use Rattle.bsc_spool.specs.declared.channel.Channel.{Channel}
 use Rattle.bsc_keeping.specs.Filled.{recalled_each, sending_from}
 use Rattle.bsc_keeping.proofs.filling.recall_all.Given as goal
 

@@ -1,7 +1,7 @@
 -- One more end is set.
 use Rattle.bsc_control.proofs.PeerLists.{map_with_one_more}
 use Rattle.bsc_keeping.specs.Changes.{received_now, records_of}
-use Rattle.bsc_kept.specs.declared.ends.Receiving.{Receiving}
+use Rattle.bsc_spool.specs.declared.ends.Receiving.{Receiving}
 use Rattle.bsc_keeping.proofs.keeper.advance_receiving.Goals as goal
 
 pub ends-preserved : goal.ends-preserved

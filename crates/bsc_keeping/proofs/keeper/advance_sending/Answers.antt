@@ -2,7 +2,7 @@
 use Rattle.std.proofs.Common.{◌∙◌, ap, get_or}
 use Rattle.bsc_control.proofs.PeerLists.{map_with_one_more}
 use Rattle.bsc_keeping.specs.Changes.{known_now}
-use Rattle.bsc_kept.specs.declared.ends.Sending.{Sending}
+use Rattle.bsc_spool.specs.declared.ends.Sending.{Sending}
 use Rattle.bsc_keeping.proofs.keeper.advance_sending.Goals as goal
 
 pub ends-preserved : goal.ends-preserved

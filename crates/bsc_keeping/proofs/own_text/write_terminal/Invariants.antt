@@ -2,7 +2,7 @@
 use Rattle.std.proofs.Common.{◌++◌, take, codes}
 use Rattle.std.specs.Io.KnownBytes.{Appends}
 use Rattle.std.specs.List.{flat_map}
-use Rattle.bsc_print.specs.Names.{chars_shown}
+use Rattle.bsc_text.specs.Names.{chars_shown}
 use Rattle.bsc_keeping.specs.OwnText.{select_shown}
 use Rattle.bsc_keeping.proofs.own_text.write_terminal.Given as goal
 

@@ -1,7 +1,7 @@
 -- Shows that each iteration of the loop prints the new records of one more channel.
 use Rattle.std.proofs.Common.{◌≡◌, ℕ, rules, arith, slice_index, subst}
 use Rattle.std.specs.Io.KnownBytes.{Appends}
-use Rattle.bsc_report.proofs.Appending.{each_below_more}
+use Rattle.bsc_text.proofs.Appending.{each_below_more}
 use Rattle.bsc_monitor.specs.Arrivals.{arrivals_of, channel_arrivals}
 use Rattle.bsc_monitor.proofs.Counts.{as_many_with_channel, more_with_channel}
 use Rattle.bsc_monitor.proofs.arrivals.print_arrivals.Goals as goal

@@ -1,7 +1,7 @@
 -- The new records of the channels so far are printed and counted.
 use Rattle.std.proofs.Common.{◌≡◌, ℕ, ◌≤◌, true, false, slice_index}
 use Rattle.std.specs.Io.KnownBytes.{Appends}
-use Rattle.bsc_report.specs.Channels.{each_below}
+use Rattle.bsc_text.specs.Channels.{each_below}
 use Rattle.bsc_monitor.specs.Arrivals.{AreCounted, MoreArePrinted, AsManyArePrinted, arrivals_of}
 use Rattle.bsc_monitor.proofs.arrivals.print_arrivals.Given as goal
 

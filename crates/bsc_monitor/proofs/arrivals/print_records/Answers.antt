@@ -3,7 +3,7 @@ use Rattle.std.proofs.Common.{◌≡◌, ◌+◌, ◌-◌, ◌∙◌, ℕ, List,
 use Rattle.std.proofs.KnownBytes.{Appends-trans}
 use Rattle.std.proofs.lemmas.Option.{slice_get-get_or}
 use Rattle.bsc_block.proofs.Waiting.{waiting_at, waiting_within}
-use Rattle.bsc_report.specs.Channels.{channel_name}
+use Rattle.bsc_text.specs.Channels.{channel_name}
 use Rattle.bsc_monitor.proofs.Lines.{lines_take_more}
 use Rattle.bsc_monitor.proofs.arrivals.print_records.Goals as goal
 

@@ -1,7 +1,7 @@
 -- The lines of the records so far are printed.
 use Rattle.std.proofs.Common.{◌-◌, ◌≤◌, take, drop}
 use Rattle.std.specs.Io.KnownBytes.{Appends}
-use Rattle.bsc_report.specs.Channels.{channel_name}
+use Rattle.bsc_text.specs.Channels.{channel_name}
 use Rattle.bsc_monitor.specs.Printed.{lines_from}
 use Rattle.bsc_monitor.proofs.arrivals.print_records.Given as goal
 

@@ -1,6 +1,6 @@
 -- The counts are those of the terminals so far.
 use Rattle.std.proofs.Common.{◌≡◌}
-use Rattle.bsc_progress.specs.Counts.{counted, counts_of}
+use Rattle.bsc_text.specs.Counts.{counted, counts_of}
 use Rattle.bsc_monitor.specs.Counting.{terminal_counts}
 use Rattle.bsc_monitor.proofs.counting.station_counts.Given as goal
 

@@ -1,7 +1,7 @@
 -- Each iteration of the loop prints records of one more channel.
 use Rattle.std.proofs.Common.{◌≡◌, ℕ, min, rules, arith, slice_index, subst}
 use Rattle.std.specs.Io.KnownBytes.{Appends}
-use Rattle.bsc_report.proofs.Appending.{each_below_more}
+use Rattle.bsc_text.proofs.Appending.{each_below_more}
 use Rattle.bsc_monitor.specs.Following.{left_after, next_lines, some_lines, unprinted_on}
 use Rattle.bsc_monitor.proofs.following.print_some.Goals as goal
 

@@ -1,7 +1,7 @@
 -- Records of the channels so far are printed and counted.
 use Rattle.std.proofs.Common.{◌≡◌, ℕ, ◌≤◌, slice_index}
 use Rattle.std.specs.Io.KnownBytes.{Appends}
-use Rattle.bsc_report.specs.Channels.{each_below}
+use Rattle.bsc_text.specs.Channels.{each_below}
 use Rattle.bsc_monitor.specs.Following.{AreSomeCounted, left_after, some_lines}
 use Rattle.bsc_monitor.proofs.following.print_some.Given as goal
 

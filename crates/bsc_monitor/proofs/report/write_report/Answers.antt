@@ -1,6 +1,6 @@
 -- Shows that the lines of each terminal are written in order.
 use Rattle.bsc_monitor.specs.Printed.{terminal_lines}
-use Rattle.bsc_report.proofs.Appending.{each_below_more}
+use Rattle.bsc_text.proofs.Appending.{each_below_more}
 use Rattle.bsc_monitor.proofs.report.write_report.Goals as goal
 
 pub terminals-preserved : goal.terminals-preserved

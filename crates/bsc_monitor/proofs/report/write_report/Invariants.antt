@@ -1,6 +1,6 @@
 -- The lines of the terminals so far are written.
 use Rattle.std.specs.Io.KnownBytes.{Appends}
-use Rattle.bsc_report.specs.Channels.{each_below}
+use Rattle.bsc_text.specs.Channels.{each_below}
 use Rattle.bsc_monitor.specs.Printed.{terminal_lines}
 use Rattle.bsc_monitor.proofs.report.write_report.Given as goal
 

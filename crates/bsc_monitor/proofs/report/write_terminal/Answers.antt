@@ -1,10 +1,10 @@
 -- Shows that the channel from the terminal is written, and then each channel to it.
 use Rattle.std.proofs.Common.{◌≡◌, arith}
 use Rattle.std.proofs.KnownBytes.{Appends-trans}
-use Rattle.bsc_directory.specs.declared.way.Way.TheVariants.{FromTerminal, ToTerminal}
-use Rattle.bsc_report.specs.Channels.{each_below}
+use Rattle.bsc_bid.specs.declared.way.Way.TheVariants.{FromTerminal, ToTerminal}
+use Rattle.bsc_text.specs.Channels.{each_below}
 use Rattle.bsc_monitor.specs.Printed.{channel_lines}
-use Rattle.bsc_report.proofs.Appending.{each_below_more}
+use Rattle.bsc_text.proofs.Appending.{each_below_more}
 use Rattle.bsc_monitor.proofs.report.write_terminal.Goals as goal
 
 pub selects-preserved : goal.selects-preserved

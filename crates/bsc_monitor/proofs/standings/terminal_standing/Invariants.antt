@@ -1,6 +1,6 @@
 -- The state is that of the channel from the terminal and the channels to it so far.
 use Rattle.std.proofs.Common.{◌≡◌}
-use Rattle.bsc_directory.specs.declared.way.Way.TheVariants.{FromTerminal, ToTerminal}
+use Rattle.bsc_bid.specs.declared.way.Way.TheVariants.{FromTerminal, ToTerminal}
 use Rattle.bsc_monitor.specs.Ends.{standing_at, together}
 use Rattle.bsc_monitor.proofs.standings.terminal_standing.Given as goal
 

@@ -1,6 +1,6 @@
 -- Shows that the networks and the peers are those in the texts of the options.
 use Rattle.std.proofs.Common.{rules, ◌≡◌, inl, inr, map, string_bytes, subst, sym, Ok, Err}
-use Rattle.bsc_asked.specs.StationWords.{asked_words}
+use Rattle.bsc_options.specs.StationWords.{asked_words}
 use Rattle.bsc_options.specs.Admission.{IsAdmission, ReadsNetworks, ReadsPeers}
 use Rattle.bsc_options.proofs.admission.read_admission.Goals as goal
 

@@ -1,7 +1,7 @@
 -- Shows that each event that sends nothing over the cable is answered as the line answers it.
 use Rattle.std.proofs.Common.{refl}
 use Rattle.bsc_line_model.specs.declared.event.Event.TheVariants as event
-use Rattle.bsc_script.specs.Events.{silence, ready, polled, urgent_at, urgent_for, release}
+use Rattle.bsc_config.specs.Events.{silence, ready, polled, urgent_at, urgent_for, release}
 use Rattle.bsc_run.specs.Crossing.{streams_of}
 use Rattle.bsc_run.proofs.Acting.{acts_as, offers_at, offers_for}
 use Rattle.bsc_run.proofs.actions.act.Goals as goal

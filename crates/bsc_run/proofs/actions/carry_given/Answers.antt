@@ -1,7 +1,7 @@
 -- Shows that the line hears the octets that crossed the cable in place of what was sent.
 use Rattle.std.proofs.Common.{◌≡◌, ℕ, List, Err, ap, refl, rules}
 use Rattle.bsc_frame.specs.declared.message.Message.{Message}
-use Rattle.bsc_script.specs.Events.{heard}
+use Rattle.bsc_config.specs.Events.{heard}
 use Rattle.bsc_run.specs.Crossing.{streams_of}
 use Rattle.bsc_run.specs.declared.error.StepError.{StepError}
 use Rattle.bsc_run.proofs.Acting.{acts_unsent, hears_octets}

@@ -1,6 +1,6 @@
 -- Shows that each terminal hears the octets that crossed the cable for it, or that a fault comes.
 use Rattle.std.proofs.Common.{◌≡◌, length, option_map, Err, ◌∙◌, ap, refl, rules}
-use Rattle.bsc_script.specs.Events.{heard_each}
+use Rattle.bsc_config.specs.Events.{heard_each}
 use Rattle.bsc_run.specs.Crossing.{streams_of}
 use Rattle.bsc_run.proofs.Acting.{acts_fault, hears_items}
 use Rattle.bsc_run.proofs.Causes.{cause_of_items, cause_of_traced, items_is_fault, trace_is_fault}

@@ -1,7 +1,7 @@
 -- Shows that the line hears the octets that crossed the cable for the pending transmission.
 use Rattle.std.proofs.Common.{◌≡◌, Err, ap, refl, rules}
 use Rattle.bsc_frame.specs.Wire.{wire}
-use Rattle.bsc_script.specs.Events.{carry}
+use Rattle.bsc_config.specs.Events.{carry}
 use Rattle.bsc_run.specs.Crossing.{streams_of}
 use Rattle.bsc_run.specs.declared.error.StepError.{StepError}
 use Rattle.bsc_run.proofs.Acting.{acts_unsent, hears_octets}

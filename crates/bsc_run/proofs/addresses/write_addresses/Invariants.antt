@@ -1,7 +1,7 @@
 -- The lines of the terminals so far are written.
 use Rattle.std.proofs.Common.{slice_get}
 use Rattle.std.specs.Io.KnownBytes.{Appends}
-use Rattle.bsc_report.specs.Channels.{each_below}
+use Rattle.bsc_text.specs.Channels.{each_below}
 use Rattle.bsc_run.specs.Addresses.{address_line_of}
 use Rattle.bsc_run.proofs.addresses.write_addresses.Given as goal
 

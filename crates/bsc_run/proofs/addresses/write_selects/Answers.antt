@@ -1,7 +1,7 @@
 -- One more address is written.
 use Rattle.std.proofs.Common.{codes}
 use Rattle.std.proofs.KnownBytes.{Appends-trans}
-use Rattle.bsc_print.proofs.Lists.{flat_map_take_more}
+use Rattle.bsc_text.proofs.Lists.{flat_map_take_more}
 use Rattle.bsc_run.specs.Addresses.{address_shown}
 use Rattle.bsc_run.proofs.addresses.write_selects.Goals as goal
 

@@ -2,7 +2,7 @@
 use Rattle.std.proofs.Common.{codes}
 use Rattle.std.specs.Fmt.{decimal}
 use Rattle.std.specs.List.{flat_map}
-use Rattle.bsc_report.specs.Traces.{time_shown}
+use Rattle.bsc_text.specs.Traces.{time_shown}
 use Rattle.bsc_run.specs.Addresses.{address_shown}
 use Rattle.bsc_run.proofs.Appending.{eight_on_ok}
 use Rattle.bsc_run.proofs.addresses.write_terminal.Goals as goal

@@ -3,7 +3,7 @@ use Rattle.std.proofs.Common.{◌≡◌, ◌+◌, ◌-◌, ◌∙◌, ℕ, List,
 use Rattle.std.proofs.KnownBytes.{Appends-trans}
 use Rattle.std.proofs.lemmas.Option.{slice_get-get_or}
 use Rattle.bsc_block.proofs.Waiting.{waiting_at, waiting_within}
-use Rattle.bsc_print.proofs.Lists.{flat_map_take_more}
+use Rattle.bsc_text.proofs.Lists.{flat_map_take_more}
 use Rattle.bsc_run.specs.Changes.{landed_line}
 use Rattle.bsc_run.proofs.changes.write_records.Goals as goal
 

@@ -2,7 +2,7 @@
 use Rattle.std.proofs.Common.{append_assoc, codes, subst, sym}
 use Rattle.std.specs.Prelude.{OnOk}
 use Rattle.std.specs.Io.KnownBytes.{Appends}
-use Rattle.bsc_report.specs.Traces.{time_shown}
+use Rattle.bsc_text.specs.Traces.{time_shown}
 use Rattle.bsc_run.proofs.Appending.{two_on_ok}
 use Rattle.bsc_run.proofs.changes.write_trust.Goals as goal
 

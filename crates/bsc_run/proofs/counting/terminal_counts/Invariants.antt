@@ -1,7 +1,7 @@
 -- The counts are those of the channel from the terminal and the channels to it so far.
 use Rattle.std.proofs.Common.{◌≡◌}
-use Rattle.bsc_directory.specs.declared.way.Way.TheVariants.{FromTerminal, ToTerminal}
-use Rattle.bsc_progress.specs.Counts.{counted}
+use Rattle.bsc_bid.specs.declared.way.Way.TheVariants.{FromTerminal, ToTerminal}
+use Rattle.bsc_text.specs.Counts.{counted}
 use Rattle.bsc_run.specs.Counting.{channel_counts}
 use Rattle.bsc_run.proofs.counting.terminal_counts.Given as goal
 

@@ -1,5 +1,5 @@
 -- Shows that what was written before stays.
-use Rattle.bsc_print.proofs.Fronts.{extends_by}
+use Rattle.bsc_text.proofs.Fronts.{extends_by}
 use Rattle.bsc_run.proofs.pending.write_pending.Goals as goal
 
 pub returns-in-None-clause-stays : goal.returns-in-None-clause-stays

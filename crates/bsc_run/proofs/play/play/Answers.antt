@@ -1,7 +1,7 @@
 -- Shows that the loop performs the events in order, up to the first that fails.
 use Rattle.std.proofs.Common.{map, drop, ◌+◌, arith}
-use Rattle.bsc_print.proofs.Fronts.{extends_same, extends_trans}
-use Rattle.bsc_script.specs.Actions.{numbered}
+use Rattle.bsc_text.proofs.Fronts.{extends_same, extends_trans}
+use Rattle.bsc_config.specs.Actions.{numbered}
 use Rattle.bsc_run.specs.Crossing.{streams_of}
 use Rattle.bsc_run.specs.Plays.{playing}
 use Rattle.bsc_run.proofs.Causes.{has_event_cause}

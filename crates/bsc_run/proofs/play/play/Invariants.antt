@@ -1,7 +1,7 @@
 -- The events so far are performed, and the cable fits the line.
 use Rattle.std.proofs.Common.{map, drop}
-use Rattle.bsc_print.specs.Fronts.{Extends}
-use Rattle.bsc_script.specs.Actions.{numbered}
+use Rattle.bsc_text.specs.Fronts.{Extends}
+use Rattle.bsc_config.specs.Actions.{numbered}
 use Rattle.bsc_run.specs.Crossing.{streams_of}
 use Rattle.bsc_run.specs.Plays.{playing}
 use Rattle.bsc_run.specs.Speaking.{Fits}

@@ -1,9 +1,9 @@
 -- Shows that the report follows the run, and that the run is a run of the line.
 use Rattle.std.proofs.Common.{map, Ok, Err}
-use Rattle.bsc_print.proofs.Fronts.{extends_trans}
+use Rattle.bsc_text.proofs.Fronts.{extends_trans}
 use Rattle.bsc_run.specs.Crossing.{streams_of}
 use Rattle.bsc_run.specs.declared.error.RunError.TheVariants.{Refused}
-use Rattle.bsc_script.specs.Actions.{numbered}
+use Rattle.bsc_config.specs.Actions.{numbered}
 use Rattle.bsc_run.specs.Plays.{playing}
 use Rattle.bsc_run.proofs.Causes.{tells_line}
 use Rattle.bsc_run.proofs.Playing.{runs_reported}

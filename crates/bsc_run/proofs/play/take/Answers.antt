@@ -1,6 +1,6 @@
 -- Shows that the lines for what the event is and for what it changed are written, and what is
 -- pending after it.
-use Rattle.bsc_script.specs.Actions.{event_in}
+use Rattle.bsc_config.specs.Actions.{event_in}
 use Rattle.bsc_run.proofs.Standings.{are_on, event_traced}
 use Rattle.bsc_run.proofs.play.take.Goals as goal
 

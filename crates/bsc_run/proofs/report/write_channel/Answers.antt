@@ -3,11 +3,11 @@ use Rattle.std.specs.List.{flat_map}
 use Rattle.bsc_bid.specs.Sender.{is_in_doubt}
 use Rattle.bsc_line_model.specs.Line.{channel_of, phase_of}
 use Rattle.bsc_line_model.specs.Offers.{select_count}
-use Rattle.bsc_print.specs.declared.form.Form.TheVariants.{Hexadecimal}
-use Rattle.bsc_report.specs.Channels.{channel_name, doubt_shown, record_line}
+use Rattle.bsc_text.specs.declared.form.Form.TheVariants.{Hexadecimal}
+use Rattle.bsc_text.specs.Channels.{channel_name, doubt_shown, record_line}
 use Rattle.bsc_run.specs.Printed.{counts_shown}
 use Rattle.bsc_run.proofs.Appending.{extends_more, four_on_ok}
-use Rattle.bsc_print.proofs.Fronts.{extends_by, extends_trans}
+use Rattle.bsc_text.proofs.Fronts.{extends_by, extends_trans}
 use Rattle.bsc_run.proofs.report.write_channel.Goals as goal
 
 pub returns-clause-ok : goal.returns-clause-ok

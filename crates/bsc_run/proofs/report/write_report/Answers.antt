@@ -1,11 +1,11 @@
 -- Shows that the lines of each terminal are written in order, and then the last line.
 use Rattle.std.proofs.Common.{◌≡◌, arith}
 use Rattle.bsc_line_model.specs.Line.{terminal_count}
-use Rattle.bsc_report.specs.Channels.{each_below}
-use Rattle.bsc_report.proofs.Appending.{each_below_more}
+use Rattle.bsc_text.specs.Channels.{each_below}
+use Rattle.bsc_text.proofs.Appending.{each_below_more}
 use Rattle.bsc_run.specs.Printed.{terminal_lines, trust_line}
 use Rattle.bsc_run.proofs.Appending.{extends_more, two_on_ok}
-use Rattle.bsc_print.proofs.Fronts.{extends_same, extends_trans}
+use Rattle.bsc_text.proofs.Fronts.{extends_same, extends_trans}
 use Rattle.std.proofs.KnownBytes.{Appends-nil}
 use Rattle.bsc_run.proofs.report.write_report.Goals as goal
 

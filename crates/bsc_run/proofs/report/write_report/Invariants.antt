@@ -1,7 +1,7 @@
 -- The lines of the terminals so far are written.
 use Rattle.std.specs.Io.KnownBytes.{Appends}
-use Rattle.bsc_print.specs.Fronts.{Extends}
-use Rattle.bsc_report.specs.Channels.{each_below}
+use Rattle.bsc_text.specs.Fronts.{Extends}
+use Rattle.bsc_text.specs.Channels.{each_below}
 use Rattle.bsc_run.specs.Printed.{terminal_lines}
 use Rattle.bsc_run.proofs.report.write_report.Given as goal
 

@@ -1,11 +1,11 @@
 -- Shows that the channel from the terminal is written, and then each channel to it.
 use Rattle.std.proofs.Common.{◌≡◌, arith}
 use Rattle.std.proofs.KnownBytes.{Appends-nil, Appends-trans}
-use Rattle.bsc_print.proofs.Fronts.{extends_trans}
-use Rattle.bsc_directory.specs.declared.way.Way.TheVariants.{FromTerminal, ToTerminal}
+use Rattle.bsc_text.proofs.Fronts.{extends_trans}
+use Rattle.bsc_bid.specs.declared.way.Way.TheVariants.{FromTerminal, ToTerminal}
 use Rattle.bsc_line_model.specs.Offers.{select_count}
-use Rattle.bsc_report.specs.Channels.{each_below}
-use Rattle.bsc_report.proofs.Appending.{each_below_more}
+use Rattle.bsc_text.specs.Channels.{each_below}
+use Rattle.bsc_text.proofs.Appending.{each_below_more}
 use Rattle.bsc_run.specs.Printed.{channel_lines}
 use Rattle.bsc_run.proofs.report.write_terminal.Goals as goal
 

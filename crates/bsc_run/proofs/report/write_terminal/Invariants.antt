@@ -1,8 +1,8 @@
 -- The lines of the channels so far are written.
 use Rattle.std.specs.Io.KnownBytes.{Appends}
-use Rattle.bsc_print.specs.Fronts.{Extends}
-use Rattle.bsc_directory.specs.declared.way.Way.TheVariants.{ToTerminal}
-use Rattle.bsc_report.specs.Channels.{each_below}
+use Rattle.bsc_text.specs.Fronts.{Extends}
+use Rattle.bsc_bid.specs.declared.way.Way.TheVariants.{ToTerminal}
+use Rattle.bsc_text.specs.Channels.{each_below}
 use Rattle.bsc_run.specs.Printed.{channel_lines}
 use Rattle.bsc_run.proofs.report.write_terminal.Given as goal
 

@@ -1,6 +1,6 @@
 -- Shows that the channel from the terminal is added, and then each channel to it.
 use Rattle.std.proofs.Common.{◌≡◌, ◌∷◌, [], add-one, arith}
-use Rattle.bsc_directory.specs.declared.way.Way.TheVariants.{FromTerminal, ToTerminal}
+use Rattle.bsc_bid.specs.declared.way.Way.TheVariants.{FromTerminal, ToTerminal}
 use Rattle.bsc_line_model.specs.Offers.{select_count}
 use Rattle.bsc_run.specs.Changes.{standing_on, standings_to}
 use Rattle.bsc_run.proofs.Standings.{joined}

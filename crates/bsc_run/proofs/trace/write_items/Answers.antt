@@ -2,7 +2,7 @@
 use Rattle.std.proofs.Common.{◌≡◌, length, None, arith}
 use Rattle.std.specs.Prelude.{slice_index_or}
 use Rattle.bsc_line_model.specs.Hearing.{octets_in}
-use Rattle.bsc_report.proofs.Appending.{each_below_more}
+use Rattle.bsc_text.proofs.Appending.{each_below_more}
 use Rattle.bsc_run.specs.Traces.{item_line}
 use Rattle.bsc_run.proofs.trace.write_items.Goals as goal
 

@@ -3,7 +3,7 @@ use Rattle.std.proofs.Common.{None}
 use Rattle.std.specs.Prelude.{slice_index_or}
 use Rattle.std.specs.Io.KnownBytes.{Appends}
 use Rattle.bsc_line_model.specs.Hearing.{octets_in}
-use Rattle.bsc_report.specs.Channels.{each_below}
+use Rattle.bsc_text.specs.Channels.{each_below}
 use Rattle.bsc_run.specs.Traces.{item_line}
 use Rattle.bsc_run.proofs.trace.write_items.Given as goal
 

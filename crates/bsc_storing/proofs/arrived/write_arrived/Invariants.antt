@@ -1,6 +1,6 @@
 -- What is printed from here on is the rest of what is printed in all.
 use Rattle.std.proofs.Common.{List, Option, ℕ}
-use Rattle.bsc_kept.specs.declared.store.Found.{Found}
+use Rattle.bsc_spool.specs.declared.store.Found.{Found}
 use Rattle.bsc_storing.specs.Works.{PrintsFrom, PrintsLines}
 use Rattle.bsc_storing.proofs.arrived.write_arrived.Given as goal
 

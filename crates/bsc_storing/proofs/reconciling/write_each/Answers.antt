@@ -1,5 +1,5 @@
 -- Shows that the line of one more doubt is written.
-use Rattle.bsc_report.proofs.Appending.{each_below_more}
+use Rattle.bsc_text.proofs.Appending.{each_below_more}
 use Rattle.bsc_storing.specs.Lines.{ended_at}
 use Rattle.bsc_storing.proofs.reconciling.write_each.Goals as goal
 

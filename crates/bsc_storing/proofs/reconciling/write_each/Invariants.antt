@@ -1,6 +1,6 @@
 -- The lines of the doubts so far are written.
 use Rattle.std.specs.Io.KnownBytes.{Appends}
-use Rattle.bsc_report.specs.Channels.{each_below}
+use Rattle.bsc_text.specs.Channels.{each_below}
 use Rattle.bsc_storing.specs.Lines.{ended_at}
 use Rattle.bsc_storing.proofs.reconciling.write_each.Given as goal
 

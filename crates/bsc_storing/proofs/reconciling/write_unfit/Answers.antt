@@ -1,5 +1,5 @@
 -- Shows that the line of one more channel is written.
-use Rattle.bsc_report.proofs.Appending.{each_below_more}
+use Rattle.bsc_text.proofs.Appending.{each_below_more}
 use Rattle.bsc_storing.specs.Lines.{unfit_at}
 use Rattle.bsc_storing.proofs.reconciling.write_unfit.Goals as goal
 

@@ -1,6 +1,6 @@
 -- The lines of the channels so far are written.
 use Rattle.std.specs.Io.KnownBytes.{Appends}
-use Rattle.bsc_report.specs.Channels.{each_below}
+use Rattle.bsc_text.specs.Channels.{each_below}
 use Rattle.bsc_storing.specs.Lines.{unfit_at}
 use Rattle.bsc_storing.proofs.reconciling.write_unfit.Given as goal
 

@@ -1,7 +1,7 @@
 -- Shows that exactly the lines of the text are offered, on the channel that the words name.
 use Rattle.std.proofs.Common.{rules}
 use Rattle.std.specs.Str.Lines.{lines}
-use Rattle.bsc_kept.specs.declared.channel.Channel.{Channel}
+use Rattle.bsc_spool.specs.declared.channel.Channel.{Channel}
 use Rattle.bsc_storing.specs.declared.name.ChannelName.{ChannelName}
 use Rattle.bsc_storing.specs.declared.error.StoringError.TheVariants.{NoChannel}
 use Rattle.bsc_storing.proofs.OfferedLines.{named_is, offers_all}

@@ -3,7 +3,7 @@
 use Rattle.std.proofs.Common.{ap, ◌≡◌, ◌∙◌, [], option_map, unwrap_or, codes}
 use Rattle.clap.specs.Words.{Text, first_value, found_of, matched_of, raw_values, rows_of}
 use Rattle.clap.proofs.WalkLemmas.{first_value-rows, raw_values-rows}
-use Rattle.bsc_asked.specs.Asked.{feed}
+use Rattle.bsc_options.specs.Asked.{feed}
 use Rattle.bsc_words.specs.Options.{value_at, values_of}
 use Rattle.bsc_words.proofs.words.feed_of.Goals as goal
 

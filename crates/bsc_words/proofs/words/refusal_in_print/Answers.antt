@@ -1,7 +1,7 @@
 -- Shows that the error is one for the arguments as they are printed.
 use Rattle.std.proofs.Common.{ap, ◌≡◌, ◌∙◌, List, map, rules, string_bytes, subst}
 use Rattle.clap.specs.Words.{App, HasKind, Text, app_of, fault_of, is_simple_and_free}
-use Rattle.bsc_print.specs.Forms.{escaped}
+use Rattle.bsc_text.specs.Forms.{escaped}
 use Rattle.bsc_words.specs.CommandLine.{bscline_app, faults_at}
 use Rattle.bsc_words.proofs.Simple.{is_free}
 use Rattle.bsc_words.proofs.words.refusal_in_print.Goals as goal

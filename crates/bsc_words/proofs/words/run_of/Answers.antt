@@ -2,7 +2,7 @@
 use Rattle.std.proofs.Common.{ap, ◌≡◌, ◌∙◌, [], unwrap_or, codes, string_bytes}
 use Rattle.clap.specs.Words.{Text, first_value, found_of, rows_of}
 use Rattle.clap.proofs.WalkLemmas.{first_value-rows}
-use Rattle.bsc_asked.specs.Asked.{run}
+use Rattle.bsc_options.specs.Asked.{run}
 use Rattle.bsc_words.specs.Options.{is_true_text, value_at}
 use Rattle.bsc_words.proofs.words.run_of.Goals as goal
 

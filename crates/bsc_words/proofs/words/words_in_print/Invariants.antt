@@ -1,6 +1,6 @@
 -- The arguments so far are as they are printed.
 use Rattle.std.proofs.Common.{◌≡◌, map, take, string_bytes}
-use Rattle.bsc_print.specs.Forms.{escaped}
+use Rattle.bsc_text.specs.Forms.{escaped}
 use Rattle.bsc_words.proofs.words.words_in_print.Given as goal
 
 abbrev pub invariant-words : goal.invariant-words

@@ -7,7 +7,7 @@ use Rattle.clap.specs.declared.parser.matches.ArgMatches.{out-ArgMatches}
 use Rattle.clap.specs.declared.parser.matches.SubCommand.{out-SubCommand}
 use Rattle.std.specs.Box.{box_value}
 use Rattle.clap.proofs.WalkLemmas.{first_value-rows}
-use Rattle.bsc_asked.specs.Asked.{name}
+use Rattle.bsc_options.specs.Asked.{name}
 use Rattle.bsc_words.specs.CommandLine.{asked_by, asked_sub}
 use Rattle.bsc_words.proofs.words.work_of.Goals as goal
 

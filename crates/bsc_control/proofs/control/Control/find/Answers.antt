@@ -1,9 +1,9 @@
 -- `find` returns the terminal and way of the address.
 use Rattle.std.proofs.Common.{List, sym, ◌∙◌, ap, subst}
 use Rattle.std.specs.List.{Contains}
-use Rattle.bsc_directory.specs.Addresses.{numbered}
+use Rattle.bsc_bid.specs.Addresses.{numbered}
 use Rattle.bsc_control.specs.Control.{ControlValue, terminals}
-use Rattle.bsc_directory.proofs.Owners.{Owner, owner_iff}
+use Rattle.bsc_bid.proofs.Owners.{Owner, owner_iff}
 use Rattle.bsc_control.proofs.control.Control.find.Goals as goal
 
 pub returns-clause-exact : goal.returns-clause-exact

@@ -1,6 +1,6 @@
 -- `forget_arrived` leaves a control station, with another spool.
 use Rattle.std.proofs.Common.{◌<◌, length, sym, ◌∙◌, ap}
-use Rattle.bsc_directory.specs.Addresses.{numbered}
+use Rattle.bsc_bid.specs.Addresses.{numbered}
 use Rattle.bsc_control.proofs.Reached.{peer_reached}
 use Rattle.bsc_control.proofs.Recalling.{spool_reached}
 use Rattle.bsc_control.proofs.control.Control.forget_arrived.Goals as goal

@@ -1,6 +1,6 @@
 -- `forget_sent` leaves a control station: the same records wait as before.
 use Rattle.std.proofs.Common.{◌<◌, length, sym, ◌∙◌, ap}
-use Rattle.bsc_directory.specs.Addresses.{numbered}
+use Rattle.bsc_bid.specs.Addresses.{numbered}
 use Rattle.bsc_control.specs.Control.{peer_at}
 use Rattle.bsc_control.proofs.Controls.{keeps_outbound_forget}
 use Rattle.bsc_control.proofs.Reached.{peer_reached, outbound_reached, stays_reached}

@@ -1,6 +1,6 @@
 -- `keep_arrived` adds the record to its spool, or gives it back.
 use Rattle.std.proofs.Common.{◌<◌, length, sym, ◌∙◌, ap}
-use Rattle.bsc_directory.specs.Addresses.{numbered}
+use Rattle.bsc_bid.specs.Addresses.{numbered}
 use Rattle.bsc_control.proofs.Reached.{peer_reached}
 use Rattle.bsc_control.proofs.Recalling.{spool_reached, not_gained_left}
 use Rattle.bsc_control.proofs.control.Control.keep_arrived.Goals as goal

@@ -1,7 +1,7 @@
 -- `new` returns a new control station, or the first refusal.
 use Rattle.std.proofs.Common.{length, sym, ◌∙◌, ap}
-use Rattle.bsc_directory.specs.Addresses.{numbered}
-use Rattle.bsc_directory.proofs.Refusing.{right_entries}
+use Rattle.bsc_bid.specs.Addresses.{numbered}
+use Rattle.bsc_bid.proofs.Refusing.{right_entries}
 use Rattle.bsc_control.specs.Kept.{IsControl}
 use Rattle.bsc_control.proofs.NewControls.{new_control}
 use Rattle.bsc_control.proofs.control.Control.new.Given as given

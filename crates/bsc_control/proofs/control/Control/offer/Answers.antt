@@ -1,6 +1,6 @@
 -- `offer` adds the record to its queue, or gives it back.
 use Rattle.std.proofs.Common.{◌<◌, length, sym, ◌∙◌, ap}
-use Rattle.bsc_directory.specs.Addresses.{numbered}
+use Rattle.bsc_bid.specs.Addresses.{numbered}
 use Rattle.bsc_control.specs.Control.{peer_at}
 use Rattle.bsc_control.proofs.Controls.{keeps_outbound_offer}
 use Rattle.bsc_control.proofs.Entries.{peer_with_outbound, entries_with_peer}

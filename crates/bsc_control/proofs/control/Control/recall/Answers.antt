@@ -1,6 +1,6 @@
 -- `recall` leaves a control station, at rest as before.
 use Rattle.std.proofs.Common.{◌≡◌, ◌<◌, length, sym, ◌∙◌, ap}
-use Rattle.bsc_directory.specs.Addresses.{numbered}
+use Rattle.bsc_bid.specs.Addresses.{numbered}
 use Rattle.bsc_control.specs.declared.task.Task.TheVariants.{AtRest}
 use Rattle.bsc_control.specs.Control.{ControlValue, peer_at}
 use Rattle.bsc_control.proofs.Entries.{peer_with_outbound, entries_with_peer}

@@ -1,7 +1,7 @@
 -- `release` makes the sender's release step and returns its answer.
 use Rattle.std.proofs.Common.{◌<◌, length, sym, ◌∙◌, ap}
 use Rattle.bsc_bid.specs.Sender.{release_step}
-use Rattle.bsc_directory.specs.Addresses.{numbered}
+use Rattle.bsc_bid.specs.Addresses.{numbered}
 use Rattle.bsc_control.specs.Control.{peer_at}
 use Rattle.bsc_control.proofs.Controls.{keeps_outbound_release, selection_within_outbounds}
 use Rattle.bsc_control.proofs.Entries.{peer_with_outbound, entries_with_peer}

@@ -1,6 +1,6 @@
 -- A control station that begins again is one.
 use Rattle.std.proofs.Common.{sym, ◌∙◌, ap, subst}
-use Rattle.bsc_directory.specs.Addresses.{numbered}
+use Rattle.bsc_bid.specs.Addresses.{numbered}
 use Rattle.bsc_control.specs.Control.{ControlValue, terminals}
 use Rattle.bsc_control.specs.Kept.{IsControl}
 use Rattle.bsc_control.proofs.Restarting.{control_restarted, terminals_restarted}

@@ -1,6 +1,6 @@
 -- `set_polled` changes whether the terminal is polled only.
 use Rattle.std.proofs.Common.{◌<◌, length, sym, ◌∙◌, ap}
-use Rattle.bsc_directory.specs.Addresses.{numbered}
+use Rattle.bsc_bid.specs.Addresses.{numbered}
 use Rattle.bsc_control.specs.Peer.{PeerValue}
 use Rattle.bsc_control.proofs.Controls.{polled_is_flagged}
 use Rattle.bsc_control.proofs.Entries.{peer_with_polled, entries_with_peer}

@@ -1,6 +1,6 @@
 -- `set_urgent` raises the urgent flag of the terminal only.
 use Rattle.std.proofs.Common.{true, ◌<◌, length, sym, ◌∙◌, ap}
-use Rattle.bsc_directory.specs.Addresses.{numbered}
+use Rattle.bsc_bid.specs.Addresses.{numbered}
 use Rattle.bsc_control.specs.Peer.{PeerValue}
 use Rattle.bsc_control.proofs.Controls.{urgent_is_flagged}
 use Rattle.bsc_control.proofs.Entries.{peer_with_flag, entries_with_peer}

@@ -1,6 +1,6 @@
 -- `act` does what the table says of a silence.
 use Rattle.std.proofs.Common.{sym, ◌∙◌, ap}
-use Rattle.bsc_directory.specs.Addresses.{numbered}
+use Rattle.bsc_bid.specs.Addresses.{numbered}
 use Rattle.bsc_control.specs.Kept.{AfterSilence}
 use Rattle.bsc_control.proofs.Controls.{after_silence_is}
 use Rattle.bsc_control.proofs.control.ControlStation.act.Given as given

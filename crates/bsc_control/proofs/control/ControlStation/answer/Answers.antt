@@ -1,6 +1,6 @@
 -- `answer` does what the table says of a transmission.
 use Rattle.std.proofs.Common.{sym, ◌∙◌, ap}
-use Rattle.bsc_directory.specs.Addresses.{numbered}
+use Rattle.bsc_bid.specs.Addresses.{numbered}
 use Rattle.bsc_control.specs.Kept.{AfterHearing}
 use Rattle.bsc_control.proofs.Controls.{after_hearing_is}
 use Rattle.bsc_control.proofs.control.ControlStation.answer.Given as given

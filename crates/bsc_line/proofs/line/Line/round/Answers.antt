@@ -2,7 +2,7 @@
 use Rattle.std.proofs.Common.{◌≡◌, ◌<◌, ◌≤◌, ◌+◌, ℕ, List, length, drop, filter, get_or, false, true, refl}
 use Rattle.std.proofs.Common.{sym, ◌∙◌, ap, subst, arith}
 use Rattle.std.proofs.lemmas.List.{drop_all, length-set, get_or-replicate}
-use Rattle.bsc_directory.specs.declared.limits.TheConstants.{MAX_TERMINALS}
+use Rattle.bsc_bid.specs.declared.limits.TheConstants.{MAX_TERMINALS}
 use Rattle.bsc_control.specs.CallOrder.{is_polled}
 use Rattle.bsc_control.specs.Kept.{IsControl}
 use Rattle.bsc_line_model.specs.Line.{LineValue}

@@ -1,6 +1,6 @@
 -- The entries so far have been counted.
 use Rattle.std.proofs.Common.{◌≡◌, ◌<◌, ◌+◌, ◌^◌, ℕ, false, length, get_or}
-use Rattle.bsc_directory.specs.declared.limits.TheConstants.{MAX_TERMINALS}
+use Rattle.bsc_bid.specs.declared.limits.TheConstants.{MAX_TERMINALS}
 use Rattle.bsc_line_model.specs.Rounds.{entries_length, round_length, is_seen}
 use Rattle.bsc_line.specs.Counts.{in_u64}
 use Rattle.bsc_line.proofs.Lengths.{polled_from, seen_before}

@@ -1,6 +1,6 @@
 -- Shows that a release that is refused changes nothing.
 use Rattle.std.proofs.Common.{◌∙◌, sym}
-use Rattle.bsc_directory.specs.Ways.{select_of}
+use Rattle.bsc_bid.specs.Ways.{select_of}
 use Rattle.bsc_serving.proofs.Refused.{refused_control}
 use Rattle.bsc_serving.proofs.feeds.ControlFeeds.release.Goals as goal
 

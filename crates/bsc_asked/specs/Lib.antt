@@ -1,4 +1,0 @@
-pub mod ChartWords
-pub mod StationWords
-pub mod StoreWords
-pub mod Asked

@@ -1,7 +1,0 @@
--- Each entry so far is right.
-use Rattle.std.proofs.Common.{ℕ, ◌<◌}
-use Rattle.bsc_directory.specs.Refusals.{IsEntry}
-use Rattle.bsc_directory.proofs.refusal.wrong_entry.Given as goal
-
-abbrev pub invariant-loop-place : goal.invariant-loop-place
-invariant-loop-place l = (k : ℕ) → k < l.place → IsEntry l.terminals l.poll_list k

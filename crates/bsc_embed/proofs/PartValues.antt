@@ -1,0 +1,75 @@
+-- The machine value of the parts of a box, and how what they own is laid out.
+use Rattle.std.proofs.Common.{◌≡◌, ℕ, List, [], ◌∷◌, ◌++◌, refl, subst}
+use mathlib.Core.Bool.{true, ◌&&◌}
+use lib.Dec.{T}
+use seplogic.Ra.Ura.{Ura}
+use mir.Syntax.{impl, tnil, dnil}
+use mir.Raw.{raw as bare}
+use mir.Val.{Val, vptr, vstruct, vcons, vnil, of_list, has_ty, WT}
+use base.Logic.{never, fst∗}
+use types.Logic.{Logic, sem}
+use types.Kit.{Item, Goal, Seq, Step, step, ‵, ◌$◌, move, drop, fsplit, fjoin, fpick, fpack, feq_i, feq_l}
+use denote.RattleType.{RattleType, Valss}
+use denote.Builtin.{RawPtr}
+use denote.Memory.{lone}
+use denote.RawPtr.{Ptr, block_ptr, null_ptr, ptr_val, in_a_block}
+use denote.Steps.{nothing}
+use denote.Param.{layout}
+use denote.Param.Laws.{Laws}
+use denote.Struct.Struct.{within}
+use denote.Struct.Owning.{shape}
+use Rattle.std.specs.declared.alloc.Allocator.{Ghosts}
+use Rattle.std.proofs.alloc.Calls.{Al, handle_tells}
+use Rattle.std.proofs.cell.Inside.{Good}
+use Rattle.std_alloc.specs.Box.Ownership.{box_owns}
+use Rattle.std_alloc.proofs.ResultValues.{and_tt}
+use Rattle.bsc_embed.specs.contracts.handles.parts.BoxParts as parts
+
+-- The pointer, and then the allocator.
+abbrev pub two : Val → Val → Val
+two v w = vstruct (vcons v (vcons w vnil))
+
+module _ (R Z : RattleType) (L : Laws Z) (g : Ghosts Z.Denot) where
+  abbrev pub Parts : RattleType
+  Parts = parts.the_row R Z g
+
+  abbrev owner : Al
+  owner = record { row = Z; laws = L; g = g; d = impl [] tnil dnil; drops = impl [] tnil dnil }
+
+  -- What the parts own beside their fields.
+  abbrev pub held_at : Parts.Denot → Ptr → base.Fml.Fml
+  held_at d p = box_owns (g.dealloc_token d.alloc) R p d.value
+
+  pub parts_fit : (b o : ℕ) (h : Val) → Good (layout Z) h
+      → T (has_ty (layout Z) h && true) × WT (two (vptr b o) h)
+  parts_fit b o h fits = (and_tt (has_ty (layout Z) h) fits.0, (tt, (fits.1, tt)))
+
+  module _ {M : Type 1} {𝓤 : Ura M} {𝓛 : Logic 𝓤} {K : Type 0} {Γ : List (Item 𝓤)} {G : Goal 𝓤 𝓛.H} where
+    -- The parts are opened: their pointer is not null, and the memory that they own is at the head.
+    pub parts_out : K → (d : Parts.Denot) (vs : List Val)
+        → ((b o : ℕ) (h : Val) → d.at ≡ block_ptr b o → vs ≡ two (vptr b o) h ∷ [] → Good (layout Z) h
+        → Seq K 𝓛 (‵ (held_at d (block_ptr b o)) ∷ ‵ (Z.own_val d.alloc (h ∷ [])) ∷ Γ) G)
+        → Seq K 𝓛 (‵ (Parts.own_val d vs) ∷ Γ) G
+    parts_out t d vs k =
+        fsplit t $ fpick t (λ vss. fsplit t $ feq_l t (λ whole. fsplit t $ feq_l t (λ pointer.
+        fsplit t $ handle_tells owner t d.alloc vss.1.0 (λ h handle fits.
+        move t (1 ∷ []) $ drop t $ move t (1 ∷ []) $
+        in_a_block t d.at (held_at d)
+        (fst∗ 𝓤 (never 𝓤) (sem 𝓛 (g.dealloc_token d.alloc (bare (lone R.mir)) null_ptr))) (λ b o there.
+        k b o h there
+        (subst (λ (p : Ptr). vs ≡ vstruct (of_list (ptr_val p ∷ h ∷ [])) ∷ []) there
+        (subst (λ (ws : List Val). vs ≡ vstruct (of_list (ptr_val d.at ∷ (ws ++ []))) ∷ []) handle
+        (subst (λ (ps : List Val). vs ≡ vstruct (of_list (ps ++ (vss.1.0 ++ []))) ∷ []) pointer whole)))
+        fits)))))
+
+    -- The parts are put together.
+    pub parts_in : K → (b o : ℕ) (h : Val) (a : Z.Denot) (x : R.Denot)
+        → Step K 𝓛 (‵ (Parts.own_val (record { at = block_ptr b o; alloc = a; value = x }) (two (vptr b o) h ∷ [])) ∷ Γ) G
+        (‵ (box_owns (g.dealloc_token a) R (block_ptr b o) x) ∷ ‵ (Z.own_val a (h ∷ [])) ∷ Γ) G
+    parts_in t b o h a x = step (λ s.
+        nothing t $ move t (2 ∷ 0 ∷ []) $ fjoin t $
+        feq_i t (List Val) (vptr b o ∷ []) (vptr b o ∷ []) refl $ fjoin t $
+        feq_i t (List Val) (two (vptr b o) h ∷ []) (two (vptr b o) h ∷ []) refl $ fjoin t $
+        fpack t (Valss (RawPtr ∷ Z ∷ []))
+        (within (shape (parts.the_type R Z g)) (block_ptr b o, (a, tt)) (two (vptr b o) h ∷ []))
+        (vptr b o ∷ [], (h ∷ [], tt)) $ fjoin t $ s)

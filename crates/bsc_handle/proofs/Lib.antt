@@ -1,2 +1,0 @@
-pub mod PartValues
-pub mod PointerValues

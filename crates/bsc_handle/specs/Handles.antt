@@ -1,8 +1,0 @@
--- What a handle has.
-use Rattle.std.specs.Prelude.{Option}
-use Rattle.bsc_handle.specs.declared.handle.Handle.{Handle}
-use Rattle.bsc_handle.specs.declared.made.Made.{Made}
-
--- What was made, if something was.
-abbrev pub made_in : Handle → Option Made
-made_in h = h.pointer.made

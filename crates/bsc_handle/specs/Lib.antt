@@ -1,3 +1,0 @@
-pub mod Pointers
-pub mod Kinds
-pub mod Handles

@@ -1,3 +1,0 @@
-pub mod LineParts
-pub mod Splitting
-pub mod Digits

@@ -1,2 +1,0 @@
-pub mod AddressLists
-pub mod TerminalLists

@@ -1,7 +1,0 @@
--- The loop invariant of `read_terminals`: the terminals read so far.
-use Rattle.std.proofs.Common.{◌≡◌, Ok, take}
-use Rattle.bsc_interface.specs.Addresses.{terminals_in}
-use Rattle.bsc_interface.proofs.addresses.read_terminals.Given as goal
-
-abbrev pub invariant-loop-addresses : goal.invariant-loop-addresses
-invariant-loop-addresses l = terminals_in (take l.addresses-index l.stored) ≡ Ok l.terminals.items

@@ -1,5 +1,0 @@
-pub mod Events
-pub mod Channels
-pub mod Transmissions
-pub mod Making
-pub mod Hearings

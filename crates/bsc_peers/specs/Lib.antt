@@ -1,4 +1,0 @@
-pub mod Addresses
-pub mod Networks
-pub mod NetworkTexts
-pub mod Lists

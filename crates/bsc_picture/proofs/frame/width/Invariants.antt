@@ -1,6 +1,0 @@
--- No row goes further than the longest text.
-use Rattle.std.proofs.Common.{◌≤◌}
-use Rattle.bsc_picture.proofs.frame.width.Given as goal
-
-abbrev pub invariant-rows : goal.invariant-rows
-invariant-rows g l = l.reach ≤ 40000

@@ -1,6 +1,0 @@
--- The text is that of the definition.
-use Rattle.std.proofs.Common.{append_assoc}
-use Rattle.bsc_picture.proofs.names.put_rail.Goals as goal
-
-pub returns : goal.returns
-returns g c = simp append_assoc c.in_ok-write.ensures.bytes

@@ -1,5 +1,0 @@
-pub mod Escapes
-pub mod Rows
-pub mod Frames
-pub mod Elements
-pub mod Pictures

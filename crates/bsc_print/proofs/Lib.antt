@@ -1,4 +1,0 @@
-pub mod Escapes
-pub mod Lists
-pub mod Fronts
-pub mod Plain

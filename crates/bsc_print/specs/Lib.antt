@@ -1,4 +1,0 @@
-pub mod Names
-pub mod Forms
-pub mod Fronts
-pub mod Lines

@@ -1,4 +1,0 @@
-pub mod Transmissions
-pub mod Events
-pub mod Actions
-pub mod Script

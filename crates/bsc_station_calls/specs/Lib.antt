@@ -1,4 +1,0 @@
-pub mod Transmissions
-pub mod Records
-pub mod Sending
-pub mod Refusals

@@ -1,6 +1,0 @@
--- Each cell is that of the definition.
-use Rattle.bsc_summary.proofs.stations.put_addressed.Goals as goal
-
-pub returns : goal.returns
-returns g c =
-    rw (c.count-sent.ensures.value, c.count-arrived.ensures.value) at c.put_line.ensures

@@ -1,0 +1,10 @@
+-- The codes so far are written.
+use Rattle.std.proofs.Common.{take}
+use Rattle.std.specs.Fmt.{HasWritten, IsPlainFormatter}
+use Rattle.bsc_text.specs.Forms.{escaped}
+use Rattle.bsc_text.proofs.escaped.EscapedDisplay.fmt.Given as goal
+
+abbrev pub invariant-codes : goal.invariant-codes
+invariant-codes g l =
+    IsPlainFormatter l.initial.f
+    → HasWritten g.W.Write.write_str_gives l.initial.f (escaped (take l.code-index l.code-items)) l.f

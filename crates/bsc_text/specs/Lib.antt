@@ -1,0 +1,17 @@
+pub mod Hexadecimal
+pub mod Parts
+pub mod Words
+pub mod Numbers
+pub mod InputLines
+pub mod Reading
+pub mod InputTexts
+pub mod Unreadable
+pub mod Names
+pub mod Forms
+pub mod Fronts
+pub mod Lines
+pub mod Counts
+pub mod Texts
+pub mod Showing
+pub mod Channels
+pub mod Traces
