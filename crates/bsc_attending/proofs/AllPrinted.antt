@@ -1,9 +1,9 @@
 -- If more records could have been printed than there were, all are printed.
 use Rattle.std.proofs.Common.{◌≡◌, ◌≢◌, ℕ, zero, suc, ◌+◌, ◌-◌, ◌<◌, ◌≤◌, List, length, min, slice_index, refl, sym, subst, arith}
 use Rattle.std.proofs.Common.{false, Option, Some, None, Result, IfOk, inl, inr}
-use Rattle.bsc_monitor.specs.Arrivals.{arrived_on}
-use Rattle.bsc_monitor.specs.Following.{left_after, share_of, unprinted_on}
-use Rattle.bsc_monitor.specs.declared.party.Party as party_of
+use Rattle.bsc_report.specs.Arrivals.{arrived_on}
+use Rattle.bsc_report.specs.Following.{left_after, share_of, unprinted_on}
+use Rattle.bsc_station.specs.declared.party.Party as party_of
 use Rattle.bsc_text.specs.declared.error.PrintError.{PrintError}
 use Rattle.bsc_text.specs.declared.error.PrintError.TheVariants as print
 use Rattle.bsc_attending.specs.declared.error.AttendingError.{AttendingError}

@@ -8,7 +8,7 @@ use Rattle.bsc_keeping.specs.Runs.{Moment, attended, begins, forgot_arrived, for
 use Rattle.bsc_keeping.specs.Runs.{kept, not_kept, not_offered, not_released, offered, released}
 use Rattle.bsc_keeping.specs.Runs.{polled, set, stopped}
 use Rattle.bsc_keeping.specs.declared.keeper.Keeper.{Keeper}
-use Rattle.bsc_monitor.specs.LineTerminal.{LineTerminalValue}
+use Rattle.bsc_station.specs.LineTerminal.{LineTerminalValue}
 use Rattle.bsc_monitor.specs.Polls.{Settles}
 use Rattle.bsc_attending.specs.Runs.{HasRunOver, PreparedRunsKept, PreparedRunsOver, Runs}
 use Rattle.bsc_attending.specs.Runs.{RunsKept, StationParts, at}

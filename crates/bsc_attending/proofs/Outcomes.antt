@@ -9,7 +9,7 @@ use Rattle.bsc_spool.specs.declared.store.Store as store_of
 use Rattle.bsc_keeping.specs.Own.{receiving_of}
 use Rattle.bsc_keeping.specs.declared.keeper.Keeper.{Keeper}
 use Rattle.bsc_keeping.specs.declared.own.Own.{Own}
-use Rattle.bsc_monitor.specs.declared.standing.Standing.{Standing}
+use Rattle.bsc_station.specs.declared.standing.Standing.{Standing}
 use Rattle.bsc_options.specs.Settings.{SettingsValue, settings_in}
 use Rattle.bsc_options.specs.declared.settings.Role.{Role}
 use Rattle.bsc_options.specs.declared.settings.Role.TheVariants as role

@@ -5,10 +5,10 @@ use Rattle.std.specs.Prelude.{Result, IsErrAnd, slice_set}
 use Rattle.std.specs.Io.KnownBytes.{Appends}
 use Rattle.std.specs.declared.net.ip_addr.IpAddr.{IpAddr}
 use Rattle.bsc_control.specs.Control.{peer_at}
-use Rattle.bsc_monitor.specs.Ends.{control_end, station_standing, terminal_end}
-use Rattle.bsc_monitor.specs.Printed.{station_report}
-use Rattle.bsc_monitor.specs.TrustReport.{trust_report}
-use Rattle.bsc_monitor.specs.declared.standing.Standing.{Standing}
+use Rattle.bsc_station.specs.Ends.{control_end, station_standing, terminal_end}
+use Rattle.bsc_report.specs.Printed.{station_report}
+use Rattle.bsc_report.specs.TrustReport.{trust_report}
+use Rattle.bsc_station.specs.declared.standing.Standing.{Standing}
 use Rattle.bsc_text.specs.declared.form.Form.{Form}
 use Rattle.bsc_trust.specs.Trust.{after_joined}
 use Rattle.bsc_trust.specs.declared.trust.Trust.{Trust}

@@ -18,7 +18,7 @@ use Rattle.bsc_text.specs.declared.error.PrintError.TheVariants as print
 use Rattle.bsc_sockets.specs.declared.error.SocketsError.{SocketsError}
 use Rattle.bsc_sockets.specs.declared.error.SocketsError.TheVariants as sockets
 use Rattle.bsc_trust.specs.declared.trust.Trust.{Trust}
-use Rattle.bsc_monitor.specs.declared.standing.Standing.{Standing}
+use Rattle.bsc_station.specs.declared.standing.Standing.{Standing}
 use Rattle.bsc_attending.specs.declared.error.AttendingError.{AttendingError}
 use Rattle.bsc_attending.specs.declared.error.AttendingError.TheVariants as attending
 

@@ -5,10 +5,10 @@ use Rattle.std.specs.Str.Lines.{lines}
 use Rattle.bsc_control.specs.Control.{ControlValue, peer_at}
 use Rattle.bsc_control.specs.Kept.{outbound_of}
 use Rattle.bsc_text.specs.InputTexts.{IsReadError, IsTextAt}
-use Rattle.bsc_monitor.specs.LineTerminal.{LineTerminalValue}
-use Rattle.bsc_monitor.specs.Offers.{IsFirstRefused, KeepsAllElse, KeepsOtherQueues}
-use Rattle.bsc_monitor.specs.declared.offers.OfferError.{OfferError}
-use Rattle.bsc_monitor.specs.declared.offers.OfferError.TheVariants as offer
+use Rattle.bsc_station.specs.LineTerminal.{LineTerminalValue}
+use Rattle.bsc_station.specs.Offers.{IsFirstRefused, KeepsAllElse, KeepsOtherQueues}
+use Rattle.bsc_station.specs.declared.offers.OfferError.{OfferError}
+use Rattle.bsc_station.specs.declared.offers.OfferError.TheVariants as offer
 use Rattle.bsc_options.specs.Offers.{OfferValue, offer_in}
 use Rattle.bsc_options.specs.declared.error.OptionError.TheVariants as option
 use Rattle.bsc_attending.specs.declared.error.AttendingError.{AttendingError}

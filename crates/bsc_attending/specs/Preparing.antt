@@ -13,7 +13,7 @@ use Rattle.bsc_keeping.specs.Own.{receiving_of, sending_of}
 use Rattle.bsc_keeping.specs.declared.own.Own.{Own}
 use Rattle.bsc_keeping.specs.declared.own_text.Owner.{Owner}
 use Rattle.bsc_keeping.specs.declared.own_text.Owner.TheVariants as owner
-use Rattle.bsc_monitor.specs.LineTerminal.{LineTerminalValue}
+use Rattle.bsc_station.specs.LineTerminal.{LineTerminalValue}
 use Rattle.bsc_options.specs.Admission.{IsAdmission}
 use Rattle.bsc_options.specs.Settings.{SettingsValue, settings_in}
 use Rattle.bsc_options.specs.declared.error.OptionError.{OptionError}

@@ -6,11 +6,11 @@ use Rattle.std.specs.Io.KnownBytes.{Appends}
 use Rattle.bsc_connections.specs.declared.awaited.LiveError.{LiveError}
 use Rattle.bsc_connections.specs.Histories.{Happening}
 use Rattle.bsc_control.specs.Control.{ControlValue}
-use Rattle.bsc_monitor.specs.Arrivals.{arrived_on}
-use Rattle.bsc_monitor.specs.Following.{AreSomeCounted, left_after, some_lines}
-use Rattle.bsc_monitor.specs.LineTerminal.{LineTerminalValue}
-use Rattle.bsc_monitor.specs.declared.party.Party as party_of
-use Rattle.bsc_monitor.specs.declared.record_lines.RecordLines.{RecordLines}
+use Rattle.bsc_report.specs.Arrivals.{arrived_on}
+use Rattle.bsc_report.specs.Following.{AreSomeCounted, left_after, some_lines}
+use Rattle.bsc_station.specs.LineTerminal.{LineTerminalValue}
+use Rattle.bsc_station.specs.declared.party.Party as party_of
+use Rattle.bsc_report.specs.declared.record_lines.RecordLines.{RecordLines}
 use Rattle.bsc_text.specs.declared.error.PrintError.{PrintError}
 use Rattle.bsc_text.specs.declared.error.PrintError.TheVariants as print
 use Rattle.bsc_text.specs.Channels.{each_below}

@@ -1,7 +1,7 @@
 -- Of what work a station shows the progress.
 use Rattle.std.specs.Prelude.{Bool, Option, None, Some, if◌then◌else◌}
-use Rattle.bsc_monitor.specs.declared.tracing.Tracing.{Tracing}
-use Rattle.bsc_monitor.specs.declared.tracing.Tracing.TheVariants.{Off}
+use Rattle.bsc_report.specs.declared.tracing.Tracing.{Tracing}
+use Rattle.bsc_report.specs.declared.tracing.Tracing.TheVariants.{Off}
 use Rattle.bsc_options.specs.Settings.{SettingsValue}
 use Rattle.bsc_options.specs.declared.settings.Role.{Role}
 use Rattle.bsc_options.specs.declared.settings.Role.TheVariants.{Control, Terminal}

@@ -12,8 +12,8 @@ use Rattle.bsc_spool.specs.declared.channel.Channel.{Channel}
 use Rattle.bsc_spool.specs.declared.ends.Receiving.{Receiving}
 use Rattle.bsc_spool.specs.declared.ends.Sending.{Sending}
 use Rattle.bsc_spool.specs.declared.store.Store as store_of
-use Rattle.bsc_monitor.specs.LineTerminal.{LineTerminalValue}
-use Rattle.bsc_monitor.specs.declared.party.Party as party_of
+use Rattle.bsc_station.specs.LineTerminal.{LineTerminalValue}
+use Rattle.bsc_station.specs.declared.party.Party as party_of
 use Rattle.bsc_keeping.specs.Filled.{IsControlFilledFrom, IsTerminalFilledFrom, KeepsFrom}
 use Rattle.bsc_keeping.specs.Own.{receiving_of, sending_of}
 use Rattle.bsc_keeping.specs.Runs.{ForPrograms, KeptRun, Moment, if_fed}

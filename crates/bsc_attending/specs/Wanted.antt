@@ -1,8 +1,8 @@
 -- The connections that a station asks for.
 use Rattle.std.specs.Prelude.{ℕ, ℤ, pos, ◌+◌, ◌*◌, ◌-◌, ◌^◌, min, Bool, true, false, not, ◌&&◌}
 use Rattle.std.specs.Prelude.{if◌then◌else◌, Option, None, Some, length}
-use Rattle.bsc_monitor.specs.declared.tracing.Tracing.{Tracing}
-use Rattle.bsc_monitor.specs.declared.tracing.Tracing.TheVariants.{Off, Exchanges, All}
+use Rattle.bsc_report.specs.declared.tracing.Tracing.{Tracing}
+use Rattle.bsc_report.specs.declared.tracing.Tracing.TheVariants.{Off, Exchanges, All}
 use Rattle.bsc_trust.specs.declared.networks.Networks.{Networks}
 use Rattle.bsc_options.specs.Settings.{PlaceValue, SettingsValue, connects_to, listens_at}
 use Rattle.bsc_options.specs.Settings.{place_value}

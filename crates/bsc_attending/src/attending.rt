@@ -16,10 +16,10 @@ use bsc_connections::LiveError;
 use bsc_control::Control;
 use bsc_keeping::Sends;
 use bsc_monitor::{
-    AbsenceLimits, ControlWatch, Ended, Forgets, Limits, LineTerminal, Party, Polls, Printing,
-    TerminalWatch, Watch,
+    AbsenceLimits, ControlWatch, Ended, Limits, Polls, Printing, TerminalWatch, Watch,
 };
 use bsc_serving::Feeds;
+use bsc_station::{Forgets, LineTerminal, Party};
 use bsc_text::progress::{Meter, Timer};
 use bsc_trust::Trust;
 use std::alloc::Global;

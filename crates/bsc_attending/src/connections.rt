@@ -15,9 +15,10 @@ use bsc_connections::{
     Connection, Framing, Gaps, LiveError, Monitor, SocketRecords, Waiter, attend,
 };
 use bsc_keeping::{Keeper, Keeping, Prints, attend_kept};
-use bsc_monitor::{Forgets, Polls, Presences, settle};
+use bsc_monitor::{Polls, Presences, settle};
 use bsc_serving::Feeds;
 use bsc_spool::Store;
+use bsc_station::Forgets;
 use std::alloc::Global;
 use std::io::{Read, Write};
 use std::net::IpAddr;

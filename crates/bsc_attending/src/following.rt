@@ -6,7 +6,8 @@ use crate::Readiness;
 use crate::printer::Printer;
 use bsc_connections::{LiveError, Monitor, Note, Pace};
 use bsc_keeping::Prints;
-use bsc_monitor::{Party, Presence, Presences};
+use bsc_monitor::{Presence, Presences};
+use bsc_station::Party;
 use std::io::Write;
 
 /// A monitor that tells another monitor what happened, and then prints records that have arrived,

@@ -9,7 +9,8 @@ ghost use Rattle.bsc_attending.specs.Printer.{has_unprinted, outcome_after};
 
 use crate::{AttendingError, Readiness};
 use bsc_keeping::Prints;
-use bsc_monitor::{Party, RecordLines, print_some};
+use bsc_report::{RecordLines, print_some};
+use bsc_station::Party;
 use bsc_text::{PrintError, put};
 use std::alloc::Global;
 use std::io::Write;

@@ -10,8 +10,9 @@ use crate::preparing::Prepared;
 use bsc_bid::Station;
 use bsc_control::Control;
 use bsc_keeping::Sends;
-use bsc_monitor::{Forgets, LineTerminal, Party, Polls};
+use bsc_monitor::Polls;
 use bsc_serving::Feeds;
+use bsc_station::{Forgets, LineTerminal, Party};
 use std::alloc::Global;
 
 /// A station that can run.

@@ -6,7 +6,8 @@ ghost use Rattle.bsc_attending.specs.Sparing.{ForgetsEach, ForgetsIf, ForgetsUnn
 
 use bsc_connections::{LiveError, Monitor, Note, Pace};
 use bsc_keeping::Prints;
-use bsc_monitor::{Forgets, Polls, Presence, Presences, is_settled};
+use bsc_monitor::{Polls, Presence, Presences, is_settled};
+use bsc_station::Forgets;
 
 /// The number of events after which the attending of a station is ended, so that it forgets.
 pub(crate) const EVENTS: u64 = 1_024;

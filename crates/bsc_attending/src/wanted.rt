@@ -8,8 +8,8 @@ ghost use Rattle.bsc_attending.specs.Wanted.{control_wants, input_if, is_listeni
 ghost use Rattle.bsc_attending.specs.Wanted.{terminal_wants, wanted_value};
 
 use bsc_carrier::limits::MAX_CONNECTIONS;
-use bsc_monitor::Tracing;
 use bsc_options::{Place, StationSettings};
+use bsc_report::Tracing;
 use bsc_sockets::{ConnectionSettings, Peers};
 use bsc_trust::Networks;
 use std::os::fd::RawFd;

@@ -8,7 +8,7 @@ use Rattle.std.specs.List.{flat_map}
 use Rattle.std.specs.Prelude.{if◌then◌else◌}
 use Rattle.bsc_carrier.proofs.Kept.{take_again}
 use Rattle.bsc_text.specs.Reading.{HasNoFeed}
-use Rattle.bsc_monitor.specs.declared.party.Party as party_of
+use Rattle.bsc_station.specs.declared.party.Party as party_of
 use Rattle.bsc_feed.specs.declared.client.Client.{Client}
 use Rattle.bsc_feed.specs.Answering.{Serving}
 use Rattle.bsc_feed.specs.Clients.{IsNew, TakesUnless}

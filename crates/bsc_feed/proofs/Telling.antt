@@ -11,8 +11,8 @@ use Rattle.std.proofs.lemmas.Option.{slice_get_within}
 use Rattle.std.proofs.lemmas.Option.{unwrap_or-slice_get}
 use Rattle.std.specs.Option.{option_and_then}
 use Rattle.std.specs.Prelude.{◌⊎◌, if◌then◌else◌, nat_eq, nat_lt, slice_get, slice_set}
-use Rattle.bsc_monitor.specs.Ends.{End, sending, receiving}
-use Rattle.bsc_monitor.specs.declared.party.Party as party_of
+use Rattle.bsc_station.specs.Ends.{End, sending, receiving}
+use Rattle.bsc_station.specs.declared.party.Party as party_of
 use Rattle.bsc_feed.specs.declared.client.Client.{Client}
 use Rattle.bsc_feed.specs.declared.news.News.{News}
 use Rattle.bsc_feed.specs.declared.told.Told.{Told}

@@ -5,9 +5,9 @@ use Rattle.std.specs.Prelude.{slice_set, unwrap_or}
 use Rattle.bsc_block.specs.Records.{record_of}
 use Rattle.bsc_block.specs.declared.record.RecordError.{RecordError}
 use Rattle.bsc_bid.specs.declared.way.Way.{Way}
-use Rattle.bsc_monitor.specs.Ends.{End, sending, receiving}
+use Rattle.bsc_station.specs.Ends.{End, sending, receiving}
 use Rattle.bsc_monitor.specs.declared.attendance.Presence.{Presence}
-use Rattle.bsc_monitor.specs.declared.party.Party as party_of
+use Rattle.bsc_station.specs.declared.party.Party as party_of
 use Rattle.bsc_feed.specs.declared.fault.Fault.{Fault}
 use Rattle.bsc_feed.specs.declared.fault.Fault.TheVariants.{LineTooLong, NoSuchChannel, NotSending}
 use Rattle.bsc_feed.specs.declared.fault.Fault.TheVariants.{OutOfMemory}

@@ -3,7 +3,7 @@ use Rattle.std.specs.Prelude.{◌≡◌, ℕ, ◌+◌, Bool, true, false, not, �
 use Rattle.std.specs.Prelude.{None}
 use Rattle.std.specs.Prelude.{replicate}
 use Rattle.bsc_text.specs.InputLines.{is_skipped}
-use Rattle.bsc_monitor.specs.declared.party.Party as party_of
+use Rattle.bsc_station.specs.declared.party.Party as party_of
 use Rattle.bsc_feed.specs.declared.client.Client.{Client}
 use Rattle.bsc_feed.specs.declared.limits.TheConstants.{MAX_PLACES}
 use Rattle.bsc_feed.specs.declared.told.Told.{Told}

@@ -1,6 +1,6 @@
 -- How the channels that a client follows are told.
 use Rattle.std.specs.Prelude.{◌≡◌, ℕ, List, Option, Some, None, slice_set}
-use Rattle.bsc_monitor.specs.declared.party.Party as party_of
+use Rattle.bsc_station.specs.declared.party.Party as party_of
 use Rattle.bsc_feed.specs.declared.limits.TheConstants.{MAX_PLACES}
 use Rattle.bsc_feed.specs.declared.news.News.{News}
 use Rattle.bsc_feed.specs.declared.told.Told.{Told}

@@ -2,8 +2,8 @@
 use Rattle.std.specs.Prelude.{◌≡◌, ◌<◌, ◌≤◌, ℕ, ◌+◌, nat_lt, List, length, Option, Some, None}
 use Rattle.std.specs.Prelude.{if◌then◌else◌, slice_get}
 use Rattle.std.specs.Option.{option_and_then}
-use Rattle.bsc_monitor.specs.Ends.{End, sending, receiving}
-use Rattle.bsc_monitor.specs.declared.party.Party as party_of
+use Rattle.bsc_station.specs.Ends.{End, sending, receiving}
+use Rattle.bsc_station.specs.declared.party.Party as party_of
 use Rattle.bsc_feed.specs.declared.news.News.{News}
 use Rattle.bsc_feed.specs.declared.news.PlaceNews.{PlaceNews}
 use Rattle.bsc_feed.specs.declared.told.Told.{Told}

@@ -2,7 +2,7 @@
 use Rattle.std.specs.Prelude.{◌≡◌, ℕ, List, [], ◌∷◌, ◌++◌, length, Bool, true, false, Result, OnOk}
 use Rattle.std.specs.Prelude.{OnErr, IfOk, Option, Some}
 use Rattle.bsc_bid.specs.declared.way.Way.{Way}
-use Rattle.bsc_monitor.specs.Ends.{End, sending, receiving}
+use Rattle.bsc_station.specs.Ends.{End, sending, receiving}
 use Rattle.bsc_feed.specs.declared.fault.Fault.{Fault}
 
 -- Whether there is a channel with this end, and the station sends on it.

@@ -5,8 +5,8 @@ use Rattle.std.specs.Prelude.{true}
 use Rattle.std.specs.Prelude.{List, Option, Some, None, if◌then◌else◌}
 use Rattle.bsc_bid.specs.declared.way.Way.{Way}
 use Rattle.bsc_bid.specs.declared.way.Way.TheVariants.{FromTerminal, ToTerminal}
-use Rattle.bsc_monitor.specs.Ends.{End}
-use Rattle.bsc_monitor.specs.declared.party.Party as party_of
+use Rattle.bsc_station.specs.Ends.{End}
+use Rattle.bsc_station.specs.declared.party.Party as party_of
 use Rattle.bsc_text.specs.Channels.{channel_name}
 use Rattle.bsc_feed.specs.declared.channel.Channel.{Channel}
 use Rattle.bsc_feed.specs.declared.limits.TheConstants.{MAX_PLACES, PLACES}

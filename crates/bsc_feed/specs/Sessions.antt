@@ -3,8 +3,8 @@ use Rattle.std.specs.Prelude.{◌≡◌, ℕ, ◌+◌, nat_eq, Bool, true, false
 use Rattle.std.specs.Prelude.{length}
 use Rattle.std.specs.Prelude.{take, drop, filter, map, Option, Some, None, Result, Ok}
 use Rattle.std.specs.Prelude.{slice_get, if◌then◌else◌}
-use Rattle.bsc_monitor.specs.Ends.{receiving}
-use Rattle.bsc_monitor.specs.declared.party.Party as party_of
+use Rattle.bsc_station.specs.Ends.{receiving}
+use Rattle.bsc_station.specs.declared.party.Party as party_of
 use Rattle.bsc_feed.specs.declared.client.Client.{Client}
 use Rattle.bsc_feed.specs.declared.fault.Fault.{Fault}
 use Rattle.bsc_feed.specs.declared.told.Told.{Told}

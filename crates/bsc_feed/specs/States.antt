@@ -1,6 +1,6 @@
 -- The state of each channel of a station, told in the order of its report.
 use Rattle.std.specs.Prelude.{◌≡◌, ◌<◌, ◌≤◌, ℕ, true, false, Option, Some, None}
-use Rattle.bsc_monitor.specs.declared.party.Party as party_of
+use Rattle.bsc_station.specs.declared.party.Party as party_of
 use Rattle.bsc_feed.specs.declared.limits.TheConstants.{MAX_PLACES}
 use Rattle.bsc_feed.specs.Places.{is_there}
 

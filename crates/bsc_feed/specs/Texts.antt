@@ -4,10 +4,10 @@ use Rattle.std.specs.Prelude.{unwrap_or}
 use Rattle.std.specs.Prelude.{Option, Some, None, Result, Ok, IfOk, if◌then◌else◌}
 use Rattle.std.specs.Fmt.{decimal}
 use Rattle.std.specs.Io.KnownBytes.{Appends}
-use Rattle.bsc_monitor.specs.Ends.{End, receiving}
-use Rattle.bsc_monitor.specs.Printed.{end_shown}
+use Rattle.bsc_station.specs.Ends.{End, receiving}
+use Rattle.bsc_report.specs.Printed.{end_shown}
 use Rattle.bsc_monitor.specs.declared.attendance.Presence.{Presence}
-use Rattle.bsc_monitor.specs.declared.party.Party as party_of
+use Rattle.bsc_station.specs.declared.party.Party as party_of
 use Rattle.bsc_bid.specs.declared.way.Way.{Way}
 use Rattle.bsc_bid.specs.declared.way.Way.TheVariants.{FromTerminal}
 use Rattle.bsc_text.specs.Forms.{escaped}

@@ -12,7 +12,7 @@ use crate::places::{end_at, find, terminal_at, way_at};
 use crate::told::Told;
 use crate::{Channel, Command, Fault, Served, read_command};
 use bsc_block::Record;
-use bsc_monitor::{ChannelEnd, Party};
+use bsc_station::{ChannelEnd, Party};
 use std::alloc::Allocator;
 
 /// Does what a line asks for, and returns the answer; `None` if the state of each channel is to be

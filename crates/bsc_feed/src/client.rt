@@ -14,7 +14,7 @@ use crate::states::next_place;
 use crate::text::write_told;
 use crate::told::Told;
 use crate::{ClientLines, Served};
-use bsc_monitor::Party;
+use bsc_station::Party;
 use bsc_text::{PrintError, is_skipped};
 use std::alloc::Allocator;
 use std::io::Write;

@@ -7,7 +7,7 @@ ghost use Rattle.bsc_feed.specs.declared.limits.TheConstants.{MAX_PLACES};
 use crate::limits::MAX_PLACES;
 use crate::news::first_news;
 use crate::told::Told;
-use bsc_monitor::Party;
+use bsc_station::Party;
 use std::marker::Model;
 
 /// For each place of the report of a station, the number from which its channel is followed, if it

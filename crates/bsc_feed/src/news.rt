@@ -2,11 +2,11 @@
 
 ghost use Rattle.std.specs.Prelude.{◌≡◌, ◌<◌, ◌≤◌, None, length};
 ghost use Rattle.bsc_feed.specs.News.{IsFirstNews, news_at as at_place, news_of as of_end};
-ghost use Rattle.bsc_monitor.specs.EndValues.{end_of};
+ghost use Rattle.bsc_station.specs.EndValues.{end_of};
 
 use crate::places::end_at;
 use crate::told::Told;
-use bsc_monitor::{ChannelEnd, Party};
+use bsc_station::{ChannelEnd, Party};
 use std::alloc::Allocator;
 
 /// What is to be told of a channel, and from which number on it is followed after that.

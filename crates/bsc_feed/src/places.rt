@@ -6,13 +6,13 @@ ghost use Rattle.bsc_bid.specs.declared.limits.TheConstants.{MAX_TERMINALS};
 ghost use Rattle.bsc_feed.specs.Places.{end_at as at_place, has_way as way_there, IsFound};
 ghost use Rattle.bsc_feed.specs.Places.{is_there, IsNamed, terminal_at as terminal, way_at as way};
 ghost use Rattle.bsc_feed.specs.Places.{place_of as place};
-ghost use Rattle.bsc_monitor.specs.EndValues.{end_of};
+ghost use Rattle.bsc_station.specs.EndValues.{end_of};
 
 use crate::Channel;
 use crate::limits::PLACES;
 use bsc_bid::Way;
 use bsc_bid::limits::{MAX_SELECTS, MAX_TERMINALS};
-use bsc_monitor::{ChannelEnd, Party};
+use bsc_station::{ChannelEnd, Party};
 
 /// Returns the terminal of the channel at a place, counted from 0 among those of the station.
 pub(crate) fn terminal_at(place: usize) -> usize

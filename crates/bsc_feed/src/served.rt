@@ -5,13 +5,14 @@ ghost use Rattle.bsc_block.specs.Format.{IsFormat};
 ghost use Rattle.bsc_bid.specs.declared.way.Way.{Way as WayValue};
 ghost use Rattle.bsc_feed.specs.declared.fault.Fault.{Fault as FaultValue};
 ghost use Rattle.bsc_feed.specs.Offering.{IsSending, OffersBy};
-ghost use Rattle.bsc_monitor.specs.Ends.{IsWay};
+ghost use Rattle.bsc_station.specs.Ends.{IsWay};
 ghost use Rattle.bsc_monitor.specs.declared.attendance.Presence.{Presence as PresenceValue};
 
 use crate::Fault;
 use bsc_bid::Way;
 use bsc_block::{Format, Record};
-use bsc_monitor::{Party, Presence};
+use bsc_monitor::Presence;
+use bsc_station::Party;
 
 /// A station that is fed while it runs. Terminals are counted from 0 among those that the station
 /// knows. After a fault nothing of the station has changed that a client could see.

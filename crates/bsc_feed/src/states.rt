@@ -5,7 +5,7 @@ ghost use Rattle.bsc_feed.specs.States.{IsNextPlace};
 
 use crate::limits::MAX_PLACES;
 use crate::places::has_place;
-use bsc_monitor::Party;
+use bsc_station::Party;
 
 /// Returns the first place from this one on at which the station has a channel.
 pub(crate) fn next_place<P: Party>(station: &P, from: usize) -> Option<usize>

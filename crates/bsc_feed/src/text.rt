@@ -10,16 +10,17 @@ ghost use Rattle.bsc_feed.specs.Texts.{numbered_text, polled_shown, presence_sho
 ghost use Rattle.bsc_feed.specs.Texts.{presence_text, record_at, refused_text, silences_shown};
 ghost use Rattle.bsc_feed.specs.Texts.{state_shown, state_text, terminal_shown, told_text};
 ghost use Rattle.bsc_feed.specs.Texts.{visits_shown};
-ghost use Rattle.bsc_monitor.specs.EndValues.{end_of};
-ghost use Rattle.bsc_monitor.specs.Ends.{sending};
-ghost use Rattle.bsc_monitor.specs.Printed.{end_shown};
+ghost use Rattle.bsc_station.specs.EndValues.{end_of};
+ghost use Rattle.bsc_station.specs.Ends.{sending};
+ghost use Rattle.bsc_report.specs.Printed.{end_shown};
 ghost use Rattle.bsc_text.specs.Forms.{escaped};
 
 use crate::Served;
 use crate::places::{end_at, has_place, terminal_at, way_at};
 use crate::told::Told;
 use bsc_bid::Way;
-use bsc_monitor::{ChannelEnd, Party, Presence};
+use bsc_monitor::Presence;
+use bsc_station::{ChannelEnd, Party};
 use bsc_text::{Form, PrintError, doubt_text, put, write_channel_name, write_in_form};
 use std::alloc::Allocator;
 use std::io::Write;

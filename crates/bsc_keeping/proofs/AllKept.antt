@@ -10,7 +10,7 @@ use Rattle.bsc_spool.specs.declared.store.Store as store_of
 use Rattle.bsc_connections.specs.Parts.{SessionParts}
 use Rattle.bsc_connections.specs.Connections.{ConnectionValue}
 use Rattle.bsc_connections.specs.Attending.{Session, GoesOn, not_begun, one_more}
-use Rattle.bsc_monitor.specs.declared.party.Party as party_of
+use Rattle.bsc_station.specs.declared.party.Party as party_of
 use Rattle.bsc_keeping.specs.Changes.{known_now, records_of, receiving_now}
 use Rattle.bsc_keeping.specs.Changes.{sending_now}
 use Rattle.bsc_keeping.specs.AllKept.{HasAll, HasArrived, IsKeptOrSame, KeepsEachChange}

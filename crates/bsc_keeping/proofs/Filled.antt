@@ -7,8 +7,8 @@ use Rattle.bsc_control.specs.Control.{ControlValue, peer_at, with_peer}
 use Rattle.bsc_control.specs.Peer.{PeerValue, no_peer}
 use Rattle.bsc_control.specs.Stored.{apart_from_records, recalled_during, without_records}
 use Rattle.bsc_control.proofs.PeerLists.{map_kept_by_set}
-use Rattle.bsc_monitor.specs.Forgetting.{ForgetsArrivedFrom, ForgetsSent, ForgetsSentTo}
-use Rattle.bsc_monitor.specs.Forgetting.{nothing, further}
+use Rattle.bsc_station.specs.Forgetting.{ForgetsArrivedFrom, ForgetsSent, ForgetsSentTo}
+use Rattle.bsc_station.specs.Forgetting.{nothing, further}
 
 pub peer_filled : (c : ControlValue) (t : ℕ) (p : PeerValue)
     → without_records p ≡ without_records (peer_at c t)

@@ -10,8 +10,8 @@ use Rattle.bsc_control.specs.Peer.{PeerValue, forgotten_to, no_outbound, no_peer
 use Rattle.bsc_control.specs.Peer.{sent_forgotten}
 use Rattle.bsc_control.specs.Stored.{kept_of_side}
 use Rattle.bsc_spool.specs.declared.store.Store as store_of
-use Rattle.bsc_monitor.specs.Forgetting.{ForgetsSent, ForgetsSentTo, nothing, further}
-use Rattle.bsc_monitor.specs.declared.party.Party as party_of
+use Rattle.bsc_station.specs.Forgetting.{ForgetsSent, ForgetsSentTo, nothing, further}
+use Rattle.bsc_station.specs.declared.party.Party as party_of
 use Rattle.bsc_spool.specs.Spool.{ForgetsRecords, SpoolValue}
 use Rattle.bsc_keeping.proofs.OffersKept.{all_of_same, same_at, same_where}
 use Rattle.bsc_keeping.specs.AllKept.{HasAll}

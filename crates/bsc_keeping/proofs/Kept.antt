@@ -17,7 +17,7 @@ use Rattle.bsc_connections.specs.declared.awaited.LiveError.{LiveError}
 use Rattle.bsc_connections.specs.Histories.{Happening, WasHeard, WasSilent, WasSent, WasIgnored}
 use Rattle.bsc_connections.specs.Histories.{WasWithheld, HasJoined, WasRefused, HasClosed}
 use Rattle.bsc_connections.specs.Histories.{WasStopped, HadClient, sent_if_in_time}
-use Rattle.bsc_monitor.specs.declared.party.Party as party_of
+use Rattle.bsc_station.specs.declared.party.Party as party_of
 use Rattle.bsc_keeping.specs.Keeping.{KeepsAll, SurvivesAll, KeepsStep, KeepsIfStep, step_of}
 use Rattle.bsc_keeping.specs.Keeping.{KeepsAndTells, TellsIfKept}
 use Rattle.bsc_keeping.specs.Sessions.{Survives, IsKept}

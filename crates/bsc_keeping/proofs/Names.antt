@@ -16,7 +16,7 @@ use Rattle.bsc_connections.specs.Attending.{goes_on}
 use Rattle.bsc_connections.specs.Connections.{ConnectionValue}
 use Rattle.bsc_connections.specs.Histories.{Happening, sent_if_in_time}
 use Rattle.bsc_connections.specs.Parts.{SessionParts, session_parts}
-use Rattle.bsc_monitor.specs.declared.party.Party as party_of
+use Rattle.bsc_station.specs.declared.party.Party as party_of
 use Rattle.bsc_keeping.specs.Keeping.{KeepsAndTells}
 use Rattle.bsc_keeping.specs.declared.keeping.Keeping.{Keeping}
 use Rattle.bsc_keeping.proofs.Tellings.{shown_of_step}

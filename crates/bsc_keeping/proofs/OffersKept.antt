@@ -12,7 +12,7 @@ use Rattle.bsc_control.specs.Stored.{kept_of_side}
 use Rattle.bsc_spool.specs.declared.ends.Sending.{Sending}
 use Rattle.bsc_spool.specs.declared.ends.Receiving.{Receiving}
 use Rattle.bsc_spool.specs.declared.store.Store as store_of
-use Rattle.bsc_monitor.specs.declared.party.Party as party_of
+use Rattle.bsc_station.specs.declared.party.Party as party_of
 use Rattle.bsc_keeping.specs.AllKept.{HasAll, HasArrived}
 use Rattle.bsc_keeping.specs.Changes.{known_now, records_of, sending_now}
 use Rattle.bsc_keeping.specs.Ends.{kept_at_control}

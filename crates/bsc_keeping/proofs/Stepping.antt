@@ -15,7 +15,7 @@ use Rattle.bsc_connections.specs.Attending.{Session, Steps, not_begun, one_more}
 use Rattle.bsc_connections.specs.Connections.{ConnectionValue}
 use Rattle.bsc_connections.specs.Histories.{Happening, all_sent}
 use Rattle.bsc_connections.specs.Parts.{SessionParts, session_parts}
-use Rattle.bsc_monitor.specs.declared.party.Party as party_of
+use Rattle.bsc_station.specs.declared.party.Party as party_of
 use Rattle.bsc_keeping.specs.Keeping.{KeepsAndTells}
 use Rattle.bsc_keeping.specs.Runs.{IsEvent, KeptStep, KeptSteps, Moment, moment_of}
 use Rattle.bsc_keeping.specs.Runs as runs

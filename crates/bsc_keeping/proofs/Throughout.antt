@@ -7,7 +7,7 @@ use Rattle.bsc_connections.specs.Connections.{ConnectionValue}
 use Rattle.bsc_connections.specs.Histories.{Happening}
 use Rattle.bsc_connections.specs.Attending.{Session, Attends}
 use Rattle.bsc_connections.specs.Attending.{ended, goes_on, fails, fails_to_wait}
-use Rattle.bsc_monitor.specs.declared.party.Party as party_of
+use Rattle.bsc_station.specs.declared.party.Party as party_of
 use Rattle.bsc_keeping.specs.declared.keeping.Keeping.{Keeping}
 use Rattle.bsc_keeping.specs.Sessions.{KeepsBeforeSending, KeepsThroughout}
 use Rattle.bsc_keeping.specs.Sessions.{kept, keeps_on, keeps_last, keeps_waiting}

@@ -8,7 +8,7 @@ use Rattle.bsc_connections.specs.Parts.{SessionParts}
 use Rattle.bsc_connections.specs.Connections.{ConnectionValue}
 use Rattle.bsc_connections.specs.Histories.{Happening}
 use Rattle.bsc_connections.specs.Attending.{GoesOn, Session, Steps}
-use Rattle.bsc_monitor.specs.declared.party.Party as party_of
+use Rattle.bsc_station.specs.declared.party.Party as party_of
 use Rattle.bsc_keeping.specs.Changes.{records_of, sending_now}
 use Rattle.bsc_keeping.specs.Sessions.{IsKept}
 use Rattle.bsc_keeping.specs.declared.keeper.Keeper.{Keeper}

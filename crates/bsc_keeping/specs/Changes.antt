@@ -10,8 +10,8 @@ use Rattle.bsc_spool.specs.declared.fault.StoreFault.{StoreFault}
 use Rattle.bsc_spool.specs.declared.fault.StoreFault.TheVariants.{Refused}
 use Rattle.bsc_spool.specs.declared.change.Change.{Change}
 use Rattle.bsc_spool.specs.declared.change.Change.TheVariants.{Known, Arrived, Printed}
-use Rattle.bsc_monitor.specs.Arrivals.{arrived_on}
-use Rattle.bsc_monitor.specs.declared.party.Party as party_of
+use Rattle.bsc_report.specs.Arrivals.{arrived_on}
+use Rattle.bsc_station.specs.declared.party.Party as party_of
 use Rattle.bsc_spool.specs.declared.ends.Sending.{Sending}
 use Rattle.bsc_spool.specs.declared.ends.Receiving.{Receiving}
 

@@ -7,9 +7,9 @@ use Rattle.bsc_spool.specs.declared.channel.Channel.{Channel}
 use Rattle.bsc_spool.specs.declared.ends.Receiving.{Receiving}
 use Rattle.bsc_spool.specs.declared.ends.Sending.{Sending}
 use Rattle.bsc_control.specs.Control.{ControlValue}
-use Rattle.bsc_monitor.specs.Forgetting.{ForgetsArrivedFor, ForgetsArrivedFrom, ForgetsOwn}
-use Rattle.bsc_monitor.specs.Forgetting.{ForgetsSent}
-use Rattle.bsc_monitor.specs.LineTerminal.{LineTerminalValue}
+use Rattle.bsc_station.specs.Forgetting.{ForgetsArrivedFor, ForgetsArrivedFrom, ForgetsOwn}
+use Rattle.bsc_station.specs.Forgetting.{ForgetsSent}
+use Rattle.bsc_station.specs.LineTerminal.{LineTerminalValue}
 use Rattle.bsc_keeping.specs.Filling.{GainsFor, GainsFrom, offered_at, own_offered, own_recalled}
 use Rattle.bsc_keeping.specs.Filling.{recalled_at}
 use Rattle.bsc_keeping.specs.declared.keeper.Keeper.{Keeper}

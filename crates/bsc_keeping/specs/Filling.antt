@@ -11,8 +11,8 @@ use Rattle.bsc_tributary.specs.Tributary.{spool_at}
 use Rattle.bsc_control.specs.Control.{ControlValue, peer_at, with_peer}
 use Rattle.bsc_control.specs.Peer.{offered_to}
 use Rattle.bsc_control.specs.Stored.{recalled_during}
-use Rattle.bsc_monitor.specs.LineTerminal.{LineTerminalValue, line_terminal_of, with_own_queue}
-use Rattle.bsc_monitor.specs.LineTerminal.{with_spool}
+use Rattle.bsc_station.specs.LineTerminal.{LineTerminalValue, line_terminal_of, with_own_queue}
+use Rattle.bsc_station.specs.LineTerminal.{with_spool}
 
 -- What a terminal is apart from its records, and what is known of them.
 pub record ApartFromKept : Type 0 where

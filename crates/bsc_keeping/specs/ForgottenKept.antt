@@ -4,7 +4,7 @@ use Rattle.bsc_bid.specs.declared.kept.KeptSender.{KeptSender}
 use Rattle.bsc_spool.specs.declared.store.Store as store_of
 use Rattle.bsc_keeping.specs.AllKept.{HasAll}
 use Rattle.bsc_keeping.specs.declared.keeper.Keeper.{Keeper}
-use Rattle.bsc_monitor.specs.declared.party.Party as party_of
+use Rattle.bsc_station.specs.declared.party.Party as party_of
 
 -- What is known of a station with memory of type Z, what it says of the channels on which it sends,
 -- what is known of its store, how many records of each channel its inner monitor has printed, and

@@ -8,7 +8,7 @@ use Rattle.bsc_spool.specs.declared.store.Store as store_of
 use Rattle.bsc_connections.specs.declared.awaited.LiveError.{LiveError}
 use Rattle.bsc_connections.specs.declared.awaited.LiveError.TheVariants.{Unkept}
 use Rattle.bsc_connections.specs.Histories.{Happening, WasHeard, WasSilent}
-use Rattle.bsc_monitor.specs.declared.party.Party as party_of
+use Rattle.bsc_station.specs.declared.party.Party as party_of
 use Rattle.bsc_keeping.specs.Changes.{changes_of, sending_now, receiving_now}
 use Rattle.bsc_keeping.specs.declared.keeper.Keeper.{Keeper}
 use Rattle.bsc_keeping.specs.declared.keeping.Keeping.{Keeping}

@@ -7,8 +7,8 @@ use Rattle.bsc_spool.specs.declared.store.Store as store_of
 use Rattle.bsc_keeping.specs.AllKept.{HasAll}
 use Rattle.bsc_keeping.specs.Offers.{KeepsOffer}
 use Rattle.bsc_keeping.specs.declared.keeper.Keeper.{Keeper}
-use Rattle.bsc_monitor.specs.LineTerminal.{LineTerminalValue, with_own_queue}
-use Rattle.bsc_monitor.specs.declared.party.Party as party_of
+use Rattle.bsc_station.specs.LineTerminal.{LineTerminalValue, with_own_queue}
+use Rattle.bsc_station.specs.declared.party.Party as party_of
 
 -- A terminal with one more record to send.
 abbrev pub terminal_with : LineTerminalValue → ℕ → ℕ → List ℕ → LineTerminalValue

@@ -8,7 +8,7 @@ use Rattle.bsc_connections.specs.Parts.{SessionParts}
 use Rattle.bsc_connections.specs.Connections.{ConnectionValue}
 use Rattle.bsc_connections.specs.Histories.{Happening, all_sent}
 use Rattle.bsc_connections.specs.Attending.{Session, Steps, FailsToWait}
-use Rattle.bsc_monitor.specs.declared.party.Party as party_of
+use Rattle.bsc_station.specs.declared.party.Party as party_of
 use Rattle.bsc_keeping.specs.Keeping.{KeepsChanged, SurvivesAll, step_of}
 use Rattle.bsc_keeping.specs.declared.keeping.Keeping.{Keeping}
 

@@ -8,8 +8,8 @@ ghost use Rattle.bsc_keeping.specs.Sessions.{IsKeptThroughout};
 use crate::{Keeping, Prints, Sends};
 use bsc_bid::Station;
 use bsc_connections::{Connection, Framing, LiveError, Monitor, Waiter, attend};
-use bsc_monitor::Party;
 use bsc_spool::Store;
+use bsc_station::Party;
 use std::io::{Read, Write};
 
 /// Attends a station over these connections as `attend` of `bsc_connections` does, with a monitor

@@ -11,8 +11,8 @@ use crate::{Prints, Sends};
 use bsc_bid::KeptSender;
 use bsc_block::limits::MAX_FULL;
 use bsc_block::{Record, Records};
-use bsc_monitor::Party;
 use bsc_spool::{Change, Channel, Receiving, Sending, StoreFault};
+use bsc_station::Party;
 use std::alloc::{Allocator, Global};
 
 /// Returns a number as a store keeps it. Fails with `Refused` if it is 2^32 or more.

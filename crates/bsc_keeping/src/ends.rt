@@ -5,7 +5,9 @@ ghost use Rattle.bsc_bid.specs.declared.kept.KeptSender.{KeptSender as KeptSende
 
 use bsc_bid::KeptSender;
 use bsc_control::Control;
-use bsc_monitor::{ControlWatch, LineTerminal, Meter, TerminalWatch, Timer};
+use bsc_monitor::{ControlWatch, TerminalWatch};
+use bsc_station::LineTerminal;
+use bsc_text::progress::{Meter, Timer};
 use std::alloc::Allocator;
 use std::io::Write;
 

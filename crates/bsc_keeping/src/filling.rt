@@ -18,8 +18,8 @@ use crate::{Keeper, Own};
 use bsc_bid::KeptSender;
 use bsc_block::Record;
 use bsc_control::Control;
-use bsc_monitor::LineTerminal;
 use bsc_spool::{Progress, Receiving, Sending, Store, StoreFault};
+use bsc_station::LineTerminal;
 use std::alloc::{Allocator, Global};
 
 /// Returns what a sender recalls.

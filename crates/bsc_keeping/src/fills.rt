@@ -6,8 +6,8 @@ ghost use Rattle.bsc_bid.specs.declared.kept.KeptSender.{KeptSender as KeptSende
 use bsc_bid::KeptSender;
 use bsc_block::Record;
 use bsc_control::Control;
-use bsc_monitor::{Forgets, LineTerminal, Party};
 use bsc_spool::StoreFault;
+use bsc_station::{Forgets, LineTerminal, Party};
 use std::alloc::Allocator;
 
 /// A new station that is made again: it takes the records that are kept, and recalls what is kept
@@ -86,7 +86,7 @@ impl<A: Allocator> Fills for Control<A> {
     ghost use Rattle.std.specs.Prelude.{◌≡◌, refl};
     ghost use Rattle.std.proofs.Common.{◌∙◌};
     ghost use Rattle.bsc_control.specs.Stored.{apart_from_records};
-    ghost use Rattle.bsc_monitor.specs.Forgetting.{ForgetsArrivedFrom, ForgetsSent};
+    ghost use Rattle.bsc_station.specs.Forgetting.{ForgetsArrivedFrom, ForgetsSent};
     ghost use Rattle.bsc_keeping.specs.Filling.{GainsFrom, offered_at, recalled_at};
 
     ghost fills = { λ old new. apart_from_records new ≡ apart_from_records old };
@@ -165,7 +165,7 @@ impl<A: Allocator> Fills for Control<A> {
 impl<A: Allocator> Fills for LineTerminal<A> {
     ghost use Rattle.std.specs.Prelude.{◌≡◌, refl};
     ghost use Rattle.std.proofs.Common.{◌∙◌};
-    ghost use Rattle.bsc_monitor.specs.Forgetting.{ForgetsArrivedFor, ForgetsOwn};
+    ghost use Rattle.bsc_station.specs.Forgetting.{ForgetsArrivedFor, ForgetsOwn};
     ghost use Rattle.bsc_keeping.specs.Filling.{apart_from_kept, GainsFor, own_offered};
     ghost use Rattle.bsc_keeping.specs.Filling.{own_recalled};
 

@@ -11,8 +11,8 @@ use crate::offering::offer_to;
 use crate::{Prints, Sends};
 use bsc_bid::KeptSender;
 use bsc_block::Record;
-use bsc_monitor::Party;
 use bsc_spool::{Change, Receiving, Sending, Store, StoreFault};
+use bsc_station::Party;
 use std::alloc::Global;
 
 /// The store of a station, and how much of each of its channels is kept there.

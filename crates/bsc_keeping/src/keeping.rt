@@ -6,8 +6,8 @@ ghost use Rattle.bsc_keeping.specs.Keeping.{KeepsIfStep};
 
 use crate::{Keeper, Prints, Sends};
 use bsc_connections::{LiveError, Monitor, Note, Pace};
-use bsc_monitor::Party;
 use bsc_spool::{Store, StoreFault};
+use bsc_station::Party;
 
 /// A monitor that keeps what the station has changed, and then tells another monitor what happened.
 /// If that cannot be kept it refuses the event with `Unkept`, so that nothing is sent; the keeper

@@ -12,8 +12,8 @@ use crate::{Keeping, Prints, Sends};
 use bsc_bid::Station;
 use bsc_connections::{Framing, Monitor, Waiter};
 use bsc_control::Control;
-use bsc_monitor::{Forgets, LineTerminal, Party};
 use bsc_spool::Store;
+use bsc_station::{Forgets, LineTerminal, Party};
 use std::alloc::Allocator;
 use std::io::{Read, Write};
 

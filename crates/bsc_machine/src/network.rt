@@ -12,8 +12,8 @@ use crate::receiving::Receiving;
 use crate::screen::{Progress, Screen, progress};
 use bsc_attending::{Network, Opened, Reachable, Wanted};
 use bsc_clients::{Clients, ClientsError, ServedAt};
-use bsc_monitor::Beginning;
 use bsc_options::Place;
+use bsc_report::Beginning;
 use bsc_sockets::{
     Begun, ConnectionSettings, Listening, Reading, Sockets, SocketsError, Writing, listen,
 };

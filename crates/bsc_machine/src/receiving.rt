@@ -1,7 +1,7 @@
 //! What is told on standard error while a station waits for its peers.
 
 use crate::errors::Errors;
-use bsc_monitor::Beginning;
+use bsc_report::Beginning;
 use bsc_sockets::Reception;
 use std::net::{Net, SocketAddr};
 use std::rt::Files as Filing;

@@ -1,8 +1,3 @@
 pub mod Absent
-pub mod Firsts
-pub mod Offered
-pub mod Counts
 pub mod Followed
-pub mod Forgotten
 mod Sending
-mod Lines

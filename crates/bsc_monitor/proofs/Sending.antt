@@ -18,10 +18,10 @@ use Rattle.bsc_connections.specs.Histories.{all_sent}
 use Rattle.bsc_connections.specs.Attending.{Session, Around, Answers, TellsSent}
 use Rattle.bsc_connections.specs.Attending.{due_if_accepted, ReadsAt, GapPasses, Joins, JoinsAs}
 use Rattle.bsc_connections.specs.Attending.{Does, awaits_gap, Arrives, HearsIfAdmitted}
-use Rattle.bsc_monitor.specs.Arrivals.{arrived_on}
+use Rattle.bsc_report.specs.Arrivals.{arrived_on}
 use Rattle.bsc_monitor.specs.Watching.{Output, PrintsArrivals, Sees, ArePrinted}
 use Rattle.bsc_monitor.specs.Watching.{PrintsBeforeSending}
-use Rattle.bsc_monitor.specs.declared.party.Party as party_of
+use Rattle.bsc_station.specs.declared.party.Party as party_of
 
 -- A count that is at least the number of records.
 at_most_counted : (old arrived new : ℕ) → new ≡ max old arrived → arrived ≤ new

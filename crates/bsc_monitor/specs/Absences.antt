@@ -24,8 +24,8 @@ use Rattle.bsc_monitor.specs.declared.absences.Turn.{Turn}
 use Rattle.bsc_monitor.specs.declared.attendance.Attendance.{Attendance}
 use Rattle.bsc_monitor.specs.declared.attendance.AbsenceLimits.{AbsenceLimits}
 use Rattle.bsc_monitor.specs.declared.attendance.Presence.{Presence}
-use Rattle.bsc_monitor.specs.declared.terminal_news.TerminalNews.{TerminalNews}
-use Rattle.bsc_monitor.specs.declared.terminal_news.TerminalNews.TheVariants.{Absent, Answers, Back}
+use Rattle.bsc_report.specs.declared.terminal_news.TerminalNews.{TerminalNews}
+use Rattle.bsc_report.specs.declared.terminal_news.TerminalNews.TheVariants.{Absent, Answers, Back}
 
 -- No terminal has been visited.
 abbrev pub new_absences : AbsenceLimits → ℕ → Absences

@@ -7,8 +7,8 @@ use Rattle.bsc_connections.specs.declared.awaited.Pace.{Pace}
 use Rattle.bsc_connections.specs.declared.awaited.Pace.TheVariants.{AfterPause, AtOnce}
 use Rattle.bsc_control.specs.CallOrder.{is_polled}
 use Rattle.bsc_control.specs.Control.{ControlValue, peer_at, terminal_of_entry}
-use Rattle.bsc_monitor.specs.Counting.{station_counts}
-use Rattle.bsc_monitor.specs.Ends.{control_end, station_standing}
+use Rattle.bsc_station.specs.Counting.{station_counts}
+use Rattle.bsc_station.specs.Ends.{control_end, station_standing}
 use Rattle.bsc_monitor.specs.Rounds.{rounds_of, after_visit, are_enough, pauses_after}
 use Rattle.bsc_monitor.specs.Visits.{polled_by, polled_still, visit_ended, visit_rested}
 use Rattle.bsc_monitor.specs.Visits.{visits_of}

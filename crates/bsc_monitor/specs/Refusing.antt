@@ -5,8 +5,8 @@ use Rattle.bsc_connections.specs.declared.awaited.LiveError.TheVariants as live
 use Rattle.bsc_connections.specs.Histories.{Happening, WasHeard, WasSilent}
 use Rattle.bsc_monitor.specs.Telling.{ShowsEvent, Trace}
 use Rattle.bsc_monitor.specs.Watching.{Output, PrintsArrivals}
-use Rattle.bsc_monitor.specs.declared.held.Calls.{Calls}
-use Rattle.bsc_monitor.specs.declared.party.Party as party_of
+use Rattle.bsc_report.specs.declared.held.Calls.{Calls}
+use Rattle.bsc_station.specs.declared.party.Party as party_of
 use Rattle.bsc_text.specs.declared.trace.Who.{Who}
 
 -- The errors of a line of the trace.

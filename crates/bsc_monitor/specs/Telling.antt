@@ -11,20 +11,20 @@ use Rattle.bsc_text.specs.declared.trace.Who.{Who}
 use Rattle.bsc_text.specs.declared.trace.Who.TheVariants.{Control, Terminal}
 use Rattle.bsc_trust.specs.declared.distrust.Distrust.{Distrust}
 use Rattle.bsc_monitor.specs.Answering.{unanswered}
-use Rattle.bsc_monitor.specs.Holding.{CallLine, TracesNext, held_for, held_shown}
+use Rattle.bsc_report.specs.Holding.{CallLine, TracesNext, held_for, held_shown}
 use Rattle.bsc_monitor.specs.Absences.{absence_told, absences_noted, at_time}
-use Rattle.bsc_monitor.specs.Terminals.{news_line, told_answering}
-use Rattle.bsc_monitor.specs.Traces.{IsTraced, ShowsChange, distrust_line}
+use Rattle.bsc_report.specs.Terminals.{news_line, told_answering}
+use Rattle.bsc_report.specs.Traces.{IsTraced, ShowsChange, distrust_line}
 use Rattle.bsc_monitor.specs.Trusting.{called_by, distrust_told, moved_in, trust_after, trusting_of}
 use Rattle.bsc_monitor.specs.declared.absences.Absences.{Absences}
 use Rattle.bsc_monitor.specs.declared.absences.Turn.{Turn}
 use Rattle.bsc_monitor.specs.declared.answering.Answering.{Answering}
-use Rattle.bsc_monitor.specs.declared.held.Calls.{Calls}
-use Rattle.bsc_monitor.specs.declared.held.Calls.TheVariants as calls
-use Rattle.bsc_monitor.specs.declared.terminal_news.TerminalNews.{TerminalNews}
-use Rattle.bsc_monitor.specs.declared.terminal_news.TerminalsTold.{TerminalsTold}
-use Rattle.bsc_monitor.specs.declared.tracing.Tracing.{Tracing}
-use Rattle.bsc_monitor.specs.declared.tracing.Tracing.TheVariants.{Off, Exchanges, All}
+use Rattle.bsc_report.specs.declared.held.Calls.{Calls}
+use Rattle.bsc_report.specs.declared.held.Calls.TheVariants as calls
+use Rattle.bsc_report.specs.declared.terminal_news.TerminalNews.{TerminalNews}
+use Rattle.bsc_report.specs.declared.terminal_news.TerminalsTold.{TerminalsTold}
+use Rattle.bsc_report.specs.declared.tracing.Tracing.{Tracing}
+use Rattle.bsc_report.specs.declared.tracing.Tracing.TheVariants.{Off, Exchanges, All}
 use Rattle.bsc_monitor.specs.declared.trusting.Trusting.{Trusting}
 use Rattle.bsc_monitor.specs.declared.watch.Watch.{Watch}
 

@@ -15,8 +15,8 @@ use Rattle.bsc_trust.specs.Trust.{after_sent, after_silence, after_withheld, rea
 use Rattle.bsc_trust.specs.Trust.{told_of_sending, was_told}
 use Rattle.bsc_trust.specs.declared.distrust.Distrust.{Distrust}
 use Rattle.bsc_trust.specs.declared.trust.Trust.{Trust}
-use Rattle.bsc_monitor.specs.Terminals.{moved_by}
-use Rattle.bsc_monitor.specs.declared.terminal_news.TerminalNews.{TerminalNews}
+use Rattle.bsc_report.specs.Terminals.{moved_by}
+use Rattle.bsc_report.specs.declared.terminal_news.TerminalNews.{TerminalNews}
 use Rattle.bsc_monitor.specs.declared.trusting.Trusting.{Trusting}
 
 -- The terminal with this number is called in every task that a call begins.

@@ -15,14 +15,14 @@ use Rattle.bsc_control.specs.Control.{ControlValue}
 use Rattle.bsc_tributary.specs.Tributary.{is_control_mode}
 use Rattle.bsc_tributary.specs.declared.mode.Mode.{Mode}
 use Rattle.bsc_text.specs.Channels.{each_below}
-use Rattle.bsc_monitor.specs.Arrivals.{AreCounted, AsManyArePrinted, MoreArePrinted}
-use Rattle.bsc_monitor.specs.Arrivals.{arrivals_of, arrived_on}
+use Rattle.bsc_report.specs.Arrivals.{AreCounted, AsManyArePrinted, MoreArePrinted}
+use Rattle.bsc_report.specs.Arrivals.{arrivals_of, arrived_on}
 use Rattle.bsc_monitor.specs.Progress.{progress_after}
 use Rattle.bsc_monitor.specs.declared.progress.Progress.{Progress}
 use Rattle.bsc_text.specs.declared.error.PrintError.{PrintError}
 use Rattle.bsc_text.specs.declared.error.PrintError.TheVariants as print
-use Rattle.bsc_monitor.specs.declared.record_lines.RecordLines.{RecordLines}
-use Rattle.bsc_monitor.specs.declared.party.Party as party_of
+use Rattle.bsc_report.specs.declared.record_lines.RecordLines.{RecordLines}
+use Rattle.bsc_station.specs.declared.party.Party as party_of
 use Rattle.bsc_monitor.specs.declared.watch.Watch.{Watch}
 
 -- How a watch prints records, the number of records printed for each channel, what

@@ -14,11 +14,11 @@ ghost use Rattle.bsc_monitor.specs.Absences.{with_attendance, with_heard, with_r
 ghost use Rattle.bsc_monitor.specs.Absences.{with_stranger, with_time_out};
 
 use crate::attendance::{AbsenceLimits, Attendance, Presence};
-use crate::terminal_news::TerminalNews;
 use bsc_bid::limits::MAX_TERMINALS;
 use bsc_carrier::limits::MAX_CONNECTIONS;
 use bsc_connections::Note;
 use bsc_frame::{Heard, Message, Reply, TextBuffer, decode};
+use bsc_report::TerminalNews;
 
 /// What an event is to the terminals.
 #[derive(Clone, Copy)]

@@ -4,15 +4,15 @@ ghost use Rattle.std.specs.Prelude.{◌≡◌, ◌+◌, false};
 ghost use Rattle.bsc_bid.specs.declared.limits.TheConstants.{MAX_TRIES};
 ghost use Rattle.bsc_monitor.specs.LastCall.{ended_of, refuses};
 
-use crate::held::{Calls, Seen};
 use crate::trusting::Trusting;
 use crate::watch::{Watch, live};
-use crate::{Meter, Timer};
 use bsc_bid::Station;
 use bsc_bid::limits::MAX_TRIES;
 use bsc_connections::{LiveError, Monitor, Note, Pace};
 use bsc_frame::{Heard, Message, MessageBuffer, Reply};
+use bsc_report::{Calls, Seen};
 use bsc_text::Who;
+use bsc_text::progress::{Meter, Timer};
 use bsc_trust::Trust;
 use std::alloc::Allocator;
 use std::io::Write;

@@ -6,10 +6,12 @@ ghost use Rattle.bsc_monitor.specs.Attendance.{AbsentBySilence};
 ghost use Rattle.bsc_monitor.specs.Visits.{FollowsNew, FollowsHearing, FollowsSilence};
 ghost use Rattle.bsc_monitor.specs.Watching.{PrintsBeforeSending, output_of};
 
-use crate::{ControlWatch, LineTerminal, Meter, Party, TerminalWatch, Timer};
+use crate::{ControlWatch, TerminalWatch};
 use bsc_bid::Station;
 use bsc_connections::{Framing, Monitor, Waiter};
 use bsc_control::Control;
+use bsc_station::{LineTerminal, Party};
+use bsc_text::progress::{Meter, Timer};
 use std::alloc::Allocator;
 use std::io::{Read, Write};
 

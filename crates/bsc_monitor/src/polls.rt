@@ -3,8 +3,9 @@
 ghost use Rattle.std.specs.Prelude.{◌≡◌, ◌<◌, Bool, ℕ};
 ghost use Rattle.bsc_monitor.specs.Polls.{Settles, are_settled, is_as_wanted};
 
-use crate::{LineTerminal, Party, Presences};
+use crate::Presences;
 use bsc_control::Control;
+use bsc_station::{LineTerminal, Party};
 use std::alloc::Allocator;
 
 /// A station whose poll list can be changed: terminals that are not polled are passed over in the

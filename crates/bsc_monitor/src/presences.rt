@@ -3,7 +3,8 @@
 ghost use Rattle.std.specs.Prelude.{◌≡◌, Bool, Option, ℕ};
 ghost use Rattle.bsc_monitor.specs.declared.attendance.Presence.{Presence as PresenceValue};
 
-use crate::{Meter, Presence, TerminalWatch, Timer};
+use crate::{Presence, TerminalWatch};
+use bsc_text::progress::{Meter, Timer};
 use std::alloc::Allocator;
 use std::io::Write;
 

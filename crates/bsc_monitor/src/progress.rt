@@ -9,9 +9,9 @@ ghost use Rattle.bsc_monitor.specs.Progress.{progress_after, progress_of, visite
 
 use crate::rounds::{Limits, Rounds};
 use crate::visits::Visits;
-use crate::{station_counts, station_standing};
 use bsc_connections::{Note, Pace};
 use bsc_control::Control;
+use bsc_station::{station_counts, station_standing};
 use std::alloc::Allocator;
 
 /// The visits and rounds that a control station has made, and whether it has ended.

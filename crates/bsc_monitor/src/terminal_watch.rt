@@ -2,12 +2,13 @@
 
 ghost use Rattle.std.specs.Prelude.{◌≡◌, None, false, slice_get};
 
-use crate::held::{Calls, Seen};
 use crate::watch::Watch;
-use crate::{LineTerminal, Meter, Party, Timer};
 use bsc_carrier::CarrierError;
 use bsc_connections::{LiveError, Monitor, Note, Pace};
+use bsc_report::{Calls, Seen};
+use bsc_station::{LineTerminal, Party};
 use bsc_text::Who;
+use bsc_text::progress::{Meter, Timer};
 use std::alloc::Allocator;
 use std::io::Write;
 
@@ -75,7 +76,7 @@ impl<'a, A: Allocator + Copy, T: Timer + Meter + Drop, W: Write, D: Write, B: Al
     ghost use Rattle.bsc_connections.specs.declared.awaited.Pace.TheVariants.{AtOnce};
     ghost use Rattle.bsc_monitor.specs.Refusing.{Refuses};
     ghost use Rattle.bsc_monitor.specs.Telling.{TerminalShows, trace_of};
-    ghost use Rattle.bsc_monitor.specs.declared.held.Calls.TheVariants.{Heard};
+    ghost use Rattle.bsc_report.specs.declared.held.Calls.TheVariants.{Heard};
     ghost use Rattle.bsc_text.specs.declared.trace.Who.TheVariants.{Terminal};
     ghost use Rattle.bsc_monitor.specs.Watching.{Sees, closing_of, closing_told, output_of};
 

@@ -8,10 +8,10 @@ ghost use Rattle.bsc_monitor.specs.Trusting.{called_by, distrust_told, is_admitt
 ghost use Rattle.bsc_monitor.specs.Trusting.{address_of, ignoring_told, trust_after};
 ghost use Rattle.bsc_monitor.specs.Trusting.{moved_after, owner_if, place_in, trusting_of};
 
-use crate::terminal_news::{TerminalNews, moved_by};
 use bsc_connections::Note;
 use bsc_control::{Control, Task};
 use bsc_frame::{TextBuffer, decode};
+use bsc_report::{TerminalNews, moved_by};
 use bsc_trust::{Distrust, Trust};
 use std::alloc::Allocator;
 use std::net::{IpAddr, SocketAddr};

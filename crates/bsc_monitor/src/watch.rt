@@ -5,20 +5,19 @@ ghost use Rattle.bsc_connections.specs.Notes.{told_by};
 ghost use Rattle.bsc_text.specs.Counts.{saturated};
 ghost use Rattle.bsc_monitor.specs.Telling.{BeginsLine, ShowsDistrust, ShowsEvent, ShowsLine};
 ghost use Rattle.bsc_monitor.specs.Telling.{ShowsNews, ShowsTerminals, is_off_line, trace_of};
-ghost use Rattle.bsc_monitor.specs.Terminals.{news_line};
-ghost use Rattle.bsc_monitor.specs.Traces.{distrust_line};
+ghost use Rattle.bsc_report.specs.Terminals.{news_line};
+ghost use Rattle.bsc_report.specs.Traces.{distrust_line};
 ghost use Rattle.bsc_monitor.specs.Refusing.{IsTraceFault, IsUnprinted, Refuses};
 ghost use Rattle.bsc_monitor.specs.Watching.{IsFlushed, IsFound, PrintsArrivals, Sees};
 ghost use Rattle.bsc_monitor.specs.Watching.{live_of, output_of};
 
-use crate::arrivals::print_arrivals;
-use crate::counting::station_counts;
-use crate::held::{HeldCall, Seen, write_held, write_next};
-use crate::record_writer::RecordWriter;
-use crate::terminal_news::{TerminalNews, TerminalsTold, write_news};
-use crate::trace::{write_change, write_distrust, write_note};
-use crate::{Meter, Party, RecordLines, Timer, Tracing};
 use bsc_connections::{LiveError, Note};
+use bsc_report::{
+    HeldCall, RecordLines, RecordWriter, Seen, TerminalNews, TerminalsTold, Tracing,
+    print_arrivals, write_change, write_distrust, write_held, write_news, write_next, write_note,
+};
+use bsc_station::{Party, station_counts};
+use bsc_text::progress::{Meter, Timer};
 use bsc_text::{PrintError, write_time};
 use bsc_trust::Distrust;
 use std::alloc::{AllocError, Allocator};

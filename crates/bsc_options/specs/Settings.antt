@@ -9,8 +9,8 @@ use Rattle.bsc_text.specs.declared.form.Form.TheVariants.{Hexadecimal, Text, Byt
 use Rattle.bsc_monitor.specs.declared.attendance.AbsenceLimits.{AbsenceLimits}
 use Rattle.bsc_monitor.specs.declared.rounds.Limits.{Limits}
 use Rattle.bsc_monitor.specs.declared.watch.Printing.{Printing}
-use Rattle.bsc_monitor.specs.declared.tracing.Tracing.{Tracing}
-use Rattle.bsc_monitor.specs.declared.tracing.Tracing.TheVariants.{Off, Exchanges, All}
+use Rattle.bsc_report.specs.declared.tracing.Tracing.{Tracing}
+use Rattle.bsc_report.specs.declared.tracing.Tracing.TheVariants.{Off, Exchanges, All}
 use Rattle.bsc_options.specs.declared.error.OptionError.{OptionError}
 use Rattle.bsc_options.specs.declared.error.OptionError.TheVariants as error
 use Rattle.bsc_options.specs.declared.settings.Role.{Role}

@@ -16,7 +16,7 @@ use Rattle.bsc_spool.specs.declared.ends.Receiving.{Receiving}
 use Rattle.bsc_keeping.specs.Filled.{AddsAll, AddsChannel, AddsEach, AddsForgotten, forgotten_of}
 use Rattle.bsc_keeping.specs.Filling.{GainsFrom}
 use Rattle.bsc_keeping.specs.Own.{each_of, polled_at, terminal_at}
-use Rattle.bsc_monitor.specs.Forgetting.{ForgetsArrivedFrom}
+use Rattle.bsc_station.specs.Forgetting.{ForgetsArrivedFrom}
 use Rattle.bsc_spool.specs.Spool.{SpoolValue}
 use Rattle.bsc_restarts.specs.BegunAgain.{begun_received}
 use Rattle.bsc_restarts.proofs.Lists.{empty_forgotten, length_of_set, other_of_set, replicate_more}

@@ -5,7 +5,7 @@ use Rattle.std.proofs.lemmas.Bool.{cases_lt}
 use Rattle.bsc_control.specs.Control.{ControlValue}
 use Rattle.bsc_control.specs.Kept.{outbound_of}
 use Rattle.bsc_control.specs.Peer.{OutboundValue, sent_forgotten}
-use Rattle.bsc_monitor.specs.Forgetting.{ForgetsSent, ForgetsSentTo, nothing, further}
+use Rattle.bsc_station.specs.Forgetting.{ForgetsSent, ForgetsSentTo, nothing, further}
 use Rattle.bsc_restarts.proofs.Sides.{HasSide, OnlySides, no_side, only_set, other_side, set_side}
 use Rattle.bsc_restarts.proofs.Sides.{sides_then, this_side}
 

@@ -26,7 +26,7 @@ use Rattle.bsc_spool.specs.declared.ends.Receiving.{Receiving}
 use Rattle.bsc_spool.specs.declared.ends.Sending.{Sending}
 use Rattle.bsc_spool.specs.declared.fault.StoreFault.{StoreFault}
 use Rattle.bsc_spool.specs.declared.store.Store as store_of
-use Rattle.bsc_monitor.specs.LineTerminal.{LineTerminalValue}
+use Rattle.bsc_station.specs.LineTerminal.{LineTerminalValue}
 use Rattle.bsc_keeping.specs.Ends.{kept_at_control}
 use Rattle.bsc_keeping.specs.Offers.{KeepsOffer, OffersIf, channel_of, channel_to, is_end_to}
 use Rattle.bsc_keeping.specs.OffersKept.{control_with, terminal_with}

@@ -15,7 +15,7 @@ use Rattle.bsc_spool.specs.declared.ends.Receiving.{Receiving}
 use Rattle.bsc_spool.specs.declared.ends.Sending.{Sending}
 use Rattle.bsc_spool.specs.declared.fault.StoreFault.{StoreFault}
 use Rattle.bsc_spool.specs.declared.store.Store as store_of
-use Rattle.bsc_monitor.specs.declared.party.Party as party_of
+use Rattle.bsc_station.specs.declared.party.Party as party_of
 use Rattle.bsc_keeping.specs.Changes.{known_now, receiving_now, sending_now}
 use Rattle.bsc_keeping.specs.Keeping.{KeepsAll, KeepsChanged, KeepsStep, SurvivesAll, step_of}
 use Rattle.bsc_keeping.specs.Offers.{KeepsOffer, OffersIf, channel_to}

@@ -23,7 +23,7 @@ use Rattle.bsc_spool.specs.Contents.{Contents}
 use Rattle.bsc_spool.specs.declared.channel.Channel.{Channel}
 use Rattle.bsc_spool.specs.declared.fault.StoreFault.{StoreFault}
 use Rattle.bsc_spool.specs.declared.store.Store as store_of
-use Rattle.bsc_monitor.specs.LineTerminal.{LineTerminalValue}
+use Rattle.bsc_station.specs.LineTerminal.{LineTerminalValue}
 use Rattle.bsc_keeping.specs.Ends.{kept_at_control}
 use Rattle.bsc_keeping.specs.Offers.{KeepsOffer}
 use Rattle.bsc_keeping.specs.Own.{receiving_of, sending_of, sends_from, spools_of}

@@ -9,7 +9,7 @@ use Rattle.bsc_spool.specs.declared.change.Change.TheVariants.{Arrived, Known, P
 use Rattle.bsc_spool.specs.declared.channel.Channel.{Channel}
 use Rattle.bsc_spool.specs.declared.ends.Receiving.{Receiving}
 use Rattle.bsc_spool.specs.declared.ends.Sending.{Sending}
-use Rattle.bsc_monitor.specs.declared.party.Party as party_of
+use Rattle.bsc_station.specs.declared.party.Party as party_of
 use Rattle.bsc_keeping.specs.Changes.{changes_of, in_doubt_of, known_changes, known_now}
 use Rattle.bsc_keeping.specs.Changes.{printed_changes, receiving_changes, receiving_now, records_of}
 use Rattle.bsc_keeping.specs.Changes.{sending_changes, sending_now}

@@ -21,7 +21,7 @@ use Rattle.bsc_tributary.specs.Kept.{GrowsByText}
 use Rattle.bsc_tributary.specs.Tributary.{TributaryStep, TributaryValue, act_step, call_step}
 use Rattle.bsc_tributary.specs.Tributary.{hear_step, mode_step, poll_step, rooms_after, silence_in}
 use Rattle.bsc_tributary.specs.Tributary.{spool_at, without_line}
-use Rattle.bsc_monitor.specs.LineTerminal.{Acts, Hears, LineTerminalValue}
+use Rattle.bsc_station.specs.LineTerminal.{Acts, Hears, LineTerminalValue}
 use Rattle.bsc_restarts.proofs.Ends.{ReceivedGrows, grown_where, grows_not}
 use Rattle.bsc_restarts.proofs.Growing.{KnowsMore, begin_knows, knows_as_many, reply_knows}
 use Rattle.bsc_restarts.proofs.Growing.{none_known, silence_knows, were_waiting}

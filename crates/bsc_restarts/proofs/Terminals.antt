@@ -18,8 +18,8 @@ use Rattle.bsc_keeping.specs.Filled.{AddsAll, AddsChannel, AddsEach, AddsForgott
 use Rattle.bsc_keeping.specs.Filled.{offered_all, recalled_of, sent_again}
 use Rattle.bsc_keeping.specs.Filling.{GainsFor, own_offered, own_recalled}
 use Rattle.bsc_keeping.specs.Own.{channel_to, each_of, spool_of}
-use Rattle.bsc_monitor.specs.Forgetting.{ForgetsArrivedFor, ForgetsOwn}
-use Rattle.bsc_monitor.specs.LineTerminal.{LineTerminalValue, with_own_queue, with_spool}
+use Rattle.bsc_station.specs.Forgetting.{ForgetsArrivedFor, ForgetsOwn}
+use Rattle.bsc_station.specs.LineTerminal.{LineTerminalValue, with_own_queue, with_spool}
 use Rattle.bsc_spool.specs.Queue.{QueueValue, queue_of, waiting, with_forgotten}
 use Rattle.bsc_spool.specs.Spool.{SpoolValue}
 use Rattle.bsc_tributary.specs.Tributary.{TributaryValue, empty_spool, restarted, spool_at}

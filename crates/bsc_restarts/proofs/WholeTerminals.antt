@@ -14,7 +14,7 @@ use Rattle.bsc_tributary.specs.Tributary.{TributaryValue, spool_at}
 use Rattle.bsc_spool.specs.Contents.{Contents, records_from}
 use Rattle.bsc_spool.specs.declared.channel.Channel.TheVariants.{From}
 use Rattle.bsc_spool.specs.declared.store.Found.{Found}
-use Rattle.bsc_monitor.specs.LineTerminal.{LineTerminalValue}
+use Rattle.bsc_station.specs.LineTerminal.{LineTerminalValue}
 use Rattle.bsc_keeping.specs.Changes.{in_doubt_of}
 use Rattle.bsc_keeping.specs.Filled.{doubt_of, forgotten_of}
 use Rattle.bsc_keeping.specs.Own.{channel_to, spool_of}

@@ -25,7 +25,7 @@ use Rattle.bsc_spool.specs.declared.change.Change.TheVariants.{Known, Offered}
 use Rattle.bsc_spool.specs.declared.channel.Channel.{Channel}
 use Rattle.bsc_spool.specs.declared.ends.Receiving.{Receiving}
 use Rattle.bsc_spool.specs.declared.ends.Sending.{Sending}
-use Rattle.bsc_monitor.specs.LineTerminal.{LineTerminalValue}
+use Rattle.bsc_station.specs.LineTerminal.{LineTerminalValue}
 use Rattle.bsc_keeping.specs.Offers.{channel_to}
 use Rattle.bsc_keeping.specs.OffersKept.{terminal_with}
 use Rattle.bsc_keeping.specs.Own.{sends_from, spools_of}

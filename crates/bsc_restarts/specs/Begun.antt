@@ -8,7 +8,7 @@ use Rattle.bsc_control.specs.Kept.{IsControl, IsNewControl}
 use Rattle.bsc_control.specs.Stored.{apart_from_records}
 use Rattle.bsc_spool.specs.Contents.{Contents}
 use Rattle.bsc_spool.specs.declared.channel.Channel.{Channel}
-use Rattle.bsc_monitor.specs.LineTerminal.{LineTerminalValue}
+use Rattle.bsc_station.specs.LineTerminal.{LineTerminalValue}
 use Rattle.bsc_keeping.specs.Ends.{kept_at_control}
 use Rattle.bsc_keeping.specs.Filled.{IsControlFilledFrom, IsTerminalFilledFrom, KeepsFrom}
 use Rattle.bsc_keeping.specs.Own.{receiving_of, sending_of, sends_from, spools_of}

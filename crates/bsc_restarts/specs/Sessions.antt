@@ -10,7 +10,7 @@ use Rattle.bsc_spool.specs.declared.fault.StoreFault.{StoreFault}
 use Rattle.bsc_spool.specs.declared.store.Store as store_of
 use Rattle.bsc_bid.specs.Ways.{select_of}
 use Rattle.bsc_bid.specs.declared.way.Way.{Way}
-use Rattle.bsc_monitor.specs.declared.party.Party as party_of
+use Rattle.bsc_station.specs.declared.party.Party as party_of
 use Rattle.bsc_keeping.specs.Keeping.{KeepsStep}
 use Rattle.bsc_keeping.specs.Offers.{KeepsOffer}
 use Rattle.bsc_keeping.specs.Runs.{ForPrograms, KeptRun, KeptStep, Moment}

@@ -11,7 +11,7 @@ use Rattle.bsc_spool.specs.declared.change.Change.TheVariants.{Known, Offered}
 use Rattle.bsc_spool.specs.declared.channel.Channel.{Channel}
 use Rattle.bsc_spool.specs.declared.ends.Receiving.{Receiving}
 use Rattle.bsc_spool.specs.declared.ends.Sending.{Sending}
-use Rattle.bsc_monitor.specs.LineTerminal.{LineTerminalValue, line_terminal_of}
+use Rattle.bsc_station.specs.LineTerminal.{LineTerminalValue, line_terminal_of}
 use Rattle.bsc_keeping.specs.Offers.{channel_to}
 use Rattle.bsc_restarts.specs.Crashes.{KeepsOne}
 use Rattle.bsc_restarts.specs.Kept.{HasStation}

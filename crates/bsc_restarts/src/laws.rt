@@ -8,7 +8,7 @@ ghost use Rattle.bsc_bid.specs.Addresses.{AreDistinct};
 ghost use Rattle.bsc_control.specs.Control.{restarted};
 ghost use Rattle.bsc_spool.specs.Contents.{Contents, GivesBack};
 ghost use Rattle.bsc_spool.specs.declared.channel.Channel.{Channel as ChannelValue};
-ghost use Rattle.bsc_monitor.specs.LineTerminal.{LineTerminalValue};
+ghost use Rattle.bsc_station.specs.LineTerminal.{LineTerminalValue};
 ghost use Rattle.bsc_keeping.specs.Ends.{kept_at_control};
 ghost use Rattle.bsc_keeping.specs.OffersKept.{control_with, terminal_with};
 ghost use Rattle.bsc_keeping.specs.Runs.{if_fed};
@@ -35,9 +35,10 @@ use bsc_bid::Station;
 use bsc_bid::laws::recalls;
 use bsc_control::Control;
 use bsc_control::laws::made_again;
-use bsc_monitor::{Forgets, LineTerminal, Party, Polls};
+use bsc_monitor::Polls;
 use bsc_serving::Feeds;
 use bsc_spool::Store;
+use bsc_station::{Forgets, LineTerminal, Party};
 use std::alloc::Allocator;
 
 /// A new station that is filled from a store that has all that is to be kept of a station is that

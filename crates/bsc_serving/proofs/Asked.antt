@@ -4,7 +4,7 @@ use Rattle.std.specs.declared.io.Read as read_of
 use Rattle.std.specs.declared.io.Write as write_of
 use Rattle.bsc_connections.specs.declared.awaited.LiveError.{LiveError}
 use Rattle.bsc_feed.specs.Answering.{Serving}
-use Rattle.bsc_monitor.specs.declared.party.Party as party_of
+use Rattle.bsc_station.specs.declared.party.Party as party_of
 use Rattle.bsc_serving.specs.declared.session.Session.{Session}
 use Rattle.bsc_serving.specs.declared.session.Step.{Step}
 use Rattle.bsc_serving.specs.Serves.{IsAsked, IsServed, asked, unasked}

@@ -4,8 +4,8 @@ use Rattle.std.proofs.Common.{sym, subst, inl, inr}
 use Rattle.bsc_block.specs.Records.{record_of}
 use Rattle.bsc_block.specs.declared.record.RecordError.{RecordError}
 use Rattle.bsc_bid.specs.declared.way.Way.{Way}
-use Rattle.bsc_monitor.specs.Ends.{End, sending, receiving}
-use Rattle.bsc_monitor.specs.declared.party.Party as party_of
+use Rattle.bsc_station.specs.Ends.{End, sending, receiving}
+use Rattle.bsc_station.specs.declared.party.Party as party_of
 use Rattle.bsc_feed.specs.declared.client.Client.{Client}
 use Rattle.bsc_feed.specs.declared.fault.Fault.{Fault}
 use Rattle.bsc_feed.specs.Answering.{Answers, Does, DoesIf, Offers, OffersAt, OffersCodes, Releases}

@@ -13,7 +13,7 @@ use Rattle.bsc_control.specs.Control.{ControlValue, peer_at, with_peer}
 use Rattle.bsc_control.specs.Kept.{outbound_of}
 use Rattle.bsc_control.specs.Peer.{OutboundValue, PeerValue, no_outbound, no_peer}
 use Rattle.bsc_control.specs.Peer.{outbound_released, with_outbound}
-use Rattle.bsc_monitor.specs.LineTerminal.{LineTerminalValue, line_terminal_of}
+use Rattle.bsc_station.specs.LineTerminal.{LineTerminalValue, line_terminal_of}
 use Rattle.bsc_tributary.specs.Tributary.{after_release}
 
 -- what a step leaves is what was there

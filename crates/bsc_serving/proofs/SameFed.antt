@@ -7,7 +7,7 @@ use Rattle.bsc_feed.specs.Answering.{Serving, serving}
 use Rattle.bsc_feed.specs.Offering.{OffersBy}
 use Rattle.bsc_spool.specs.declared.fault.StoreFault.{StoreFault}
 use Rattle.bsc_monitor.specs.declared.attendance.Presence.{Presence}
-use Rattle.bsc_monitor.specs.declared.party.Party as party_of
+use Rattle.bsc_station.specs.declared.party.Party as party_of
 use Rattle.bsc_serving.specs.Feds.{ChangesStation, HasKeptNumber, KeepsAndOffers, KeepsIfDone}
 use Rattle.bsc_serving.specs.Feds.{PollsBy, PollsIfKnown, ReleasesAndKeeps}
 use Rattle.bsc_serving.specs.Serves.{IsAsked, asked, unasked}

@@ -10,7 +10,7 @@ use Rattle.bsc_feed.specs.Sessions.{Event, Took, octets_in, octets_of_event, ste
 use Rattle.bsc_feed.specs.Sessions.{Session as SessionOf, ended, takes, tells}
 use Rattle.bsc_feed.specs.declared.client.Client.{Client}
 use Rattle.bsc_feed.specs.Texts.{Telling}
-use Rattle.bsc_monitor.specs.declared.party.Party as party_of
+use Rattle.bsc_station.specs.declared.party.Party as party_of
 use Rattle.bsc_serving.specs.declared.session.Session.{Session}
 use Rattle.bsc_serving.specs.declared.session.Step.{Step}
 use Rattle.bsc_serving.specs.Sessions.{AreStepsOfClients, GoesOn, IsStepOfClient, StepsBy}

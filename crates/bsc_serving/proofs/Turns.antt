@@ -19,7 +19,7 @@ use Rattle.bsc_keeping.specs.Offers.{KeepsOffer}
 use Rattle.bsc_keeping.specs.Runs.{KeptRun, Moment, not_offered, not_released, offered, released, set}
 use Rattle.bsc_keeping.specs.declared.keeper.Keeper.{Keeper}
 use Rattle.bsc_monitor.specs.declared.attendance.Presence.{Presence}
-use Rattle.bsc_monitor.specs.declared.party.Party as party_of
+use Rattle.bsc_station.specs.declared.party.Party as party_of
 use Rattle.bsc_serving.specs.Feds.{AnswersKept, KeepsIfDone}
 use Rattle.bsc_serving.specs.Feds.{OffersIfKept, PollsIfKnown}
 use Rattle.bsc_serving.specs.Keeping.{HasKept, KeepsChangesBy, KeepsOfferBy, ObeysBy}

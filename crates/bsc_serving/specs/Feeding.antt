@@ -13,7 +13,7 @@ use Rattle.bsc_feed.specs.Faults.{release_fault}
 use Rattle.bsc_feed.specs.declared.fault.Fault.{Fault}
 use Rattle.bsc_feed.specs.declared.fault.Fault.TheVariants.{NotATerminal}
 use Rattle.bsc_keeping.specs.OffersKept.{control_with, terminal_with}
-use Rattle.bsc_monitor.specs.LineTerminal.{LineTerminalValue, line_terminal_of}
+use Rattle.bsc_station.specs.LineTerminal.{LineTerminalValue, line_terminal_of}
 use Rattle.bsc_tributary.specs.Kept.{IsTributary}
 use Rattle.bsc_tributary.specs.Tributary.{after_release}
 

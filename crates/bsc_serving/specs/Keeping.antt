@@ -10,7 +10,7 @@ use Rattle.bsc_spool.specs.declared.store.Store as store_of
 use Rattle.bsc_keeping.specs.Keeping.{KeepsStep}
 use Rattle.bsc_keeping.specs.Offers.{KeepsOffer, channel_to}
 use Rattle.bsc_keeping.specs.declared.keeper.Keeper.{Keeper}
-use Rattle.bsc_monitor.specs.declared.party.Party as party_of
+use Rattle.bsc_station.specs.declared.party.Party as party_of
 use Rattle.bsc_serving.specs.declared.keeps.KeptBy.{KeptBy}
 
 -- A store, of which this is known, was made to keep that a record of these characters was offered

@@ -5,7 +5,7 @@ use Rattle.bsc_feed.specs.Answering.{Serving}
 use Rattle.bsc_feed.specs.Clients.{Nexts}
 use Rattle.bsc_feed.specs.Texts.{Telling}
 use Rattle.bsc_feed.specs.declared.client.Client.{Client}
-use Rattle.bsc_monitor.specs.declared.party.Party as party_of
+use Rattle.bsc_station.specs.declared.party.Party as party_of
 use Rattle.bsc_serving.specs.declared.fed.Fed.{Fed}
 
 -- What is known of a station with memory of type M, what it does for programs, and why it has to

@@ -10,7 +10,7 @@ use Rattle.bsc_feed.specs.Sessions.{Event, octets_in}
 use Rattle.bsc_feed.specs.Sessions.{Session as SessionOf}
 use Rattle.bsc_feed.specs.Texts.{Telling, told_text}
 use Rattle.bsc_feed.specs.declared.client.Client.{Client}
-use Rattle.bsc_monitor.specs.declared.party.Party as party_of
+use Rattle.bsc_station.specs.declared.party.Party as party_of
 use Rattle.bsc_serving.specs.declared.session.Session.{Session}
 use Rattle.bsc_serving.specs.declared.session.Step.{Step}
 use Rattle.bsc_serving.specs.declared.session.Step.TheVariants.{Closed}

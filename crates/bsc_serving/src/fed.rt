@@ -9,7 +9,8 @@ use bsc_bid::Way;
 use bsc_block::{Format, Record};
 use bsc_connections::LiveError;
 use bsc_feed::{Fault, Served};
-use bsc_monitor::{ChannelEnd, Party, Presence, Received};
+use bsc_monitor::Presence;
+use bsc_station::{ChannelEnd, Party, Received};
 
 /// A station that is fed, and what keeps its records. What is offered is kept before the station
 /// offers it. Once there is a failure the station must not be asked for more: it has to end.

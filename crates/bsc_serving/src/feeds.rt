@@ -4,7 +4,7 @@ ghost use Rattle.std.specs.Prelude.{◌≡◌, ◌<◌, ◌≤◌, ℕ, Bool, Li
 ghost use Rattle.bsc_bid.specs.declared.way.Way.{Way as WayValue};
 ghost use Rattle.bsc_feed.specs.declared.fault.Fault.{Fault as FaultValue};
 ghost use Rattle.bsc_feed.specs.Offering.{IsSending, OffersBy};
-ghost use Rattle.bsc_monitor.specs.Ends.{IsWay};
+ghost use Rattle.bsc_station.specs.Ends.{IsWay};
 ghost use Rattle.bsc_serving.specs.Feeding.{needs_no_keeping};
 
 use bsc_bid::Way;
@@ -12,7 +12,7 @@ use bsc_block::{Format, Record};
 use bsc_control::Control;
 use bsc_feed::Fault;
 use bsc_keeping::Sends;
-use bsc_monitor::{ChannelEnd, LineTerminal, Party};
+use bsc_station::{ChannelEnd, LineTerminal, Party};
 use std::alloc::Allocator;
 
 /// A station that can be fed: what a control station and a terminal do for programs. Nothing is

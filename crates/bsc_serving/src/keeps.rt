@@ -9,8 +9,9 @@ ghost use Rattle.bsc_monitor.specs.declared.attendance.Presence.{Presence as Pre
 use bsc_bid::Way;
 use bsc_block::Record;
 use bsc_keeping::{Keeper, Prints, Sends};
-use bsc_monitor::{Party, Presence, Presences};
+use bsc_monitor::{Presence, Presences};
 use bsc_spool::{Store, StoreFault};
+use bsc_station::Party;
 
 /// What keeps the records of a station of type `S` while programs feed it, and knows which
 /// terminals are there that the station calls.

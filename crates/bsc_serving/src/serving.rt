@@ -16,8 +16,9 @@ use bsc_bid::Station;
 use bsc_connections::LiveError;
 use bsc_feed::Served;
 use bsc_keeping::{Keeper, Prints};
-use bsc_monitor::{Forgets, Party, Polls, Presences};
+use bsc_monitor::{Polls, Presences};
 use bsc_spool::Store;
+use bsc_station::{Forgets, Party};
 use std::alloc::{AllocError, Global};
 use std::io::{Read, Write};
 

@@ -5,8 +5,8 @@ ghost use Rattle.bsc_storing.specs.Errors.{other_error, store_error};
 
 use bsc_bid::ReleaseError;
 use bsc_config::ConfigError;
-use bsc_monitor::OfferError;
 use bsc_spool::StoreFault;
+use bsc_station::OfferError;
 use bsc_text::TextError;
 use std::alloc::{AllocError, AllocFailed};
 use thiserror::Error;

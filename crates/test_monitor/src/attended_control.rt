@@ -7,7 +7,8 @@ use crate::fakes::{
 use crate::stations::{control_of, sending_control};
 use bsc_connections::{Connection, LiveError, SocketRecords};
 use bsc_control::Control;
-use bsc_monitor::{ControlWatch, Ended, LastWatch, Limits, Printing, Tracing, write_report};
+use bsc_monitor::{ControlWatch, Ended, LastWatch, Limits, Printing};
+use bsc_report::{Tracing, write_report};
 use bsc_text::PrintError;
 use std::alloc::Global;
 use std::test::Fail;

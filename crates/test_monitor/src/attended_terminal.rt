@@ -6,7 +6,9 @@ use crate::fakes::{
 use crate::stations::terminal_of;
 use bsc_carrier::CarrierError;
 use bsc_connections::LiveError;
-use bsc_monitor::{LineTerminal, Printing, RecordLines, Tracing, write_report};
+use bsc_monitor::Printing;
+use bsc_report::{RecordLines, Tracing, write_report};
+use bsc_station::LineTerminal;
 use bsc_text::Form;
 use std::alloc::Global;
 use std::io::{ErrorKind, Write};

@@ -5,9 +5,9 @@ use bsc_connections::{
     Awaited, Connection, Handled, LiveError, Monitor, Note, Pace, SocketRecords, Waiter, attend,
 };
 use bsc_control::Control;
-use bsc_monitor::{
-    AbsenceLimits, ControlWatch, Limits, LineTerminal, Printing, RecordLines, TerminalWatch, Watch,
-};
+use bsc_monitor::{AbsenceLimits, ControlWatch, Limits, Printing, TerminalWatch, Watch};
+use bsc_report::RecordLines;
+use bsc_station::LineTerminal;
 use bsc_text::Form;
 use bsc_text::progress::{Counts, Meter, Timer};
 use bsc_trust::{TerminalPeers, Trust};

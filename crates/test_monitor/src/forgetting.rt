@@ -3,7 +3,7 @@
 use crate::stations::{add, card, control_of, offer_for, terminal_of};
 use bsc_bid::KeptSender;
 use bsc_control::Control;
-use bsc_monitor::{Forgets, LineTerminal, Party};
+use bsc_station::{Forgets, LineTerminal, Party};
 use std::alloc::Global;
 use std::test::Fail;
 use test_fixtures::configurations::{THREE_ADDRESSES, TWO_TERMINALS};

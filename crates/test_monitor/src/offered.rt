@@ -2,7 +2,7 @@
 
 use bsc_block::Record;
 use bsc_config::{Config, read_config};
-use bsc_monitor::{OfferError, new_control, read_records};
+use bsc_station::{OfferError, new_control, read_records};
 use std::alloc::Global;
 use std::test::Fail;
 use test_alloc::{Refusal, Refusing};

@@ -2,7 +2,8 @@
 
 use crate::stations::{add, control_of};
 use bsc_control::Control;
-use bsc_monitor::{Party, RecordLines, print_some};
+use bsc_report::{RecordLines, print_some};
+use bsc_station::Party;
 use bsc_text::Form;
 use std::alloc::Global;
 use std::test::Fail;

@@ -6,7 +6,7 @@ use bsc_bid::Setup;
 use bsc_block::Record;
 use bsc_config::read_config;
 use bsc_control::Control;
-use bsc_monitor::{
+use bsc_station::{
     LineTerminal, new_control, new_terminal, offer_at_terminal, offer_for_terminal, read_records,
 };
 use std::alloc::Global;

@@ -1,6 +1,6 @@
 -- Shows that the line of the error is the first of the text that is not a record.
 use Rattle.std.proofs.Common.{rules}
-use Rattle.bsc_monitor.specs.Offers.{IsFirstRefused}
+use Rattle.bsc_station.specs.Offers.{IsFirstRefused}
 use Rattle.std.specs.Str.Lines.{lines}
 use Rattle.bsc_attending.proofs.offering.records_at.Goals as goal
 

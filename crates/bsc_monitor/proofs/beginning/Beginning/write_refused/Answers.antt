@@ -1,6 +1,0 @@
--- The start of the line is written, and then the rest of it.
-use Rattle.std.proofs.KnownBytes.{Appends-trans}
-use Rattle.bsc_monitor.proofs.beginning.Beginning.write_refused.Goals as goal
-
-pub returns-clause-ok : goal.returns-clause-ok
-returns-clause-ok g c = Appends-trans _ _ _ _ _ c.in_ok-write_start.ensures.ok c.in_ok-write_not_allowed.ensures.ok

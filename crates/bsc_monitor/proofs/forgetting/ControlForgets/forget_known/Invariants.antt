@@ -1,7 +1,0 @@
--- The loop invariant of `forget_known` of a control station.
-use Rattle.bsc_monitor.specs.Forgetting.{ForgetsSent}
-use Rattle.bsc_monitor.proofs.forgetting.ControlForgets.forget_known.Given as goal
-
--- Records for some selection addresses are forgotten.
-abbrev pub invariant-terminals : goal.invariant-terminals
-invariant-terminals g l = ForgetsSent l.fn.self l.self
