@@ -85,7 +85,7 @@ pub fn attend<
 
 /// Waits for the next event and handles it; a connection that a failed write has closed is told of
 /// first. Returns false if the monitor ends the session.
-fn step<
+pub fn step<
     S: Station,
     R: Read + Drop,
     W: Write + Drop,

@@ -21,7 +21,7 @@ mod reached;
 mod replying;
 mod socket_records;
 
-pub use attending::attend;
+pub use attending::{attend, step};
 pub use awaited::{Awaited, Handled, LiveError, Pace, Waiter};
 pub use connection::{Connection, Taken};
 pub use framing::Framing;
