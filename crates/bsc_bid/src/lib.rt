@@ -7,9 +7,9 @@
 //! of a station of the line.
 //!
 //! The replies, ENQ, time-outs, polling, selection, their addresses and the poll list are those of
-//! GA27-3004. The limits, the numbering of the addresses, the refusals of a line, the urgent flag by
-//! which a receiver interrupts the sender, several selection addresses of one terminal, doubt and its
-//! release, and the laws of a bid are this project's own.
+//! GA27-3004. The limits, the numbering of the addresses, the refusals of a line, the urgent flag
+//! by which a receiver interrupts the sender, several selection addresses of one terminal, doubt
+//! and its release, and the laws of a bid are this project's own.
 #![tactic(auto)]
 
 mod alternation;

@@ -104,8 +104,8 @@ impl Absences {
     }
 
     /// Takes note of an event at this time, of what has become known with it of a connection, and
-    /// of the terminal that is called after it, if one is. Returns what the visit has shown that has
-    /// ended with it, if one has.
+    /// of the terminal that is called after it, if one is. Returns what the visit has shown that
+    /// has ended with it, if one has.
     #[tactic(auto, unfolding(crate::specs::Absences::absences_noted))]
     pub fn note(
         &mut self,

@@ -5,8 +5,8 @@
 //! Polling and selection are those of GA27-3004. Visits, rounds, absent terminals and the limits of
 //! a run are this project's own.
 //!
-//! `bsc_connections` attends the station over its connections, and tells a monitor what happens. The
-//! monitors are here. This crate uses no sockets, files or clock of its own.
+//! `bsc_connections` attends the station over its connections, and tells a monitor what happens.
+//! The monitors are here. This crate uses no sockets, files or clock of its own.
 #![tactic(auto)]
 
 mod absences;

@@ -1,6 +1,7 @@
-//! The work that is asked of the command `bscline`, as plain values; what the texts of the options of
-//! `bscline station` mean, which of them contradict one another, and the channels to which records
-//! are offered; and the words of `bscline store`. Nothing here depends on how the arguments are read.
+//! The work that is asked of the command `bscline`, as plain values; what the texts of the options
+//! of `bscline station` mean, which of them contradict one another, and the channels to which
+//! records are offered; and the words of `bscline store`. Nothing here depends on how the arguments
+//! are read.
 #![tactic(auto)]
 
 mod admission;

@@ -1,5 +1,5 @@
-//! What is printed of a station while it runs and at its end: the records that arrived, the lines of
-//! a trace, what is told of peers and terminals, and the report.
+//! What is printed of a station while it runs and at its end: the records that arrived, the lines
+//! of a trace, what is told of peers and terminals, and the report.
 //!
 //! The transmissions are those of GA27-3004. All lines are this project's own.
 #![tactic(auto)]

@@ -4,12 +4,12 @@
 //!
 //! A station that is killed and started again goes on with what its store kept. At the sending end
 //! of a channel that is: the offered records in order, how many of them are known to have arrived,
-//! and how many records the block has that is unanswered or in doubt. At the receiving end it is the
-//! records that arrived, in order, and how many of them were printed. All changes of one step of a
-//! station are kept at once. A `Store` is any place that keeps them.
+//! and how many records the block has that is unanswered or in doubt. At the receiving end it is
+//! the records that arrived, in order, and how many of them were printed. All changes of one step
+//! of a station are kept at once. A `Store` is any place that keeps them.
 //!
-//! GA27-3004 says that ETB ends a block that others follow, and ETX the last one. Queues, spools, the
-//! way in which waiting records are divided into blocks, and stores are this project's own.
+//! GA27-3004 says that ETB ends a block that others follow, and ETX the last one. Queues, spools,
+//! the way in which waiting records are divided into blocks, and stores are this project's own.
 #![tactic(auto)]
 
 mod change;

@@ -1,7 +1,8 @@
-//! Texts that are read and printed: inputs of limited length, their lines, words and numbers, octets
-//! in hexadecimal text; transmissions, records, channels and the lines of a trace in print; texts
-//! from elsewhere, such as words, paths, keys and the lines of another program, in forms in which no
-//! text begins a line or is obeyed by a terminal; and the line that shows how far long work has come.
+//! Texts that are read and printed: inputs of limited length, their lines, words and numbers,
+//! octets in hexadecimal text; transmissions, records, channels and the lines of a trace in print;
+//! texts from elsewhere, such as words, paths, keys and the lines of another program, in forms in
+//! which no text begins a line or is obeyed by a terminal; and the line that shows how far long
+//! work has come.
 //!
 //! The transmissions are those of GA27-3004. All texts are this project's own.
 #![tactic(auto)]
