@@ -33,8 +33,8 @@ use std::io::{Read, Write};
 /// A run reads its files and makes its connections through the machine. When it succeeds it has
 /// printed the output of `bsc_run::run_line` for its texts, or nothing if it only checks them; if
 /// an event is refused, it has printed the output up to that event, and the report. The trace of a
-/// run is written to that of the machine. A station is attended until it ends; `bsc_monitor`
-/// defines its output.
+/// run is written to that of the machine. A station is attended until it ends; `bsc_report` defines
+/// its output.
 pub fn perform<
     R: Read,
     H: Files + Traces + Cables + Network + Stations + Stores + StoreFiles,
