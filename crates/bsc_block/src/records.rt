@@ -86,6 +86,15 @@ impl<A: Allocator> Records<A> {
         rest.chars(place - forgotten)
     }
 
+    /// Returns a copy of the record at a place below the number of records; the empty one if it is
+    /// forgotten. It does not allocate memory.
+    pub fn record(&self, place: usize) -> Record
+        requires { place < length self.now.items }
+        ensures { slice_get self.now.items place ≡ Some result }
+    {
+        Record::of(self.chars(place))
+    }
+
     /// Returns whether there is room for seven more records, each of 144 characters.
     pub fn has_room(&self) -> bool
         ensures { result ≡ self.now.room }

@@ -3,9 +3,6 @@ use Rattle.std.specs.Prelude.{ℕ, nat_eq, nat_lt, ◌&&◌, List, [], ◌∷◌
 use Rattle.std.specs.Prelude.{◌^◌, Option, Some, None, Result, Ok, Err, if◌then◌else◌}
 use Rattle.std.specs.List.{flat_map}
 use Rattle.bsc_bid.specs.declared.kept.KeptSender.{KeptSender}
-use Rattle.bsc_block.specs.Records.{record_of}
-use Rattle.bsc_block.specs.declared.limits.TheConstants.{MAX_FULL}
-use Rattle.bsc_block.specs.declared.record.RecordError.{RecordError}
 use Rattle.bsc_spool.specs.declared.fault.StoreFault.{StoreFault}
 use Rattle.bsc_spool.specs.declared.fault.StoreFault.TheVariants.{Refused}
 use Rattle.bsc_spool.specs.declared.change.Change.{Change}
@@ -18,15 +15,6 @@ use Rattle.bsc_spool.specs.declared.ends.Receiving.{Receiving}
 -- A number as a store keeps it, which is one of 32 bits.
 abbrev pub number_kept : ℕ → Result ℕ StoreFault
 number_kept count = if nat_lt count (2 ^ 32) then Ok count else Err Refused
-
--- A record that is read, or else the fault that it does not fit.
-abbrev pub record_if : Result (List ℕ) RecordError → Result (List ℕ) StoreFault
-record_if (Ok it) = Ok it
-record_if (Err error) = Err Refused
-
--- The record of these characters, if they are one.
-abbrev pub record_kept : List ℕ → Result (List ℕ) StoreFault
-record_kept chars = record_if (record_of MAX_FULL chars)
 
 -- How many records are unanswered or in doubt.
 abbrev pub in_doubt_of : Option ℕ → ℕ

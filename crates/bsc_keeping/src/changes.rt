@@ -5,11 +5,10 @@ ghost use Rattle.std.specs.List.{flat_map};
 ghost use Rattle.bsc_spool.specs.declared.change.Change.TheVariants.{Arrived};
 ghost use Rattle.bsc_keeping.specs.Changes.{in_doubt_of, known_changes, printed_changes};
 ghost use Rattle.bsc_keeping.specs.Changes.{arrived_changes, sending_changes, receiving_changes};
-ghost use Rattle.bsc_keeping.specs.Changes.{changes_of, number_kept, record_kept};
+ghost use Rattle.bsc_keeping.specs.Changes.{changes_of, number_kept};
 
 use crate::{Prints, Sends};
 use bsc_bid::KeptSender;
-use bsc_block::limits::MAX_FULL;
 use bsc_block::{Record, Records};
 use bsc_spool::{Change, Channel, Receiving, Sending, StoreFault};
 use bsc_station::Party;
@@ -91,24 +90,13 @@ fn add_printed(
     add(step, change)
 }
 
-/// Returns the record of these characters.
-pub(crate) fn record_of(chars: &[u8]) -> Result<Record, StoreFault>
-    ensures value { result ≡ record_kept chars.now }
-    ensures chars { IfOk result (λ it. it ≡ chars.now) }
-{
-    match Record::read(chars, MAX_FULL) {
-        Ok(record) => Ok(record),
-        Err(_) => Err(StoreFault::Refused),
-    }
-}
-
-/// Adds the record at a place that has arrived on a channel.
-fn add_record(channel: &Channel, chars: &[u8], step: &mut Vec<Change>) -> Result<(), StoreFault>
-    ensures { OnOk result (step.new.items ≡ step.old.items ++ Arrived channel.now chars.now ∷ []) }
+/// Adds a record that has arrived on a channel.
+fn add_record(channel: &Channel, record: Record, step: &mut Vec<Change>) -> Result<(), StoreFault>
+    ensures { OnOk result (step.new.items ≡ step.old.items ++ Arrived channel.now «record» ∷ []) }
 {
     let change = Change::Arrived {
         channel: *channel,
-        record: record_of(chars)?,
+        record,
     };
     add(step, change)
 }
@@ -123,7 +111,7 @@ fn add_arrived<A: Allocator>(
         ≡ step.old.items ++ arrived_changes end.now records.now.items) }
 {
     'records: for place in end.arrived..records.len() {
-        add_record(&end.channel, records.chars(place), step)?;
+        add_record(&end.channel, records.record(place), step)?;
     }
     Ok(())
 }

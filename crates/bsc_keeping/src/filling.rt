@@ -12,11 +12,11 @@ ghost use Rattle.bsc_keeping.specs.Filled.{doubt_of, offered_all, offered_each, 
 ghost use Rattle.bsc_keeping.specs.Filled.{recalled_of, receiving_from, sending_from, sent_again};
 ghost use Rattle.bsc_control.specs.Stored.{apart_from_records};
 
-use crate::changes::record_of;
 use crate::fills::Fills;
 use crate::{Keeper, Own};
 use bsc_bid::KeptSender;
 use bsc_block::Record;
+use bsc_block::limits::MAX_FULL;
 use bsc_control::Control;
 use bsc_spool::{Progress, Receiving, Sending, Store, StoreFault};
 use bsc_station::LineTerminal;
@@ -37,10 +37,10 @@ fn kept_in(progress: &Progress) -> KeptSender
 }
 
 /// Returns the empty record, which stands for one whose characters the station does not need.
-fn empty() -> Result<Record, StoreFault>
-    ensures { IfOk result (λ it. it ≡ []) }
+fn empty() -> Record
+    ensures { result ≡ [] }
 {
-    record_of(&[])
+    Record::read(&[], MAX_FULL).unwrap()
 }
 
 /// Offers this many empty records on a channel.
@@ -57,7 +57,7 @@ fn offer_empty<P: Fills>(
         ≡ offered_all P.offered end.now.terminal end.now.select (replicate count []) station.old) }
 {
     'records: for _ in 0..count {
-        station.offer_again(end.terminal, end.select, empty()?)?;
+        station.offer_again(end.terminal, end.select, empty())?;
     }
     Ok(())
 }
@@ -128,7 +128,7 @@ fn add_forgotten<P: Fills>(station: &mut P, number: usize, count: u32) -> Result
         (AddsForgotten P.gains P.forgets number count station.old station.new) }
 {
     'records: for place in 0..count {
-        station.add_arrived(number, empty()?)?;
+        station.add_arrived(number, empty())?;
         station.forget_added(number, place as usize + 1);
     }
     Ok(())

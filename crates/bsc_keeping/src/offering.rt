@@ -3,9 +3,9 @@
 ghost use Rattle.std.specs.Prelude.{◌≡◌};
 ghost use Rattle.bsc_keeping.specs.Offers.{OffersIf, OffersOn, channel_to, is_end_to};
 
-use crate::changes::record_of;
 use bsc_block::Record;
 use bsc_spool::{Change, Channel, Sending, Store, StoreFault};
+use std::slice::from_ref;
 
 /// Returns the channel to this selection address of this terminal, if it is one of these.
 fn channel_to(ends: &[Sending], terminal: usize, select: usize) -> Option<Channel>
@@ -28,10 +28,13 @@ fn offer_on<K: Store>(store: &mut K, channel: Channel, new: Record) -> Result<Re
 {
     let change = Change::Offered {
         channel,
-        record: record_of(new.chars())?,
+        record: new,
     };
-    store.commit(&[change])?;
-    Ok(new)
+    store.commit(from_ref(&change))?;
+    match change {
+        Change::Offered { record, .. } => Ok(record),
+        _ => unreachable!(),
+    }
 }
 
 /// Keeps a record as offered on the channel to this selection address of this terminal, and returns

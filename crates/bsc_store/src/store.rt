@@ -165,94 +165,6 @@ fn make<S: Alter>(conn: &mut Connection<S>, line: &str) -> Result<(), SqlError>
     Ok(())
 }
 
-impl<S: Alter> TableStore<S> {
-    /// Keeps the changes of a step, all or none. Each change must fit the changes before it: the
-    /// records that are known or in doubt were offered, and those that are printed arrived.
-    pub fn keep(&mut self, step: &[Change]) -> Result<(), StoreFault>
-        ensures kept { OnOk result
-            (Keeps S.Store self.old.marks step.now self.old.conn self.new.conn) }
-        ensures marks { OnOk result
-            (self.new.marks ≡ marks_after_all step.now self.old.marks) }
-        ensures same_marks { OnErr result (self.new.marks ≡ self.old.marks) }
-        ensures unchanged { HasCleanDisk (state S.Store self.new.conn)
-            → IsTrue (state S.Store self.new.conn).is_open
-            → OnErr result (IsAsBefore S.Store self.old.conn self.new.conn) }
-        ensures crash { SurvivesStep S.Store self.old.marks step.now self.old.conn self.new.conn }
-        ensures fault { IfErr result (λ fault. (error : Error) × (fault ≡ fault_for error)) }
-    {
-        match commit(&mut self.conn, self.marks, step) {
-            Ok(marks) => {
-                self.marks = marks;
-                Ok(())
-            }
-            Err(error) => Err(fault_of(error)),
-        }
-    }
-
-    /// Returns what is kept of a channel, in numbers.
-    pub fn numbers(&mut self, channel: &Channel) -> Result<Progress, StoreFault>
-        ensures is { HasCleanDisk (state S.Store self.new.conn) → IfOk result
-            (IsProgress S.Store channel.now self.old.conn self.new.conn) }
-        ensures read { OnlyRead S.Store self.old.conn self.new.conn }
-        ensures fault { IfErr result (IsUnread S.Store (query_text query.Progress)
-            (channel_values channel.now) self.old.conn self.new.conn) }
-        ensures same_marks { self.new.marks ≡ self.old.marks }
-    {
-        reading::progress(&mut self.conn, channel)
-    }
-
-    /// Returns an offered record of a channel: the one after `mark`, of which 0 is before the
-    /// first, and after this many more.
-    pub fn offered_after(
-        &mut self,
-        channel: &Channel,
-        mark: i64,
-        more: u32,
-    ) -> Result<Option<Found>, StoreFault>
-        ensures is { HasCleanDisk (state S.Store self.new.conn) → IfOk result
-            (IsFound S.Store self.old.marks side.Offered channel.now mark more
-            self.old.conn self.new.conn) }
-        ensures read { OnlyRead S.Store self.old.conn self.new.conn }
-        ensures fault { IfErr result (IsNotFound S.Store self.old.marks side.Offered channel.now
-            mark more self.old.conn self.new.conn) }
-        ensures same_marks { self.new.marks ≡ self.old.marks }
-    {
-        reading::next(
-            &mut self.conn,
-            self.marks,
-            Side::Offered,
-            channel,
-            mark,
-            more,
-        )
-    }
-
-    /// Returns a record that arrived on a channel, as `offered_after` does.
-    pub fn arrived_after(
-        &mut self,
-        channel: &Channel,
-        mark: i64,
-        more: u32,
-    ) -> Result<Option<Found>, StoreFault>
-        ensures is { HasCleanDisk (state S.Store self.new.conn) → IfOk result
-            (IsFound S.Store self.old.marks side.Arrived channel.now mark more
-            self.old.conn self.new.conn) }
-        ensures read { OnlyRead S.Store self.old.conn self.new.conn }
-        ensures fault { IfErr result (IsNotFound S.Store self.old.marks side.Arrived channel.now
-            mark more self.old.conn self.new.conn) }
-        ensures same_marks { self.new.marks ≡ self.old.marks }
-    {
-        reading::next(
-            &mut self.conn,
-            self.marks,
-            Side::Arrived,
-            channel,
-            mark,
-            more,
-        )
-    }
-}
-
 impl<S: Alter> Store for TableStore<S> {
     ghost keeps = { λ step old new. Keeps S.Store old.marks step old.conn new.conn };
 
@@ -273,12 +185,37 @@ impl<S: Alter> Store for TableStore<S> {
     ghost finds_arrived = { λ channel mark more it old new. HasCleanDisk (state S.Store new.conn)
         → IsFound S.Store old.marks side.Arrived channel mark more old.conn new.conn it };
 
-    fn commit(&mut self, step: &[Change]) -> Result<(), StoreFault> {
-        self.keep(step)
+    fn commit(&mut self, step: &[Change]) -> Result<(), StoreFault>
+        ensures kept { OnOk result
+            (Keeps S.Store self.old.marks step.now self.old.conn self.new.conn) }
+        ensures unchanged { OnErr result (Stays S.Store self.old.conn self.new.conn) }
+        ensures crash { SurvivesStep S.Store self.old.marks step.now self.old.conn self.new.conn }
+        ensures as_before { HasCleanDisk (state S.Store self.new.conn)
+            → IsTrue (state S.Store self.new.conn).is_open
+            → OnErr result (IsAsBefore S.Store self.old.conn self.new.conn) }
+        ensures marks { OnOk result
+            (self.new.marks ≡ marks_after_all step.now self.old.marks) }
+        ensures same_marks { OnErr result (self.new.marks ≡ self.old.marks) }
+        ensures fault { IfErr result (λ fault. (error : Error) × (fault ≡ fault_for error)) }
+    {
+        match commit(&mut self.conn, self.marks, step) {
+            Ok(marks) => {
+                self.marks = marks;
+                Ok(())
+            }
+            Err(error) => Err(fault_of(error)),
+        }
     }
 
-    fn progress(&mut self, channel: &Channel) -> Result<Progress, StoreFault> {
-        self.numbers(channel)
+    fn progress(&mut self, channel: &Channel) -> Result<Progress, StoreFault>
+        ensures reads { OnlyRead S.Store self.old.conn self.new.conn }
+        ensures counts { IfOk result (λ it. HasCleanDisk (state S.Store self.new.conn)
+            → IsProgress S.Store channel.now self.old.conn self.new.conn it) }
+        ensures fault { IfErr result (IsUnread S.Store (query_text query.Progress)
+            (channel_values channel.now) self.old.conn self.new.conn) }
+        ensures same_marks { self.new.marks ≡ self.old.marks }
+    {
+        reading::progress(&mut self.conn, channel)
     }
 
     fn offered(
@@ -286,8 +223,23 @@ impl<S: Alter> Store for TableStore<S> {
         channel: &Channel,
         mark: i64,
         more: u32,
-    ) -> Result<Option<Found>, StoreFault> {
-        self.offered_after(channel, mark, more)
+    ) -> Result<Option<Found>, StoreFault>
+        ensures reads { OnlyRead S.Store self.old.conn self.new.conn }
+        ensures finds { IfOk result (λ it. HasCleanDisk (state S.Store self.new.conn)
+            → IsFound S.Store self.old.marks side.Offered channel.now mark more self.old.conn
+            self.new.conn it) }
+        ensures fault { IfErr result (IsNotFound S.Store self.old.marks side.Offered channel.now
+            mark more self.old.conn self.new.conn) }
+        ensures same_marks { self.new.marks ≡ self.old.marks }
+    {
+        reading::next(
+            &mut self.conn,
+            self.marks,
+            Side::Offered,
+            channel,
+            mark,
+            more,
+        )
     }
 
     fn arrived(
@@ -295,7 +247,22 @@ impl<S: Alter> Store for TableStore<S> {
         channel: &Channel,
         mark: i64,
         more: u32,
-    ) -> Result<Option<Found>, StoreFault> {
-        self.arrived_after(channel, mark, more)
+    ) -> Result<Option<Found>, StoreFault>
+        ensures reads { OnlyRead S.Store self.old.conn self.new.conn }
+        ensures finds { IfOk result (λ it. HasCleanDisk (state S.Store self.new.conn)
+            → IsFound S.Store self.old.marks side.Arrived channel.now mark more self.old.conn
+            self.new.conn it) }
+        ensures fault { IfErr result (IsNotFound S.Store self.old.marks side.Arrived channel.now
+            mark more self.old.conn self.new.conn) }
+        ensures same_marks { self.new.marks ≡ self.old.marks }
+    {
+        reading::next(
+            &mut self.conn,
+            self.marks,
+            Side::Arrived,
+            channel,
+            mark,
+            more,
+        )
     }
 }

@@ -1,4 +1,7 @@
 //! Writing a step.
+//!
+//! A statement is given by its text. The connection keeps the plans of the last 64 texts, and fewer
+//! are asked of a store; so each is parsed once, and not for each record.
 ghost use Rattle.std.specs.Prelude.{◌≡◌, ◌+◌, [], ◌∷◌, IfOk, IsTrue, OnOk, OnErr, pos};
 ghost use Rattle.sqlite.specs.Held.{state};
 ghost use Rattle.sqlite.specs.State.{ExecutesInside, HasCleanDisk, KeepsCommit, Survives};

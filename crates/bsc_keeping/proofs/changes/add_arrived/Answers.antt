@@ -12,10 +12,10 @@ records-preserved g c =
     let rs : List (List ℕ) = c.args.records.now.items in
     let from : ℕ = c.args.end.now.arrived in
     let i : ℕ = c.records.place - from in
-    let r : List ℕ = c.chars.result.now in
+    let r : List ℕ = c.«record».result in
     let place : c.records.place ≡ from + i = omega (arith, c.records.invariant.after) in
     let next : c.records.place + 1 - from ≡ i + 1 = omega (arith, c.records.invariant.after) in
-    let is : slice_get rs (from + i) ≡ Some r = rw (← place) c.chars.ensures.chars in
+    let is : slice_get rs (from + i) ≡ Some r = rw (← place) c.«record».ensures in
     let waits : slice_get (drop from rs) i ≡ Some r =
     slice_get-get_or (drop from rs) i r (waiting_within rs from i r is)
     ∙ ap (λ x. Some x) (waiting_at rs from i r r is) in

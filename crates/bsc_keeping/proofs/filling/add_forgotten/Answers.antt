@@ -8,7 +8,7 @@ records-preserved g c = record {
       (g.met.P.Fills.further _ _ _ c.add_arrived.ensures.fills c.forget_added.ensures.fills);
   adds =
       forgotten_more g.P.Fills.gains g.P.Fills.forgets c.args.number c.records.place
-      c.in_ok-empty.field-0 c.args.station.now c.records.station c.add_arrived.new.self
+      c.empty.result c.args.station.now c.records.station c.add_arrived.new.self
       c.forget_added.new.self c.records.invariant.adds c.in_ok-add_arrived.ensures.gains
-      c.in_ok-empty.ensures c.forget_added.ensures.forgets;
+      c.empty.ensures c.forget_added.ensures.forgets;
 }

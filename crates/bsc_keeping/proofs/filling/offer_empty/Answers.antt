@@ -13,7 +13,7 @@ records-preserved g c =
       takes = c.offer_again.ensures.takes ∙ c.records.invariant.takes;
       offered =
           c.in_ok-offer_again.ensures.offered
-          ∙ ap (λ r. offered c.records.station t s r) c.in_ok-empty.ensures
+          ∙ ap (λ r. offered c.records.station t s r) c.empty.ensures
           ∙ ap (λ x. offered x t s []) c.records.invariant.offered
           ∙ rw add-one (offered_more offered t s c.records.counter [] c.args.station.now);
     }
