@@ -2,5 +2,7 @@ mod AllPrinted
 mod InTurn
 mod Refused
 mod Prepared
-mod Outcomes
 mod GoingOn
+mod Ran
+mod Outcomes
+mod Begun

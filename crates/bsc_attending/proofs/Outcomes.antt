@@ -1,26 +1,23 @@
 -- What a station answers, by how it was prepared and how it ran.
 use Rattle.std.proofs.Common.{◌≡◌, ℕ, Bool, true, false, List, Option, Some, None, is_some}
-use Rattle.std.proofs.Common.{if◌then◌else◌, Result, Ok, Err, inl, inr, subst, sym}
-use Rattle.std.proofs.Common.{IfSome, IsSome, IsSomeAnd, IsErrAnd}
+use Rattle.std.proofs.Common.{if◌then◌else◌, Result, Ok, Err, ◌⊎◌, inl, inr, subst, sym}
+use Rattle.std.proofs.Common.{IfErr, IfOk, IsErrAnd}
 use Rattle.bsc_options.specs.StationWords.{AskedWords}
 use Rattle.bsc_carrier.specs.declared.error.CarrierError.{CarrierError}
 use Rattle.bsc_config.specs.Settings.{ConfigValue}
-use Rattle.bsc_spool.specs.declared.store.Store as store_of
-use Rattle.bsc_keeping.specs.Own.{receiving_of}
-use Rattle.bsc_keeping.specs.declared.keeper.Keeper.{Keeper}
-use Rattle.bsc_keeping.specs.declared.own.Own.{Own}
 use Rattle.bsc_station.specs.declared.standing.Standing.{Standing}
 use Rattle.bsc_options.specs.Settings.{SettingsValue, settings_in}
 use Rattle.bsc_options.specs.declared.settings.Role.{Role}
 use Rattle.bsc_options.specs.declared.settings.Role.TheVariants as role
 use Rattle.bsc_text.specs.declared.form.Form.{Form}
 use Rattle.bsc_trust.specs.declared.distrust.Distrust.{Distrust}
-use Rattle.bsc_attending.specs.Ending.{HasBegunAndRun, HasRun, IsLeftBy, IsSameKind, result_of}
-use Rattle.bsc_attending.specs.Errors.{IsCutShort, IsPreparingError, IsStoreError, IsUnbegun}
-use Rattle.bsc_attending.specs.Errors.{IsUnended, closed_outcome}
-use Rattle.bsc_attending.specs.Outcomes.{IsAnswerFor, IsReported, IsReportedFor, IsResultOf}
-use Rattle.bsc_attending.specs.Preparing.{IsPrepared, IsReady, IsStationOf, owner_of}
-use Rattle.bsc_attending.specs.Runs.{BeginsAndRuns, BeginsFrom, HasRunKept, RunsAsked}
+use Rattle.bsc_attending.specs.Ending.{HasRun, IsLeftBy, IsSameKind, result_of}
+use Rattle.bsc_attending.specs.Errors.{IsCutShort, IsPreparingError, IsPrintFault, IsStoreError}
+use Rattle.bsc_attending.specs.Errors.{IsUnbegun, IsUnended, closed_outcome}
+use Rattle.bsc_attending.specs.Outcomes.{Finishes, IsAnswerFor, IsReported, IsReportedFor}
+use Rattle.bsc_attending.specs.Outcomes.{IsResultOf}
+use Rattle.bsc_attending.specs.Preparing.{IsPrepared, IsStationOf}
+use Rattle.bsc_attending.specs.Runs.{IsNotBegun}
 use Rattle.bsc_attending.specs.declared.error.AttendingError.{AttendingError}
 use Rattle.bsc_attending.specs.declared.error.AttendingError.TheVariants as attending
 use Rattle.bsc_attending.specs.declared.preparing.Prepared.{Prepared}
@@ -35,20 +32,6 @@ unended_if_cut attending.NotTrusted p = absurd p
 unended_if_cut attending.InDoubt p = absurd p
 unended_if_cut attending.Undelivered p = absurd p
 unended_if_cut error p = tt
-
--- nor is one of preparing it
-pub unended_if_unprepared : (e : AttendingError) → IsPreparingError e → IsUnended e
-unended_if_unprepared (attending.Closed error) p = absurd p
-unended_if_unprepared attending.NotTrusted p = absurd p
-unended_if_unprepared attending.InDoubt p = absurd p
-unended_if_unprepared attending.Undelivered p = absurd p
-unended_if_unprepared error p = tt
-
--- nor is one of its store
-unended_if_refused : (e : AttendingError) → IsStoreError e → IsUnended e
-unended_if_refused (attending.Store error) p = tt
-unended_if_refused attending.Memory p = tt
-unended_if_refused error p = absurd p
 
 -- any station may be cut short
 cut_fits : (r : Role) (e : AttendingError) → IsCutShort e → IsResultOf r (Err e)
@@ -125,17 +108,6 @@ module _ (w : AskedWords) (r : Role) (input after : Option (List ℕ)) (begun : 
             prepared.station ends.leaves),
       )
 
-  -- the same, if its store may have been refused before it ran
-  pub answer_begun : (peers : ℕ) (result : Result (Unit {0}) AttendingError)
-      → HasBegunAndRun contents form begun ended result new → IsAnswerFor w r peers input result
-  answer_begun peers (Ok done) (inl refused) = absurd refused
-  answer_begun peers (Err error) (inl refused) =
-      inr (
-        record { after = after; begun = begun; prepared = prepared },
-        store_fits r error refused,
-      )
-  answer_begun peers result (inr ran) = answer_after peers result ran
-
   -- what it has printed
   pub report_after : (result : Result (Unit {0}) AttendingError)
       → HasRun contents form begun ended result new
@@ -151,13 +123,6 @@ module _ (w : AskedWords) (r : Role) (input after : Option (List ℕ)) (begun : 
         ends = ends;
       })
 
-  pub report_begun : (result : Result (Unit {0}) AttendingError)
-      → HasBegunAndRun contents form begun ended result new
-      → IsReportedFor contents w r form input result new
-  report_begun (Ok done) (inl refused) = absurd refused
-  report_begun (Err error) (inl refused) = inl (unended_if_refused error refused)
-  report_begun result (inr ran) = report_after result ran
-
 -- what a station leaves does not depend on its records
 left_by_kind : (before after : Prepared) (left : Left) → IsSameKind before after
     → IsLeftBy after left → IsLeftBy before left
@@ -172,16 +137,75 @@ left_by_kind (prepared.Terminal c) (prepared.Control d) left same p = absurd sam
 pub ran_filled : {W : Type 0} (contents : W → Option (List ℕ)) (form : Option Form)
     (before after ended : Prepared) (result : Result (Unit {0}) AttendingError) (new : W)
     → IsSameKind before after → HasRun contents form after ended result new
-    → HasBegunAndRun contents form before ended result new
-ran_filled contents form before after ended result new same (inl cut) = inr (inl cut)
+    → HasRun contents form before ended result new
+ran_filled contents form before after ended result new same (inl cut) = inl cut
 ran_filled contents form before after ended result new same (inr ends) =
-    inr (inr (record {
+    inr (record {
       left = ends.left;
       leaves = left_by_kind before after ends.left same ends.leaves;
       keeps = ends.keeps;
       before = ends.before;
       concludes = ends.concludes;
-    }))
+    })
+
+-- an error of printing is one that cuts short
+cut_if_unprinted : (e : AttendingError) → IsPrintFault e → IsCutShort e
+cut_if_unprinted attending.Output p = tt
+cut_if_unprinted attending.Memory p = tt
+cut_if_unprinted error p = absurd p
+
+-- a station that was attended, and then finished
+pub has_run : {W : Type 0} (contents : W → Option (List ℕ)) (form : Option Form)
+    (begun ended : Prepared) (attended : Result Left AttendingError)
+    (result : Result (Unit {0}) AttendingError) (before new : W)
+    → IfErr attended IsCutShort
+    → IfOk attended (λ left. IsLeftBy begun left × IsLeftBy ended left)
+    → Finishes form ended attended result (contents before) (contents new)
+    → HasRun contents form begun ended result new
+has_run contents form begun ended (Ok left) (Ok done) before new cut leaves (inl fault) = absurd fault
+has_run contents form begun ended (Ok left) (Err error) before new cut leaves (inl fault) =
+    inl (cut_if_unprinted error fault)
+has_run contents form begun ended (Ok left) result before new cut leaves (inr concludes) =
+    inr (record {
+      left = left;
+      leaves = leaves.0;
+      keeps = leaves.1;
+      before = before;
+      concludes = concludes;
+    })
+has_run contents form begun ended (Err error) result before new cut leaves is =
+    inl (subst (λ r. IsErrAnd r IsCutShort) (sym is) cut)
+
+-- the same, where the end of it is known by other names
+pub run_is : {W : Type 0} (contents : W → Option (List ℕ)) (form : Option Form)
+    (begun ended last : Prepared) (attended got : Result Left AttendingError)
+    (result : Result (Unit {0}) AttendingError) (before new : W) → ended ≡ last → attended ≡ got
+    → IfErr got IsCutShort → IfOk got (λ left. IsLeftBy begun left × IsLeftBy last left)
+    → Finishes form ended attended result (contents before) (contents new)
+    → HasRun contents form begun ended result new
+run_is contents form begun ended last attended got result before new is_last is_got cut leaves
+    finishes =
+    has_run contents form begun ended attended result before new
+    (subst (λ r. IfErr r IsCutShort) (sym is_got) cut)
+    (subst (λ e. IfOk attended (λ left. IsLeftBy begun left × IsLeftBy e left)) (sym is_last)
+    (subst (λ r. IfOk r (λ left. IsLeftBy begun left × IsLeftBy last left)) (sym is_got) leaves))
+    finishes
+
+-- an error that cut it short is its result
+pub cut_is : (form : Option Form) (ended : Prepared) (attended : Result Left AttendingError)
+    (result : Result (Unit {0}) AttendingError) (old new : Option (List ℕ))
+    → Finishes form ended attended result old new → IsErrAnd attended IsCutShort
+    → IsErrAnd result IsCutShort
+cut_is form ended (Ok left) result old new finishes cut = absurd cut
+cut_is form ended (Err error) result old new is cut =
+    subst (λ r. IsErrAnd r IsCutShort) (sym is) cut
+
+-- what a station answers that could not begin
+pub answer_unbegun : (w : AskedWords) (r : Role) (peers : ℕ) (input : Option (List ℕ))
+    (error : AttendingError) → IsNotBegun w r peers input error
+    → IsAnswerFor w r peers input (Err error)
+answer_unbegun w r peers input error (inl refused) = inl refused
+answer_unbegun w r peers input error (inr (begun, refused)) = inr (begun, store_fits r error refused)
 
 -- the options say which station it is and how its report is printed
 pub reported_by : (w : AskedWords) (input : Option (List ℕ)) (settings : SettingsValue)
@@ -193,8 +217,16 @@ reported_by w input settings read contents new result (inl unended) = inl unende
 reported_by w input settings read contents new result (inr report) =
     inr (record { settings = settings; read = read; report = report })
 
+-- one that has not begun has not ended either
+pub unended_if_unbegun : (e : AttendingError) → IsUnbegun e → IsUnended e
+unended_if_unbegun (attending.Closed error) p = absurd p
+unended_if_unbegun attending.NotTrusted p = absurd p
+unended_if_unbegun attending.InDoubt p = absurd p
+unended_if_unbegun attending.Undelivered p = absurd p
+unended_if_unbegun error p = tt
+
 -- a station whose store is refused has not begun
-unbegun_if_refused : (e : AttendingError) → IsStoreError e → IsUnbegun e
+pub unbegun_if_refused : (e : AttendingError) → IsStoreError e → IsUnbegun e
 unbegun_if_refused (attending.Store error) p = tt
 unbegun_if_refused attending.Memory p = tt
 unbegun_if_refused error p = absurd p
@@ -207,72 +239,3 @@ unbegun_if_unprepared (attending.Offer path error) p = tt
 unbegun_if_unprepared (attending.Text error) p = tt
 unbegun_if_unprepared attending.Memory p = tt
 unbegun_if_unprepared error p = absurd p
-
--- what keeps the records of a station is there, and was filled
-module _ {K W : Type 0} (store : store_of.Ghosts K)
-    (runs : Prepared → Keeper K → Type 0 → Prepared → Type 0) (contents : W → Option (List ℕ))
-    (form : Option Form) (forgets_printed asked : Bool) (as_asked : forgets_printed ≡ asked)
-    (begun filled ended : Prepared) (result : Result (Unit {0}) AttendingError) (new : W) where
-  abbrev Begins : Own → Keeper K → Type 0
-  Begins own =
-      BeginsFrom store forgets_printed own.sending.items own.receiving.items begun filled
-
-  abbrev Ran : Own → Type 0
-  Ran own =
-      BeginsAndRuns store runs contents form asked own.sending.items own.receiving.items begun
-      ended result new
-
-  pub ran_kept : (own : Option Own) (keeper : Option (Keeper K))
-      → IfSome own (λ it. IsSomeAnd keeper (Begins it))
-      → IfSome keeper (λ k. runs filled k (IsErrAnd result IsCutShort) ended)
-      → HasRun contents form filled ended result new → IfSome own Ran
-  ran_kept None keeper begins ran ends = tt
-  ran_kept (Some own) None begins ran ends = absurd begins
-  ran_kept (Some own) (Some keeper) begins ran ends =
-      inr (record {
-        filled = filled;
-        keeper = keeper;
-        begins =
-            subst (λ (forgets : Bool). BeginsFrom store forgets own.sending.items
-            own.receiving.items begun filled keeper) as_asked begins;
-        ran = ran;
-        ends = ends;
-      })
-
--- it was prepared before
-module _ {K W : Type 0} (store : store_of.Ghosts K)
-    (runs : Prepared → Keeper K → Type 0 → Prepared → Type 0) (contents : W → Option (List ℕ))
-    (w : AskedWords) (role : Role) (form : Option Form) (forgets_printed : Bool)
-    (input after : Option (List ℕ)) (begun ended : Prepared) (new : W) where
-  abbrev Asked : Result (Unit {0}) AttendingError → Type 0
-  Asked result = RunsAsked store runs contents w role form forgets_printed input result new
-
-  asked_by : (own : Own) (result : Result (Unit {0}) AttendingError)
-      → IsReady w role input after begun (Some own)
-      → BeginsAndRuns store runs contents form forgets_printed own.sending.items
-      own.receiving.items begun ended result new
-      → Asked result
-  asked_by own (Ok done) ready (inl refused) = absurd refused
-  asked_by own (Err error) ready (inl refused) = inl (unbegun_if_refused error refused)
-  asked_by own result ready (inr ran) =
-      inr (record {
-        after = after;
-        begun = begun;
-        prepared = ready.prepared;
-        ended = ended;
-        ran =
-            subst (λ sending. HasRunKept store runs contents form forgets_printed sending
-            (receiving_of ready.prepared.config.terminals (owner_of role)) begun ended result new)
-            ready.sending
-            (subst (λ receiving. HasRunKept store runs contents form forgets_printed
-            own.sending.items receiving begun ended result new) ready.receiving ran);
-      })
-
-  pub asked_after : (own : Option Own) (result : Result (Unit {0}) AttendingError)
-      → IsReady w role input after begun own → IsSome own
-      → IfSome own (λ it. BeginsAndRuns store runs contents form forgets_printed it.sending.items
-      it.receiving.items begun ended result new)
-      → Asked result
-  asked_after None result ready is_some ran =
-      let clash : false ≡ true = is_some in absurd cc
-  asked_after (Some own) result ready is_some ran = asked_by own result ready ran

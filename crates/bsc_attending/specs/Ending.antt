@@ -1,7 +1,7 @@
 -- What a station leaves when it ends, what it prints then, and its result; and what it knows of its
 -- connections when it begins.
 use Rattle.std.specs.Prelude.{◌≡◌, ◌⊎◌, ◌++◌, ℕ, zero, suc, List, length, Option}
-use Rattle.std.specs.Prelude.{Result, IsErrAnd, slice_set}
+use Rattle.std.specs.Prelude.{Result, IsErrAnd}
 use Rattle.std.specs.Io.KnownBytes.{Appends}
 use Rattle.std.specs.declared.net.ip_addr.IpAddr.{IpAddr}
 use Rattle.bsc_control.specs.Control.{peer_at}
@@ -17,7 +17,7 @@ use Rattle.bsc_attending.specs.declared.preparing.Prepared.{Prepared}
 use Rattle.bsc_attending.specs.declared.preparing.Prepared.TheVariants as prepared
 use Rattle.bsc_attending.specs.declared.attending.Left.{Left}
 use Rattle.bsc_attending.specs.declared.attending.Left.TheVariants.{Control, Terminal}
-use Rattle.bsc_attending.specs.Errors.{IsCutShort, IsPrintFault, IsStoreError}
+use Rattle.bsc_attending.specs.Errors.{IsCutShort, IsPrintFault}
 use Rattle.bsc_attending.specs.Errors.{control_outcome_of, terminal_outcome_of}
 
 -- The connections at the first places, this many, were told in their order, each with the address
@@ -27,13 +27,6 @@ JoinsFirst names zero old new = new ≡ old
 JoinsFirst names (suc place) old new =
     (mid : Trust) × JoinsFirst names place old mid
     × ((peer : Option IpAddr) × names place peer × (new ≡ after_joined mid place peer))
-
--- The number of printed records of each of the first channels, this many, once those that were
--- printed before are counted.
-abbrev pub counted_before : (ℕ → ℕ) → ℕ → List ℕ → List ℕ
-counted_before printed zero counts = counts
-counted_before printed (suc number) counts =
-    slice_set (counted_before printed number counts) number (printed number)
 
 -- The number of channels on which a station receives: of a control station one from each terminal,
 -- of a terminal one for each of its selection addresses.
@@ -117,9 +110,3 @@ module _ {W : Type 0} (contents : W → Option (List ℕ)) where
       → Type 0
   HasRun form begun ended result new =
       IsErrAnd result IsCutShort ⊎ HasEnded form begun ended result new
-
-  -- Its store is refused, or it has run.
-  abbrev pub HasBegunAndRun : Option Form → Prepared → Prepared
-      → Result (Unit {0}) AttendingError → W → Type 0
-  HasBegunAndRun form begun ended result new =
-      IsErrAnd result IsStoreError ⊎ HasRun form begun ended result new

@@ -5,8 +5,9 @@ pub mod Offering
 pub mod Outcomes
 pub mod Preparing
 pub mod Serving
-pub mod Sparing
+pub mod Forgetting
 pub mod Wanted
 pub mod Printer
 pub mod Progress
+pub mod Live
 pub mod Runs

@@ -3,8 +3,6 @@ use Rattle.std.specs.Prelude.{◌≡◌, ◌<◌, ◌≤◌, ◌||◌, ◌⊎◌
 use Rattle.std.specs.Prelude.{true, false, List, [], ◌∷◌, ◌++◌, length, slice_get, slice_index}
 use Rattle.std.specs.Prelude.{Option, Some, None, is_some, Result, Ok, Err}
 use Rattle.std.specs.Io.KnownBytes.{Appends}
-use Rattle.bsc_connections.specs.declared.awaited.LiveError.{LiveError}
-use Rattle.bsc_connections.specs.Histories.{Happening}
 use Rattle.bsc_control.specs.Control.{ControlValue}
 use Rattle.bsc_report.specs.Arrivals.{arrived_on}
 use Rattle.bsc_report.specs.Following.{AreSomeCounted, left_after, some_lines}
@@ -16,7 +14,6 @@ use Rattle.bsc_text.specs.declared.error.PrintError.TheVariants as print
 use Rattle.bsc_text.specs.Channels.{each_below}
 use Rattle.bsc_attending.specs.declared.error.AttendingError.{AttendingError}
 use Rattle.bsc_attending.specs.declared.error.AttendingError.TheVariants as attending
-use Rattle.bsc_attending.specs.declared.following.Following.{Following}
 use Rattle.bsc_attending.specs.declared.preparing.Prepared.{Prepared}
 use Rattle.bsc_attending.specs.declared.preparing.Prepared.TheVariants as prepared
 use Rattle.bsc_attending.specs.declared.printer.Printer.{Printer}
@@ -125,23 +122,3 @@ abbrev pub PreparedAllPrinted : {Y Z : Type 0} → party_of.Ghosts ControlValue 
     → party_of.Ghosts LineTerminalValue Z → Prepared → Followed → Type 0
 PreparedAllPrinted control terminal (prepared.Control c) f = AreAllPrinted control c f
 PreparedAllPrinted control terminal (prepared.Terminal l) f = AreAllPrinted terminal l f
-
--- What is known of a station with memory of type Z, what an inner monitor does when it is told of
--- something, and what an output holds.
-module _ {S M Z W D R : Type 0} (party : party_of.Ghosts S Z)
-    (is_told : M → S → Happening → Result Bool LiveError → M → Type 0)
-    (contents : W → Option (List ℕ)) where
-  -- The inner monitor is told, and then records are printed that have arrived.
-  pub record TellsAndFollows (old : Following M (Printer W D R)) (station : S)
-      (happening : Happening) (result : Result Bool LiveError)
-      (new : Following M (Printer W D R)) : Type 0 where
-    pub tells : is_told old.watch.now station happening result new.watch.now
-    pub follows : Follows party station (followed_of contents old.printer.now)
-        (followed_of contents new.printer.now)
-
--- The watch obeys a program that lets this terminal be called again, or has it called no more.
-pub record ObeysWatch {M O : Type 0} (obeys : M → ℕ → Bool → M → Type 0) (old : Following M O)
-    (t : ℕ) (polled : Bool) (new : Following M O) : Type 0 where
-  pub inner : obeys old.watch.now t polled new.watch.now
-  pub same : new.watch.ghost_name ≡ old.watch.ghost_name
-  pub printer : new.printer ≡ old.printer

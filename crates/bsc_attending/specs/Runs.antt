@@ -1,105 +1,35 @@
 -- How a station runs whose records are kept.
-use Rattle.std.specs.Prelude.{◌≡◌, ◌⊎◌, ℕ, Bool, false, List, Option, is_some, Result, Ok}
-use Rattle.std.specs.Prelude.{IsErrAnd}
+use Rattle.std.specs.Prelude.{◌≡◌, ◌⊎◌, ℕ, Bool, true, false, List, Option, None, Some, is_some}
+use Rattle.std.specs.Prelude.{Result}
+use Rattle.std.specs.Prelude.{IsErrAnd, IsSomeAnd, Ok}
 use Rattle.bsc_options.specs.StationWords.{AskedWords}
-use Rattle.bsc_bid.specs.declared.kept.KeptSender.{KeptSender}
-use Rattle.bsc_bid.specs.declared.station.Station as station_of
 use Rattle.bsc_control.specs.Control.{ControlValue}
-use Rattle.bsc_bid.specs.declared.way.Way.{Way}
-use Rattle.bsc_feed.specs.declared.fault.Fault.{Fault}
 use Rattle.bsc_spool.specs.Contents.{Contents, GivesBack, IsRead}
 use Rattle.bsc_spool.specs.declared.channel.Channel.{Channel}
 use Rattle.bsc_spool.specs.declared.ends.Receiving.{Receiving}
 use Rattle.bsc_spool.specs.declared.ends.Sending.{Sending}
 use Rattle.bsc_spool.specs.declared.store.Store as store_of
 use Rattle.bsc_station.specs.LineTerminal.{LineTerminalValue}
-use Rattle.bsc_station.specs.declared.party.Party as party_of
 use Rattle.bsc_keeping.specs.Filled.{IsControlFilledFrom, IsTerminalFilledFrom, KeepsFrom}
 use Rattle.bsc_keeping.specs.Own.{receiving_of, sending_of}
-use Rattle.bsc_keeping.specs.Runs.{ForPrograms, KeptRun, Moment, if_fed}
+use Rattle.bsc_keeping.specs.LiveRuns.{Course, State}
+use Rattle.bsc_keeping.specs.Runs.{Moment}
 use Rattle.bsc_keeping.specs.declared.keeper.Keeper.{Keeper}
+use Rattle.bsc_keeping.specs.declared.own.Own.{Own}
 use Rattle.bsc_options.specs.Settings.{SettingsValue, settings_in}
 use Rattle.bsc_options.specs.declared.settings.Role.{Role}
-use Rattle.bsc_text.specs.declared.form.Form.{Form}
-use Rattle.bsc_attending.specs.Ending.{HasRun}
+use Rattle.bsc_attending.specs.Ending.{HasRun, IsSameKind}
 use Rattle.bsc_attending.specs.Errors.{IsCutShort, IsStoreError, IsUnbegun}
-use Rattle.bsc_attending.specs.Preparing.{IsPrepared, owner_of}
-use Rattle.bsc_attending.specs.Sparing.{forgets_printed_in}
+use Rattle.bsc_attending.specs.Live.{RanLive}
+use Rattle.bsc_attending.specs.Preparing.{IsBegun, IsPrepared, IsUnprepared, owner_of}
+use Rattle.bsc_attending.specs.Forgetting.{forgets_printed_in}
 use Rattle.bsc_attending.specs.declared.error.AttendingError.{AttendingError}
 use Rattle.bsc_attending.specs.declared.preparing.Prepared.{Prepared}
 use Rattle.bsc_attending.specs.declared.preparing.Prepared.TheVariants as prepared
-use Rattle.bsc_serving.specs.Turns.{for_programs}
-
--- What is known of a station with memory of type Z, what it says of the channels on which it sends,
--- what it forgets of the records that are known to have arrived, and of those that arrived, what it
--- does once a terminal is to be polled or not, and what it does for programs.
-pub record StationParts (S Z : Type 0) : Type 1 where
-  pub station : station_of.Ghosts S
-  pub party : party_of.Ghosts S Z
-  pub kept_at : S → ℕ → ℕ → Option KeptSender
-  pub forgets_sent : S → S → Type 0
-  pub forgets_arrived : S → ℕ → ℕ → S → Type 0
-  pub polls : S → ℕ → Bool → S → Type 0
-  pub does : ForPrograms S
-
-abbrev pub station_parts : {S Z : Type 0} → station_of.Ghosts S → party_of.Ghosts S Z
-    → (S → ℕ → ℕ → Option KeptSender) → (S → S → Type 0) → (S → ℕ → ℕ → S → Type 0)
-    → (S → ℕ → Bool → S → Type 0) → (S → ℕ → Way → List ℕ → Result ℕ Fault → S → Type 0)
-    → (S → ℕ → Way → ℕ → Result (Unit {0}) Fault → S → Type 0)
-    → (S → Bool → Result (Unit {0}) Fault → S → Type 0)
-    → (S → Result (Unit {0}) Fault → S → Type 0) → StationParts S Z
-station_parts station party kept_at forgets_sent forgets_arrived polls offers releases readies urges
-    =
-    record {
-      station = station;
-      party = party;
-      kept_at = kept_at;
-      forgets_sent = forgets_sent;
-      forgets_arrived = forgets_arrived;
-      polls = polls;
-      does = for_programs offers releases readies urges;
-    }
 
 -- A station and its keeper.
 abbrev pub at : {S K : Type 0} → S → Keeper K → Moment S K
 at station keeper = record { station = station; keeper = keeper }
-
--- A station is attended whose records are kept in a store. Meanwhile it forgets records, and, if
--- the first flag says that programs can feed it, does what they ask for. The other flag says
--- whether that ended without an error.
-abbrev pub Runs : {S K Z : Type 0} → StationParts S Z → Bool → store_of.Ghosts K → Bool
-    → Moment S K → Moment S K → Type 0
-Runs parts is_fed store =
-    KeptRun parts.station parts.party parts.kept_at store parts.forgets_sent parts.forgets_arrived
-    parts.polls (if_fed is_fed parts.does)
-
--- A station was attended over connections, for which `runs` says what that means, and something
--- failed only if this is so.
-pub record RunsOver {C S : Type 0} (runs : C → S → Bool → C → S → Type 0) (connections : C)
-    (old : S) (failure : Type 0) (new : S) : Type 0 where
-  pub after : C
-  pub fine : Bool
-  pub ran : runs connections old fine after new
-  pub fails : fine ≡ false → failure
-
--- It was, or something failed before, and nothing became of the station.
-abbrev pub HasRunOver : {C S : Type 0} → (C → S → Bool → C → S → Type 0) → C → S → Type 0 → S
-    → Type 0
-HasRunOver runs connections old failure new =
-    (failure × (new ≡ old)) ⊎ RunsOver runs connections old failure new
-
--- So it is of a prepared station, which stays the control station or the terminal that it is.
-abbrev pub PreparedRunsOver : {C : Type 0}
-    → (C → ControlValue → Bool → C → ControlValue → Type 0)
-    → (C → LineTerminalValue → Bool → C → LineTerminalValue → Type 0) → C → Prepared → Type 0
-    → Prepared → Type 0
-PreparedRunsOver control terminal connections (prepared.Control old) failure
-    (prepared.Control new) =
-    HasRunOver control connections old failure new
-PreparedRunsOver control terminal connections (prepared.Terminal old) failure
-    (prepared.Terminal new) =
-    HasRunOver terminal connections old failure new
-PreparedRunsOver control terminal connections old failure new = ⊥
 
 -- A station ran whose records this keeps, for which `runs` says what that means, and something
 -- failed only if this is so.
@@ -146,63 +76,105 @@ pub record BeginsFrom {K : Type 0} (store : store_of.Ghosts K) (forgets_printed 
   pub knows : (has : K → Channel → Contents) → GivesBack store has → store.sound keeper.store
       → KeepsFrom (has opened) sending receiving keeper
 
--- A station began with what its store has, and ran while it was kept, until it was cut short or
--- ended; `runs` says what that means, and `contents` what was written to a writer.
-pub record HasRunKept {K W : Type 0} (store : store_of.Ghosts K)
-    (runs : Prepared → Keeper K → Type 0 → Prepared → Type 0) (contents : W → Option (List ℕ))
-    (form : Option Form) (forgets_printed : Bool) (sending : List Sending)
-    (receiving : List Receiving) (begun ended : Prepared)
-    (result : Result (Unit {0}) AttendingError) (new : W) : Type 0 where
-  pub filled : Prepared
-  pub keeper : Keeper K
-  pub begins : BeginsFrom store forgets_printed sending receiving begun filled keeper
-  pub ran : runs filled keeper (IsErrAnd result IsCutShort) ended
-  pub ends : HasRun contents form filled ended result new
+-- So it is if its records are to be kept, as the flag says, and this is known of its channels; else
+-- nothing changes, and nothing is to keep them.
+abbrev pub BeginsIf : {K : Type 0} → store_of.Ghosts K → Bool → Bool → Option Own → Prepared
+    → Prepared → Option (Keeper K) → Type 0
+BeginsIf store forgets_printed true (Some own) old new keeper =
+    IsSomeAnd keeper
+    (BeginsFrom store forgets_printed own.sending.items own.receiving.items old new)
+BeginsIf store forgets_printed true None old new keeper = (new ≡ old) × (keeper ≡ None)
+BeginsIf store forgets_printed false own old new keeper = (new ≡ old) × (keeper ≡ None)
 
--- Its store is refused, or it ran so.
-abbrev pub BeginsAndRuns : {K W : Type 0} → store_of.Ghosts K
-    → (Prepared → Keeper K → Type 0 → Prepared → Type 0) → (W → Option (List ℕ)) → Option Form
-    → Bool → List Sending → List Receiving → Prepared → Prepared → Result (Unit {0}) AttendingError
-    → W → Type 0
-BeginsAndRuns store runs contents form forgets_printed sending receiving begun ended result new =
-    IsErrAnd result IsStoreError
-    ⊎ HasRunKept store runs contents form forgets_printed sending receiving begun ended result new
-
--- The same of a station that was prepared as the words ask for it. Its channels are those of its
--- configuration.
-pub record HasRunAsked {K W : Type 0} (store : store_of.Ghosts K)
-    (runs : Prepared → Keeper K → Type 0 → Prepared → Type 0) (contents : W → Option (List ℕ))
-    (w : AskedWords) (role : Role) (form : Option Form) (forgets_printed : Bool)
-    (input : Option (List ℕ)) (result : Result (Unit {0}) AttendingError) (new : W) : Type 0 where
+-- A station was prepared as the words ask for it, and, if its records are to be kept, as the flag
+-- says, filled with what its store has.
+pub record HasBegun {K : Type 0} (store : store_of.Ghosts K) (w : AskedWords) (role : Role)
+    (forgets_printed is_kept : Bool) (input : Option (List ℕ)) (now : Prepared)
+    (keeper : Option (Keeper K)) : Type 0 where
   pub after : Option (List ℕ)
   pub begun : Prepared
   pub prepared : IsPrepared w role input after begun
-  pub ended : Prepared
-  pub ran : HasRunKept store runs contents form forgets_printed
+  pub kind : IsSameKind begun now
+  pub kept : is_kept ≡ true → IsSomeAnd keeper
+      (BeginsFrom store forgets_printed
       (sending_of prepared.config.terminals (owner_of role))
-      (receiving_of prepared.config.terminals (owner_of role)) begun ended result new
+      (receiving_of prepared.config.terminals (owner_of role)) begun now)
+  pub unkept : is_kept ≡ false → (now ≡ begun) × (keeper ≡ None)
 
--- The station was refused before it began, as the error says, or it ran so.
-abbrev pub RunsAsked : {K W : Type 0} → store_of.Ghosts K
-    → (Prepared → Keeper K → Type 0 → Prepared → Type 0) → (W → Option (List ℕ)) → AskedWords
-    → Role → Option Form → Bool → Option (List ℕ) → Result (Unit {0}) AttendingError → W → Type 0
-RunsAsked store runs contents w role form forgets_printed input result new =
-    IsErrAnd result IsUnbegun
-    ⊎ HasRunAsked store runs contents w role form forgets_printed input result new
+-- It could not be prepared, or its store is refused, with this error.
+abbrev pub IsNotBegun : AskedWords → Role → ℕ → Option (List ℕ) → AttendingError → Type 0
+IsNotBegun w role peers input error =
+    IsUnprepared w role peers input error ⊎ (IsBegun w role input × IsStoreError error)
 
--- So it is of a station whose records are to be kept, with the settings that the words have. It
--- does something for programs only if it serves them.
-pub record RunsAsSet {K W : Type 0} (store : store_of.Ghosts K)
+-- A station whose records are to be kept was prepared as the words ask for it, with the settings
+-- that they have, began with what its store has, and ran while it was kept, until it was cut short
+-- or ended. Its channels are those of its configuration. It does something for programs only if it
+-- serves them. `runs` says what it means to run, and `contents` what was written to a writer.
+pub record RunsStored {K W : Type 0} (store : store_of.Ghosts K)
     (runs : Bool → Prepared → Keeper K → Type 0 → Prepared → Type 0)
     (contents : W → Option (List ℕ)) (w : AskedWords) (input : Option (List ℕ))
     (result : Result (Unit {0}) AttendingError) (new : W) : Type 0 where
   pub settings : SettingsValue
   pub read : settings_in w ≡ Ok settings
-  pub ran : RunsAsked store (runs (is_some settings.serves)) contents w settings.role
-      settings.reported (forgets_printed_in settings) input result new
+  pub after : Option (List ℕ)
+  pub begun : Prepared
+  pub prepared : IsPrepared w settings.role input after begun
+  pub filled : Prepared
+  pub keeper : Keeper K
+  pub begins : BeginsFrom store (forgets_printed_in settings)
+      (sending_of prepared.config.terminals (owner_of settings.role))
+      (receiving_of prepared.config.terminals (owner_of settings.role)) begun filled keeper
+  pub ended : Prepared
+  pub ran : runs (is_some settings.serves) filled keeper (IsErrAnd result IsCutShort) ended
+  pub ends : HasRun contents settings.reported filled ended result new
 
+-- It was refused before it began, as the error says, or it ran so.
 abbrev pub IsKeptRun : {K W : Type 0} → store_of.Ghosts K
     → (Bool → Prepared → Keeper K → Type 0 → Prepared → Type 0) → (W → Option (List ℕ)) → AskedWords
     → Option (List ℕ) → Result (Unit {0}) AttendingError → W → Type 0
 IsKeptRun store runs contents w input result new =
-    IsErrAnd result IsUnbegun ⊎ RunsAsSet store runs contents w input result new
+    IsErrAnd result IsUnbegun ⊎ RunsStored store runs contents w input result new
+
+-- A station without a store ran, for which `runs` says what that means of it and of what prints its
+-- records, and something failed only if this is so.
+pub record RunsPrinted {S Q : Type 0} (runs : Course → State S Q → State S Q → Type 0) (old new : S)
+    (failure : Type 0) : Type 0 where
+  pub first : Q
+  pub last : Q
+  pub ran : RanLive runs old new first last failure
+
+-- It ran so, or something failed before, and nothing became of it.
+abbrev pub HasRunPrinted : {S Q : Type 0} → (Course → State S Q → State S Q → Type 0) → S → S
+    → Type 0 → Type 0
+HasRunPrinted runs old new failure = (failure × (new ≡ old)) ⊎ RunsPrinted runs old new failure
+
+-- So it is of a prepared station.
+abbrev pub PreparedRunsPrinted : {Q : Type 0}
+    → (Course → State ControlValue Q → State ControlValue Q → Type 0)
+    → (Course → State LineTerminalValue Q → State LineTerminalValue Q → Type 0) → Prepared → Type 0
+    → Prepared → Type 0
+PreparedRunsPrinted control terminal (prepared.Control old) failure (prepared.Control new) =
+    HasRunPrinted control old new failure
+PreparedRunsPrinted control terminal (prepared.Terminal old) failure (prepared.Terminal new) =
+    HasRunPrinted terminal old new failure
+PreparedRunsPrinted control terminal old failure new = ⊥
+
+-- A station without a store was prepared as the words ask for it, with the settings that they have,
+-- and ran until it was cut short or ended. It does something for programs only if it serves them.
+pub record RunsUnkept {W : Type 0} (runs : Bool → Prepared → Type 0 → Prepared → Type 0)
+    (contents : W → Option (List ℕ)) (w : AskedWords) (input : Option (List ℕ))
+    (result : Result (Unit {0}) AttendingError) (new : W) : Type 0 where
+  pub settings : SettingsValue
+  pub read : settings_in w ≡ Ok settings
+  pub after : Option (List ℕ)
+  pub begun : Prepared
+  pub prepared : IsPrepared w settings.role input after begun
+  pub ended : Prepared
+  pub ran : runs (is_some settings.serves) begun (IsErrAnd result IsCutShort) ended
+  pub ends : HasRun contents settings.reported begun ended result new
+
+abbrev pub IsPrintedRun : {W : Type 0} → (Bool → Prepared → Type 0 → Prepared → Type 0)
+    → (W → Option (List ℕ)) → AskedWords → Option (List ℕ) → Result (Unit {0}) AttendingError → W
+    → Type 0
+IsPrintedRun runs contents w input result new =
+    IsErrAnd result IsUnbegun ⊎ RunsUnkept runs contents w input result new

@@ -8,22 +8,16 @@ ghost use Rattle.bsc_attending.specs.Preparing.{Suits};
 ghost use Rattle.bsc_attending.specs.Printer.{AreAllPrinted, counts_below, followed_of};
 ghost use Rattle.bsc_attending.specs.Runs.{BeginsFrom};
 
-use crate::connections::Attend;
-use crate::following::Following;
 use crate::preparing::Prepared;
 use crate::printer::Printer;
 use crate::running::Running;
 use crate::{AttendingError, Readiness, Stores};
-use bsc_bid::Station;
-use bsc_connections::{LiveError, Monitor};
-use bsc_keeping::{Keeper, Own, Prints, Sends, begin_control, begin_terminal};
-use bsc_monitor::{Polls, Presences};
-use bsc_serving::Feeds;
+use bsc_connections::LiveError;
+use bsc_keeping::{Keeper, Own, Sends, Stored, begin_control, begin_terminal};
 use bsc_spool::{Store, StoreFault};
-use bsc_station::{Forgets, Party};
+use bsc_station::Party;
 use std::alloc::Global;
 use std::io::Write;
-use std::net::IpAddr;
 
 /// How many records are printed at once, at most, when a station has ended.
 const AT_END: usize = 1_024;
@@ -75,77 +69,6 @@ fn open_and_fill<H: Stores>(
     }
 }
 
-/// Connections over which a station is attended whose records are kept.
-#[derive(Drop)]
-pub(crate) struct Kept<'a, C: Drop, K: Drop, W, D: Drop, R: Drop> {
-    pub(crate) connections: C,
-    pub(crate) keeper: Keeper<K>,
-
-    /// Prints the records that arrive, after they are kept.
-    pub(crate) printer: Printer<'a, W, D, R>,
-}
-
-impl<'a, C: Attend + Drop, K: Store + Drop, W: Write, D: Write + Drop, R: Readiness + Drop> Attend
-    for Kept<'a, C, K, W, D, R> {
-    ghost use Rattle.std.specs.Prelude.{◌≡◌, Bool, slice_get};
-    ghost use Rattle.bsc_attending.specs.Runs.{Runs, at};
-    ghost use Rattle.bsc_keeping.specs.Changes.{printed_of};
-
-    ghost places = { λ k. C.places k.connections };
-
-    ghost names = { λ k. C.names k.connections };
-
-    ghost printed_before = { λ k number. printed_of (slice_get k.keeper.receiving.items number) };
-
-    ghost reached = { λ k. C.reached k.connections };
-
-    ghost runs = { λ parts old station fine new after. (is_fed : Bool)
-        → C.reached old.connections ≡ is_fed
-        → Runs parts is_fed K.Store fine (at station old.keeper) (at after new.keeper) };
-
-    fn attend<S: Station, M: Monitor<S>>(
-        &mut self,
-        station: &mut S,
-        monitor: &mut M,
-    ) -> Result<(), LiveError> {
-        self.connections.attend(station, monitor)
-    }
-
-    fn attend_kept<
-        S: Station + Feeds + Forgets + Polls,
-        M: Monitor<S> + Prints + Presences,
-        L: Store + Drop,
-    >(&mut self, station: &mut S, watch: &mut M, keeper: &mut Keeper<L>) -> Result<(), LiveError> {
-        self.connections.attend_kept(station, watch, keeper)
-    }
-
-    fn attend_watched<S: Station + Feeds + Forgets + Polls, M: Monitor<S> + Prints + Presences>(
-        &mut self,
-        station: &mut S,
-        watch: &mut M,
-    ) -> Result<(), LiveError> {
-        let mut following = Following::new(watch, &mut self.printer);
-        self.connections
-            .attend_kept(station, &mut following, &mut self.keeper)?;
-        match self.keeper.keep(station, &following) {
-            Ok(()) => Ok(()),
-            Err(_) => Err(LiveError::Unkept),
-        }
-    }
-
-    fn printed(&self, number: usize) -> usize {
-        self.keeper.printed(number)
-    }
-
-    fn count(&self) -> usize {
-        self.connections.count()
-    }
-
-    fn peer(&self, place: usize) -> Option<IpAddr> {
-        self.connections.peer(place)
-    }
-}
-
 /// Returns how many records of each of the first channels, this many, were printed before the
 /// station began.
 pub(crate) fn printed_before<K: Store + Drop>(
@@ -169,20 +92,20 @@ pub(crate) fn printed_before<K: Store + Drop>(
 /// It waits for standard output. `Unprinted` says that this does not accept them.
 fn print_all<S: Party + Sends, K: Store + Drop, W: Write, D: Write + Drop, R: Readiness + Drop>(
     station: &S,
-    printer: &mut Printer<'_, W, D, R>,
-    keeper: &mut Keeper<K>,
+    stored: &mut Stored<K, Printer<'_, W, D, R>>,
 ) -> Result<(), AttendingError>
     ensures printed { IfOk result (λ _.
-        AreAllPrinted S.Party station.now (followed_of W.contents printer.new)) }
+        AreAllPrinted S.Party station.now (followed_of W.contents stored.new.printer)) }
     ensures cut { IfErr result IsCutShort }
 {
     'turns: for _ in 0..u64::MAX {
-        let more = printer.print_turn(station, AT_END);
-        if keeper.keep(station, &*printer).is_err() {
-            return Err(with_fault(keeper, AttendingError::from(LiveError::Unkept)));
+        let more = stored.printer.print_turn(station, AT_END);
+        if stored.keeper.keep(station, &stored.printer).is_err() {
+            let error = AttendingError::from(LiveError::Unkept);
+            return Err(with_fault(&stored.keeper, error));
         }
         if !more {
-            return printer.outcome();
+            return stored.printer.outcome();
         }
     }
     Err(AttendingError::from(LiveError::Count))
@@ -191,16 +114,15 @@ fn print_all<S: Party + Sends, K: Store + Drop, W: Write, D: Write + Drop, R: Re
 /// Prints what is left of the records that arrived at a station that has ended.
 pub(crate) fn print_rest<K: Store + Drop, W: Write, D: Write + Drop, R: Readiness + Drop>(
     prepared: &Prepared,
-    printer: &mut Printer<'_, W, D, R>,
-    keeper: &mut Keeper<K>,
+    stored: &mut Stored<K, Printer<'_, W, D, R>>,
 ) -> Result<(), AttendingError>
     ensures printed { IfOk result (λ _. ⟦<Prepared as Running>⟧.are_all_printed prepared.now
-        (followed_of W.contents printer.new)) }
+        (followed_of W.contents stored.new.printer)) }
     ensures cut { IfErr result IsCutShort }
 {
     match prepared {
-        Prepared::Control { control } => print_all(control, printer, keeper),
-        Prepared::Terminal { terminal } => print_all(terminal, printer, keeper),
+        Prepared::Control { control } => print_all(control, stored),
+        Prepared::Terminal { terminal } => print_all(terminal, stored),
     }
 }
 

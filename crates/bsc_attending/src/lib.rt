@@ -9,15 +9,15 @@ mod attending;
 mod concluding;
 mod connections;
 mod error;
-mod following;
+mod forgetting;
 mod keeping;
+mod live;
 mod network;
 mod offering;
 mod preparing;
 mod printer;
 mod running;
 mod serving;
-mod sparing;
 mod stations;
 mod wanted;
 

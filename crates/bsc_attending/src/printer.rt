@@ -76,20 +76,9 @@ impl<'a, W: Write, D: Write + Drop, R: Readiness + Drop> Printer<'a, W, D, R> {
         }
     }
 
-    /// Prints records that have arrived at the station and are not printed yet, as long as standard
-    /// output takes them without waiting. If some are left, the station is called once it takes
-    /// more.
-    pub(crate) fn print_ready<P: Party>(&mut self, station: &P)
-        ensures { Follows P.Party station.now (followed_of W.contents self.old)
-            (followed_of W.contents self.new) }
-    {
-        if self.has_unprinted(station) && self.print_turns(station) {
-            self.readiness.call_when_ready();
-        }
-    }
-
-    /// Prints such records in turns, as long as standard output takes them without waiting, and not
-    /// for long. Returns whether there may be more to print.
+    /// Prints records that have arrived at the station and are not printed yet, in turns, as long
+    /// as standard output takes them without waiting, and not for long. Returns whether there may
+    /// be more to print.
     fn print_turns<P: Party>(&mut self, station: &P) -> bool
         ensures { Follows P.Party station.now (followed_of W.contents self.old)
             (followed_of W.contents self.new) }
@@ -188,9 +177,12 @@ impl<'a, W: Write, D: Write + Drop, R: Readiness + Drop> Printer<'a, W, D, R> {
 }
 
 impl<'a, W: Write, D: Write + Drop, R: Readiness + Drop> Prints for Printer<'a, W, D, R> {
-    ghost use Rattle.bsc_attending.specs.Printer.{followed_of, printed_by};
+    ghost use Rattle.bsc_attending.specs.Printer.{Follows, followed_of, printed_by};
 
     ghost printed = { λ p. printed_by (followed_of W.contents p) };
+
+    ghost prints = { λ party station old new.
+        Follows party station (followed_of W.contents old) (followed_of W.contents new) };
 
     /// Once records cannot be printed any more, it is not known which of the last ones were, and
     /// nothing more is counted.
@@ -198,6 +190,13 @@ impl<'a, W: Write, D: Write + Drop, R: Readiness + Drop> Prints for Printer<'a, 
         match self.fault {
             None => self.printed.get(number).copied(),
             Some(_) => None,
+        }
+    }
+
+    /// If some are left, the station is called once standard output takes more.
+    fn print<P: Party>(&mut self, station: &P) {
+        if self.has_unprinted(station) && self.print_turns(station) {
+            self.readiness.call_when_ready();
         }
     }
 }

@@ -1,10 +1,12 @@
 //! What it means that a prepared station runs.
 
-ghost use Rattle.std.specs.Prelude.{Bool};
+ghost use Rattle.std.specs.Prelude.{Bool, List, Option, ℕ};
 ghost use Rattle.bsc_attending.specs.Printer.{Followed};
-ghost use Rattle.bsc_attending.specs.Runs.{StationParts};
+ghost use Rattle.bsc_control.specs.Control.{ControlValue};
 ghost use Rattle.bsc_keeping.specs.declared.keeper.Keeper.{Keeper as KeeperValue};
+ghost use Rattle.bsc_keeping.specs.declared.keeps.Keeps as keeps_of;
 ghost use Rattle.bsc_spool.specs.declared.store.Store as store_of;
+ghost use Rattle.bsc_station.specs.LineTerminal.{LineTerminalValue};
 
 use crate::preparing::Prepared;
 use bsc_bid::Station;
@@ -17,11 +19,11 @@ use std::alloc::Global;
 
 /// A station that can run.
 pub(crate) trait Running {
-    /// It is attended over connections: what that means for any station, the connections and the
-    /// station before, what is so if something fails, and the station after.
-    ghost runs_over: { (C : Type 0)
-        → ((S Z : Type 0) → StationParts S Z → C → S → Bool → C → S → Type 0) → C → Self → Type 0
-        → Self → Type 0 };
+    /// It runs with what keeps what it changes: what that does at a control station, and at a
+    /// terminal, whether programs can feed the station, the station before and after, what keeps
+    /// before and after, and what is so if something fails.
+    ghost ran_live: { (Q : Type 0) → keeps_of.Ghosts Q ControlValue
+        → keeps_of.Ghosts Q LineTerminalValue → Bool → Self → Self → Q → Q → Type 0 → Type 0 };
 
     /// Its records are kept in a store: what is known of the store, whether programs can feed the
     /// station, the station and its keeper before, what is so if something fails, and the station
@@ -29,45 +31,71 @@ pub(crate) trait Running {
     ghost runs_kept: { (K : Type 0) → store_of.Ghosts K → Bool → Self → KeeperValue K → Type 0
         → Self → Type 0 };
 
+    /// Its records are only printed: what the output holds, whether programs can feed the station,
+    /// the station before, what is so if something fails, and the station after.
+    ghost runs_printed: { (W : Type 0) → (W → Option (List ℕ)) → Bool → Self → Type 0 → Self
+        → Type 0 };
+
     /// Every record that arrived at it is printed, if this much is.
     ghost are_all_printed: { Self → Followed → Type 0 };
 }
 
 impl Running for Prepared {
+    ghost use Rattle.bsc_attending.specs.Live.{PreparedRanLive, RunsLive, live_parts};
     ghost use Rattle.bsc_attending.specs.Printer.{PreparedAllPrinted};
-    ghost use Rattle.bsc_attending.specs.Runs.{PreparedRunsKept, PreparedRunsOver, Runs};
-    ghost use Rattle.bsc_attending.specs.Runs.{station_parts};
+    ghost use Rattle.bsc_attending.specs.Runs.{PreparedRunsKept, PreparedRunsPrinted};
+    ghost use Rattle.bsc_keeping.specs.Printed.{KeepsPrinted, OffersUnkept, PrintsNoMore};
+    ghost use Rattle.bsc_keeping.specs.Runs.{KeptRun, if_fed};
+    ghost use Rattle.bsc_serving.specs.Turns.{for_programs};
 
-    ghost runs_over = { λ C runs. PreparedRunsOver
-        (runs _ _ (station_parts ⟦<Control<Global> as Station>⟧ ⟦<Control<Global> as Party>⟧
-        ⟦<Control<Global> as Sends>⟧.kept_at
+    ghost ran_live = { λ Q control terminal is_fed. PreparedRanLive
+        (RunsLive (live_parts ⟦<Control<Global> as Station>⟧ control.keeps control.keeps_offer
+        control.prints
         ⟦<Control<Global> as Forgets>⟧.forgets_sent ⟦<Control<Global> as Forgets>⟧.forgets_arrived
         ⟦<Control<Global> as Polls>⟧.polls
         ⟦<Control<Global> as Feeds>⟧.offers ⟦<Control<Global> as Feeds>⟧.releases
-        ⟦<Control<Global> as Feeds>⟧.readies ⟦<Control<Global> as Feeds>⟧.urges))
-        (runs _ _ (station_parts ⟦<LineTerminal<Global> as Station>⟧
-        ⟦<LineTerminal<Global> as Party>⟧ ⟦<LineTerminal<Global> as Sends>⟧.kept_at
-        ⟦<LineTerminal<Global> as Forgets>⟧.forgets_sent
-        ⟦<LineTerminal<Global> as Forgets>⟧.forgets_arrived
-        ⟦<LineTerminal<Global> as Polls>⟧.polls
-        ⟦<LineTerminal<Global> as Feeds>⟧.offers ⟦<LineTerminal<Global> as Feeds>⟧.releases
-        ⟦<LineTerminal<Global> as Feeds>⟧.readies ⟦<LineTerminal<Global> as Feeds>⟧.urges)) };
-
-    ghost runs_kept = { λ K store is_fed. PreparedRunsKept
-        (Runs (station_parts ⟦<Control<Global> as Station>⟧ ⟦<Control<Global> as Party>⟧
-        ⟦<Control<Global> as Sends>⟧.kept_at
-        ⟦<Control<Global> as Forgets>⟧.forgets_sent ⟦<Control<Global> as Forgets>⟧.forgets_arrived
-        ⟦<Control<Global> as Polls>⟧.polls
-        ⟦<Control<Global> as Feeds>⟧.offers ⟦<Control<Global> as Feeds>⟧.releases
-        ⟦<Control<Global> as Feeds>⟧.readies ⟦<Control<Global> as Feeds>⟧.urges) is_fed store)
-        (Runs (station_parts ⟦<LineTerminal<Global> as Station>⟧ ⟦<LineTerminal<Global> as Party>⟧
-        ⟦<LineTerminal<Global> as Sends>⟧.kept_at
+        ⟦<Control<Global> as Feeds>⟧.readies ⟦<Control<Global> as Feeds>⟧.urges) is_fed)
+        (RunsLive (live_parts ⟦<LineTerminal<Global> as Station>⟧ terminal.keeps
+        terminal.keeps_offer terminal.prints
         ⟦<LineTerminal<Global> as Forgets>⟧.forgets_sent
         ⟦<LineTerminal<Global> as Forgets>⟧.forgets_arrived
         ⟦<LineTerminal<Global> as Polls>⟧.polls
         ⟦<LineTerminal<Global> as Feeds>⟧.offers ⟦<LineTerminal<Global> as Feeds>⟧.releases
         ⟦<LineTerminal<Global> as Feeds>⟧.readies ⟦<LineTerminal<Global> as Feeds>⟧.urges)
-        is_fed store) };
+        is_fed) };
+
+    ghost runs_kept = { λ K store is_fed. PreparedRunsKept
+        (KeptRun ⟦<Control<Global> as Station>⟧ ⟦<Control<Global> as Party>⟧
+        ⟦<Control<Global> as Sends>⟧.kept_at store
+        ⟦<Control<Global> as Forgets>⟧.forgets_sent ⟦<Control<Global> as Forgets>⟧.forgets_arrived
+        ⟦<Control<Global> as Polls>⟧.polls
+        (if_fed is_fed (for_programs ⟦<Control<Global> as Feeds>⟧.offers
+        ⟦<Control<Global> as Feeds>⟧.releases ⟦<Control<Global> as Feeds>⟧.readies
+        ⟦<Control<Global> as Feeds>⟧.urges)))
+        (KeptRun ⟦<LineTerminal<Global> as Station>⟧ ⟦<LineTerminal<Global> as Party>⟧
+        ⟦<LineTerminal<Global> as Sends>⟧.kept_at store
+        ⟦<LineTerminal<Global> as Forgets>⟧.forgets_sent
+        ⟦<LineTerminal<Global> as Forgets>⟧.forgets_arrived
+        ⟦<LineTerminal<Global> as Polls>⟧.polls
+        (if_fed is_fed (for_programs ⟦<LineTerminal<Global> as Feeds>⟧.offers
+        ⟦<LineTerminal<Global> as Feeds>⟧.releases ⟦<LineTerminal<Global> as Feeds>⟧.readies
+        ⟦<LineTerminal<Global> as Feeds>⟧.urges))) };
+
+    ghost runs_printed = { λ W contents is_fed. PreparedRunsPrinted
+        (RunsLive (live_parts ⟦<Control<Global> as Station>⟧
+        (KeepsPrinted ⟦<Control<Global> as Party>⟧ contents) OffersUnkept PrintsNoMore
+        ⟦<Control<Global> as Forgets>⟧.forgets_sent ⟦<Control<Global> as Forgets>⟧.forgets_arrived
+        ⟦<Control<Global> as Polls>⟧.polls
+        ⟦<Control<Global> as Feeds>⟧.offers ⟦<Control<Global> as Feeds>⟧.releases
+        ⟦<Control<Global> as Feeds>⟧.readies ⟦<Control<Global> as Feeds>⟧.urges) is_fed)
+        (RunsLive (live_parts ⟦<LineTerminal<Global> as Station>⟧
+        (KeepsPrinted ⟦<LineTerminal<Global> as Party>⟧ contents) OffersUnkept PrintsNoMore
+        ⟦<LineTerminal<Global> as Forgets>⟧.forgets_sent
+        ⟦<LineTerminal<Global> as Forgets>⟧.forgets_arrived
+        ⟦<LineTerminal<Global> as Polls>⟧.polls
+        ⟦<LineTerminal<Global> as Feeds>⟧.offers ⟦<LineTerminal<Global> as Feeds>⟧.releases
+        ⟦<LineTerminal<Global> as Feeds>⟧.readies ⟦<LineTerminal<Global> as Feeds>⟧.urges)
+        is_fed) };
 
     ghost are_all_printed = { PreparedAllPrinted ⟦<Control<Global> as Party>⟧
         ⟦<LineTerminal<Global> as Party>⟧ };

@@ -1,41 +1,44 @@
 //! One station of a line: prepares it, makes its connections, and attends it until it ends.
 
-ghost use Rattle.std.specs.Prelude.{◌≡◌, Bool, IfErr, IfOk, IfSome, IsErr, IsErrAnd, IsSome};
-ghost use Rattle.std.specs.Prelude.{is_some};
-ghost use Rattle.std.specs.Prelude.{IsSomeAnd, false, true};
+ghost use Rattle.std.specs.Prelude.{◌≡◌, Bool, IfErr, IfOk, IsErr, IsErrAnd, IsNone, IsSome};
+ghost use Rattle.std.specs.Prelude.{false, is_some, true};
 ghost use Rattle.bsc_options.specs.StationWords.{asked_words};
 ghost use Rattle.bsc_options.specs.Settings.{place_value, settings_value};
-ghost use Rattle.bsc_attending.specs.Ending.{HasBegunAndRun, HasRun, IsLeftBy, IsSameKind};
-ghost use Rattle.bsc_attending.specs.Ending.{channels_of};
-ghost use Rattle.bsc_attending.specs.Errors.{IsCutShort, IsEarly, IsLate, IsStoreError};
+ghost use Rattle.bsc_attending.specs.Ending.{IsLeftBy, IsSameKind, channels_of};
+ghost use Rattle.bsc_attending.specs.Errors.{IsCutShort, IsEarly, IsLate, IsStoreError, IsUnbegun};
+ghost use Rattle.bsc_attending.specs.Forgetting.{forgets_printed_in};
 ghost use Rattle.bsc_attending.specs.Progress.{progress_in, work_in};
-ghost use Rattle.bsc_attending.specs.Outcomes.{IsAnswer, IsAnswerFor, IsReported, IsReportedFor};
+ghost use Rattle.bsc_attending.specs.Outcomes.{Finishes, IsAnswer, IsReported};
+ghost use Rattle.bsc_attending.specs.Runs.{BeginsIf, HasBegun, IsKeptRun, IsNotBegun};
+ghost use Rattle.bsc_attending.specs.Runs.{IsPrintedRun};
 ghost use Rattle.bsc_attending.specs.Preparing.{SuitsOwn};
-ghost use Rattle.bsc_attending.specs.Runs.{BeginsAndRuns, BeginsFrom, IsKeptRun, RunsAsked};
-ghost use Rattle.bsc_attending.specs.Sparing.{forgets_printed_in};
 ghost use Rattle.bsc_attending.specs.Wanted.{is_listening, wanted_value, wants};
 ghost use Rattle.bsc_trust.specs.Trust.{new_trust};
 
-use crate::attending::{Ending, Left, Watching, attend};
+use crate::attending::{Ending, Left, Watching, attend_control, attend_terminal};
 use crate::concluding::{conclude, report};
-use crate::connections::{Attend, connect};
-use crate::keeping::{Kept, begin, print_rest, printed_before, with_fault};
+use crate::connections::connections_at;
+use crate::keeping::{begin, print_rest, printed_before, with_fault};
+use crate::live::Live;
 use crate::preparing::{Prepared, Ready, prepare};
 use crate::printer::Printer;
 use crate::running::Running;
-use crate::serving::{Fed, called_by, reachable, serving_of};
+use crate::serving::{called_by, reachable, serving_of};
 use crate::wanted::{listens, traces, wanted_by_control, wanted_by_terminal};
-use crate::{AttendingError, Network, Readiness, Stores, Wanted};
-use bsc_keeping::{Keeper, Own};
+use crate::{AttendingError, Network, Opened, Readiness, Stores, Wanted};
+use bsc_connections::{Framing, Gaps, SocketRecords};
+use bsc_control::Control;
+use bsc_keeping::{Keeper, Keeps, Own, Printed, Stored};
 use bsc_options::{Admission, Role, StationSettings, StationWords, read_admission, read_settings};
-use bsc_report::Tracing;
+use bsc_report::{RecordLines, Tracing};
 use bsc_spool::Store;
-use bsc_station::Party;
-use bsc_text::Files;
+use bsc_station::{LineTerminal, Party};
 use bsc_text::progress::Work;
+use bsc_text::{Files, Form};
 use bsc_trust::Trust;
 use std::alloc::Global;
-use std::io::{Read, Write, sink};
+use std::io::{Read, Write};
+use std::os::fd::RawFd;
 
 /// The options of a station, as they were read.
 #[derive(Clone, Copy)]
@@ -46,6 +49,14 @@ struct Options<'a> {
     admission: Admission,
 }
 
+/// A station with its records, filled with what its store has if its records are to be kept, and
+/// what keeps them then.
+#[derive(Drop)]
+struct Begun<K: Drop> {
+    prepared: Prepared,
+    keeper: Option<Keeper<K>>,
+}
+
 /// Runs the station that the words ask for. The configuration and all records are read and checked
 /// before a connection is made. Records are printed before they are acknowledged, or, if they are
 /// to be kept, once they are kept and standard output takes them; the report is printed at the end.
@@ -54,7 +65,8 @@ struct Options<'a> {
 /// that arrived could not be printed; the report is tried. A station whose records are to be kept
 /// begins with what its store has. What it changes is kept before it sends what rests on it; the
 /// clause `kept` says before its next step, and that a record that a program offers is kept before
-/// the station offers it.
+/// the station offers it. The clause `printed` says the same of a station without a store, whose
+/// records are printed in place of that.
 pub fn station<R: Read, H: Files + Network + Stores, W: Write>(
     alloc: Global,
     words: &StationWords,
@@ -69,6 +81,9 @@ pub fn station<R: Read, H: Files + Network + Stores, W: Write>(
     ensures kept { IsSome words.now.store
         → IsKeptRun H.Store.Store (⟦<Prepared as Running>⟧.runs_kept _ H.Store.Store) W.contents
         (asked_words words.now) (R.remaining input.old) result out.new }
+    ensures printed { IsNone words.now.store
+        → IsPrintedRun (⟦<Prepared as Running>⟧.runs_printed _ W.contents) W.contents
+        (asked_words words.now) (R.remaining input.old) result out.new }
 {
     let settings = read_settings(words)?;
     let admission = read_admission(words)?;
@@ -76,81 +91,57 @@ pub fn station<R: Read, H: Files + Network + Stores, W: Write>(
         settings,
         admission,
     };
-    prepare_and_run(alloc, words, options, input, machine, out)
+    let begun = begin_station(alloc, words, &options, input, machine)?;
+    let Begun {
+        mut prepared,
+        keeper,
+    } = begun;
+    let attended = match keeper {
+        Some(keeper) => run_kept(alloc, &options, &mut prepared, keeper, machine, out),
+        None => run_printed(alloc, &options, &mut prepared, machine, out),
+    };
+    finish(alloc, settings.reported, &prepared, attended, out)
 }
 
-/// Runs the station of these options.
-fn prepare_and_run<R: Read, H: Files + Network + Stores, W: Write>(
+/// Prepares the station of these options, and fills it with what its store has, if its records are
+/// to be kept.
+fn begin_station<R: Read, H: Files + Stores>(
     alloc: Global,
     words: &StationWords,
-    options: Options<'_>,
+    options: &Options<'_>,
     input: &mut R,
     machine: &mut H,
-    out: &mut W,
-) -> Result<(), AttendingError>
-    ensures early { IfErr result (λ error. IsEarly error → out.new ≡ out.old) }
-    ensures answers { IsAnswerFor (asked_words words.now) options.entry.settings.role
-        options.entry.admission.peers.terminals (R.remaining input.old) result }
-    ensures reported { IsReportedFor W.contents (asked_words words.now)
-        options.entry.settings.role options.entry.settings.reported (R.remaining input.old) result
-        out.new }
-    ensures kept { IsSome words.now.store
-        → RunsAsked H.Store.Store (⟦<Prepared as Running>⟧.runs_kept _ H.Store.Store
-        (is_some (settings_value options.entry.settings).serves)) W.contents
-        (asked_words words.now) options.entry.settings.role options.entry.settings.reported
-        (forgets_printed_in (settings_value options.entry.settings)) (R.remaining input.old) result
-        out.new }
+) -> Result<Begun<H::Store>, AttendingError>
+    ensures begun { IfOk result (λ begun. HasBegun H.Store.Store (asked_words words.now)
+        options.now.settings.role (forgets_printed_in (settings_value options.now.settings))
+        (is_some words.now.store) (R.remaining input.old) begun.prepared begun.keeper) }
+    ensures refused { IfErr result (IsNotBegun (asked_words words.now) options.now.settings.role
+        options.now.admission.peers.terminals (R.remaining input.old)) }
+    ensures unbegun { IfErr result IsUnbegun }
 {
     let (role, peers) = (options.settings.role, options.admission.peers);
     let ready = prepare(alloc, words, role, peers, input, machine)?;
     let Ready { mut prepared, own } = ready;
-    begin_and_run(alloc, words, &options, own, &mut prepared, machine, out)
-}
-
-/// Fills a station with what its store has, if its records are to be kept, and then attends it and
-/// prints its report.
-fn begin_and_run<H: Network + Stores, W: Write>(
-    alloc: Global,
-    words: &StationWords,
-    options: &Options<'_>,
-    own: Option<Own>,
-    prepared: &mut Prepared,
-    machine: &mut H,
-    out: &mut W,
-) -> Result<(), AttendingError>
-    requires { SuitsOwn own prepared.old }
-    ensures early { IfErr result (λ error. IsEarly error → out.new ≡ out.old) }
-    ensures ran { HasBegunAndRun W.contents options.now.settings.reported prepared.old
-        prepared.new result out.new }
-    ensures kept { IsSome words.now.store
-        → IfSome own (λ own. BeginsAndRuns H.Store.Store
-        (⟦<Prepared as Running>⟧.runs_kept _ H.Store.Store
-        (is_some (settings_value options.now.settings).serves)) W.contents
-        options.now.settings.reported
-        (forgets_printed_in (settings_value options.now.settings)) own.sending.items
-        own.receiving.items prepared.old prepared.new result out.new) }
-{
     let forgets = forgets_printed(&options.settings);
-    let keeper = keeper_of(alloc, words, own, prepared, forgets, machine)?;
-    run(alloc, options, prepared, keeper, machine, out)
+    let keeper = keeper_for(alloc, words, own, forgets, &mut prepared, machine)?;
+    Ok(Begun { prepared, keeper })
 }
 
 /// Fills a station with what its store has, if its records are to be kept, and returns what keeps
-/// them from then on. `forgets` says whether the station forgets the records that it has printed.
-fn keeper_of<H: Stores>(
+/// them then.
+fn keeper_for<H: Stores>(
     alloc: Global,
     words: &StationWords,
     own: Option<Own>,
-    prepared: &mut Prepared,
     forgets: bool,
+    prepared: &mut Prepared,
     machine: &mut H,
 ) -> Result<Option<Keeper<H::Store>>, AttendingError>
     requires { SuitsOwn own prepared.old }
     ensures kind { IsSameKind prepared.old prepared.new }
-    ensures begins { IfOk result (λ keeper. IsSome words.now.store → IfSome own (λ own.
-        IsSomeAnd keeper (BeginsFrom H.Store.Store forgets own.sending.items own.receiving.items
-        prepared.old prepared.new))) }
     ensures error { IfErr result IsStoreError }
+    ensures begins { IfOk result (BeginsIf H.Store.Store forgets (is_some words.now.store) own
+        prepared.old prepared.new) }
 {
     match (&words.store, own) {
         (Some(path), Some(own)) => {
@@ -161,25 +152,21 @@ fn keeper_of<H: Stores>(
     }
 }
 
-/// Attends a station over the connections that it makes, and then prints its report.
-fn run<H: Network, K: Store + Drop, W: Write>(
+/// Prints what a station prints at its end, that was attended with this result, and returns its
+/// result.
+fn finish<W: Write>(
     alloc: Global,
-    options: &Options<'_>,
-    prepared: &mut Prepared,
-    keeper: Option<Keeper<K>>,
-    machine: &mut H,
+    reported: Option<Form>,
+    prepared: &Prepared,
+    attended: Result<Left, AttendingError>,
     out: &mut W,
 ) -> Result<(), AttendingError>
+    requires cut { IfErr attended IsCutShort }
     ensures late { IfErr result IsLate }
-    ensures ran { HasRun W.contents options.now.settings.reported prepared.old prepared.new result
-        out.new }
-    ensures kept { IfSome keeper (λ keeper.
-        ⟦<Prepared as Running>⟧.runs_kept _ K.Store
-        (is_some (settings_value options.now.settings).serves) prepared.old keeper
-        (IsErrAnd result IsCutShort) prepared.new) }
+    ensures finishes { Finishes reported prepared.now attended result
+        (W.contents out.old) (W.contents out.new) }
 {
-    let reported = options.settings.reported;
-    match open(alloc, options, prepared, keeper, machine, out) {
+    match attended {
         Ok(left) => conclude(alloc, reported, prepared, left, out),
         Err(AttendingError::Unprinted) => {
             // The output has failed before; if it does not accept the report either, nothing is
@@ -191,52 +178,179 @@ fn run<H: Network, K: Store + Drop, W: Write>(
     }
 }
 
-/// Makes the connections of a station, attends the station until it ends, and returns what it
-/// leaves.
-fn open<H: Network, K: Store + Drop, W: Write>(
+/// A framing that options select.
+trait Selected: Framing {
+    /// Whether its transmissions are raw octets, which end at gaps.
+    ghost is_raw: { Bool };
+}
+
+impl Selected for SocketRecords {
+    ghost is_raw = { false };
+}
+
+impl Selected for Gaps {
+    ghost is_raw = { true };
+}
+
+/// Makes the connections of a station, and lets programs reach it. `told` is a descriptor that ends
+/// a wait of the station if no program can reach it.
+fn open<F: Selected + Drop, H: Network>(
+    alloc: Global,
+    options: &Options<'_>,
+    prepared: &Prepared,
+    told: Option<RawFd>,
+    machine: &mut H,
+) -> Result<Live<H::Reader, H::Writer, F, H::Waiter, H::Programs>, AttendingError>
+    ensures cut { IfErr result IsCutShort }
+    ensures fed { IfOk result (λ live.
+        is_some live.programs ≡ is_some (settings_value options.now.settings).serves) }
+{
+    let settings = &options.settings;
+    let reachable = reachable(settings.serves, traces(settings.printing.trace), machine)?;
+    let wanted = Wanted {
+        serves: called_by(&reachable, told),
+        ..wanted_by(options, prepared)
+    };
+    let Opened {
+        waiter,
+        connections,
+        places,
+    } = machine.open(&wanted)?;
+    let programs = serving_of(alloc, reachable)?;
+    let connections = connections_at(alloc, connections, places)?;
+    if settings.sync {
+        machine.sync_output();
+    }
+    Ok(Live {
+        connections,
+        waiter,
+        programs,
+        forgets_printed: forgets_printed(settings),
+    })
+}
+
+/// Makes the connections of a station, with the framing that its options select, and attends it
+/// until it ends. Returns what it leaves. The connections are closed then.
+fn attend_over<
+    F: Selected + Drop,
+    H: Network,
+    Q: Keeps<Control<Global>> + Keeps<LineTerminal<Global>>,
+>(
     alloc: Global,
     options: &Options<'_>,
     prepared: &mut Prepared,
-    keeper: Option<Keeper<K>>,
+    told: Option<RawFd>,
+    kept: &mut Q,
+    machine: &mut H,
+) -> Result<Left, AttendingError>
+    requires { F.is_raw ≡ options.now.settings.raw }
+    ensures cut { IfErr result IsCutShort }
+    ensures left { IfOk result (λ left. IsLeftBy prepared.old left × IsLeftBy prepared.new left) }
+    ensures ran { ⟦<Prepared as Running>⟧.ran_live _ ⟦<Q as Keeps<Control<Global>>>⟧
+        ⟦<Q as Keeps<LineTerminal<Global>>>⟧
+        (is_some (settings_value options.now.settings).serves) prepared.old prepared.new kept.old
+        kept.new (IsErr result) }
+{
+    let mut live: Live<H::Reader, H::Writer, F, H::Waiter, H::Programs> = open(
+        alloc, options, prepared, told, machine,
+    )?;
+    let settings = &options.settings;
+    let tracing = settings.printing.trace;
+    let timer = machine.timer(progress_of(settings));
+    let mut trace = machine.trace(traces(tracing));
+    let watching = Watching {
+        tracing,
+        timer,
+        trace: &mut trace,
+    };
+    match prepared {
+        Prepared::Control { control } => {
+            let ending = ending_of(options);
+            let trust = attend_control(alloc, ending, control, &mut live, kept, watching)?;
+            Ok(Left::Control { trust })
+        }
+        Prepared::Terminal { terminal } => {
+            let closed = attend_terminal(alloc, terminal, &mut live, kept, watching)?;
+            Ok(Left::Terminal { closed })
+        }
+    }
+}
+
+/// Runs a station without a store until it ends, and returns what it leaves. What arrives is
+/// printed, and nothing is sent before it is.
+fn run_printed<H: Network, W: Write>(
+    alloc: Global,
+    options: &Options<'_>,
+    prepared: &mut Prepared,
     machine: &mut H,
     out: &mut W,
 ) -> Result<Left, AttendingError>
     ensures cut { IfErr result IsCutShort }
     ensures left { IfOk result (λ left. IsLeftBy prepared.old left × IsLeftBy prepared.new left) }
-    ensures ran { IfSome keeper (λ keeper.
-        ⟦<Prepared as Running>⟧.runs_kept _ K.Store
-        (is_some (settings_value options.now.settings).serves) prepared.old keeper
-        (IsErrAnd result IsCutShort) prepared.new) }
+    ensures printed { ⟦<Prepared as Running>⟧.runs_printed _ W.contents
+        (is_some (settings_value options.now.settings).serves) prepared.old
+        (IsErrAnd result IsCutShort) prepared.new }
 {
-    let trace = traces(options.settings.printing.trace);
-    let reachable = reachable(options.settings.serves, trace, machine)?;
-    let readiness = machine.readiness();
-    let wanted = Wanted {
-        serves: called_by(&reachable, &keeper, &readiness),
-        ..wanted_by(options, prepared)
-    };
-    let forgets = forgets_printed(&options.settings);
-    let connections = connect(alloc, &wanted, forgets, machine)?;
-    let mut connections = Fed {
-        connections,
-        programs: serving_of(alloc, reachable)?,
-    };
-    if options.settings.sync {
-        machine.sync_output();
+    let lines = options.settings.printing.records;
+    let mut printed = printed_for(alloc, prepared, lines, out)?;
+    if options.settings.raw {
+        attend_over::<Gaps, _, _>(alloc, options, prepared, None, &mut printed, machine)
+    } else {
+        attend_over::<SocketRecords, _, _>(alloc, options, prepared, None, &mut printed, machine)
     }
-    match keeper {
-        None => attend_with(alloc, options, prepared, &mut connections, machine, out),
-        Some(keeper) => {
-            let counts = printed_before(alloc, &keeper, channels_of(prepared))?;
-            let lines = options.settings.printing.records;
-            let notices = machine.trace(false);
-            let kept = Kept {
-                connections,
-                keeper,
-                printer: Printer::new(alloc, lines, counts, out, readiness, notices),
-            };
-            attend_kept(alloc, options, prepared, kept, machine)
+}
+
+/// Runs a station with a store until it ends, and returns what it leaves. What arrives is kept
+/// before anything is sent, and printed after that as standard output takes it, and all that is
+/// left once the station has ended and its connections are closed, so that no peer has to wait for
+/// the reader of the output.
+fn run_kept<H: Network, K: Store + Drop, W: Write>(
+    alloc: Global,
+    options: &Options<'_>,
+    prepared: &mut Prepared,
+    keeper: Keeper<K>,
+    machine: &mut H,
+    out: &mut W,
+) -> Result<Left, AttendingError>
+    ensures cut { IfErr result IsCutShort }
+    ensures left { IfOk result (λ left. IsLeftBy prepared.old left × IsLeftBy prepared.new left) }
+    ensures kept { ⟦<Prepared as Running>⟧.runs_kept _ K.Store
+        (is_some (settings_value options.now.settings).serves) prepared.old keeper
+        (IsErrAnd result IsCutShort) prepared.new }
+{
+    let counts = printed_before(alloc, &keeper, channels_of(prepared))?;
+    let lines = options.settings.printing.records;
+    let readiness = machine.readiness();
+    let told = readiness.descriptor();
+    let notices = machine.trace(false);
+    let printer = Printer::new(alloc, lines, counts, out, readiness, notices);
+    let mut stored = Stored { keeper, printer };
+    let attended = if options.settings.raw {
+        attend_over::<Gaps, _, _>(alloc, options, prepared, told, &mut stored, machine)
+    } else {
+        attend_over::<SocketRecords, _, _>(alloc, options, prepared, told, &mut stored, machine)
+    };
+    match attended {
+        Ok(left) => {
+            print_rest(prepared, &mut stored)?;
+            Ok(left)
         }
+        Err(error) => Err(with_fault(&stored.keeper, error)),
+    }
+}
+
+/// Returns what prints the records of a station without a store. Fails with `Memory`.
+fn printed_for<'a, W: Write>(
+    alloc: Global,
+    prepared: &Prepared,
+    lines: RecordLines,
+    out: &'a mut W,
+) -> Result<Printed<'a, W>, AttendingError>
+    ensures { IfErr result (λ error. error ≡ AttendingError.Memory) }
+{
+    match prepared {
+        Prepared::Control { control } => Ok(Printed::new(alloc, control, lines, out)?),
+        Prepared::Terminal { terminal } => Ok(Printed::new(alloc, terminal, lines, out)?),
     }
 }
 
@@ -247,74 +361,6 @@ fn channels_of(prepared: &Prepared) -> usize
     match prepared {
         Prepared::Control { control } => control.spools(),
         Prepared::Terminal { terminal } => terminal.spools(),
-    }
-}
-
-/// Attends a station over its connections until it ends, and returns what it leaves. What arrives
-/// is printed to this writer, and nothing is sent before it is.
-fn attend_with<C: Attend, H: Network, O: Write>(
-    alloc: Global,
-    options: &Options<'_>,
-    prepared: &mut Prepared,
-    connections: &mut C,
-    machine: &mut H,
-    out: &mut O,
-) -> Result<Left, AttendingError>
-    ensures cut { IfErr result IsCutShort }
-    ensures left { IfOk result (λ left. IsLeftBy prepared.old left × IsLeftBy prepared.new left) }
-    ensures ran { ⟦<Prepared as Running>⟧.runs_over _ (λ S Z parts. C.runs parts) connections.old
-        prepared.old
-        (IsErr result) prepared.new }
-{
-    let timer = machine.timer(progress_of(&options.settings));
-    let mut trace = machine.trace(traces(options.settings.printing.trace));
-    let watching = Watching {
-        printing: options.settings.printing,
-        timer,
-        out,
-        trace: &mut trace,
-    };
-    attend(alloc, ending_of(options), prepared, connections, watching)
-}
-
-/// Attends a station whose records are kept over its connections until it ends, and returns what it
-/// leaves. What arrives is printed after it is kept, as standard output takes it; once the station
-/// has ended, all that is left.
-fn attend_kept<
-    C: Attend + Drop,
-    K: Store + Drop,
-    O: Write,
-    D: Write + Drop,
-    R: Readiness + Drop,
-    H: Network,
->(
-    alloc: Global,
-    options: &Options<'_>,
-    prepared: &mut Prepared,
-    kept: Kept<'_, C, K, O, D, R>,
-    machine: &mut H,
-) -> Result<Left, AttendingError>
-    ensures cut { IfErr result IsCutShort }
-    ensures left { IfOk result (λ left. IsLeftBy prepared.old left × IsLeftBy prepared.new left) }
-    ensures ran { (is_fed : Bool) → C.reached kept.entry.connections ≡ is_fed
-        → ⟦<Prepared as Running>⟧.runs_kept _ K.Store is_fed prepared.old kept.entry.keeper
-        (IsErrAnd result IsCutShort) prepared.new }
-{
-    let mut kept = kept;
-    let attended = attend_with(alloc, options, prepared, &mut kept, machine, &mut sink());
-    let Kept {
-        connections,
-        mut keeper,
-        mut printer,
-    } = kept;
-    // No peer has to wait for the reader of the output.
-    drop(connections);
-    match attended {
-        Ok(left) => {
-            print_rest(prepared, &mut printer, &mut keeper)?;
-            Ok(left)
-        }
-        Err(error) => Err(with_fault(&keeper, error)),
     }
 }
 
@@ -348,8 +394,7 @@ fn work_of(role: Role) -> Work
 }
 
 /// Returns when the control station of these options ends, when it takes a terminal for absent, and
-/// what it can tell of its line before
-/// there are connections.
+/// what it can tell of its line before there are connections.
 fn ending_of(options: &Options<'_>) -> Ending
     ensures limits { result.limits ≡ options.now.settings.limits }
     ensures absence { result.absence ≡ options.now.settings.absence }

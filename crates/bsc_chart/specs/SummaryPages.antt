@@ -7,7 +7,8 @@ use Rattle.bsc_chart.specs.Counts.{count_of, transmissions}
 use Rattle.bsc_chart.specs.Tables.{kind_lines, station_lines, time_lines}
 use Rattle.bsc_chart.specs.declared.summary.counts.Outcome.TheVariants.{Sent}
 use Rattle.bsc_chart.specs.declared.summary.style.TheConstants.{PAGE_START, LADDER_START, PAGE_END}
-use Rattle.bsc_chart.specs.declared.summary.style.TheConstants.{KINDS_START, STATIONS_START, TIMES_START}
+use Rattle.bsc_chart.specs.declared.summary.style.TheConstants.{KINDS_START, STATIONS_START}
+use Rattle.bsc_chart.specs.declared.summary.style.TheConstants.{TIMES_START}
 
 abbrev pub kinds_table : List RowValue → List ℕ
 kinds_table rows = KINDS_START.now ++ kind_lines rows ++ codes "</table>\n"

@@ -6,9 +6,10 @@ use Rattle.bsc_text.specs.declared.error.PrintError.{PrintError}
 use Rattle.bsc_text.specs.declared.error.PrintError.TheVariants as print
 use Rattle.bsc_clients.specs.Commands.{has_feed, joined}
 use Rattle.bsc_clients.specs.declared.command.error.FeedError.{FeedError}
-use Rattle.bsc_clients.specs.declared.command.error.FeedError.TheVariants.{NotOneLine, Closed, Refused}
-use Rattle.bsc_clients.specs.declared.command.error.FeedError.TheVariants.{TooLong, Input, Output, Memory}
-use Rattle.bsc_clients.specs.declared.command.error.FeedError.TheVariants.{Address, NobodyThere, Sockets}
+use Rattle.bsc_clients.specs.declared.command.error.FeedError.TheVariants.{NotOneLine, Closed}
+use Rattle.bsc_clients.specs.declared.command.error.FeedError.TheVariants.{Refused, TooLong, Input}
+use Rattle.bsc_clients.specs.declared.command.error.FeedError.TheVariants.{Output, Memory, Address}
+use Rattle.bsc_clients.specs.declared.command.error.FeedError.TheVariants.{NobodyThere, Sockets}
 
 -- The error for a line that is not printed.
 abbrev pub print_error : PrintError → FeedError

@@ -8,10 +8,12 @@ use Rattle.bsc_bid.specs.declared.way.Way.TheVariants.{FromTerminal, ToTerminal}
 use Rattle.bsc_text.specs.Numbers.{terminal_of, select_of}
 use Rattle.bsc_text.specs.Words.{first_word, after_word, words_of}
 use Rattle.bsc_config.specs.declared.script.keyword.Keyword.{Keyword}
-use Rattle.bsc_config.specs.declared.script.keyword.Keyword.TheVariants.{OfferAt, OfferFor, OfferTo, Carry}
-use Rattle.bsc_config.specs.declared.script.keyword.Keyword.TheVariants.{Lose, Heard, HeardEach, Silence}
-use Rattle.bsc_config.specs.declared.script.keyword.Keyword.TheVariants.{Ready, Unready, PollOn, PollOff}
-use Rattle.bsc_config.specs.declared.script.keyword.Keyword.TheVariants.{UrgentAt, UrgentFor, Release}
+use Rattle.bsc_config.specs.declared.script.keyword.Keyword.TheVariants.{OfferAt, OfferFor, OfferTo}
+use Rattle.bsc_config.specs.declared.script.keyword.Keyword.TheVariants.{Carry, Lose, Heard}
+use Rattle.bsc_config.specs.declared.script.keyword.Keyword.TheVariants.{HeardEach, Silence, Ready}
+use Rattle.bsc_config.specs.declared.script.keyword.Keyword.TheVariants.{Unready, PollOn, PollOff}
+use Rattle.bsc_config.specs.declared.script.keyword.Keyword.TheVariants.{UrgentAt, UrgentFor}
+use Rattle.bsc_config.specs.declared.script.keyword.Keyword.TheVariants.{Release}
 use Rattle.bsc_config.specs.Transmissions.{transmission_of, items_of}
 
 -- What happens on a line. Terminals and selection addresses are numbers, whether or not the line

@@ -135,8 +135,8 @@ module _ {S R W F M T : Type 0} (parts : SessionParts S R W F M T) where
       (tt, due_of_sent old new (WasSilent ∷ sent_where_some r.in_time r.due) r.in_time r.due)
   due_of_event Stopped old happened result new (same, kept, stopped, waits) =
       due_if_equal old new happened _ stopped.0 (tt, tt)
-  due_of_event Client old happened result new (same, kept, told, waits) =
-      due_if_equal old new happened _ told.0 (tt, tt)
+  due_of_event Client old happened result new (none, ok, same) =
+      due_if_equal old new happened [] none tt
 
   pub hears_what_is_admitted : HearsWhatIsAdmitted parts
   hears_what_is_admitted old new happened result step =

@@ -26,7 +26,7 @@ use Rattle.bsc_bid.specs.declared.station.Station as station_of
 use Rattle.bsc_connections.specs.Parts.{ConnectionParts, SessionParts}
 use Rattle.bsc_connections.specs.Connections.{ConnectionValue, Takes, TakesOpen, Sends}
 use Rattle.bsc_connections.specs.Histories.{Happening, WasHeard, WasSilent, HasJoined}
-use Rattle.bsc_connections.specs.Histories.{HasClosed, WasRefused, WasIgnored, WasStopped, HadClient}
+use Rattle.bsc_connections.specs.Histories.{HasClosed, WasRefused, WasIgnored, WasStopped}
 use Rattle.bsc_connections.specs.Histories.{sent_where_some}
 use Rattle.bsc_connections.specs.Histories.{if_same_place, arrived_in, arrived_at, sent_in, all_sent, IsNoJoining}
 use Rattle.bsc_connections.specs.Histories.{NobodyJoins}
@@ -560,16 +560,6 @@ module _ {R W F : Type 0} (parts : ConnectionParts R W F)
               (came_nothing_if_unchanged place old new b same is is_up),
         )
 
-    went_by_client : (place : ℕ) (old new : List C) (happened : List Happening) (b : C)
-        → new ≡ old → happened ≡ HadClient ∷ [] → slice_get new place ≡ Some b → b.ends ≢ None
-        → Went place old happened b
-    went_by_client place old new happened b same told is is_up =
-        inl (
-          subst (NobodyJoins place) (sym told) (tt, tt),
-          came_for_equal_history place old b happened (HadClient ∷ []) told
-              (came_nothing_if_unchanged place old new b same is is_up),
-        )
-
     went_by_joining : (given : Option ℕ) (place : ℕ) (old : Now)
         (happened : List Happening) (result : Result Bool LiveError) (new : Now) (b : C)
         → Joins session given old happened result new
@@ -630,8 +620,10 @@ module _ {R W F : Type 0} (parts : ConnectionParts R W F)
         (λ m there m_up. (m, there, carries_nothing m m_up)) silent.answers is is_up
     went_by_event Stopped place old happened result new b (same, kept, stopped, waits) is is_up =
         went_by_stop place old.connections new.connections happened b kept stopped.0 is is_up
-    went_by_event Client place old happened result new b (same, kept, told, waits) is is_up =
-        went_by_client place old.connections new.connections happened b kept told.0 is is_up
+    went_by_event Client place old happened result new b (none, ok, same) is is_up =
+        went_if_nothing_happened place old.connections happened b none
+        (came_nothing_if_unchanged place old.connections new.connections b
+        (ap (λ (now : Now). now.connections) same) is is_up)
 
     -- A step, followed by what was carried after it.
     carries_with_step_first : (place : ℕ) (before between : List C) (happened history : List

@@ -105,8 +105,7 @@ module _ {S R W F M T : Type 0} (parts : SessionParts S R W F M T) where
       ∙ silences_of_sent silent.answers.replies.in_time silent.answers.replies.due)
   silences_are_due Stopped old happened result new (same, unchanged, stopped, waits) =
       ap silences stopped.0
-  silences_are_due Client old happened result new (same, unchanged, told, waits) =
-      ap silences told.0
+  silences_are_due Client old happened result new (none, ok, same) = ap silences none
 
   pub tells_each_silence : TellsEachSilence parts
   tells_each_silence old new happened result step =

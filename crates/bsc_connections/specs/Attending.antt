@@ -28,7 +28,7 @@ use Rattle.bsc_connections.specs.Parts.{ConnectionParts, SessionParts}
 use Rattle.bsc_connections.specs.Connections.{ConnectionValue, Takes, Sends, is_reached}
 use Rattle.bsc_connections.specs.Histories.{Happening, WasHeard, WasSilent, HasJoined}
 use Rattle.bsc_connections.specs.Histories.{HasClosed, WasIgnored, WasRefused, WasStopped}
-use Rattle.bsc_connections.specs.Histories.{HadClient, sent_if_in_time, sent_where_some}
+use Rattle.bsc_connections.specs.Histories.{sent_if_in_time, sent_where_some}
 use Rattle.bsc_carrier.specs.Cable.{ChangesAt}
 
 -- A station, its connections, the monitor that is told what happens, and the waiter.
@@ -389,11 +389,7 @@ module _ {S R W F M T : Type 0} (parts : SessionParts S R W F M T) where
       × (new.connections ≡ old.connections)
       × TellsOne WasStopped new.station old.monitor happened result new.monitor
       × (new.waiter ≡ old.waiter)
-  Does Client old happened result new =
-      (new.station ≡ old.station)
-      × (new.connections ≡ old.connections)
-      × TellsOne HadClient new.station old.monitor happened result new.monitor
-      × (new.waiter ≡ old.waiter)
+  Does Client old happened result new = (happened ≡ []) × (result ≡ Ok true) × (new ≡ old)
 
   -- What a step begins with: if a write has failed that is not told yet, with a read at the place
   -- of the first such connection, which tells of it, and without a wait; otherwise with the event

@@ -29,8 +29,6 @@ pub data Happening : Type 0 where
   HasClosed : (place : ℕ) (peer : Option SocketAddr) (why : Option CarrierError) → Happening
   -- The station was asked to end.
   WasStopped : Happening
-  -- A program that the station serves beside its line had to be served.
-  HadClient : Happening
 
 -- What becomes of these octets, which the station sends: they are sent if they are in time, as the
 -- flag says, and else withheld.

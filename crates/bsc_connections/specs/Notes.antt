@@ -2,10 +2,10 @@
 use Rattle.bsc_connections.specs.declared.monitor.Note.{Note}
 use Rattle.bsc_connections.specs.declared.monitor.Note.TheVariants.{Heard, Silence, Sent, Joined}
 use Rattle.bsc_connections.specs.declared.monitor.Note.TheVariants.{Closed, Refused, Ignored}
-use Rattle.bsc_connections.specs.declared.monitor.Note.TheVariants.{Stopped, Withheld, Client}
+use Rattle.bsc_connections.specs.declared.monitor.Note.TheVariants.{Stopped, Withheld}
 use Rattle.bsc_connections.specs.Histories.{Happening, WasHeard, WasSilent, WasSent, HasJoined}
 use Rattle.bsc_connections.specs.Histories.{HasClosed, WasRefused, WasIgnored, WasStopped}
-use Rattle.bsc_connections.specs.Histories.{HadClient, WasWithheld}
+use Rattle.bsc_connections.specs.Histories.{WasWithheld}
 
 -- What a note tells.
 abbrev pub told_by : Note → Happening
@@ -18,4 +18,3 @@ told_by (Joined connection peer replaces) = HasJoined connection peer replaces
 told_by (Refused peer why) = WasRefused peer why
 told_by (Closed connection peer why) = HasClosed connection peer why
 told_by Stopped = WasStopped
-told_by Client = HadClient

@@ -138,7 +138,7 @@ pub fn step<
         }
         Ok(Awaited::TimeOut) => silence(station, connections, waiter, monitor),
         Ok(Awaited::Stopped) => monitor.note(station, Note::Stopped),
-        Ok(Awaited::Client) => monitor.note(station, Note::Client),
+        Ok(Awaited::Client) => Ok(true),
         Err(error) => Err(error),
     }
 }

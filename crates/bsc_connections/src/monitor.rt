@@ -83,9 +83,6 @@ pub enum Note<'a> {
 
     /// The station was asked to end.
     Stopped,
-
-    /// A program that the station serves beside its line may have to be served.
-    Client,
 }
 
 /// Sees what happens to a station of type `S`, decides what it hears, accepts or refuses what

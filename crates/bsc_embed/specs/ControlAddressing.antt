@@ -3,7 +3,8 @@
 use Rattle.std.specs.Prelude.{◌≡◌, ◌⊎◌, ◌<◌, ◌≤◌, ℕ, length, Result, Err}
 use Rattle.bsc_control.specs.Control.{ControlValue, peer_at}
 use Rattle.bsc_embed.specs.declared.interface.fault.Fault.{Fault}
-use Rattle.bsc_embed.specs.declared.interface.fault.Fault.TheVariants.{NoSuchTerminal, NoSuchAddress}
+use Rattle.bsc_embed.specs.declared.interface.fault.Fault.TheVariants.{NoSuchTerminal}
+use Rattle.bsc_embed.specs.declared.interface.fault.Fault.TheVariants.{NoSuchAddress}
 
 -- The station has a terminal of this number.
 abbrev pub HasTerminal : ControlValue → ℕ → Type 0

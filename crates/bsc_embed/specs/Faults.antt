@@ -2,17 +2,20 @@
 use Rattle.std.specs.Prelude.{ℕ, ◌==◌, if◌then◌else◌, List, Option, Some, None, Result, Ok, Err}
 use Rattle.std.specs.Prelude.{codes}
 use Rattle.bsc_embed.specs.declared.interface.fault.Fault.{Fault}
-use Rattle.bsc_embed.specs.declared.interface.fault.Fault.TheVariants.{NotMade, OtherKind, AlreadyMade}
-use Rattle.bsc_embed.specs.declared.interface.fault.Fault.TheVariants.{Memory, NoRoom, Full, BlockChars}
-use Rattle.bsc_embed.specs.declared.interface.fault.Fault.TheVariants.{Tries, Waits, Address, Selects}
+use Rattle.bsc_embed.specs.declared.interface.fault.Fault.TheVariants.{NotMade, OtherKind}
+use Rattle.bsc_embed.specs.declared.interface.fault.Fault.TheVariants.{AlreadyMade, Memory, NoRoom}
+use Rattle.bsc_embed.specs.declared.interface.fault.Fault.TheVariants.{Full, BlockChars, Tries}
+use Rattle.bsc_embed.specs.declared.interface.fault.Fault.TheVariants.{Waits, Address, Selects}
 use Rattle.bsc_embed.specs.declared.interface.fault.Fault.TheVariants.{SameAddress, NoTerminal}
-use Rattle.bsc_embed.specs.declared.interface.fault.Fault.TheVariants.{TooManyTerminals, EmptyPollList}
-use Rattle.bsc_embed.specs.declared.interface.fault.Fault.TheVariants.{PollList, NoSuchTerminal}
+use Rattle.bsc_embed.specs.declared.interface.fault.Fault.TheVariants.{TooManyTerminals}
+use Rattle.bsc_embed.specs.declared.interface.fault.Fault.TheVariants.{EmptyPollList, PollList}
+use Rattle.bsc_embed.specs.declared.interface.fault.Fault.TheVariants.{NoSuchTerminal}
 use Rattle.bsc_embed.specs.declared.interface.fault.Fault.TheVariants.{NoSuchAddress, NoSuchRecord}
 use Rattle.bsc_embed.specs.declared.interface.fault.Fault.TheVariants.{TooLong, NotText, NotInDoubt}
 use Rattle.bsc_embed.specs.declared.interface.fault.Fault.TheVariants.{CountMismatch, NothingSent}
-use Rattle.bsc_embed.specs.declared.interface.fault.Fault.TheVariants.{NotControl, WrongCount, Pending}
-use Rattle.bsc_embed.specs.declared.interface.fault.Fault.TheVariants.{NotNew, Known, Doubt}
+use Rattle.bsc_embed.specs.declared.interface.fault.Fault.TheVariants.{NotControl, WrongCount}
+use Rattle.bsc_embed.specs.declared.interface.fault.Fault.TheVariants.{Pending, NotNew, Known}
+use Rattle.bsc_embed.specs.declared.interface.fault.Fault.TheVariants.{Doubt}
 
 -- The number of a fault.
 abbrev pub fault_number : Fault → ℕ

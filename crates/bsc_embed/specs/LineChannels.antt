@@ -9,8 +9,9 @@ use Rattle.bsc_line_model.specs.Offers.{IsNoWay}
 use Rattle.bsc_embed.specs.Buffers.{Holds}
 use Rattle.bsc_embed.specs.declared.interface.counts.Sending.{Sending}
 use Rattle.bsc_embed.specs.declared.interface.fault.Fault.{Fault}
-use Rattle.bsc_embed.specs.declared.interface.fault.Fault.TheVariants.{NoSuchTerminal, NoSuchAddress}
-use Rattle.bsc_embed.specs.declared.interface.fault.Fault.TheVariants.{NoSuchRecord, NoRoom}
+use Rattle.bsc_embed.specs.declared.interface.fault.Fault.TheVariants.{NoSuchTerminal}
+use Rattle.bsc_embed.specs.declared.interface.fault.Fault.TheVariants.{NoSuchAddress, NoSuchRecord}
+use Rattle.bsc_embed.specs.declared.interface.fault.Fault.TheVariants.{NoRoom}
 
 -- The line does not have this channel: no terminal has this number, or the terminal has no such
 -- selection address (own).

@@ -17,6 +17,7 @@ use Rattle.bsc_keeping.specs.AllKept.{HasAll, HasArrived, IsKeptOrSame, KeepsEac
 use Rattle.bsc_keeping.specs.Sessions.{IsKept}
 use Rattle.bsc_keeping.specs.declared.keeper.Keeper.{Keeper}
 use Rattle.bsc_keeping.specs.declared.keeping.Keeping.{Keeping}
+use Rattle.bsc_keeping.specs.declared.stored.Stored.{Stored}
 
 -- What is known twice is known once.
 known_again : (end : Sending) (k : Option KeptSender)
@@ -55,9 +56,9 @@ module _ {S : Type 0} (kept_at : S → ℕ → ℕ → Option KeptSender) (stati
       (sending_again end)
       ∙ ap (λ (l : List Sending). known_now end (kept_for end) ∷ l) (all_sending_again ends)
 
-module _ {S M K Z : Type 0} (party : party_of.Ghosts S Z)
+module _ {S K V Z : Type 0} (party : party_of.Ghosts S Z)
     (kept_at : S → ℕ → ℕ → Option KeptSender) (store : store_of.Ghosts K)
-    (printed : M → ℕ → Option ℕ) where
+    (printed : V → ℕ → Option ℕ) where
   arrived_after : (station : S) (told : ℕ → Option ℕ) (ends : List Receiving)
       → AllByRecursion (HasArrived party kept_at store printed station)
       (receiving_now party station told ends)
@@ -67,40 +68,40 @@ module _ {S M K Z : Type 0} (party : party_of.Ghosts S Z)
     arrived_after station told ends,
   )
 
-  all_if_kept : (station : S) (old new : Keeping M K)
+  all_if_kept : {M : Type 0} (station : S) (old new : Keeping M (Stored K V))
       → IsKept party kept_at store printed station old new
-      → HasAll party kept_at store printed station new.keeper.now
+      → HasAll party kept_at store printed station new.kept.now.keeper
   all_if_kept station old new kept =
       record {
         sending =
             ap (sending_now kept_at station) kept.sending
-            ∙ all_sending_again kept_at station old.keeper.now.sending.items ∙ sym kept.sending;
+            ∙ all_sending_again kept_at station old.kept.now.keeper.sending.items ∙ sym kept.sending;
         receiving =
             subst
             (λ ends. AllByRecursion (HasArrived party kept_at store printed station) ends)
             (sym kept.receiving)
-            (arrived_after station (printed old.watch.now) old.keeper.now.receiving.items);
+            (arrived_after station (printed old.kept.now.printer) old.kept.now.keeper.receiving.items);
       }
 
-  module _ {R W F T : Type 0} (parts : SessionParts S R W F (Keeping M K) T)
+  module _ {R W F M T : Type 0} (parts : SessionParts S R W F (Keeping M (Stored K V)) T)
       (changes : KeepsEachChange party kept_at store printed parts) where
     abbrev Now : Type 0
-    Now = Session S (ConnectionValue R W F) (Keeping M K) T
+    Now = Session S (ConnectionValue R W F) (Keeping M (Stored K V)) T
 
-    all_after : (old new : Now) → HasAll party kept_at store printed old.station old.monitor.keeper.now
+    all_after : (old new : Now) → HasAll party kept_at store printed old.station old.monitor.kept.now.keeper
         → IsKeptOrSame party kept_at store printed old new
-        → HasAll party kept_at store printed new.station new.monitor.keeper.now
+        → HasAll party kept_at store printed new.station new.monitor.kept.now.keeper
     all_after old new has (inl kept) = all_if_kept new.station old.monitor new.monitor kept
     all_after old new has (inr (station, keeper)) =
-        subst (λ (s : S). HasAll party kept_at store printed s new.monitor.keeper.now) (sym station)
+        subst (λ (s : S). HasAll party kept_at store printed s new.monitor.kept.now.keeper) (sym station)
         (subst (λ (k : Keeper K). HasAll party kept_at store printed old.station k) (sym keeper) has)
 
     pub all_throughout : (steps : ℕ) (old new : Now)
-        → HasAll party kept_at store printed old.station old.monitor.keeper.now
+        → HasAll party kept_at store printed old.station old.monitor.kept.now.keeper
         → GoesOn parts steps old new
-        → HasAll party kept_at store printed new.station new.monitor.keeper.now
+        → HasAll party kept_at store printed new.station new.monitor.kept.now.keeper
     all_throughout steps old new has (not_begun same) =
-        subst (λ (s : Now). HasAll party kept_at store printed s.station s.monitor.keeper.now)
+        subst (λ (s : Now). HasAll party kept_at store printed s.station s.monitor.kept.now.keeper)
         (sym same) has
     all_throughout steps old new has (one_more {mid = mid} before (inl (happened, step))) =
         all_after mid new (all_throughout _ old mid has before) (changes mid new happened true step)

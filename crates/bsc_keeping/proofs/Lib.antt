@@ -1,14 +1,15 @@
 mod Owns
 mod Tellings
+mod Moving
 mod Kept
+mod Names
 mod Lists
 mod FilledFrom
 mod Reading
 mod Filled
-mod Throughout
-mod Names
-mod Moving
-mod Stepping
+mod StoreSteps
+pub mod StoredRuns
+mod Printing
 mod AllKept
 mod OffersKept
 mod ForgottenKept

@@ -80,7 +80,8 @@ module _ {S R W F M T : Type 0} (parts : SessionParts S R W F M T) (G : S → S 
     by_event TimeOut old happened result new silent =
         acts old.station new.station silent.answer silent.acted
     by_event Stopped old happened result new does = if_same old.station new.station does.0
-    by_event Client old happened result new does = if_same old.station new.station does.0
+    by_event Client old happened result new (none, ok, kept) =
+        if_same old.station new.station (ap (λ (s : Now). s.station) kept)
 
     pub moves : (old new : Now) (happened : List Happening) (result : Result Bool LiveError)
         → Steps parts old happened result new → G old.station new.station

@@ -256,8 +256,9 @@ module _ {S R W F M T : Type 0} (parts : SessionParts S R W F M T)
       silent.answers
   by_event Stopped old happened result new (station, kept, stopped, waits) =
       told_one _ old happened result new station refl tt stopped
-  by_event Client old happened result new (station, kept, told, waits) =
-      told_one _ old happened result new station refl tt told
+  by_event Client old happened result new (none, ok, kept) =
+      told_nothing old happened result new (ap (λ (s : Now). s.station) kept) none
+      (ap (λ (s : Now). s.monitor) kept)
 
   pub shown_of_step : (old new : Now) (happened : List Happening)
       (result : Result Bool LiveError) → Steps parts old happened result new

@@ -2,8 +2,12 @@ pub mod Ends
 pub mod Changes
 pub mod Keeping
 pub mod Offers
+pub mod Stored
+pub mod Printed
+pub mod Monitors
 pub mod Sessions
 pub mod Runs
+pub mod LiveRuns
 pub mod AllKept
 pub mod OffersKept
 pub mod Filling

@@ -19,6 +19,7 @@ use Rattle.bsc_keeping.specs.Keeping.{KeepsChanged, KeepsStep, SurvivesAll, step
 use Rattle.bsc_keeping.specs.Offers.{KeepsOffer}
 use Rattle.bsc_keeping.specs.declared.keeper.Keeper.{Keeper}
 use Rattle.bsc_keeping.specs.declared.keeping.Keeping.{Keeping}
+use Rattle.bsc_keeping.specs.declared.stored.Stored.{Stored}
 
 -- A station, and what keeps its records.
 pub record Moment (S K : Type 0) : Type 0 where
@@ -26,8 +27,9 @@ pub record Moment (S K : Type 0) : Type 0 where
   pub keeper : Keeper K
 
 -- Those of a session.
-abbrev pub moment_of : {S C M K T : Type 0} → Session S C (Keeping M K) T → Moment S K
-moment_of now = record { station = now.station; keeper = now.monitor.keeper.now }
+abbrev pub moment_of : {S C M K V T : Type 0} → Session S C (Keeping M (Stored K V)) T
+    → Moment S K
+moment_of now = record { station = now.station; keeper = now.monitor.kept.now.keeper }
 
 -- What a station does for programs that feed it, between sessions: whether they can ask for
 -- something, and how it is after a record was offered on the channel of a terminal in a direction,
@@ -82,10 +84,12 @@ module _ {S K Z : Type 0} (station : station_of.Ghosts S) (party : party_of.Ghos
           ⊎ ((new.station ≡ old.station) × (new.keeper ≡ old.keeper))
 
   -- So is each step of such sessions.
-  abbrev pub EachStepIsKept : {R W F M T : Type 0} → SessionParts S R W F (Keeping M K) T → Type 0
-  EachStepIsKept {R} {W} {F} {M} {T} parts =
-      (old new : Session S (ConnectionValue R W F) (Keeping M K) T) (happened : List Happening)
-      (result : Result Bool LiveError) → Steps parts old happened result new
+  abbrev pub EachStepIsKept : {R W F M V T : Type 0}
+      → SessionParts S R W F (Keeping M (Stored K V)) T → Type 0
+  EachStepIsKept {R} {W} {F} {M} {V} {T} parts =
+      (old new : Session S (ConnectionValue R W F) (Keeping M (Stored K V)) T)
+      (happened : List Happening) (result : Result Bool LiveError)
+      → Steps parts old happened result new
       → KeptStep (all_sent happened) (is_ok result) (moment_of old) (moment_of new)
 
   -- The steps of a session; the flag says whether it ended without an error. Nothing follows a step

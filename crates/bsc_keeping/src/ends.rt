@@ -2,14 +2,12 @@
 
 ghost use Rattle.std.specs.Prelude.{◌≡◌, ℕ, Option};
 ghost use Rattle.bsc_bid.specs.declared.kept.KeptSender.{KeptSender as KeptSenderValue};
+ghost use Rattle.bsc_station.specs.declared.party.Party as party_of;
 
 use bsc_bid::KeptSender;
 use bsc_control::Control;
-use bsc_monitor::{ControlWatch, TerminalWatch};
-use bsc_station::LineTerminal;
-use bsc_text::progress::{Meter, Timer};
+use bsc_station::{LineTerminal, Party};
 use std::alloc::Allocator;
-use std::io::Write;
 
 /// A station that says what is to be kept of each channel on which it sends.
 pub trait Sends {
@@ -48,35 +46,22 @@ impl<A: Allocator> Sends for LineTerminal<A> {
     }
 }
 
-/// A monitor that says how many records it has printed.
+/// What prints the records that arrive at a station, once they are kept.
 pub trait Prints {
-    /// How many records of this channel were printed, if there is such a channel.
+    /// How many records of this channel were printed, if that is known.
     ghost printed: { Self → ℕ → Option ℕ };
 
+    /// What it prints of a station, of which this is known: the station, what prints before and
+    /// after it.
+    ghost prints: { {S Z : Type 0} → party_of.Ghosts S Z → S → Self → Self → Type 0 };
+
     /// Returns how many records were printed of the channel with this number among those on which
-    /// the station receives. `None` if there is no such channel.
+    /// the station receives; `None` if there is no such channel, or if it is not known.
     fn printed(&self, number: usize) -> Option<usize>
         ensures { result ≡ printed self.now number };
-}
 
-impl<'a, A: Allocator + Copy, T: Timer + Meter + Drop, W: Write, D: Write> Prints
-    for ControlWatch<'a, A, T, W, D> {
-    ghost use Rattle.std.specs.Prelude.{slice_get};
-
-    ghost printed = { λ w number. slice_get w.watch.printed.items number };
-
-    fn printed(&self, number: usize) -> Option<usize> {
-        ControlWatch::printed(self, number)
-    }
-}
-
-impl<'a, A: Allocator + Copy, T: Timer + Meter + Drop, W: Write, D: Write> Prints
-    for TerminalWatch<'a, A, T, W, D> {
-    ghost use Rattle.std.specs.Prelude.{slice_get};
-
-    ghost printed = { λ w number. slice_get w.watch.printed.items number };
-
-    fn printed(&self, number: usize) -> Option<usize> {
-        TerminalWatch::printed(self, number)
-    }
+    /// Prints records that have arrived and are not printed yet, as long as standard output takes
+    /// them without waiting.
+    fn print<P: Party>(&mut self, station: &P)
+        ensures { prints P.Party station.now self.old self.new };
 }

@@ -2,55 +2,52 @@
 
 ghost use Rattle.std.specs.Prelude.{◌≡◌};
 ghost use Rattle.bsc_connections.specs.Notes.{told_by};
-ghost use Rattle.bsc_keeping.specs.Keeping.{KeepsIfStep};
+ghost use Rattle.bsc_keeping.specs.Monitors.{KeepsIfStep};
 
-use crate::{Keeper, Prints, Sends};
+use crate::Keeps;
 use bsc_connections::{LiveError, Monitor, Note, Pace};
-use bsc_spool::{Store, StoreFault};
-use bsc_station::Party;
 
-/// A monitor that keeps what the station has changed, and then tells another monitor what happened.
-/// If that cannot be kept it refuses the event with `Unkept`, so that nothing is sent; the keeper
-/// then has the fault.
+/// A monitor that has kept what the station has changed, and then tells another monitor what
+/// happened. If that cannot be kept it refuses the event, so that nothing is sent.
 #[derive(Drop)]
-pub struct Keeping<'a, M, K: Drop> {
+pub struct Keeping<'a, M, Q> {
     /// The inner monitor.
     watch: &'a mut M,
 
-    /// What keeps the records.
-    keeper: &'a mut Keeper<K>,
+    /// What keeps.
+    kept: &'a mut Q,
 }
 
-impl<'a, M: Prints, K: Store + Drop> Keeping<'a, M, K> {
-    /// Returns the monitor that keeps what the station changes and then tells `watch`.
-    pub fn new(watch: &'a mut M, keeper: &'a mut Keeper<K>) -> Keeping<'a, M, K>
+impl<'a, M, Q> Keeping<'a, M, Q> {
+    /// Returns the monitor that has this keep what the station changes and then tells `watch`.
+    pub fn new(watch: &'a mut M, kept: &'a mut Q) -> Keeping<'a, M, Q>
         ensures watch { result.watch ≡ watch.entry }
-        ensures keeper { result.keeper ≡ keeper.entry }
+        ensures kept { result.kept ≡ kept.entry }
     {
-        Keeping { watch, keeper }
+        Keeping { watch, kept }
     }
 
     /// Keeps what the station has changed, if this is something by which it may change.
-    fn keep<S: Party + Sends>(&mut self, station: &S, note: &Note<'_>) -> Result<(), StoreFault>
-        ensures keeps { KeepsIfStep S.Party S.kept_at K.Store (told_by note.now)
-            (M.printed self.old.watch.now) station.now result self.old.keeper.now
-            self.new.keeper.now }
+    fn keep<S>(&mut self, station: &S, note: &Note<'_>) -> Result<(), LiveError>
+    where
+        Q: Keeps<S>,
+        ensures keeps { KeepsIfStep Q.keeps (told_by note.now) station.now result self.old.kept.now
+            self.new.kept.now }
         ensures watch { self.new.watch.now ≡ self.old.watch.now }
         ensures same_watch { self.new.watch.ghost_name ≡ self.old.watch.ghost_name }
-        ensures same_keeper { self.new.keeper.ghost_name ≡ self.old.keeper.ghost_name }
+        ensures same_kept { self.new.kept.ghost_name ≡ self.old.kept.ghost_name }
     {
         match note {
-            Note::Heard { .. } | Note::Silence => self.keeper.keep(station, &*self.watch),
+            Note::Heard { .. } | Note::Silence => self.kept.keep(station),
             Note::Sent { .. } | Note::Withheld { .. } => Ok(()),
-            Note::Ignored { .. } | Note::Stopped | Note::Client => Ok(()),
+            Note::Ignored { .. } | Note::Stopped => Ok(()),
             Note::Joined { .. } | Note::Refused { .. } | Note::Closed { .. } => Ok(()),
         }
     }
 }
 
-impl<'a, S: Party + Sends, M: Monitor<S> + Prints, K: Store + Drop> Monitor<S>
-    for Keeping<'a, M, K> {
-    ghost use Rattle.bsc_keeping.specs.Keeping.{KeepsAndTells};
+impl<'a, S, M: Monitor<S>, Q: Keeps<S>> Monitor<S> for Keeping<'a, M, Q> {
+    ghost use Rattle.bsc_keeping.specs.Monitors.{KeepsAndTells};
 
     ghost has_ended = { λ k. M.has_ended k.watch.now };
 
@@ -60,12 +57,12 @@ impl<'a, S: Party + Sends, M: Monitor<S> + Prints, K: Store + Drop> Monitor<S>
 
     ghost paces = { λ k. M.paces k.watch.now };
 
-    ghost is_told = { KeepsAndTells S.Party S.kept_at K.Store M.printed M.is_told };
+    ghost is_told = { KeepsAndTells Q.keeps M.is_told };
 
     fn note(&mut self, station: &S, note: Note<'_>) -> Result<bool, LiveError> {
         match self.keep(station, &note) {
             Ok(()) => self.watch.note(station, note),
-            Err(_) => Err(LiveError::Unkept),
+            Err(error) => Err(error),
         }
     }
 

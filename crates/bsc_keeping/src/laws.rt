@@ -1,14 +1,15 @@
-//! The laws of a station whose records are kept, stated over the definitions that the contracts
+//! The laws of a station whose changes are kept, stated over the definitions that the contracts
 //! cite.
 
 ghost use Rattle.bsc_connections.specs.Parts.{session_parts};
 ghost use Rattle.bsc_keeping.specs.AllKept.{HasAllThroughout, KeepsEachChange};
 ghost use Rattle.bsc_keeping.specs.ForgottenKept.{HasAllOnceForgotten};
 ghost use Rattle.bsc_keeping.specs.OffersKept.{HasAllOnceOffered, control_with, terminal_with};
+ghost use Rattle.bsc_keeping.specs.Printed.{output_of};
 ghost use Rattle.bsc_keeping.specs.Runs.{EachStepIsKept};
-ghost use Rattle.bsc_keeping.specs.Sessions.{KeepsBeforeSending};
+ghost use Rattle.bsc_keeping.specs.Sessions.{KeepsBeforeSending, PrintsBeforeSending};
 
-use crate::{Keeping, Prints, Sends};
+use crate::{Keeping, Printed, Prints, Sends, Stored};
 use bsc_bid::Station;
 use bsc_connections::{Framing, Monitor, Waiter};
 use bsc_control::Control;
@@ -17,49 +18,71 @@ use bsc_station::{Forgets, LineTerminal, Party};
 use std::alloc::Allocator;
 use std::io::{Read, Write};
 
-/// What a station sends whose records are kept, it sends after all that it has changed is kept: in
-/// every step of a session in which something is sent, exactly the changes that were not kept
-/// before are kept at once. A crash at any moment of any step leaves what was kept before the step,
-/// or all of the step. So whatever a peer was sent rests on what a store has. And a step that is
-/// not refused keeps all that the station has changed in it; so before each wait of a session the
-/// store has all that is to be kept of the station, if it had it at the beginning. In each step the
-/// station stays as it is, hears a transmission or acts on a silence, and no more.
+/// What a station sends that has a store, it sends after all that it has changed is kept: in every
+/// step of a session in which something is sent, exactly the changes that were not kept before are
+/// kept at once. A crash at any moment of any step leaves what was kept before the step, or all of
+/// the step. So whatever a peer was sent rests on what a store has. And a step that is not refused
+/// keeps all that the station has changed in it; so before each wait of a session the store has all
+/// that is to be kept of the station, if it had it at the beginning. In each step the station stays
+/// as it is, hears a transmission or acts on a silence, and no more.
 pub fn kept_before_sent<
     S: Station + Party + Sends,
     R: Read + Drop,
     W: Write + Drop,
     F: Framing + Drop,
     T: Waiter<R, W>,
-    M: Monitor<S> + Prints + 'static,
+    M: Monitor<S> + 'static,
     K: Store + Drop + 'static,
+    V: Prints + Drop + 'static,
 >()
-    ensures sent { KeepsBeforeSending S.Party S.kept_at K.Store M.printed
+    ensures sent { KeepsBeforeSending S.Party S.kept_at K.Store V.printed
         (session_parts S.Station R.Read W.Write F.Framing
-        ⟦<Keeping<'static, M, K> as Monitor<S>>⟧.is_told
-        ⟦<Keeping<'static, M, K> as Monitor<S>>⟧.admits
-        ⟦<Keeping<'static, M, K> as Monitor<S>>⟧.may_answer
-        ⟦<Keeping<'static, M, K> as Monitor<S>>⟧.paces
+        ⟦<Keeping<'static, M, Stored<K, V>> as Monitor<S>>⟧.is_told
+        ⟦<Keeping<'static, M, Stored<K, V>> as Monitor<S>>⟧.admits
+        ⟦<Keeping<'static, M, Stored<K, V>> as Monitor<S>>⟧.may_answer
+        ⟦<Keeping<'static, M, Stored<K, V>> as Monitor<S>>⟧.paces
         T.Waiter) }
-    ensures changed { KeepsEachChange S.Party S.kept_at K.Store M.printed
+    ensures changed { KeepsEachChange S.Party S.kept_at K.Store V.printed
         (session_parts S.Station R.Read W.Write F.Framing
-        ⟦<Keeping<'static, M, K> as Monitor<S>>⟧.is_told
-        ⟦<Keeping<'static, M, K> as Monitor<S>>⟧.admits
-        ⟦<Keeping<'static, M, K> as Monitor<S>>⟧.may_answer
-        ⟦<Keeping<'static, M, K> as Monitor<S>>⟧.paces
+        ⟦<Keeping<'static, M, Stored<K, V>> as Monitor<S>>⟧.is_told
+        ⟦<Keeping<'static, M, Stored<K, V>> as Monitor<S>>⟧.admits
+        ⟦<Keeping<'static, M, Stored<K, V>> as Monitor<S>>⟧.may_answer
+        ⟦<Keeping<'static, M, Stored<K, V>> as Monitor<S>>⟧.paces
         T.Waiter) }
-    ensures throughout { HasAllThroughout S.Party S.kept_at K.Store M.printed
+    ensures throughout { HasAllThroughout S.Party S.kept_at K.Store V.printed
         (session_parts S.Station R.Read W.Write F.Framing
-        ⟦<Keeping<'static, M, K> as Monitor<S>>⟧.is_told
-        ⟦<Keeping<'static, M, K> as Monitor<S>>⟧.admits
-        ⟦<Keeping<'static, M, K> as Monitor<S>>⟧.may_answer
-        ⟦<Keeping<'static, M, K> as Monitor<S>>⟧.paces
+        ⟦<Keeping<'static, M, Stored<K, V>> as Monitor<S>>⟧.is_told
+        ⟦<Keeping<'static, M, Stored<K, V>> as Monitor<S>>⟧.admits
+        ⟦<Keeping<'static, M, Stored<K, V>> as Monitor<S>>⟧.may_answer
+        ⟦<Keeping<'static, M, Stored<K, V>> as Monitor<S>>⟧.paces
         T.Waiter) }
     ensures steps { EachStepIsKept S.Station S.Party S.kept_at K.Store
         (session_parts S.Station R.Read W.Write F.Framing
-        ⟦<Keeping<'static, M, K> as Monitor<S>>⟧.is_told
-        ⟦<Keeping<'static, M, K> as Monitor<S>>⟧.admits
-        ⟦<Keeping<'static, M, K> as Monitor<S>>⟧.may_answer
-        ⟦<Keeping<'static, M, K> as Monitor<S>>⟧.paces
+        ⟦<Keeping<'static, M, Stored<K, V>> as Monitor<S>>⟧.is_told
+        ⟦<Keeping<'static, M, Stored<K, V>> as Monitor<S>>⟧.admits
+        ⟦<Keeping<'static, M, Stored<K, V>> as Monitor<S>>⟧.may_answer
+        ⟦<Keeping<'static, M, Stored<K, V>> as Monitor<S>>⟧.paces
+        T.Waiter) }
+{}
+
+/// What a station sends that has no store, it sends after the records that had arrived at it were
+/// printed: in every step of a session in which something is sent, exactly the records that were
+/// not printed before are. So whatever the peer counts as delivered was printed.
+pub fn printed_before_sent<
+    S: Station + Party,
+    R: Read + Drop,
+    W: Write + Drop,
+    F: Framing + Drop,
+    T: Waiter<R, W>,
+    M: Monitor<S> + 'static,
+    O: Write + 'static,
+>()
+    ensures { PrintsBeforeSending S.Party O.contents
+        (session_parts S.Station R.Read W.Write F.Framing
+        ⟦<Keeping<'static, M, Printed<'static, O>> as Monitor<S>>⟧.is_told
+        ⟦<Keeping<'static, M, Printed<'static, O>> as Monitor<S>>⟧.admits
+        ⟦<Keeping<'static, M, Printed<'static, O>> as Monitor<S>>⟧.may_answer
+        ⟦<Keeping<'static, M, Printed<'static, O>> as Monitor<S>>⟧.paces
         T.Waiter) }
 {}
 

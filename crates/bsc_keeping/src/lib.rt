@@ -2,27 +2,34 @@
 //! before anything is sent, and a new station is made again from the store.
 //!
 //! The monitor of a station is told what happened after the station has acted, and before its
-//! answer is sent. `Keeping` wraps a monitor: it commits what the step has changed, and tells the
-//! inner monitor after that. If the store refuses the step, so does this monitor, and nothing is
-//! sent.
+//! answer is sent. `Keeping` wraps a monitor: it has kept what the step has changed, and tells the
+//! inner monitor after that. If it is not kept, it refuses the step, and nothing is sent. What
+//! keeps is a store (`Stored`), or, for a station without one, standard output, to which the
+//! records that arrive are printed (`Printed`).
 #![tactic(auto)]
 
-mod attending;
 mod changes;
 mod ends;
 mod filling;
 mod fills;
 mod keeper;
 mod keeping;
+mod keeps;
 pub mod laws;
 mod offering;
 mod own;
 mod own_text;
+mod printed;
+mod stepping;
+mod stored;
 
-pub use attending::attend_kept;
 pub use ends::{Prints, Sends};
 pub use filling::{begin_control, begin_terminal};
 pub use keeper::Keeper;
 pub use keeping::Keeping;
+pub use keeps::Keeps;
 pub use own::Own;
 pub use own_text::Owner;
+pub use printed::Printed;
+pub use stepping::step_kept;
+pub use stored::Stored;

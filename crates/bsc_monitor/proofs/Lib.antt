@@ -1,3 +1,2 @@
 pub mod Absent
 pub mod Followed
-mod Sending

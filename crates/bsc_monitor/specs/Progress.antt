@@ -7,6 +7,7 @@ use Rattle.bsc_connections.specs.declared.awaited.Pace.{Pace}
 use Rattle.bsc_connections.specs.declared.awaited.Pace.TheVariants.{AfterPause, AtOnce}
 use Rattle.bsc_control.specs.CallOrder.{is_polled}
 use Rattle.bsc_control.specs.Control.{ControlValue, peer_at, terminal_of_entry}
+use Rattle.bsc_text.specs.declared.progress.counts.Counts.{Counts}
 use Rattle.bsc_station.specs.Counting.{station_counts}
 use Rattle.bsc_station.specs.Ends.{control_end, station_standing}
 use Rattle.bsc_monitor.specs.Rounds.{rounds_of, after_visit, are_enough, pauses_after}
@@ -16,13 +17,14 @@ use Rattle.bsc_monitor.specs.declared.progress.Progress.{Progress}
 use Rattle.bsc_monitor.specs.declared.rounds.Limits.{Limits}
 use Rattle.bsc_monitor.specs.declared.rounds.Rounds.{Rounds}
 
--- The progress of a control station that has sent nothing.
-abbrev pub progress_of : Limits → Bool → Progress
-progress_of limits listens =
+-- The progress of a control station that has sent nothing, at which this many records had arrived
+-- before.
+abbrev pub progress_of : Limits → Bool → ℕ → Progress
+progress_of limits listens arrived =
     record {
       limits = limits;
       visits = visits_of None;
-      rounds = rounds_of false limits.counts_at_once 0 0 0;
+      rounds = rounds_of limits.counts_at_once 0 0 0 arrived;
       listens = listens;
       closed = false;
       stopped = false;
@@ -47,11 +49,10 @@ has_more c =
     (station_standing (λ t. length (peer_at c t).outbounds) (control_end c)
     (length c.peers)).waiting
 
--- How many records are known to have arrived at the terminals.
-abbrev pub known_in : ControlValue → ℕ
-known_in c =
-    (station_counts 0 (λ t. length (peer_at c t).outbounds) (control_end c)
-    (length c.peers)).known
+-- How many records are known to have arrived at the terminals, and have arrived from them.
+abbrev pub counts_in : ControlValue → Counts
+counts_in c =
+    station_counts 0 (λ t. length (peer_at c t).outbounds) (control_end c) (length c.peers)
 
 -- How many of the first entries of the poll list, this many, are polled.
 abbrev pub polled_entries : ControlValue → ℕ → ℕ
@@ -70,7 +71,7 @@ is_last_visit c entry =
 -- The rounds, if the visit to this entry has ended, or none.
 abbrev pub rounds_after : Rounds → Option ℕ → ControlValue → Rounds
 rounds_after r None c = r
-rounds_after r (Some entry) c = after_visit r (is_last_visit c entry) (has_more c) (known_in c)
+rounds_after r (Some entry) c = after_visit r (is_last_visit c entry) (has_more c) (counts_in c)
 
 -- The progress after the control station has sent something.
 abbrev pub after_sent : Progress → ControlValue → Progress
@@ -83,7 +84,7 @@ after_sent p c =
 -- Whether a round in which nothing got through ends with the visit to this entry, if one ends.
 abbrev pub pauses_with : Rounds → Option ℕ → ControlValue → Bool
 pauses_with r None c = false
-pauses_with r (Some entry) c = pauses_after r (is_last_visit c entry) (has_more c) (known_in c)
+pauses_with r (Some entry) c = pauses_after r (is_last_visit c entry) (has_more c) (counts_in c)
 
 -- Whether what the control station has sent begins a round after one in which nothing got through.
 abbrev pub begins_after_pause : Progress → ControlValue → Bool
@@ -95,7 +96,7 @@ abbrev pub enough_after : Bool → Rounds → Limits → Option ℕ → ControlV
 enough_after stopped r limits None c = false
 enough_after stopped r limits (Some entry) c =
     stopped
-    || are_enough (after_visit r (is_last_visit c entry) (has_more c) (known_in c)) limits
+    || are_enough (after_visit r (is_last_visit c entry) (has_more c) (counts_in c)) limits
 
 -- Whether the control station ends after it has sent something: the visit to an entry has ended,
 -- and there are enough rounds, or it was asked to end.
@@ -133,16 +134,10 @@ ends_with p c WasSilent = p.stopped
 ends_with p c WasStopped = p.stopped
 ends_with p c _ = false
 
--- A record arrived in the round, or none did.
-abbrev pub with_found : Progress → Bool → Progress
-with_found p found = record p { rounds = record p.rounds { found = p.rounds.found || found } }
-
--- The progress after an event with which records arrived, as the flag says, and whether the control
--- station has ended by then.
-abbrev pub progress_after : Progress → Bool → ControlValue → Happening → Progress
-progress_after p found c happening =
-    let q = with_found p found in
-    record (after_event q c happening) { ended = p.ended || ends_with q c happening }
+-- The progress after an event, and whether the control station has ended by then.
+abbrev pub progress_after : Progress → ControlValue → Happening → Progress
+progress_after p c happening =
+    record (after_event p c happening) { ended = p.ended || ends_with p c happening }
 
 -- The pace after an event: a pause after what begins a round after one in which nothing got
 -- through, unless the control station has ended.

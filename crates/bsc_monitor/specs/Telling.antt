@@ -2,7 +2,7 @@
 use Rattle.std.specs.Prelude.{◌≡◌, ℕ, nat_lt, Bool, true, false, List, [], ◌++◌, Option, None}
 use Rattle.std.specs.Prelude.{Some}
 use Rattle.std.specs.Io.KnownBytes.{Appends}
-use Rattle.bsc_connections.specs.Histories.{Happening, HadClient}
+use Rattle.bsc_connections.specs.Histories.{Happening}
 use Rattle.bsc_control.specs.Control.{ControlValue}
 use Rattle.bsc_control.specs.declared.task.Task.{Task}
 use Rattle.bsc_control.specs.declared.task.Task.TheVariants.{Polling}
@@ -35,9 +35,9 @@ pub record Trace : Type 0 where
   pub held : Option CallLine
   pub contents : Option (List ℕ)
 
-abbrev pub trace_of : {A T W D : Type 0} → (D → Option (List ℕ)) → Watch A T W D → Trace
+abbrev pub trace_of : {A T D : Type 0} → (D → Option (List ℕ)) → Watch A T D → Trace
 trace_of contents w =
-    record { tracing = w.printing.trace; held = w.held; contents = contents w.errors.now }
+    record { tracing = w.tracing; held = w.held; contents = contents w.errors.now }
 
 -- The line for an event of this station at this time is printed, if there is one: without a trace
 -- only for a peer that joins, leaves or is refused, and for something that was withheld.
@@ -50,22 +50,10 @@ ShowsIn Exchanges calls me time happening old new =
 ShowsIn All calls me time happening old new =
     IsTraced happening time me old.contents new.contents × (new.held ≡ old.held)
 
--- Whether this is nothing of the line: a program has to be served.
-abbrev pub is_off_line : Happening → Bool
-is_off_line HadClient = true
-is_off_line _ = false
-
--- So it is for all that is of the line. What is not has no line, and leaves the one that is held
--- back.
-abbrev pub ShowsUnless : Bool → Tracing → Calls → Who → ℕ → Happening → Trace → Trace → Type 0
-ShowsUnless true tracing calls me time happening old new = new ≡ old
-ShowsUnless false tracing calls me time happening old new =
-    ShowsIn tracing calls me time happening old new
-
 pub record ShowsEvent (calls : Calls) (me : Who) (time : ℕ) (happening : Happening)
     (old new : Trace) : Type 0 where
   pub tracing : new.tracing ≡ old.tracing
-  pub line : ShowsUnless (is_off_line happening) old.tracing calls me time happening old new
+  pub line : ShowsIn old.tracing calls me time happening old new
 
 -- The start of a line that tells of no event: in a trace the line that is held back, and the time.
 abbrev pub start_of : Tracing → Option CallLine → ℕ → List ℕ

@@ -155,7 +155,7 @@ impl Absences {
                 None
             }
             Note::Ignored { .. } | Note::Withheld { .. } | Note::Refused { .. } => None,
-            Note::Stopped | Note::Client => None,
+            Note::Stopped => None,
         }
     }
 

@@ -48,7 +48,7 @@ impl Answering {
             Note::Silence => self.acted(control, true),
             Note::Sent { .. } => return self.sent(control),
             Note::Joined { .. } | Note::Refused { .. } | Note::Closed { .. } => {}
-            Note::Ignored { .. } | Note::Withheld { .. } | Note::Stopped | Note::Client => {}
+            Note::Ignored { .. } | Note::Withheld { .. } | Note::Stopped => {}
         }
         None
     }

@@ -1,11 +1,11 @@
 //! The monitor of a control station.
 
-ghost use Rattle.std.specs.Prelude.{◌≡◌, false, length, slice_get};
+ghost use Rattle.std.specs.Prelude.{◌≡◌, false, length};
 ghost use Rattle.bsc_connections.specs.declared.awaited.Pace.TheVariants.{AtOnce};
 ghost use Rattle.bsc_connections.specs.Notes.{told_by};
 ghost use Rattle.bsc_monitor.specs.Absences.{is_retry, new_absences};
 ghost use Rattle.bsc_monitor.specs.Answering.{new_answering};
-ghost use Rattle.bsc_monitor.specs.Progress.{pace_after, pace_with, progress_of};
+ghost use Rattle.bsc_monitor.specs.Progress.{counts_in, pace_after, pace_with, progress_of};
 ghost use Rattle.bsc_monitor.specs.Telling.{calls_in};
 ghost use Rattle.bsc_monitor.specs.Trusting.{called_by, trusting_of};
 
@@ -14,7 +14,7 @@ use crate::answering::Answering;
 use crate::ended::LastWatch;
 use crate::progress::Progress;
 use crate::trusting::{Trusting, called_by};
-use crate::watch::Watch;
+use crate::watch::{Watch, live};
 use crate::{AbsenceLimits, Limits, Presence, Presences};
 use bsc_connections::{LiveError, Monitor, Note, Pace};
 use bsc_control::{Control, Task};
@@ -26,14 +26,14 @@ use bsc_trust::Trust;
 use std::alloc::Allocator;
 use std::io::Write;
 
-/// Prints what happens to a control station, admits the answers that are due, and ends the run
+/// Traces what happens to a control station, admits the answers that are due, and ends the run
 /// after enough rounds of the poll list. If no other peer can connect, the run also ends when a
 /// connection is closed. If the station is asked to end, the run ends with the visit to the entry
 /// that is polled, or at a silence; if it is asked again, at once.
 #[derive(Drop)]
-pub struct ControlWatch<'a, A: Allocator, T: Drop, W, D> {
-    /// Prints the records and the trace.
-    watch: Watch<'a, A, T, W, D>,
+pub struct ControlWatch<'a, A: Allocator, T: Drop, D> {
+    /// Prints the trace.
+    watch: Watch<'a, A, T, D>,
 
     /// Counts visits and rounds.
     progress: Progress,
@@ -51,26 +51,21 @@ pub struct ControlWatch<'a, A: Allocator, T: Drop, W, D> {
     absences: Absences,
 }
 
-impl<'a, A: Allocator + Copy, T: Timer + Meter + Drop, W: Write, D: Write> ControlWatch<
-    'a,
-    A,
-    T,
-    W,
-    D,
-> {
+impl<'a, A: Allocator + Copy, T: Timer + Meter + Drop, D: Write> ControlWatch<'a, A, T, D> {
     /// Returns the monitor of a control station that has sent nothing. `listens` tells whether
     /// other peers may connect later. `trust` is what is known of the premises. `absence` says when
     /// a terminal is absent.
     pub fn new<B: Allocator>(
         control: &Control<B>,
-        watch: Watch<'a, A, T, W, D>,
+        watch: Watch<'a, A, T, D>,
         limits: Limits,
         absence: AbsenceLimits,
         listens: bool,
         trust: Trust,
-    ) -> ControlWatch<'a, A, T, W, D>
+    ) -> ControlWatch<'a, A, T, D>
         ensures watch { result.watch ≡ watch.entry }
-        ensures progress { result.progress ≡ progress_of limits listens }
+        ensures progress { result.progress
+            ≡ progress_of limits listens (counts_in control.now).arrived }
         ensures trusting { result.trusting ≡ trusting_of trust (called_by control.now) }
         ensures answering { result.answering ≡ new_answering }
         ensures absences { result.absences ≡ new_absences absence (length control.now.peers) }
@@ -78,7 +73,7 @@ impl<'a, A: Allocator + Copy, T: Timer + Meter + Drop, W: Write, D: Write> Contr
     {
         ControlWatch {
             watch,
-            progress: Progress::new(limits, listens),
+            progress: Progress::new(control, limits, listens),
             trusting: Trusting::new(control, trust),
             pace: Pace::AtOnce,
             answering: Answering::new(),
@@ -100,14 +95,6 @@ impl<'a, A: Allocator + Copy, T: Timer + Meter + Drop, W: Write, D: Write> Contr
         self.trusting.trust()
     }
 
-    /// Returns how many records of the channel with this number were printed, among those on which
-    /// the station receives; `None` if there is no such channel.
-    pub fn printed(&self, number: usize) -> Option<usize>
-        ensures { result ≡ slice_get self.now.watch.printed.items number }
-    {
-        self.watch.printed(number)
-    }
-
     /// Returns how the wait after an event begins that the progress has not counted yet.
     fn pace_after<B: Allocator>(&self, control: &Control<B>, note: &Note<'_>) -> Pace
         ensures { result ≡ pace_with (is_retry self.now.absences (called_by control.now))
@@ -120,7 +107,7 @@ impl<'a, A: Allocator + Copy, T: Timer + Meter + Drop, W: Write, D: Write> Contr
     }
 
     /// Returns the monitor that remains until the last call is answered.
-    pub fn into_last(self) -> LastWatch<'a, A, T, W, D>
+    pub fn into_last(self) -> LastWatch<'a, A, T, D>
         ensures watch { result.watch ≡ self.entry.watch }
         ensures trusting { result.trusting ≡ self.entry.trusting }
         ensures stopped { result.stopped ≡ self.entry.progress.stopped }
@@ -141,19 +128,17 @@ impl<'a, A: Allocator + Copy, T: Timer + Meter + Drop, W: Write, D: Write> Contr
     }
 }
 
-impl<'a, A: Allocator + Copy, T: Timer + Meter + Drop, W: Write, D: Write, B: Allocator> Monitor<
-    Control<B>,
-> for ControlWatch<'a, A, T, W, D> {
+impl<'a, A: Allocator + Copy, T: Timer + Meter + Drop, D: Write, B: Allocator> Monitor<Control<B>>
+    for ControlWatch<'a, A, T, D> {
     ghost use Rattle.std.specs.Prelude.{◌≡◌, IfErr, OnOk};
     ghost use Rattle.bsc_monitor.specs.Answering.{answering_after};
     ghost use Rattle.bsc_monitor.specs.Absences.{is_retry};
     ghost use Rattle.bsc_monitor.specs.Progress.{pace_after, pace_with, visited_in};
-    ghost use Rattle.bsc_monitor.specs.Refusing.{Refuses};
-    ghost use Rattle.bsc_monitor.specs.Telling.{ControlShows, calls_in, trace_of};
-    ghost use Rattle.bsc_text.specs.declared.trace.Who.TheVariants.{Control};
+    ghost use Rattle.bsc_monitor.specs.Refusing.{IsTraceFault};
+    ghost use Rattle.bsc_monitor.specs.Telling.{ControlShows, trace_of};
     ghost use Rattle.bsc_monitor.specs.Trusting.{called_by, is_admitted};
     ghost use Rattle.bsc_trust.specs.Trust.{may_answer};
-    ghost use Rattle.bsc_monitor.specs.Watching.{Counts, Sees, output_of};
+    ghost use Rattle.bsc_monitor.specs.Watching.{Counts};
 
     ghost has_ended = { λ w. w.progress.ended };
 
@@ -166,11 +151,7 @@ impl<'a, A: Allocator + Copy, T: Timer + Meter + Drop, W: Write, D: Write, B: Al
     ghost paces = { λ w. w.pace };
 
     ghost is_told = { λ old station happening result new.
-        Sees ⟦<Control<B> as Party>⟧ station happening result
-        (output_of W.contents old.watch) (output_of W.contents new.watch)
-        × Counts result ⟦<Control<B> as Party>⟧ station happening
-        (record { output = output_of W.contents old.watch; progress = old.progress })
-        (record { output = output_of W.contents new.watch; progress = new.progress })
+        Counts result station happening old.progress new.progress
         × (OnOk result (new.pace ≡ pace_with (is_retry new.absences (called_by station))
         (pace_after old.progress station happening)))
         × (OnOk result (ControlShows station happening
@@ -178,10 +159,7 @@ impl<'a, A: Allocator + Copy, T: Timer + Meter + Drop, W: Write, D: Write, B: Al
         old.trusting new.trusting
         (trace_of D.contents old.watch) (trace_of D.contents new.watch)))
         × (OnOk result (new.answering ≡ answering_after old.answering station happening))
-        × (IfErr result (λ error. Refuses ⟦<Control<B> as Party>⟧ station (calls_in station.task)
-        Control error happening
-        (output_of W.contents old.watch) (output_of W.contents new.watch)
-        (trace_of D.contents old.watch) (trace_of D.contents new.watch))) };
+        × (IfErr result IsTraceFault) };
 
     fn admits(&self, station: &Control<B>, connection: usize, octets: &[u8]) -> bool {
         self.trusting
@@ -198,7 +176,7 @@ impl<'a, A: Allocator + Copy, T: Timer + Meter + Drop, W: Write, D: Write, B: Al
             me: Who::Control,
             calls: calls_of(station),
         };
-        let found = self.watch.see(station, seen, &note)?;
+        live(self.watch.tell(seen, &note))?;
         let owner = self.trusting.owner(&note);
         let distrust = self.trusting.note(&note, seen.time);
         let moved = self.trusting.moved(&note, owner);
@@ -218,7 +196,7 @@ impl<'a, A: Allocator + Copy, T: Timer + Meter + Drop, W: Write, D: Write, B: Al
         };
         self.watch.tell_terminals(told)?;
         self.pace = self.pace_after(station, &note);
-        let goes_on = self.progress.note(station, &note, found);
+        let goes_on = self.progress.note(station, &note);
         self.watch
             .show_progress(station, Some(self.progress.rounds()));
         Ok(goes_on)
@@ -229,8 +207,8 @@ impl<'a, A: Allocator + Copy, T: Timer + Meter + Drop, W: Write, D: Write, B: Al
     }
 }
 
-impl<'a, A: Allocator + Copy, T: Timer + Meter + Drop, W: Write, D: Write> Presences
-    for ControlWatch<'a, A, T, W, D> {
+impl<'a, A: Allocator + Copy, T: Timer + Meter + Drop, D: Write> Presences
+    for ControlWatch<'a, A, T, D> {
     ghost use Rattle.bsc_monitor.specs.Absences.{presence_at, requested, wants};
 
     ghost wants = { λ w terminal. wants w.absences terminal };

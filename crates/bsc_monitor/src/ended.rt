@@ -96,9 +96,9 @@ impl Station for Ended {
 /// Prints what is heard, and ends with what the station does not refuse, with a time-out, with the
 /// close of a connection, or if it is asked to end a second time.
 #[derive(Drop)]
-pub struct LastWatch<'a, A: Allocator, T: Drop, W, D> {
-    /// Prints the records and the trace.
-    pub(crate) watch: Watch<'a, A, T, W, D>,
+pub struct LastWatch<'a, A: Allocator, T: Drop, D> {
+    /// Prints the trace.
+    pub(crate) watch: Watch<'a, A, T, D>,
 
     /// What is known of the premises, and which terminal was called last.
     pub(crate) trusting: Trusting,
@@ -110,13 +110,7 @@ pub struct LastWatch<'a, A: Allocator, T: Drop, W, D> {
     pub(crate) ended: bool,
 }
 
-impl<'a, A: Allocator + Copy, T: Timer + Meter + Drop, W: Write, D: Write> LastWatch<
-    'a,
-    A,
-    T,
-    W,
-    D,
-> {
+impl<'a, A: Allocator + Copy, T: Timer + Meter + Drop, D: Write> LastWatch<'a, A, T, D> {
     /// Returns what is known of the premises.
     pub fn trust(&self) -> Trust
         ensures { result ≡ self.now.trusting.trust }
@@ -125,15 +119,15 @@ impl<'a, A: Allocator + Copy, T: Timer + Meter + Drop, W: Write, D: Write> LastW
     }
 }
 
-impl<'a, A: Allocator + Copy, T: Timer + Meter + Drop, W: Write, D: Write> Monitor<Ended>
-    for LastWatch<'a, A, T, W, D> {
+impl<'a, A: Allocator + Copy, T: Timer + Meter + Drop, D: Write> Monitor<Ended>
+    for LastWatch<'a, A, T, D> {
     ghost use Rattle.std.specs.Prelude.{◌≡◌, IfErr, OnOk};
     ghost use Rattle.bsc_monitor.specs.Refusing.{IsTraceFault};
     ghost use Rattle.bsc_connections.specs.declared.awaited.Pace.TheVariants.{AtOnce};
     ghost use Rattle.bsc_monitor.specs.Telling.{LastShows, trace_of};
     ghost use Rattle.bsc_monitor.specs.Trusting.{is_admitted};
     ghost use Rattle.bsc_trust.specs.Trust.{may_answer};
-    ghost use Rattle.bsc_monitor.specs.Watching.{last_of, last_told, output_of};
+    ghost use Rattle.bsc_monitor.specs.Watching.{last_of, last_told};
 
     ghost has_ended = { λ w. w.ended };
 
@@ -145,8 +139,7 @@ impl<'a, A: Allocator + Copy, T: Timer + Meter + Drop, W: Write, D: Write> Monit
     ghost paces = { λ _. AtOnce };
 
     ghost is_told = { λ old station happening result new.
-        (output_of W.contents new.watch ≡ output_of W.contents old.watch)
-        × (last_of new.ended new.stopped
+        (last_of new.ended new.stopped
         ≡ last_told result (last_of old.ended old.stopped) station.refuses happening)
         × (OnOk result (LastShows happening old.trusting new.trusting
         (trace_of D.contents old.watch) (trace_of D.contents new.watch)))
@@ -177,7 +170,7 @@ impl<'a, A: Allocator + Copy, T: Timer + Meter + Drop, W: Write, D: Write> Monit
                 self.stopped = true;
             }
             Note::Ignored { .. } | Note::Sent { .. } | Note::Withheld { .. } => {}
-            Note::Joined { .. } | Note::Refused { .. } | Note::Client => {}
+            Note::Joined { .. } | Note::Refused { .. } => {}
         }
         Ok(!self.ended)
     }

@@ -31,4 +31,4 @@ pub use polls::{Polls, is_settled, settle};
 pub use presences::Presences;
 pub use rounds::Limits;
 pub use terminal_watch::TerminalWatch;
-pub use watch::{Printing, Watch};
+pub use watch::Watch;

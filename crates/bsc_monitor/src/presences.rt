@@ -35,8 +35,8 @@ pub trait Presences {
         ensures { obeys self.old terminal polled self.new };
 }
 
-impl<'a, A: Allocator + Copy, T: Timer + Meter + Drop, W: Write, D: Write> Presences
-    for TerminalWatch<'a, A, T, W, D> {
+impl<'a, A: Allocator + Copy, T: Timer + Meter + Drop, D: Write> Presences
+    for TerminalWatch<'a, A, T, D> {
     ghost use Rattle.std.specs.Prelude.{◌≡◌, None, true};
 
     ghost wants = { λ _ _. true };

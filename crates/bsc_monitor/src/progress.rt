@@ -3,15 +3,16 @@
 ghost use Rattle.std.specs.Prelude.{◌≡◌, ◌&&◌, ◌||◌, length, not, slice_get, true};
 ghost use Rattle.bsc_connections.specs.Notes.{told_by};
 ghost use Rattle.bsc_monitor.specs.Progress.{after_event, after_sent, ends_when_sent, ends_with};
-ghost use Rattle.bsc_monitor.specs.Progress.{begins_after_pause, is_last_visit, known_in};
+ghost use Rattle.bsc_monitor.specs.Progress.{begins_after_pause, counts_in, is_last_visit};
 ghost use Rattle.bsc_monitor.specs.Progress.{pace_after, pace_of, polled_entries};
-ghost use Rattle.bsc_monitor.specs.Progress.{progress_after, progress_of, visited_in, with_found};
+ghost use Rattle.bsc_monitor.specs.Progress.{progress_after, progress_of, visited_in};
 
 use crate::rounds::{Limits, Rounds};
 use crate::visits::Visits;
 use bsc_connections::{Note, Pace};
 use bsc_control::Control;
 use bsc_station::{station_counts, station_standing};
+use bsc_text::progress::Counts;
 use std::alloc::Allocator;
 
 /// The visits and rounds that a control station has made, and whether it has ended.
@@ -42,13 +43,13 @@ pub(crate) struct Progress {
 impl Progress {
     /// Returns the progress of a control station that has sent nothing. `listens` tells whether
     /// other peers may connect later.
-    pub fn new(limits: Limits, listens: bool) -> Progress
-        ensures { result ≡ progress_of limits listens }
+    pub fn new<B: Allocator>(control: &Control<B>, limits: Limits, listens: bool) -> Progress
+        ensures { result ≡ progress_of limits listens (counts_in control.now).arrived }
     {
         Progress {
             limits,
             visits: Visits::new(),
-            rounds: Rounds::new(limits.counts_at_once),
+            rounds: Rounds::new(limits.counts_at_once, counts_in(control).arrived),
             listens,
             closed: false,
             stopped: false,
@@ -86,9 +87,8 @@ impl Progress {
         match visits.sent(control) {
             Some(entry) => {
                 let more = station_standing(control).waiting;
-                let known = known_in(control);
                 self.rounds
-                    .pauses_after(is_last_visit(control, entry), more, known)
+                    .pauses_after(is_last_visit(control, entry), more, counts_in(control))
             }
             None => false,
         }
@@ -142,26 +142,15 @@ impl Progress {
         }
     }
 
-    /// Counts an event; `found` tells whether records arrived with it. Returns `false` if the
-    /// control station has ended.
-    pub fn note<B: Allocator>(&mut self, control: &Control<B>, note: &Note<'_>, found: bool) -> bool
-        ensures counts { self.new ≡ progress_after self.old found control.now (told_by note.now) }
+    /// Counts an event. Returns `false` if the control station has ended.
+    pub fn note<B: Allocator>(&mut self, control: &Control<B>, note: &Note<'_>) -> bool
+        ensures counts { self.new ≡ progress_after self.old control.now (told_by note.now) }
         ensures answer { result ≡ not self.new.ended }
         ensures kept { self.old.ended ≡ true → self.new.ended ≡ true }
     {
-        self.find(found);
         let ends = self.count(control, note);
         self.ended = self.ended || ends;
         !self.ended
-    }
-
-    /// Takes note of whether records arrived.
-    fn find(&mut self, found: bool)
-        ensures { self.new ≡ with_found self.old found }
-    {
-        if found {
-            self.rounds.found();
-        }
     }
 
     /// Counts an event. Returns `true` if the control station ends with it.
@@ -194,7 +183,7 @@ impl Progress {
                 self.rounds.meet();
                 false
             }
-            Note::Withheld { .. } | Note::Refused { .. } | Note::Client => false,
+            Note::Withheld { .. } | Note::Refused { .. } => false,
         }
     }
 
@@ -208,9 +197,8 @@ impl Progress {
             return false;
         };
         let more = station_standing(control).waiting;
-        let known = known_in(control);
         self.rounds
-            .visited(is_last_visit(control, entry), more, known);
+            .visited(is_last_visit(control, entry), more, counts_in(control));
         self.stopped || self.rounds.are_enough(self.limits)
     }
 }
@@ -246,9 +234,9 @@ fn polled_entries<B: Allocator>(control: &Control<B>) -> usize
     count
 }
 
-/// Returns how many records are known to have arrived at the terminals.
-fn known_in<B: Allocator>(control: &Control<B>) -> u64
-    ensures { result ≡ known_in control.now }
+/// Returns how many records are known to have arrived at the terminals, and have arrived from them.
+fn counts_in<B: Allocator>(control: &Control<B>) -> Counts
+    ensures { result ≡ counts_in control.now }
 {
-    station_counts(control, 0).known
+    station_counts(control, 0)
 }

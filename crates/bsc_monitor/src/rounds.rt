@@ -1,7 +1,9 @@
 //! The rounds of a poll list, after which of them a control station pauses, and when it ends.
 
-ghost use Rattle.std.specs.Prelude.{◌≡◌, true, false};
+ghost use Rattle.std.specs.Prelude.{◌≡◌, true};
 ghost use Rattle.bsc_monitor.specs.Rounds.{rounds_of, after_visit, are_enough, pauses_after};
+
+use bsc_text::progress::Counts;
 
 /// The limits at which a control station ends.
 #[derive(Clone, Copy)]
@@ -24,8 +26,6 @@ pub struct Limits {
 /// became known, for example since each terminal for which records wait refuses them.
 #[derive(Clone, Copy)]
 pub(crate) struct Rounds {
-    /// Whether a record arrived in this round.
-    found: bool,
     /// Whether a terminal has come since the beginning.
     met: bool,
     /// The number of completed rounds that are counted.
@@ -34,20 +34,22 @@ pub(crate) struct Rounds {
     idle: u64,
     /// The number of records that were known to have arrived at the end of the last completed one.
     known: u64,
+    /// The number of records that had arrived at the control station by then.
+    arrived: u64,
 }
 
 impl Rounds {
     /// Returns the rounds of a poll list, no entry of which has been visited. `met` tells whether a
-    /// terminal has come.
-    pub fn new(met: bool) -> Rounds
-        ensures { result ≡ rounds_of false met 0 0 0 }
+    /// terminal has come, and `arrived` how many records have arrived before.
+    pub fn new(met: bool, arrived: u64) -> Rounds
+        ensures { result ≡ rounds_of met 0 0 0 arrived }
     {
         Rounds {
-            found: false,
             met,
             rounds: 0,
             idle: 0,
             known: 0,
+            arrived,
         }
     }
 
@@ -58,13 +60,6 @@ impl Rounds {
         self.rounds
     }
 
-    /// Records that a record arrived in this round.
-    pub fn found(&mut self)
-        ensures { self.new ≡ record self.old { found = true } }
-    {
-        self.found = true;
-    }
-
     /// Records that a terminal has come.
     pub fn meet(&mut self)
         ensures { self.new ≡ record self.old { met = true } }
@@ -73,30 +68,30 @@ impl Rounds {
     }
 
     /// Counts the end of the visit to an entry; `is_last` tells whether the round is complete with
-    /// it, `more` whether something waits to be sent, and `known` how many records are known to
-    /// have arrived. The counts saturate at 2^64 - 1.
-    pub fn visited(&mut self, is_last: bool, more: bool, known: u64)
-        ensures { self.new ≡ after_visit self.old is_last more known }
+    /// it, `more` whether something waits to be sent, and `counts` how many records are known to
+    /// have arrived, and have arrived. The counts of rounds saturate at 2^64 - 1.
+    pub fn visited(&mut self, is_last: bool, more: bool, counts: Counts)
+        ensures { self.new ≡ after_visit self.old is_last more counts }
     {
         if !is_last {
             return;
         }
         if self.met {
-            let idle = !self.found && !more;
+            let idle = counts.arrived == self.arrived && !more;
             self.rounds = self.rounds.saturating_add(1);
             self.idle = if idle { self.idle.saturating_add(1) } else { 0 };
         }
-        self.found = false;
-        self.known = known;
+        self.known = counts.known;
+        self.arrived = counts.arrived;
     }
 
     /// Whether the end of the visit to an entry ends a round in which nothing got through; the
     /// parameters are those of `visited`.
-    pub fn pauses_after(&self, is_last: bool, more: bool, known: u64) -> bool
-        ensures { result ≡ pauses_after self.now is_last more known }
+    pub fn pauses_after(&self, is_last: bool, more: bool, counts: Counts) -> bool
+        ensures { result ≡ pauses_after self.now is_last more counts }
     {
-        let goes_on = more && known != self.known;
-        is_last && !self.found && !goes_on
+        let goes_on = more && counts.known != self.known;
+        is_last && counts.arrived == self.arrived && !goes_on
     }
 
     /// Whether a control station with these limits ends.

@@ -1,8 +1,8 @@
 //! The monitor of a terminal.
 
-ghost use Rattle.std.specs.Prelude.{◌≡◌, None, false, slice_get};
+ghost use Rattle.std.specs.Prelude.{◌≡◌, None, false};
 
-use crate::watch::Watch;
+use crate::watch::{Watch, live};
 use bsc_carrier::CarrierError;
 use bsc_connections::{LiveError, Monitor, Note, Pace};
 use bsc_report::{Calls, Seen};
@@ -12,13 +12,13 @@ use bsc_text::progress::{Meter, Timer};
 use std::alloc::Allocator;
 use std::io::Write;
 
-/// Prints what happens to a terminal, and ends the run when its connection is closed. If the
+/// Traces what happens to a terminal, and ends the run when its connection is closed. If the
 /// terminal is asked to end, the run ends once it is in control mode; if it is asked again, at
 /// once.
 #[derive(Drop)]
-pub struct TerminalWatch<'a, A: Allocator, T: Drop, W, D> {
-    /// Prints the records and the trace.
-    watch: Watch<'a, A, T, W, D>,
+pub struct TerminalWatch<'a, A: Allocator, T: Drop, D> {
+    /// Prints the trace.
+    watch: Watch<'a, A, T, D>,
 
     /// The fault that closed the connection, if it was a fault.
     closed: Option<CarrierError>,
@@ -30,15 +30,9 @@ pub struct TerminalWatch<'a, A: Allocator, T: Drop, W, D> {
     ended: bool,
 }
 
-impl<'a, A: Allocator + Copy, T: Timer + Meter + Drop, W: Write, D: Write> TerminalWatch<
-    'a,
-    A,
-    T,
-    W,
-    D,
-> {
-    /// Returns the monitor of a terminal at which nothing has arrived.
-    pub fn new(watch: Watch<'a, A, T, W, D>) -> TerminalWatch<'a, A, T, W, D>
+impl<'a, A: Allocator + Copy, T: Timer + Meter + Drop, D: Write> TerminalWatch<'a, A, T, D> {
+    /// Returns the monitor of a terminal to which nothing has happened.
+    pub fn new(watch: Watch<'a, A, T, D>) -> TerminalWatch<'a, A, T, D>
         ensures watch { result.watch ≡ watch.entry }
         ensures closed { result.closed ≡ None }
         ensures stopped { result.stopped ≡ false }
@@ -59,26 +53,16 @@ impl<'a, A: Allocator + Copy, T: Timer + Meter + Drop, W: Write, D: Write> Termi
     {
         self.closed
     }
-
-    /// Returns how many records of the channel with this number were printed, among those on which
-    /// the station receives; `None` if there is no such channel.
-    pub fn printed(&self, number: usize) -> Option<usize>
-        ensures { result ≡ slice_get self.now.watch.printed.items number }
-    {
-        self.watch.printed(number)
-    }
 }
 
-impl<'a, A: Allocator + Copy, T: Timer + Meter + Drop, W: Write, D: Write, B: Allocator> Monitor<
+impl<'a, A: Allocator + Copy, T: Timer + Meter + Drop, D: Write, B: Allocator> Monitor<
     LineTerminal<B>,
-> for TerminalWatch<'a, A, T, W, D> {
+> for TerminalWatch<'a, A, T, D> {
     ghost use Rattle.std.specs.Prelude.{◌≡◌, IfErr, OnOk, true};
     ghost use Rattle.bsc_connections.specs.declared.awaited.Pace.TheVariants.{AtOnce};
-    ghost use Rattle.bsc_monitor.specs.Refusing.{Refuses};
+    ghost use Rattle.bsc_monitor.specs.Refusing.{IsTraceFault};
     ghost use Rattle.bsc_monitor.specs.Telling.{TerminalShows, trace_of};
-    ghost use Rattle.bsc_report.specs.declared.held.Calls.TheVariants.{Heard};
-    ghost use Rattle.bsc_text.specs.declared.trace.Who.TheVariants.{Terminal};
-    ghost use Rattle.bsc_monitor.specs.Watching.{Sees, closing_of, closing_told, output_of};
+    ghost use Rattle.bsc_monitor.specs.Watching.{closing_of, closing_told};
 
     ghost has_ended = { λ w. w.ended };
 
@@ -89,17 +73,12 @@ impl<'a, A: Allocator + Copy, T: Timer + Meter + Drop, W: Write, D: Write, B: Al
     ghost paces = { λ _. AtOnce };
 
     ghost is_told = { λ old station happening result new.
-        Sees ⟦<LineTerminal<B> as Party>⟧ station happening result
-        (output_of W.contents old.watch) (output_of W.contents new.watch)
-        × (closing_told result (closing_of old.ended old.closed old.stopped)
+        (closing_told result (closing_of old.ended old.closed old.stopped)
         station.tributary.mode happening
         ≡ closing_of new.ended new.closed new.stopped)
         × (OnOk result (TerminalShows station.number happening
         (trace_of D.contents old.watch) (trace_of D.contents new.watch)))
-        × (IfErr result (λ error. Refuses ⟦<LineTerminal<B> as Party>⟧ station Heard
-        (Terminal station.number) error happening
-        (output_of W.contents old.watch) (output_of W.contents new.watch)
-        (trace_of D.contents old.watch) (trace_of D.contents new.watch))) };
+        × (IfErr result IsTraceFault) };
 
     fn admits(&self, _station: &LineTerminal<B>, _connection: usize, _octets: &[u8]) -> bool {
         true
@@ -115,7 +94,7 @@ impl<'a, A: Allocator + Copy, T: Timer + Meter + Drop, W: Write, D: Write, B: Al
             me: Who::Terminal(station.line_number()),
             calls: Calls::Heard,
         };
-        self.watch.see(station, seen, &note)?;
+        live(self.watch.tell(seen, &note))?;
         self.watch.show_progress(station, None);
         let in_control_mode = station.in_control_mode();
         match note {

@@ -117,7 +117,7 @@ impl Trusting {
                 self.trust.silence();
                 None
             }
-            Note::Refused { .. } | Note::Stopped | Note::Client => None,
+            Note::Refused { .. } | Note::Stopped => None,
         }
     }
 
@@ -184,7 +184,7 @@ fn place_in(note: &Note<'_>) -> Option<usize>
         Note::Joined { connection, .. } => Some(*connection),
         Note::Closed { connection, .. } => Some(*connection),
         Note::Ignored { .. } | Note::Silence | Note::Sent { .. } | Note::Withheld { .. } => None,
-        Note::Refused { .. } | Note::Stopped | Note::Client => None,
+        Note::Refused { .. } | Note::Stopped => None,
     }
 }
 

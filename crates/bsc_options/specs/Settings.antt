@@ -8,7 +8,7 @@ use Rattle.bsc_text.specs.declared.form.Form.{Form}
 use Rattle.bsc_text.specs.declared.form.Form.TheVariants.{Hexadecimal, Text, Bytes}
 use Rattle.bsc_monitor.specs.declared.attendance.AbsenceLimits.{AbsenceLimits}
 use Rattle.bsc_monitor.specs.declared.rounds.Limits.{Limits}
-use Rattle.bsc_monitor.specs.declared.watch.Printing.{Printing}
+use Rattle.bsc_report.specs.declared.printing.Printing.{Printing}
 use Rattle.bsc_report.specs.declared.tracing.Tracing.{Tracing}
 use Rattle.bsc_report.specs.declared.tracing.Tracing.TheVariants.{Off, Exchanges, All}
 use Rattle.bsc_options.specs.declared.error.OptionError.{OptionError}

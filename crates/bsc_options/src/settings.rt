@@ -13,8 +13,8 @@ use crate::checks::{check_together, is_given, unless};
 use crate::numbers::{number_within, octet_in};
 use crate::serves::serves_of;
 use crate::{OptionError, Serves, StationWords};
-use bsc_monitor::{AbsenceLimits, Limits, Printing};
-use bsc_report::{RecordLines, Tracing};
+use bsc_monitor::{AbsenceLimits, Limits};
+use bsc_report::{Printing, RecordLines, Tracing};
 use bsc_text::Form;
 
 /// The gap in milliseconds, unless given.

@@ -7,7 +7,7 @@ use Rattle.std.specs.Net.Text.{socket_text}
 use Rattle.std.specs.declared.net.socket_addr.SocketAddr.{SocketAddr}
 use Rattle.bsc_connections.specs.Histories.{Happening, WasHeard, WasIgnored, WasSilent, WasSent}
 use Rattle.bsc_connections.specs.Histories.{WasStopped, WasWithheld, HasJoined, HasClosed}
-use Rattle.bsc_connections.specs.Histories.{WasRefused, HadClient}
+use Rattle.bsc_connections.specs.Histories.{WasRefused}
 use Rattle.bsc_connections.specs.declared.monitor.Refusal.{Refusal}
 use Rattle.bsc_connections.specs.declared.monitor.Refusal.TheVariants as refusal
 use Rattle.bsc_carrier.specs.declared.error.CarrierError.{CarrierError}
@@ -121,7 +121,6 @@ IsTraced (WasWithheld octets) time me old new =
     Appends old new (transmission_line time me fate.Withheld None (heard octets) octets)
 IsTraced WasSilent time me old new = Appends old new (silence_line time)
 IsTraced WasStopped time me old new = Appends old new (stopped_line time)
-IsTraced HadClient time me old new = new ≡ old
 IsTraced (HasJoined place peer replaces) time me old new =
     Appends old new (time_shown time ++ joined_line place peer replaces)
 IsTraced (WasRefused peer why) time me old new =

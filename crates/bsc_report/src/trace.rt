@@ -87,7 +87,6 @@ pub fn write_note<A: Allocator, W: Write>(
         }
         Note::Silence => write_silence(time, out),
         Note::Stopped => write_stopped(time, out),
-        Note::Client => Ok(()),
         Note::Joined {
             connection,
             peer,
@@ -177,7 +176,7 @@ pub fn write_change<W: Write>(note: &Note<'_>, out: &mut W) -> Result<(), PrintE
             why,
         } => write_closed(*connection, *peer, *why, out),
         Note::Heard { .. } | Note::Ignored { .. } | Note::Sent { .. } => Ok(()),
-        Note::Silence | Note::Stopped | Note::Client => Ok(()),
+        Note::Silence | Note::Stopped => Ok(()),
     }
 }
 

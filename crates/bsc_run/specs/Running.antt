@@ -25,8 +25,8 @@ use Rattle.bsc_run.specs.declared.error.RunError.TheVariants.{Refused}
 use Rattle.bsc_run.specs.declared.running.RunWords.{RunWords}
 use Rattle.bsc_run.specs.declared.running_error.RunningError.{RunningError}
 use Rattle.bsc_run.specs.declared.running_error.RunningError.TheVariants.{BothStandardInput, Text}
-use Rattle.bsc_run.specs.declared.running_error.RunningError.TheVariants.{Config, Script, Sockets, Run}
-use Rattle.bsc_run.specs.declared.running_error.RunningError.TheVariants.{Memory}
+use Rattle.bsc_run.specs.declared.running_error.RunningError.TheVariants.{Config, Script, Sockets}
+use Rattle.bsc_run.specs.declared.running_error.RunningError.TheVariants.{Run, Memory}
 
 -- The paths of a configuration and of a script, and what is left of standard input.
 pub record TextPaths : Type 0 where

@@ -1,4 +1,4 @@
--- What a station does for programs whose records are kept.
+-- What a station does for programs, and what keeps its records.
 use Rattle.std.specs.Prelude.{◌≡◌, ℕ, Bool, List, Option, None, Some, Result, Ok, Err, OnErr}
 use Rattle.std.specs.Prelude.{slice_get}
 use Rattle.bsc_connections.specs.declared.awaited.LiveError.{LiveError}
@@ -10,18 +10,19 @@ use Rattle.bsc_spool.specs.declared.fault.StoreFault.{StoreFault}
 use Rattle.bsc_monitor.specs.declared.attendance.Presence.{Presence}
 use Rattle.bsc_serving.specs.declared.fed.Fed.{Fed}
 
-module _ {S Q : Type 0} (offered : S → ℕ → Way → List (List ℕ))
+module _ {S Q V : Type 0} (offered : S → ℕ → Way → List (List ℕ))
     (has_kept : Q → ℕ → Way → List ℕ → Type 0) where
   -- The record with this number on a channel was kept.
-  pub record HasKeptNumber (fed : Fed S Q) (t : ℕ) (way : Way) (number : ℕ) : Type 0 where
+  pub record HasKeptNumber (fed : Fed S Q V) (t : ℕ) (way : Way) (number : ℕ) : Type 0 where
     pub chars : List ℕ
     pub at : slice_get (offered fed.station.now t way) number ≡ Some chars
     pub kept : has_kept fed.keeps.now t way chars
 
--- The station, what keeps its records, and whether it is to end are the same.
-pub record IsSameFed {S Q : Type 0} (old new : Fed S Q) : Type 0 where
+-- The station, what keeps its records, what watches it, and whether it is to end are the same.
+pub record IsSameFed {S Q V : Type 0} (old new : Fed S Q V) : Type 0 where
   pub station : new.station.ghost_name ≡ old.station.ghost_name
   pub keeps : new.keeps.ghost_name ≡ old.keeps.ghost_name
+  pub watch : new.watch ≡ old.watch
   pub stopped : new.stopped ≡ old.stopped
 
 -- Why a station has to end that has this answer to an offer, once the record is kept.
@@ -29,11 +30,11 @@ abbrev pub failure_after : Result ℕ Fault → Option LiveError → Option Live
 failure_after (Ok number) before = before
 failure_after (Err fault) before = Some Memory
 
-module _ {S Q : Type 0} (offers : S → ℕ → Way → List ℕ → Result ℕ Fault → S → Type 0)
+module _ {S Q V : Type 0} (offers : S → ℕ → Way → List ℕ → Result ℕ Fault → S → Type 0)
     (keeps_offer : Q → ℕ → Way → List ℕ → Result (List ℕ) StoreFault → Q → Type 0) where
   -- The station offers a record if it was kept; else it offers nothing, and has to end.
-  abbrev pub OffersIfKept : Result (List ℕ) StoreFault → Fed S Q → ℕ → Way → List ℕ
-      → Result ℕ Fault → Fed S Q → Type 0
+  abbrev pub OffersIfKept : Result (List ℕ) StoreFault → Fed S Q V → ℕ → Way → List ℕ
+      → Result ℕ Fault → Fed S Q V → Type 0
   OffersIfKept (Ok given) old t way chars result new =
       (given ≡ chars) × offers old.station.now t way chars result new.station.now
       × OnErr result (new.station.now ≡ old.station.now)
@@ -43,76 +44,77 @@ module _ {S Q : Type 0} (offers : S → ℕ → Way → List ℕ → Result ℕ 
       × (new.failure ≡ Some Unkept)
 
   -- A record is kept, and then the station offers it.
-  pub record KeepsAndOffers (old : Fed S Q) (t : ℕ) (way : Way) (chars : List ℕ)
-      (result : Result ℕ Fault) (new : Fed S Q) : Type 0 where
+  pub record KeepsAndOffers (old : Fed S Q V) (t : ℕ) (way : Way) (chars : List ℕ)
+      (result : Result ℕ Fault) (new : Fed S Q V) : Type 0 where
     pub given : Result (List ℕ) StoreFault
     pub keeps : keeps_offer old.keeps.now t way chars given new.keeps.now
     pub done : OffersIfKept given old t way chars result new
     pub same : IsSameFed old new
 
-module _ {S Q : Type 0}
-    (keeps_changes : Q → S → Result (Unit {0}) StoreFault → Q → Type 0) where
-  -- What is answered to a release that the station did, and why the station has to end, by whether
-  -- the release is kept.
-  abbrev pub AnswersKept : Result (Unit {0}) StoreFault → Option LiveError
-      → Result (Unit {0}) Fault → Option LiveError → Type 0
-  AnswersKept (Ok done) before result after = (result ≡ Ok tt) × (after ≡ before)
-  AnswersKept (Err fault) before result after =
-      (result ≡ Err NotKept) × (after ≡ Some Unkept)
+-- What is answered to a release that the station did, and why the station has to end, by whether the
+-- release is kept.
+abbrev pub AnswersKept : Result (Unit {0}) LiveError → Option LiveError
+    → Result (Unit {0}) Fault → Option LiveError → Type 0
+AnswersKept (Ok done) before result after = (result ≡ Ok tt) × (after ≡ before)
+AnswersKept (Err error) before result after = (result ≡ Err NotKept) × (after ≡ Some error)
 
+module _ {S Q V : Type 0}
+    (keeps : Q → S → Result (Unit {0}) LiveError → Q → Type 0) where
   -- What the station has changed is kept, or it has to end.
-  pub record KeepsRelease (old : Fed S Q) (result : Result (Unit {0}) Fault) (new : Fed S Q)
+  pub record KeepsRelease (old : Fed S Q V) (result : Result (Unit {0}) Fault) (new : Fed S Q V)
       : Type 0 where
-    pub kept : Result (Unit {0}) StoreFault
-    pub keeps : keeps_changes old.keeps.now old.station.now kept new.keeps.now
+    pub kept : Result (Unit {0}) LiveError
+    pub keeping : keeps old.keeps.now old.station.now kept new.keeps.now
     pub answers : AnswersKept kept old.failure result new.failure
     pub unchanged : new.station.now ≡ old.station.now
     pub same : IsSameFed old new
 
-module _ {S Q : Type 0}
+module _ {S Q V : Type 0}
     (releases : S → ℕ → Way → ℕ → Result (Unit {0}) Fault → S → Type 0)
-    (keeps_changes : Q → S → Result (Unit {0}) StoreFault → Q → Type 0) where
+    (keeps : Q → S → Result (Unit {0}) LiveError → Q → Type 0) where
   -- What becomes of the records of a station that has this answer to a release.
-  abbrev pub KeepsIfDone : Result (Unit {0}) Fault → Fed S Q → Result (Unit {0}) Fault → Fed S Q
+  abbrev pub KeepsIfDone : Result (Unit {0}) Fault → Fed S Q V → Result (Unit {0}) Fault → Fed S Q V
       → Type 0
-  KeepsIfDone (Ok done) old result new = KeepsRelease keeps_changes old result new
+  KeepsIfDone (Ok done) old result new = KeepsRelease keeps old result new
   KeepsIfDone (Err fault) old result new = (result ≡ Err fault) × (new ≡ old)
 
   -- The station releases, and what it has changed is kept.
-  pub record ReleasesAndKeeps (old : Fed S Q) (t : ℕ) (way : Way) (count : ℕ)
-      (result : Result (Unit {0}) Fault) (new : Fed S Q) : Type 0 where
+  pub record ReleasesAndKeeps (old : Fed S Q V) (t : ℕ) (way : Way) (count : ℕ)
+      (result : Result (Unit {0}) Fault) (new : Fed S Q V) : Type 0 where
     pub answer : Result (Unit {0}) Fault
-    pub between : Fed S Q
+    pub between : Fed S Q V
     pub released : releases old.station.now t way count answer between.station.now
     pub refused : OnErr answer (between.station.now ≡ old.station.now)
     pub keeps_rest : (between.keeps.now ≡ old.keeps.now) × (between.failure ≡ old.failure)
     pub same : IsSameFed old between
-    pub keeps : KeepsIfDone answer between result new
+    pub keeping : KeepsIfDone answer between result new
 
-module _ {S Q : Type 0} (obeys : Q → ℕ → Bool → Q → Type 0) where
+module _ {S Q V : Type 0} (obeys : V → ℕ → Bool → V → Type 0) where
   -- A terminal is called again, or no more, and nothing of the station changes, or of what is kept.
-  pub record ObeysPoll (old : Fed S Q) (t : ℕ) (polled : Bool) (result : Result (Unit {0}) Fault)
-      (new : Fed S Q) : Type 0 where
-    pub obeyed : obeys old.keeps.now t polled new.keeps.now
+  pub record ObeysPoll (old : Fed S Q V) (t : ℕ) (polled : Bool)
+      (result : Result (Unit {0}) Fault) (new : Fed S Q V) : Type 0 where
+    pub obeyed : obeys old.watch.now t polled new.watch.now
     pub done : result ≡ Ok tt
-    pub station : new.station.now ≡ old.station.now
+    pub station : new.station ≡ old.station
+    pub keeps : new.keeps ≡ old.keeps
+    pub watch : new.watch.ghost_name ≡ old.watch.ghost_name
     pub failure : new.failure ≡ old.failure
-    pub same : IsSameFed old new
+    pub stopped : new.stopped ≡ old.stopped
 
   -- So it is if the terminal is known; if the station does not call it, nothing changes.
-  abbrev pub PollsIfKnown : Option Presence → Fed S Q → ℕ → Bool → Result (Unit {0}) Fault
-      → Fed S Q → Type 0
+  abbrev pub PollsIfKnown : Option Presence → Fed S Q V → ℕ → Bool → Result (Unit {0}) Fault
+      → Fed S Q V → Type 0
   PollsIfKnown None old t polled result new = (result ≡ Err NoSuchTerminal) × (new ≡ old)
   PollsIfKnown (Some presence) old t polled result new = ObeysPoll old t polled result new
 
 -- What a program asks of a terminal, of which this is known.
-abbrev pub PollsBy : {S Q : Type 0} → (Q → ℕ → Option Presence) → (Q → ℕ → Bool → Q → Type 0)
-    → Fed S Q → ℕ → Bool → Result (Unit {0}) Fault → Fed S Q → Type 0
+abbrev pub PollsBy : {S Q V : Type 0} → (V → ℕ → Option Presence) → (V → ℕ → Bool → V → Type 0)
+    → Fed S Q V → ℕ → Bool → Result (Unit {0}) Fault → Fed S Q V → Type 0
 PollsBy shows obeys old t polled result new =
-    PollsIfKnown obeys (shows old.keeps.now t) old t polled result new
+    PollsIfKnown obeys (shows old.watch.now t) old t polled result new
 
 -- The station changes so, and nothing else does.
-pub record ChangesStation {S Q : Type 0} (changes : S → S → Type 0) (old new : Fed S Q)
+pub record ChangesStation {S Q V : Type 0} (changes : S → S → Type 0) (old new : Fed S Q V)
     : Type 0 where
   pub changed : changes old.station.now new.station.now
   pub keeps : new.keeps.now ≡ old.keeps.now

@@ -38,11 +38,11 @@ served_as None stopped = Ok stopped
 -- Programs are served at a station whose records are kept by this. It is asked only by steps of
 -- programs, none of which begins once it has to end. The result, the station and what keeps its
 -- records are as the last of these steps left them.
-pub record ServesPrograms {S Q : Type 0} (asks : Fed S Q → Fed S Q → Type 0) (station : S)
+pub record ServesPrograms {S Q V : Type 0} (asks : Fed S Q V → Fed S Q V → Type 0) (station : S)
     (keeps : Q) (result : Result Bool LiveError) (new_station : S) (new_keeps : Q)
     : Type 0 where
-  pub begun : Fed S Q
-  pub last : Fed S Q
+  pub begun : Fed S Q V
+  pub last : Fed S Q V
   pub station_is : begun.station.now ≡ station
   pub keeps_is : begun.keeps.now ≡ keeps
   pub goes_on : begun.stopped ≡ false

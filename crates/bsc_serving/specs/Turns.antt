@@ -1,4 +1,4 @@
--- What a station does for programs, in a run of a station whose records are kept.
+-- What a station does for programs, in a run of it.
 use Rattle.std.specs.Prelude.{◌⊎◌, ℕ, Bool, List, Result, Ok}
 use Rattle.bsc_bid.specs.declared.way.Way.{Way}
 use Rattle.bsc_feed.specs.declared.fault.Fault.{Fault}

@@ -1,26 +1,31 @@
-//! A station that programs feed, and what keeps its records.
+//! A station that programs feed, what keeps its records, and what watches it.
 
 ghost use Rattle.std.specs.Prelude.{◌≡◌, None, false};
 ghost use Rattle.bsc_serving.specs.Feds.{KeepsRelease};
 
+use crate::Feeds;
 use crate::failing::Failing;
-use crate::{Feeds, Keeps};
 use bsc_bid::Way;
 use bsc_block::{Format, Record};
 use bsc_connections::LiveError;
 use bsc_feed::{Fault, Served};
-use bsc_monitor::Presence;
+use bsc_keeping::Keeps;
+use bsc_monitor::{Presence, Presences};
 use bsc_station::{ChannelEnd, Party, Received};
 
-/// A station that is fed, and what keeps its records. What is offered is kept before the station
-/// offers it. Once there is a failure the station must not be asked for more: it has to end.
+/// A station that is fed, what keeps its records, and what watches it. What is offered is kept
+/// before the station offers it. Once there is a failure the station must not be asked for more: it
+/// has to end.
 #[derive(Drop)]
-pub struct Fed<'a, S, Q> {
+pub struct Fed<'a, S, Q, V> {
     /// The station.
     station: &'a mut S,
 
     /// What keeps its records.
     keeps: &'a mut Q,
+
+    /// What watches it, and knows which terminals are there.
+    watch: &'a mut V,
 
     /// Whether a program asked the station to end.
     stopped: bool,
@@ -29,17 +34,19 @@ pub struct Fed<'a, S, Q> {
     failure: Option<LiveError>,
 }
 
-impl<'a, S: Feeds, Q: Keeps<S>> Fed<'a, S, Q> {
-    /// Returns the station that is fed, with what keeps its records.
-    pub fn new(station: &'a mut S, keeps: &'a mut Q) -> Fed<'a, S, Q>
+impl<'a, S: Feeds, Q: Keeps<S>, V: Presences> Fed<'a, S, Q, V> {
+    /// Returns the station that is fed, with what keeps its records and what watches it.
+    pub fn new(station: &'a mut S, keeps: &'a mut Q, watch: &'a mut V) -> Fed<'a, S, Q, V>
         ensures station { result.station ≡ station.entry }
         ensures keeps { result.keeps ≡ keeps.entry }
+        ensures watch { result.watch ≡ watch.entry }
         ensures stopped { result.stopped ≡ false }
         ensures failure { result.failure ≡ None }
     {
         Fed {
             station,
             keeps,
+            watch,
             stopped: false,
             failure: None,
         }
@@ -53,7 +60,8 @@ impl<'a, S: Feeds, Q: Keeps<S>> Fed<'a, S, Q> {
     }
 
     /// Returns why the station has to end, if it has: `Unkept` if what a program did could not be
-    /// kept, and `Memory` if a record was kept for which the station has no memory.
+    /// kept, or the error of keeping what a release changed, and `Memory` if a record was kept for
+    /// which the station has no memory.
     pub fn failure(&self) -> Option<LiveError>
         ensures { result ≡ self.now.failure }
     {
@@ -62,19 +70,19 @@ impl<'a, S: Feeds, Q: Keeps<S>> Fed<'a, S, Q> {
 
     /// Keeps a release that the station has done. Fails with `NotKept`, and the station has to end.
     fn keep_release(&mut self) -> Result<(), Fault>
-        ensures { KeepsRelease Q.keeps_changes self.old result self.new }
+        ensures { KeepsRelease Q.keeps self.old result self.new }
     {
-        match self.keeps.changed(&*self.station) {
+        match self.keeps.keep(&*self.station) {
             Ok(()) => Ok(()),
-            Err(_) => {
-                self.failure = Some(LiveError::Unkept);
+            Err(error) => {
+                self.failure = Some(error);
                 Err(Fault::NotKept)
             }
         }
     }
 }
 
-impl<'a, S: Feeds, Q: Keeps<S>> Failing for Fed<'a, S, Q> {
+impl<'a, S: Feeds, Q: Keeps<S>, V: Presences> Failing for Fed<'a, S, Q, V> {
     ghost fails = { λ f. f.failure };
 
     ghost has_stopped = { λ f. f.stopped };
@@ -88,7 +96,7 @@ impl<'a, S: Feeds, Q: Keeps<S>> Failing for Fed<'a, S, Q> {
     }
 }
 
-impl<'a, S: Feeds, Q: Keeps<S>> Party for Fed<'a, S, Q> {
+impl<'a, S: Feeds, Q: Keeps<S>, V: Presences> Party for Fed<'a, S, Q, V> {
     type Memory = S::Memory;
 
     ghost count = { λ f. S.count f.station.now };
@@ -130,7 +138,7 @@ impl<'a, S: Feeds, Q: Keeps<S>> Party for Fed<'a, S, Q> {
     }
 }
 
-impl<'a, S: Feeds, Q: Keeps<S>> Served for Fed<'a, S, Q> {
+impl<'a, S: Feeds, Q: Keeps<S>, V: Presences> Served for Fed<'a, S, Q, V> {
     ghost use Rattle.std.specs.Prelude.{◌≡◌, true};
     ghost use Rattle.bsc_serving.specs.Feds.{ChangesStation, HasKeptNumber, KeepsAndOffers};
     ghost use Rattle.bsc_serving.specs.Feds.{PollsBy, ReleasesAndKeeps};
@@ -143,16 +151,16 @@ impl<'a, S: Feeds, Q: Keeps<S>> Served for Fed<'a, S, Q> {
 
     ghost full = { λ f. S.full f.station.now };
 
-    ghost releases = { ReleasesAndKeeps S.releases Q.keeps_changes };
+    ghost releases = { ReleasesAndKeeps S.releases Q.keeps };
 
     ghost readies = { λ f ready result.
         ChangesStation (λ old new. S.readies old ready result new) f };
 
     ghost urges = { λ f result. ChangesStation (λ old new. S.urges old result new) f };
 
-    ghost polls = { PollsBy Q.shows Q.obeys };
+    ghost polls = { PollsBy V.shows V.obeys };
 
-    ghost shows = { λ f terminal. Q.shows f.keeps.now terminal };
+    ghost shows = { λ f terminal. V.shows f.watch.now terminal };
 
     ghost stops = { λ f new. new ≡ record f { stopped = true } };
 
@@ -188,15 +196,15 @@ impl<'a, S: Feeds, Q: Keeps<S>> Served for Fed<'a, S, Q> {
     }
 
     fn set_polled(&mut self, terminal: usize, polled: bool) -> Result<(), Fault> {
-        if self.keeps.presence(terminal).is_none() {
+        if self.watch.presence(terminal).is_none() {
             return Err(Fault::NoSuchTerminal);
         }
-        self.keeps.set_polled(terminal, polled);
+        self.watch.set_polled(terminal, polled);
         Ok(())
     }
 
     fn presence(&self, terminal: usize) -> Option<Presence> {
-        self.keeps.presence(terminal)
+        self.watch.presence(terminal)
     }
 
     fn stop(&mut self) {

@@ -10,26 +10,21 @@
 //! an answer `ok N` tells that the record outlives the process of the station. If it cannot be
 //! kept, the station offers nothing, the program is not answered, and the station has to end.
 //!
-//! A station attends its line and serves programs in turn, in one thread: [`Pausing`] ends the
-//! attending when a program may have something to say or to be told, and [`Serving`] serves the
-//! programs for a short while.
+//! A station attends its line and serves programs in turn, in one thread: after each step of the
+//! station [`Serving`] serves the programs for a short while.
 #![tactic(auto)]
 
 mod failing;
 mod fed;
 mod feeds;
 mod inbox;
-mod keeps;
 pub mod laws;
 mod outbox;
-mod pausing;
 mod programs;
 mod serving;
 mod session;
 
 pub use fed::Fed;
 pub use feeds::Feeds;
-pub use keeps::{Keeps, KeptBy, Unkept};
-pub use pausing::Pausing;
 pub use programs::{Called, MAX_PROGRAMS, Programs};
 pub use serving::Serving;

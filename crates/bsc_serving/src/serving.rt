@@ -1,9 +1,9 @@
 //! The programs of a station and their sessions.
 
-ghost use Rattle.std.specs.Prelude.{◌≡◌, IfOk, None, is_ok, replicate};
+ghost use Rattle.std.specs.Prelude.{◌≡◌, IfOk, None, replicate};
 ghost use Rattle.bsc_feed.specs.Answering.{serving};
 ghost use Rattle.bsc_feed.specs.Offering.{OffersBy};
-ghost use Rattle.bsc_keeping.specs.Runs.{KeptRun};
+ghost use Rattle.bsc_keeping.specs.LiveRuns.{Run, goes, unless_failed};
 ghost use Rattle.bsc_serving.specs.Places.{place_after};
 ghost use Rattle.bsc_serving.specs.Serves.{IsAsked, IsServed, ServesPrograms, failure_of};
 ghost use Rattle.bsc_serving.specs.Turns.{for_programs};
@@ -11,13 +11,12 @@ ghost use Rattle.bsc_serving.specs.declared.programs.TheConstants.{MAX_PROGRAMS}
 
 use crate::failing::Failing;
 use crate::session::{Session, Step};
-use crate::{Called, Fed, Feeds, Keeps, KeptBy, MAX_PROGRAMS, Programs};
+use crate::{Called, Fed, Feeds, MAX_PROGRAMS, Programs};
 use bsc_bid::Station;
 use bsc_connections::LiveError;
 use bsc_feed::Served;
-use bsc_keeping::{Keeper, Prints};
+use bsc_keeping::Keeps;
 use bsc_monitor::{Polls, Presences};
-use bsc_spool::Store;
 use bsc_station::{Forgets, Party};
 use std::alloc::{AllocError, Global};
 use std::io::{Read, Write};
@@ -68,87 +67,74 @@ impl<P: Programs + Drop> Serving<P> {
 
     /// Serves the programs: takes those that have connected, obeys their lines, and writes their
     /// answers and what happened on the channels that they follow, for a short while: 16 steps of
-    /// all sessions, and what they then have to tell. Returns whether a program asked the station
-    /// to end. Fails with `Unkept` or `Memory` if what a program offered or released could not be
-    /// kept, or not be offered after that; its line is then not answered, and no program is served
-    /// after it. The station, and what keeps its records, are as the last step of a program left
-    /// them.
-    pub fn serve<'s, S: Feeds, Q: Keeps<S>>(
+    /// all sessions, and what they then have to tell. `keeps` keeps the records of the station, and
+    /// `watch` knows which terminals are there. Returns whether a program asked the station to end.
+    ///
+    /// The turn is part of the run of the station: each record that a program offers is kept, and
+    /// only then offered, and the end of a doubt is kept before the next step. The run has not
+    /// failed unless the turn does: with `Unkept` or `Memory` if what a program offered or released
+    /// could not be kept, or not be offered after that. Its line is then not answered, and no
+    /// program is served after it.
+    pub fn serve<S: Station + Feeds + Forgets + Polls, Q: Keeps<S>, V: Presences>(
+        &mut self,
+        station: &mut S,
+        keeps: &mut Q,
+        watch: &mut V,
+    ) -> Result<bool, LiveError>
+        ensures { Run S.Station Q.keeps Q.keeps_offer Q.prints S.forgets_sent S.forgets_arrived
+            S.polls (for_programs S.offers S.releases S.readies S.urges)
+            (unless_failed result goes)
+            (record { station = station.old; kept = keeps.old })
+            (record { station = station.new; kept = keeps.new }) }
+    {
+        self.serve_all_places(station, keeps, watch)
+    }
+
+    /// Does the same. The station, and what keeps its records, are as the last step of a program
+    /// left them.
+    fn serve_all_places<'s, S: Feeds, Q: Keeps<S>, V: Presences>(
         &mut self,
         station: &'s mut S,
         keeps: &'s mut Q,
+        watch: &'s mut V,
     ) -> Result<bool, LiveError>
         ensures { ServesPrograms
-            (IsAsked ⟦<Fed<'s, S, Q> as Party>⟧
-            (serving (OffersBy ⟦<Fed<'s, S, Q> as Served>⟧.offered
-            ⟦<Fed<'s, S, Q> as Served>⟧.is_kept ⟦<Fed<'s, S, Q> as Served>⟧.offers)
-            ⟦<Fed<'s, S, Q> as Served>⟧.full ⟦<Fed<'s, S, Q> as Served>⟧.releases
-            ⟦<Fed<'s, S, Q> as Served>⟧.readies ⟦<Fed<'s, S, Q> as Served>⟧.urges
-            ⟦<Fed<'s, S, Q> as Served>⟧.polls ⟦<Fed<'s, S, Q> as Served>⟧.shows
-            ⟦<Fed<'s, S, Q> as Served>⟧.stops) (λ f. f.failure))
+            (IsAsked ⟦<Fed<'s, S, Q, V> as Party>⟧
+            (serving (OffersBy ⟦<Fed<'s, S, Q, V> as Served>⟧.offered
+            ⟦<Fed<'s, S, Q, V> as Served>⟧.is_kept ⟦<Fed<'s, S, Q, V> as Served>⟧.offers)
+            ⟦<Fed<'s, S, Q, V> as Served>⟧.full ⟦<Fed<'s, S, Q, V> as Served>⟧.releases
+            ⟦<Fed<'s, S, Q, V> as Served>⟧.readies ⟦<Fed<'s, S, Q, V> as Served>⟧.urges
+            ⟦<Fed<'s, S, Q, V> as Served>⟧.polls ⟦<Fed<'s, S, Q, V> as Served>⟧.shows
+            ⟦<Fed<'s, S, Q, V> as Served>⟧.stops) (λ f. f.failure))
             station.old keeps.old result station.new keeps.new }
     {
         self.programs.ask();
         self.hear();
         self.admit();
-        let mut fed = Fed::new(station, keeps);
+        let mut fed = Fed::new(station, keeps, watch);
         match self.serve_fed(&mut fed) {
             Ok(()) => Ok(fed.is_stopped()),
             Err(failure) => Err(failure),
         }
     }
 
-    /// Serves the programs of a station whose records this keeper keeps, as [`Serving::serve`]
-    /// does; `watch` tells how many records were printed, and which terminals are there. The turn
-    /// is part of the run of such a station: each record that a program offers is kept, and only
-    /// then offered, and the end of a doubt is kept before the next step. The run has not failed
-    /// unless the turn does.
-    pub fn serve_kept<S: Station + Feeds + Forgets + Polls, K: Store + Drop, V: Prints + Presences>(
-        &mut self,
-        station: &mut S,
-        keeper: &mut Keeper<K>,
-        watch: &mut V,
-    ) -> Result<bool, LiveError>
-        ensures { KeptRun S.Station S.Party S.kept_at K.Store S.forgets_sent S.forgets_arrived
-            S.polls (for_programs S.offers S.releases S.readies S.urges) (is_ok result)
-            (record { station = station.old; keeper = keeper.old })
-            (record { station = station.new; keeper = keeper.new }) }
-    {
-        let mut keeps = KeptBy::new(keeper, watch);
-        self.serve_with(station, &mut keeps)
-    }
-
-    /// Does the same with what keeps the records.
-    fn serve_with<'a, S: Station + Feeds + Forgets + Polls, K: Store + Drop, V: Prints + Presences>(
-        &mut self,
-        station: &mut S,
-        keeps: &mut KeptBy<'a, K, V>,
-    ) -> Result<bool, LiveError>
-        ensures ran { KeptRun S.Station S.Party S.kept_at K.Store S.forgets_sent S.forgets_arrived
-            S.polls (for_programs S.offers S.releases S.readies S.urges) (is_ok result)
-            (record { station = station.old; keeper = keeps.old.keeper.now })
-            (record { station = station.new; keeper = keeps.new.keeper.now }) }
-        ensures same { keeps.new.keeper.ghost_name ≡ keeps.old.keeper.ghost_name }
-    {
-        self.serve(station, keeps)
-    }
-
     /// Serves the programs at one place after another, of the same station all the time.
-    fn serve_fed<'s, S: Feeds, Q: Keeps<S>>(
+    fn serve_fed<'s, S: Feeds, Q: Keeps<S>, V: Presences>(
         &mut self,
-        fed: &mut Fed<'s, S, Q>,
+        fed: &mut Fed<'s, S, Q, V>,
     ) -> Result<(), LiveError>
         requires { fed.old.failure ≡ None }
-        ensures served { IsServed ⟦<Fed<'s, S, Q> as Party>⟧
-            (serving (OffersBy ⟦<Fed<'s, S, Q> as Served>⟧.offered
-            ⟦<Fed<'s, S, Q> as Served>⟧.is_kept ⟦<Fed<'s, S, Q> as Served>⟧.offers)
-            ⟦<Fed<'s, S, Q> as Served>⟧.full ⟦<Fed<'s, S, Q> as Served>⟧.releases
-            ⟦<Fed<'s, S, Q> as Served>⟧.readies ⟦<Fed<'s, S, Q> as Served>⟧.urges
-            ⟦<Fed<'s, S, Q> as Served>⟧.polls ⟦<Fed<'s, S, Q> as Served>⟧.shows
-            ⟦<Fed<'s, S, Q> as Served>⟧.stops) (λ f. f.failure) fed.old (failure_of result)
+        ensures served { IsServed ⟦<Fed<'s, S, Q, V> as Party>⟧
+            (serving (OffersBy ⟦<Fed<'s, S, Q, V> as Served>⟧.offered
+            ⟦<Fed<'s, S, Q, V> as Served>⟧.is_kept ⟦<Fed<'s, S, Q, V> as Served>⟧.offers)
+            ⟦<Fed<'s, S, Q, V> as Served>⟧.full ⟦<Fed<'s, S, Q, V> as Served>⟧.releases
+            ⟦<Fed<'s, S, Q, V> as Served>⟧.readies ⟦<Fed<'s, S, Q, V> as Served>⟧.urges
+            ⟦<Fed<'s, S, Q, V> as Served>⟧.polls ⟦<Fed<'s, S, Q, V> as Served>⟧.shows
+            ⟦<Fed<'s, S, Q, V> as Served>⟧.stops) (λ f. f.failure) fed.old (failure_of result)
             fed.new }
         ensures same_station { fed.new.station.ghost_name ≡ fed.old.station.ghost_name }
         ensures same_keeps { fed.new.keeps.ghost_name ≡ fed.old.keeps.ghost_name }
+        ensures same_watch { fed.new.watch.ghost_name ≡ fed.old.watch.ghost_name }
     {
         self.serve_all(fed)
     }

@@ -1,8 +1,9 @@
 -- The parts of an arrow: from who sent to who heard it.
 use Rattle.std.specs.Prelude.{ℕ, ◌==◌, ◌&&◌, not, nat_le, nat_lt, Bool, true, false, if◌then◌else◌}
 use Rattle.bsc_trace.specs.declared.ladder.glyphs.Glyph.{Glyph}
-use Rattle.bsc_trace.specs.declared.ladder.glyphs.Glyph.TheVariants.{Rail, Cross, Line, Space, TailRight}
-use Rattle.bsc_trace.specs.declared.ladder.glyphs.Glyph.TheVariants.{TailLeft, HeadRight, HeadLeft}
+use Rattle.bsc_trace.specs.declared.ladder.glyphs.Glyph.TheVariants.{Rail, Cross, Line, Space}
+use Rattle.bsc_trace.specs.declared.ladder.glyphs.Glyph.TheVariants.{TailRight, TailLeft, HeadRight}
+use Rattle.bsc_trace.specs.declared.ladder.glyphs.Glyph.TheVariants.{HeadLeft}
 use Rattle.bsc_trace.specs.declared.ladder.row.Course.{Course}
 use Rattle.bsc_trace.specs.declared.ladder.row.Course.TheVariants.{ToAll, ToOne, From}
 use Rattle.bsc_trace.specs.declared.ladder.row.Fate.{Fate}

@@ -8,8 +8,9 @@ use Rattle.bsc_text.specs.declared.printed.Detail.{Detail}
 use Rattle.bsc_trace.specs.NamingLines.{PrintsLines, PrintsLinesFront, is_wrong}
 use Rattle.bsc_trace.specs.declared.naming.error.NamingError.{NamingError}
 use Rattle.bsc_trace.specs.declared.naming.error.NamingError.TheVariants.{NotHexadecimal}
-use Rattle.bsc_trace.specs.declared.naming.error.NamingError.TheVariants.{NotHexadecimalAt, TooLongAt}
-use Rattle.bsc_trace.specs.declared.naming.error.NamingError.TheVariants.{Input, Output, Memory}
+use Rattle.bsc_trace.specs.declared.naming.error.NamingError.TheVariants.{NotHexadecimalAt}
+use Rattle.bsc_trace.specs.declared.naming.error.NamingError.TheVariants.{TooLongAt, Input, Output}
+use Rattle.bsc_trace.specs.declared.naming.error.NamingError.TheVariants.{Memory}
 
 -- Whether the text between two line feeds of an input is too long. A carriage return at its end
 -- counts.

@@ -6,8 +6,8 @@ use Rattle.std.specs.Io.KnownBytes.{Appends}
 use Rattle.std.specs.List.{AllPass}
 use Rattle.bsc_text.specs.Forms.{is_printable}
 use Rattle.bsc_trace.specs.declared.ladder.row.Fate.{Fate}
-use Rattle.bsc_trace.specs.declared.ladder.row.Fate.TheVariants.{Sent, Heard, Failed, Turned, Ignored}
-use Rattle.bsc_trace.specs.declared.ladder.row.Fate.TheVariants.{Lost, Withheld}
+use Rattle.bsc_trace.specs.declared.ladder.row.Fate.TheVariants.{Sent, Heard, Failed, Turned}
+use Rattle.bsc_trace.specs.declared.ladder.row.Fate.TheVariants.{Ignored, Lost, Withheld}
 
 -- Whether an octet is a printable character of ASCII, or belongs to a character that is not of
 -- ASCII. A line feed and what a terminal obeys are neither.

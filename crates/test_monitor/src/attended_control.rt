@@ -5,9 +5,9 @@ use crate::fakes::{
     control_watch,
 };
 use crate::stations::{control_of, sending_control};
-use bsc_connections::{Connection, LiveError, SocketRecords};
+use bsc_connections::{Connection, LiveError, SocketRecords, attend};
 use bsc_control::Control;
-use bsc_monitor::{ControlWatch, Ended, LastWatch, Limits, Printing};
+use bsc_monitor::{ControlWatch, Ended, LastWatch, Limits};
 use bsc_report::{Tracing, write_report};
 use bsc_text::PrintError;
 use std::alloc::Global;
@@ -166,20 +166,30 @@ to 1: offered 0, known 0
 fn attend_last(
     connections: &mut [Connection<Told, Taking, SocketRecords>],
     waiter: &mut Scripted,
-    mut last: LastWatch<'_, Global, Counting, Vec<u8>, Vec<u8>>,
+    mut last: LastWatch<'_, Global, Counting, Vec<u8>>,
 ) -> Result<(), LiveError> {
-    attend_station(&mut Ended::new(), connections, waiter, &mut last)
+    attend(&mut Ended::new(), connections, waiter, &mut last)
 }
 
 /// Attends a control station until it ends, and then its connection until the last call is
 /// answered.
 fn attend_and_last(
+    alloc: Global,
     control: &mut Control<Global>,
     connections: &mut [Connection<Told, Taking, SocketRecords>],
     waiter: &mut Scripted,
-    mut watch: ControlWatch<'_, Global, Counting, Vec<u8>, Vec<u8>>,
+    mut watch: ControlWatch<'_, Global, Counting, Vec<u8>>,
+    out: &mut Vec<u8>,
 ) -> Result<(), LiveError> {
-    attend_station(control, connections, waiter, &mut watch)?;
+    attend_station(
+        alloc,
+        control,
+        connections,
+        waiter,
+        &mut watch,
+        HEXADECIMAL,
+        out,
+    )?;
     if watch.is_closed() {
         return Ok(());
     }
@@ -196,15 +206,14 @@ fn attend_control(
 ) -> Result<(), LiveError> {
     let (_, trace, (rounds, idle_rounds), octets, steps, _, _) = *attended;
     let mut connections = connection(alloc, Told { fails: &[], octets }, TAKING)?;
-    let records = HEXADECIMAL;
     let limits = Limits {
         rounds,
         idle_rounds,
         counts_at_once: false,
     };
-    let settings = (Printing { records, trace }, limits, 0, 1_000);
-    let watch = control_watch(alloc, control, settings, out, errors)?;
-    attend_and_last(control, &mut connections, &mut Scripted { steps }, watch)
+    let watch = control_watch(alloc, control, (trace, limits, 0, 1_000), errors);
+    let mut waiter = Scripted { steps };
+    attend_and_last(alloc, control, &mut connections, &mut waiter, watch, out)
 }
 
 /// The control station of a line of two terminals, with the record HI for terminal 0 or without it.

@@ -6,8 +6,7 @@ use crate::fakes::{
 use crate::stations::terminal_of;
 use bsc_carrier::CarrierError;
 use bsc_connections::LiveError;
-use bsc_monitor::Printing;
-use bsc_report::{RecordLines, Tracing, write_report};
+use bsc_report::{Printing, RecordLines, Tracing, write_report};
 use bsc_station::LineTerminal;
 use bsc_text::Form;
 use std::alloc::Global;
@@ -109,11 +108,22 @@ fn attend_terminal<W: Write>(
     terminal: &mut LineTerminal<Global>,
     (printing, steps): (Printing, &'static [u8]),
     (told, taking): (Told, Taking),
-    (out, trace): (&mut W, &mut Vec<u8>),
+    out: &mut W,
+    trace: &mut Vec<u8>,
 ) -> Result<Option<CarrierError>, LiveError> {
     let mut ends = connection(alloc, told, taking)?;
-    let mut watch = terminal_watch(alloc, terminal, printing, out, trace)?;
-    attend_station(terminal, &mut ends, &mut Scripted { steps }, &mut watch)?;
+    let mut watch = terminal_watch(alloc, printing.trace, trace);
+    let mut waiter = Scripted { steps };
+    let lines = printing.records;
+    attend_station(
+        alloc,
+        terminal,
+        &mut ends,
+        &mut waiter,
+        &mut watch,
+        lines,
+        out,
+    )?;
     Ok(watch.closed())
 }
 
@@ -122,9 +132,9 @@ fn prints(alloc: Global, attended: &Attended) -> Result<bool, Fail> {
     let (printing, octets, steps, printed, traced, why) = *attended;
     let mut terminal = terminal_of(alloc, b"HI\n")?;
     let (mut out, mut trace) = (Vec::new(alloc), Vec::new(alloc));
-    let streams = (&mut out, &mut trace);
     let ends = (Told { fails: &[], octets }, TAKING);
-    let closed = attend_terminal(alloc, &mut terminal, (printing, steps), ends, streams)?;
+    let way = (printing, steps);
+    let closed = attend_terminal(alloc, &mut terminal, way, ends, &mut out, &mut trace)?;
     write_report(alloc, Some(printing.records.form), &*terminal, &mut out)?;
     let is_printed = out.as_slice() == printed.as_bytes();
     Ok(closed == why && is_printed && trace.as_slice() == traced.as_bytes())
@@ -138,21 +148,20 @@ fn terminals_print_what_happens_until_they_end(rt: HostRuntime) -> Result<(), Fa
     Ok(())
 }
 
-/// The end of the trace of a terminal that cannot print the record that arrives: the text is heard,
-/// and nothing is sent after it.
+/// The end of the trace of a terminal that cannot print the record that arrives: nothing is sent
+/// after the text that brought it, which is not traced.
 const REFUSED_END: &[u8] = b"+5 control heard CALL a 161604ff16166185ff
 +6 terminal 0 sent ACK0 161610b0ff
-+7 control heard TEXT ETX 1 161602c84919839bff
 ";
 
 /// Whether a terminal ends with `Unprinted` over this output, and sends nothing after the text.
 fn refuses<W: Write>(alloc: Global, out: &mut W) -> Result<bool, Fail> {
     let mut terminal = terminal_of(alloc, b"HI\n")?;
     let mut trace = Vec::new(alloc);
-    let streams = (out, &mut trace);
     let octets = TO_TERMINAL;
     let ends = (Told { fails: &[], octets }, TAKING);
-    let ended = attend_terminal(alloc, &mut terminal, (ALL, b""), ends, streams);
+    let way = (ALL, b"".as_slice());
+    let ended = attend_terminal(alloc, &mut terminal, way, ends, out, &mut trace);
     Ok(matches!(ended, Err(LiveError::Unprinted)) && trace.ends_with(REFUSED_END))
 }
 
@@ -209,10 +218,10 @@ fn fails(
         is_broken,
         ..TAKING
     };
-    let streams = (&mut out, &mut trace);
     let octets = TO_TERMINAL;
     let ends = (Told { fails, octets }, taking);
-    attend_terminal(alloc, &mut terminal, (ALL, b""), ends, streams)?;
+    let way = (ALL, b"".as_slice());
+    attend_terminal(alloc, &mut terminal, way, ends, &mut out, &mut trace)?;
     Ok(trace.ends_with(traced.as_bytes()))
 }
 

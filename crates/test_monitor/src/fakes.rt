@@ -5,9 +5,10 @@ use bsc_connections::{
     Awaited, Connection, Handled, LiveError, Monitor, Note, Pace, SocketRecords, Waiter, attend,
 };
 use bsc_control::Control;
-use bsc_monitor::{AbsenceLimits, ControlWatch, Limits, Printing, TerminalWatch, Watch};
-use bsc_report::RecordLines;
-use bsc_station::LineTerminal;
+use bsc_keeping::{Keeping, Printed};
+use bsc_monitor::{AbsenceLimits, ControlWatch, Limits, TerminalWatch, Watch};
+use bsc_report::{RecordLines, Tracing};
+use bsc_station::Party;
 use bsc_text::Form;
 use bsc_text::progress::{Counts, Meter, Timer};
 use bsc_trust::{TerminalPeers, Trust};
@@ -178,14 +179,26 @@ pub(crate) fn connection(
     }
 }
 
-/// Attends a station over these connections until its monitor ends it.
-pub(crate) fn attend_station<S: Station, M: Monitor<S>>(
+/// Attends a station over these connections until its monitor ends it. The records that arrive are
+/// printed so, to this writer.
+pub(crate) fn attend_station<S: Station + Party, M: Monitor<S>, W: Write>(
+    alloc: Global,
     station: &mut S,
     connections: &mut [Connection<Told, Taking, SocketRecords>],
     waiter: &mut Scripted,
-    monitor: &mut M,
+    watch: &mut M,
+    lines: RecordLines,
+    out: &mut W,
 ) -> Result<(), LiveError> {
-    attend(station, connections, waiter, monitor)
+    let Ok(mut printed) = Printed::new(alloc, station, lines, out) else {
+        return Err(LiveError::Memory);
+    };
+    attend(
+        station,
+        connections,
+        waiter,
+        &mut Keeping::new(watch, &mut printed),
+    )
 }
 
 /// Records in hexadecimal, without numbers.
@@ -202,33 +215,23 @@ const ABSENCE: AbsenceLimits = AbsenceLimits {
 
 /// The watch of a control station that ends at these limits, with a clock that was read so often,
 /// over one connection for all terminals, with this time-out in milliseconds.
-pub(crate) fn control_watch<'a, W: Write, D: Write>(
+pub(crate) fn control_watch<'a, D: Write>(
     alloc: Global,
     control: &Control<Global>,
-    (printing, limits, asked, time_out): (Printing, Limits, u64, u64),
-    out: &'a mut W,
+    (tracing, limits, asked, time_out): (Tracing, Limits, u64, u64),
     errors: &'a mut D,
-) -> Result<ControlWatch<'a, Global, Counting, W, D>, LiveError> {
-    let (timer, trust) = (Counting { asked }, trust_of(time_out));
-    match Watch::new(alloc, control, printing, timer, out, errors) {
-        Ok(watch) => Ok(ControlWatch::new(control, watch, limits, ABSENCE, false, trust)),
-        Err(_) => Err(LiveError::Memory),
-    }
+) -> ControlWatch<'a, Global, Counting, D> {
+    let watch = Watch::new(alloc, tracing, Counting { asked }, errors);
+    ControlWatch::new(control, watch, limits, ABSENCE, false, trust_of(time_out))
 }
 
 /// The watch of a terminal.
-pub(crate) fn terminal_watch<'a, W: Write, D: Write>(
+pub(crate) fn terminal_watch<'a, D: Write>(
     alloc: Global,
-    terminal: &LineTerminal<Global>,
-    printing: Printing,
-    out: &'a mut W,
+    tracing: Tracing,
     errors: &'a mut D,
-) -> Result<TerminalWatch<'a, Global, Counting, W, D>, LiveError> {
-    let timer = Counting { asked: 0 };
-    match Watch::new(alloc, terminal, printing, timer, out, errors) {
-        Ok(watch) => Ok(TerminalWatch::new(watch)),
-        Err(_) => Err(LiveError::Memory),
-    }
+) -> TerminalWatch<'a, Global, Counting, D> {
+    TerminalWatch::new(Watch::new(alloc, tracing, Counting { asked: 0 }, errors))
 }
 
 /// Tells a monitor of these notes.

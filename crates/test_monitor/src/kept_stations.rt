@@ -9,7 +9,9 @@ use bsc_config::{Config, read_config};
 use bsc_connections::{LiveError, Monitor, Note, Pace};
 use bsc_control::Control;
 use bsc_frame::Wire;
-use bsc_keeping::{Keeper, Keeping, Own, Owner, Prints, Sends, begin_control, begin_terminal};
+use bsc_keeping::{
+    Keeper, Keeping, Own, Owner, Prints, Sends, Stored, begin_control, begin_terminal,
+};
 use bsc_spool::StoreFault;
 use bsc_station::{LineTerminal, Party, new_control, new_terminal};
 use std::alloc::Global;
@@ -31,9 +33,13 @@ impl Prints for Quiet {
 
     ghost printed = { λ _ _. None };
 
+    ghost prints = { λ _ _ _ _. Unit {0} };
+
     fn printed(&self, _number: usize) -> Option<usize> {
         None
     }
+
+    fn print<P: Party>(&mut self, _station: &P) {}
 }
 
 impl<S> Monitor<S> for Quiet {
@@ -72,12 +78,12 @@ impl<S> Monitor<S> for Quiet {
 struct Kept<S: Drop> {
     station: S,
     watch: Quiet,
-    keeper: Keeper<Memory>,
+    stored: Stored<Memory, Quiet>,
 }
 
 /// Tells a monitor what happened.
 fn tell<S: Party + Sends>(
-    monitor: Keeping<'_, Quiet, Memory>,
+    monitor: Keeping<'_, Quiet, Stored<Memory, Quiet>>,
     station: &S,
     note: Note<'_>,
 ) -> Result<bool, LiveError> {
@@ -88,10 +94,14 @@ fn tell<S: Party + Sends>(
 impl<S: Station + Party + Sends + Drop> Kept<S> {
     /// Returns the station with its store, at which nothing has happened yet.
     fn new(station: S, keeper: Keeper<Memory>) -> Kept<S> {
+        let stored = Stored {
+            keeper,
+            printer: Quiet,
+        };
         Kept {
             station,
             watch: Quiet,
-            keeper,
+            stored,
         }
     }
 
@@ -113,7 +123,7 @@ impl<S: Station + Party + Sends + Drop> Kept<S> {
     /// Tells the monitor.
     fn note(&mut self, note: Note<'_>) -> Result<bool, LiveError> {
         tell(
-            Keeping::new(&mut self.watch, &mut self.keeper),
+            Keeping::new(&mut self.watch, &mut self.stored),
             &self.station,
             note,
         )
@@ -121,17 +131,17 @@ impl<S: Station + Party + Sends + Drop> Kept<S> {
 
     /// Keeps a record that is offered to this selection address of this terminal, and returns it.
     fn offer(&mut self, terminal: usize, select: usize, new: Record) -> Result<Record, StoreFault> {
-        self.keeper.offer(terminal, select, new)
+        self.stored.keeper.offer(terminal, select, new)
     }
 
     /// Returns why a step was not kept.
     fn fault(&self) -> Option<StoreFault> {
-        self.keeper.fault()
+        self.stored.keeper.fault()
     }
 
     /// Ends the process of the station, and returns what outlives it.
     fn into_store(self) -> Memory {
-        self.keeper.into_store()
+        self.stored.keeper.into_store()
     }
 }
 

@@ -1,12 +1,12 @@
 //! The lines printed while a station begins, the lines of a trace, and what is said of trust, for
 //! the notes that a watch receives.
 
-use crate::fakes::{HEXADECIMAL, control_watch, tell_each, trust_of};
+use crate::fakes::{control_watch, tell_each, trust_of};
 use crate::stations::control_of;
 use bsc_carrier::CarrierError;
 use bsc_connections::{LiveError, Note, Refusal};
 use bsc_control::Control;
-use bsc_monitor::{Limits, Printing};
+use bsc_monitor::Limits;
 use bsc_report::{Beginning, Tracing, write_trust};
 use bsc_text::PrintError;
 use bsc_text::progress::{Meter, Unmetered};
@@ -81,10 +81,9 @@ fn notes_of_peer(peer: Option<SocketAddr>) -> [Note<'static>; 4] {
     ]
 }
 
-/// Other notes. That of a program to serve has no line, and there are two for what is ignored.
+/// Other notes. There are two lines for what is ignored.
 const NOTES: &[Note<'static>] = &[
     Note::Silence,
-    Note::Client,
     Note::Sent { octets: EOT },
     Note::Withheld { octets: ACK1 },
     Note::Heard {
@@ -107,25 +106,24 @@ const NOTES: &[Note<'static>] = &[
     },
 ];
 
-/// The lines of these notes. The watch reads the clock at each note, also at the one without a
-/// line.
+/// The lines of these notes. The watch reads the clock at each note.
 const TRACE: &[u8] = b"+1 silence
-+3 control sent EOT 161604ff
-+4 control withheld ACK1 16161031ff
-+5 connection 0 heard EOT 161604ff
-+6 connection 1 ignored EOT 161604ff
-+7 not trusted: connection 1 was heard though nothing had been sent since the last answer
-+8 refused a peer: the system cannot accept it yet
-+9 asked to end
-+10 connection 0 closed: the input ended within a record
-+11 connection 1 joined
-+12 refused a peer: its address is not allowed
-+13 refused a peer: every place is taken
-+14 connection 1 closed
-+15 connection 1 from 127.0.0.1:2780 joined in place of one that did not answer
-+16 refused 127.0.0.1:2780: its address is not allowed
-+17 refused 127.0.0.1:2780: every place is taken
-+18 connection 1 from 127.0.0.1:2780 closed
++2 control sent EOT 161604ff
++3 control withheld ACK1 16161031ff
++4 connection 0 heard EOT 161604ff
++5 connection 1 ignored EOT 161604ff
++6 not trusted: connection 1 was heard though nothing had been sent since the last answer
++7 refused a peer: the system cannot accept it yet
++8 asked to end
++9 connection 0 closed: the input ended within a record
++10 connection 1 joined
++11 refused a peer: its address is not allowed
++12 refused a peer: every place is taken
++13 connection 1 closed
++14 connection 1 from 127.0.0.1:2780 joined in place of one that did not answer
++15 refused 127.0.0.1:2780: its address is not allowed
++16 refused 127.0.0.1:2780: every place is taken
++17 connection 1 from 127.0.0.1:2780 closed
 ";
 
 /// Tells a watch with this trace, a clock that was read so often, and this time-out of these notes.
@@ -136,18 +134,13 @@ fn tell<W: Write>(
     notes: &[&[Note<'_>]],
     errors: &mut W,
 ) -> Result<(), LiveError> {
-    let mut out = Vec::<u8>::new(alloc);
-    let printing = Printing {
-        records: HEXADECIMAL,
-        trace,
-    };
     let limits = Limits {
         rounds: None,
         idle_rounds: u64::MAX,
         counts_at_once: true,
     };
-    let settings = (printing, limits, asked, time_out);
-    let mut watch = control_watch(alloc, control, settings, &mut out, errors)?;
+    let settings = (trace, limits, asked, time_out);
+    let mut watch = control_watch(alloc, control, settings, errors);
     for list in notes {
         tell_each(control, &mut watch, *list)?;
     }

@@ -23,9 +23,12 @@
 
 use crate::stations::{Quiet, control};
 use crate::world::{Program, Scripted, World};
+use bsc_bid::Station;
 use bsc_block::Record;
 use bsc_control::Control;
-use bsc_serving::{Feeds, Serving, Unkept};
+use bsc_monitor::Polls;
+use bsc_serving::{Feeds, Serving};
+use bsc_station::Forgets;
 use std::alloc::Global;
 use std::test::Fail;
 use test_fixtures::on_heap;
@@ -104,13 +107,13 @@ fn holds(
 
 /// Serves the programs until one asks the station to end, at most this many times. Returns whether
 /// one does.
-pub(crate) fn is_stopped<S: Feeds>(
+pub(crate) fn is_stopped<S: Station + Feeds + Forgets + Polls>(
     serving: &mut Serving<Scripted<'_>>,
     station: &mut S,
     times: usize,
 ) -> Result<bool, Fail> {
     for _ in 0..times {
-        if serving.serve(station, &mut Unkept::new(&mut Quiet))? {
+        if serving.serve(station, &mut Quiet, &mut Quiet)? {
             return Ok(true);
         }
     }

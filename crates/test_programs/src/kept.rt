@@ -6,7 +6,7 @@ use bsc_block::Record;
 use bsc_connections::LiveError;
 use bsc_control::Control;
 use bsc_frame::Address;
-use bsc_keeping::{Keeper, Own, Owner, begin_control};
+use bsc_keeping::{Own, Owner, Stored, begin_control};
 use bsc_serving::Serving;
 use bsc_spool::{Change, Channel, Store};
 use std::alloc::Global;
@@ -18,18 +18,20 @@ fn begun(
     alloc: Global,
     station: &mut Control<Global>,
     store: Memory,
-) -> Result<Box<Keeper<Memory>>, Fail> {
+) -> Result<Box<Stored<Memory, Quiet>>, Fail> {
     let config = line(alloc)?;
     let own = Own::of(alloc, &config, Owner::Control)?;
-    on_heap(alloc, begin_control(alloc, station, own, store, false))
+    let keeper = begin_control(alloc, station, own, store, false)?;
+    let printer = Quiet;
+    Ok(Box::new(alloc, Stored { keeper, printer })?)
 }
 
 /// Serves the programs of a control station once, and returns the result.
 fn served(alloc: Global, world: &World, store: Memory) -> Result<Result<bool, LiveError>, Fail> {
     let mut station = control(alloc)?;
-    let mut keeper = begun(alloc, &mut station, store)?;
+    let mut stored = begun(alloc, &mut station, store)?;
     let mut serving = on_heap(alloc, Serving::new(alloc, world.scripted()))?;
-    Ok(serving.serve_kept(&mut *station, &mut *keeper, &mut Quiet))
+    Ok(serving.serve(&mut *station, &mut *stored, &mut Quiet))
 }
 
 /// What programs say, each of which is served once, and what each has to be told.

@@ -2,11 +2,14 @@
 
 ghost use Rattle.std.specs.Prelude.{◌≡◌};
 
+use bsc_block::Record;
 use bsc_config::{Config, read_config};
-use bsc_control::Control;
-use bsc_keeping::Prints;
+use bsc_connections::LiveError;
+use bsc_control::{Control, Way};
+use bsc_keeping::{Keeps, Prints};
 use bsc_monitor::{Presence, Presences};
-use bsc_station::{LineTerminal, new_control, new_terminal};
+use bsc_spool::StoreFault;
+use bsc_station::{LineTerminal, Party, new_control, new_terminal};
 use std::alloc::Global;
 use std::test::Fail;
 use test_fixtures::configurations::THREE_ADDRESSES;
@@ -82,6 +85,39 @@ impl Prints for Quiet {
     ghost use Rattle.std.specs.Prelude.{Some};
 
     ghost printed = { λ _ _. Some 0 };
+
+    ghost prints = { λ _ _ _ _. Unit {0} };
+
+    fn printed(&self, _number: usize) -> Option<usize> {
+        Some(0)
+    }
+
+    fn print<P: Party>(&mut self, _station: &P) {}
+}
+
+/// Keeps nothing, and gives each record back.
+impl<S> Keeps<S> for Quiet {
+    ghost use Rattle.std.specs.Prelude.{◌≡◌, Ok, Some};
+
+    ghost keeps = { λ _ _ _ _. Unit {0} };
+
+    ghost has_kept = { λ _ _ _ _. Unit {0} };
+
+    ghost keeps_offer = { λ _ _ _ chars result _. result ≡ Ok chars };
+
+    ghost prints = { λ _ _ _. Unit {0} };
+
+    ghost printed = { λ _ _. Some 0 };
+
+    fn keep(&mut self, _station: &S) -> Result<(), LiveError> {
+        Ok(())
+    }
+
+    fn offered(&mut self, _terminal: usize, _way: Way, new: Record) -> Result<Record, StoreFault> {
+        Ok(new)
+    }
+
+    fn print(&mut self, _station: &S) {}
 
     fn printed(&self, _number: usize) -> Option<usize> {
         Some(0)

@@ -5,6 +5,6 @@ use Rattle.bsc_attending.proofs.keeping.print_all.Goals as goal
 
 pub returns-then-not-more-clause-printed : goal.returns-then-not-more-clause-printed
 returns-then-not-more-clause-printed g c =
-    all_unless_failed g.S.Party c.args.station.now 1024 (followed_of g.W.Write.contents c.turns.printer)
+    all_unless_failed g.S.Party c.args.station.now 1024 (followed_of g.W.Write.contents c.turns.stored.printer)
     (followed_of g.W.Write.contents c.print_turn-more.new.self) c.outcome.result
     c.if-not-more.ensures c.outcome.ensures.outcome

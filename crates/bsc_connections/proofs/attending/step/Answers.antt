@@ -7,7 +7,7 @@ use Rattle.bsc_connections.specs.declared.awaited.Awaited.TheVariants.{NotAccept
 use Rattle.bsc_connections.specs.declared.awaited.Awaited.TheVariants.{Stopped, Client}
 use Rattle.bsc_connections.specs.declared.monitor.Refusal.TheVariants as refusal
 use Rattle.bsc_connections.specs.Attending.{BeginsWith}
-use Rattle.bsc_connections.specs.Histories.{WasRefused, WasStopped, HadClient}
+use Rattle.bsc_connections.specs.Histories.{WasRefused, WasStopped}
 use Rattle.bsc_connections.specs.Parts.{SessionParts, session_parts}
 use Rattle.bsc_connections.proofs.attending.step.Goals as goal
 
@@ -92,7 +92,7 @@ returns-in-Ok-Stopped-clause-steps g c =
 pub returns-in-Ok-Client-clause-steps : goal.returns-in-Ok-Client-clause-steps
 returns-in-Ok-Client-clause-steps g c =
     inl (
-      HadClient ∷ [],
+      [],
       record {
         awaited = Client;
         waiter = c.wait.new.self;
@@ -103,7 +103,7 @@ returns-in-Ok-Client-clause-steps g c =
             (subst (λ (a : Awaited). g.T.Waiter.waits c.args.waiter.now c.is_any_reached.result
             (Ok a) c.wait.new.self)
             c.in-Ok-Client.field-0-is c.in-Ok-Client.ensures);
-        does = (refl, refl, (refl, c.note-in-Ok-Client.ensures.told), refl);
+        does = (refl, refl, refl);
       },
     )
 

@@ -9,8 +9,8 @@ returns-in-Ok g c = record {
   released = c.in-Ok.ensures.releases;
   refused = tt;
   keeps_rest = (refl, refl);
-  same = record { station = refl; keeps = refl; stopped = refl };
-  keeps = c.keep_release.ensures;
+  same = record { station = refl; keeps = refl; watch = refl; stopped = refl };
+  keeping = c.keep_release.ensures;
 }
 
 pub returns-in-Err : goal.returns-in-Err
@@ -20,6 +20,6 @@ returns-in-Err g c = record {
   released = c.in-Err.ensures.releases;
   refused = c.in-Err.ensures.refused;
   keeps_rest = (refl, refl);
-  same = record { station = refl; keeps = refl; stopped = refl };
-  keeps = (refl, refl);
+  same = record { station = refl; keeps = refl; watch = refl; stopped = refl };
+  keeping = (refl, refl);
 }

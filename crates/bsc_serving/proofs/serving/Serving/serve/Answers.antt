@@ -1,32 +1,12 @@
--- Shows what serving leaves, from what the turns of the programs leave.
-use Rattle.std.proofs.Common.{rules, ap, ap₂, sym}
-use Rattle.bsc_serving.specs.Serves.{served_as}
+-- Shows that the run of a station goes on in a turn of its programs.
+use Rattle.std.proofs.Common.{refl}
+use Rattle.bsc_keeping.specs.LiveRuns.{begins}
+use Rattle.bsc_serving.proofs.Turns.{turn_runs}
 use Rattle.bsc_serving.proofs.serving.Serving.serve.Goals as goal
 
-pub returns-in-Ok : goal.returns-in-Ok
-returns-in-Ok g c = record {
-  begun = c.new-fed.result;
-  last = c.serve_fed.new.fed;
-  station_is = ap (λ s. s.now) c.new-fed.ensures.station;
-  keeps_is = ap (λ k. k.now) c.new-fed.ensures.keeps;
-  goes_on = c.new-fed.ensures.stopped;
-  fine = c.new-fed.ensures.failure;
-  are_asked = c.in-Ok.ensures.served.is_asked;
-  answer = ap₂ served_as (sym c.in-Ok.ensures.served.fails_so) c.is_stopped.ensures;
-  station_left = search rules;
-  keeps_left = search rules;
-}
-
-pub returns-in-Err : goal.returns-in-Err
-returns-in-Err g c = record {
-  begun = c.new-fed.result;
-  last = c.serve_fed.new.fed;
-  station_is = ap (λ s. s.now) c.new-fed.ensures.station;
-  keeps_is = ap (λ k. k.now) c.new-fed.ensures.keeps;
-  goes_on = c.new-fed.ensures.stopped;
-  fine = c.new-fed.ensures.failure;
-  are_asked = c.in-Err.ensures.served.is_asked;
-  answer = ap (λ f. served_as f c.serve_fed.new.fed.stopped) (sym c.in-Err.ensures.served.fails_so);
-  station_left = search rules;
-  keeps_left = search rules;
-}
+pub returns : goal.returns
+returns g c =
+    turn_runs g.S.Station g.Q.Keeps.keeps g.Q.Keeps.keeps_offer g.Q.Keeps.has_kept g.Q.Keeps.prints
+    g.S.Forgets.forgets_sent g.S.Forgets.forgets_arrived g.S.Polls.polls g.S.Feeds.offered
+    g.S.Feeds.offers g.S.Feeds.releases g.S.Feeds.readies g.S.Feeds.urges g.V.Presences.shows
+    g.V.Presences.obeys _ _ _ _ _ _ _ _ c.serve_all_places.ensures (begins refl)
