@@ -3,7 +3,7 @@
 use Rattle.std.proofs.Common.{◌≡◌, ℕ, Bool, true, false, List, [], Option, None, Some, Result}
 use Rattle.std.proofs.Common.{Ok, Err, refl, sym, ◌∙◌, ap, subst}
 use Rattle.bsc_frame.specs.declared.message.Message.{Message}
-use Rattle.bsc_bid.specs.Station.{IsSent}
+use Rattle.bsc_frame.specs.Wire.{wire}
 use Rattle.bsc_connections.specs.declared.awaited.LiveError.{LiveError}
 use Rattle.bsc_connections.specs.Parts.{ConnectionParts}
 use Rattle.bsc_connections.specs.Connections.{ConnectionValue}
@@ -11,65 +11,11 @@ use Rattle.bsc_connections.specs.Histories.{Happening, sent_if_in_time, sent_whe
 use Rattle.bsc_connections.specs.Attending.{SendsAll, TellsSent, AsksWaiter, WritesIfInTime}
 use Rattle.bsc_connections.specs.Attending.{Replies, Around, both_go_on, due_if_accepted}
 
-module _ {R W F : Type 0} (parts : ConnectionParts R W F) where
-  pub written_message_goes_to_all : (in_time : Bool) (due : Option Message) (is_sent : Bool)
-      (octets : List ℕ) (old new : List (ConnectionValue R W F)) → IsSent due is_sent octets
-      → is_sent ≡ true → WritesIfInTime parts in_time octets old new
-      → SendsAll parts in_time due old new
-  written_message_goes_to_all in_time None is_sent octets old new (unsent, none) is_true writes =
-      let clash : true ≡ false = sym is_true ∙ unsent in absurd cc
-  written_message_goes_to_all in_time (Some m) is_sent octets old new (was_sent, is, message)
-      is_true writes =
-      subst (λ (o : List ℕ). WritesIfInTime parts in_time o old new) is writes
-
-  pub unchanged_if_unsent : (in_time : Bool) (due : Option Message) (is_sent : Bool)
-      (octets : List ℕ) (old : List (ConnectionValue R W F)) → IsSent due is_sent octets
-      → is_sent ≡ false → SendsAll parts in_time due old old
-  unchanged_if_unsent in_time None is_sent octets old sends is_false = refl
-  unchanged_if_unsent in_time (Some m) is_sent octets old (was_sent, is, message) is_false =
-      let clash : true ≡ false = sym was_sent ∙ is_false in absurd cc
-
 module _ {S R W F M T : Type 0} (parts : ConnectionParts R W F)
     (is_told : M → S → Happening → Result Bool LiveError → M → Type 0)
     (permits : T → Bool → T → Type 0) where
   abbrev Now : Type 0
   Now = Around (ConnectionValue R W F) M
-
-  -- ---- what the waiter is asked, and what the monitor is told of what is sent
-
-  pub asked_of_message : (in_time : Bool) (due : Option Message) (is_sent : Bool) (octets : List ℕ)
-      (before after : T) → IsSent due is_sent octets → is_sent ≡ true
-      → permits before in_time after → AsksWaiter parts is_told permits due before in_time after
-  asked_of_message in_time None is_sent octets before after (unsent, none) is_true permitted =
-      let clash : true ≡ false = sym is_true ∙ unsent in absurd cc
-  asked_of_message in_time (Some m) is_sent octets before after sends is_true permitted = permitted
-
-  pub asked_nothing_if_unsent : (in_time : Bool) (due : Option Message) (is_sent : Bool)
-      (octets : List ℕ) (before : T) → IsSent due is_sent octets → is_sent ≡ false
-      → AsksWaiter parts is_told permits due before in_time before
-  asked_nothing_if_unsent in_time None is_sent octets before sends is_false = refl
-  asked_nothing_if_unsent in_time (Some m) is_sent octets before (was_sent, is, message) is_false =
-      let clash : true ≡ false = sym was_sent ∙ is_false in absurd cc
-
-  pub told_of_message : (in_time : Bool) (due : Option Message) (is_sent : Bool) (octets : List ℕ)
-      (station : S) (before : M) (result : Result Bool LiveError) (after : M)
-      → IsSent due is_sent octets → is_sent ≡ true
-      → is_told before station (sent_if_in_time in_time octets) result after
-      → TellsSent parts is_told permits in_time due station before result after
-  told_of_message in_time None is_sent octets station before result after (unsent, none) is_true
-      told =
-      let clash : true ≡ false = sym is_true ∙ unsent in absurd cc
-  told_of_message in_time (Some m) is_sent octets station before result after
-      (was_sent, is, message) is_true told =
-      subst (λ (o : List ℕ). is_told before station (sent_if_in_time in_time o) result after) is told
-
-  pub told_nothing_if_unsent : (in_time : Bool) (due : Option Message) (is_sent : Bool)
-      (octets : List ℕ) (station : S) (before : M) → IsSent due is_sent octets → is_sent ≡ false
-      → TellsSent parts is_told permits in_time due station before (Ok true) before
-  told_nothing_if_unsent in_time None is_sent octets station before sends is_false = (refl, refl)
-  told_nothing_if_unsent in_time (Some m) is_sent octets station before (was_sent, is, message)
-      is_false =
-      let clash : true ≡ false = sym was_sent ∙ is_false in absurd cc
 
   -- ---- an answer, by what the monitor returned
 
@@ -119,3 +65,49 @@ module _ {S R W F M T : Type 0} (parts : ConnectionParts R W F)
           happens = refl;
         },
       )
+
+  -- It accepted it, and there is no answer.
+  pub replies_none : (told : Result Bool LiveError) (goes_on : Bool) → told ≡ Ok goes_on
+      → (answer : Option Message) → answer ≡ None → (station : S) (now : Now) (waiter : T)
+      → (happened : List Happening)
+      × Replies parts is_told permits told answer station now waiter happened (Ok goes_on) now waiter
+  replies_none told goes_on is answer none station now waiter =
+      replies_if_accepted told goes_on is true answer station now now waiter waiter (Ok true)
+      (Ok goes_on)
+      (subst (λ (a : Option Message). AsksWaiter parts is_told permits a waiter true waiter) (sym none)
+      refl)
+      (subst (λ (a : Option Message). SendsAll parts true a now.connections now.connections)
+      (sym none) refl)
+      (subst
+      (λ (a : Option Message).
+      TellsSent parts is_told permits true a station now.monitor (Ok true) now.monitor)
+      (sym none) (refl, refl))
+      refl
+
+  -- It accepted it, and there is an answer.
+  pub replies_message : (told : Result Bool LiveError) (goes_on : Bool) → told ≡ Ok goes_on
+      → (in_time : Bool) (answer : Option Message) (m : Message) → answer ≡ Some m
+      → (octets : List ℕ) → octets ≡ wire m → (station : S) (old new : Now) (before after : T)
+      (later result : Result Bool LiveError) → permits before in_time after
+      → WritesIfInTime parts in_time octets old.connections new.connections
+      → is_told old.monitor station (sent_if_in_time in_time octets) later new.monitor
+      → result ≡ both_go_on (Ok goes_on) later
+      → (happened : List Happening)
+      × Replies parts is_told permits told answer station old before happened result new after
+  replies_message told goes_on is in_time answer m some octets same station old new before after
+      later result permitted writes told_of result_is =
+      replies_if_accepted told goes_on is in_time answer station old new before after later result
+      (subst (λ (a : Option Message). AsksWaiter parts is_told permits a before in_time after)
+      (sym some) permitted)
+      (subst (λ (a : Option Message). SendsAll parts in_time a old.connections new.connections)
+      (sym some)
+      (subst (λ (o : List ℕ). WritesIfInTime parts in_time o old.connections new.connections) same
+      writes))
+      (subst
+      (λ (a : Option Message).
+      TellsSent parts is_told permits in_time a station old.monitor later new.monitor)
+      (sym some)
+      (subst
+      (λ (o : List ℕ). is_told old.monitor station (sent_if_in_time in_time o) later new.monitor)
+      same told_of))
+      result_is

@@ -9,11 +9,11 @@ use Rattle.bsc_connections.specs.Histories.{WasWithheld}
 
 -- What a note tells.
 abbrev pub told_by : Note → Happening
-told_by (Heard connection octets) = WasHeard connection octets.now
-told_by (Ignored connection octets) = WasIgnored connection octets.now
+told_by (Heard connection transmission) = WasHeard connection transmission.now
+told_by (Ignored connection transmission) = WasIgnored connection transmission.now
 told_by Silence = WasSilent
-told_by (Sent octets) = WasSent octets.now
-told_by (Withheld octets) = WasWithheld octets.now
+told_by (Sent transmission) = WasSent transmission.now
+told_by (Withheld transmission) = WasWithheld transmission.now
 told_by (Joined connection peer replaces) = HasJoined connection peer replaces
 told_by (Refused peer why) = WasRefused peer why
 told_by (Closed connection peer why) = HasClosed connection peer why

@@ -11,10 +11,11 @@ ghost use Rattle.bsc_connections.specs.Attending.{first_closed, first_untold, ha
 use crate::reached::is_any_reached;
 use crate::replying::reply;
 use crate::{
-    Awaited, Connection, Framing, Handled, LiveError, Monitor, Note, Refusal, Taken, Waiter,
+    Awaited, Connection, Decoded, Framing, Handled, LiveError, Monitor, Note, Refusal, Taken,
+    Waiter,
 };
 use bsc_bid::Station;
-use bsc_frame::Wire;
+use bsc_frame::{MessageBuffer, TextBuffer};
 use std::io::{Read, Write};
 
 /// Attends a station over these connections until the monitor ends it. The station hears each
@@ -288,23 +289,32 @@ fn arrive_at<
         }) }
     ensures ended { IfOk result (λ goes_on. goes_on ≡ false → M.has_ended monitor.new ≡ true) }
 {
-    let octets = connections[connection].octets();
-    if !monitor.admits(station, connection, octets) {
-        return monitor.note(station, Note::Ignored { connection, octets });
+    let mut buffer = TextBuffer::new();
+    let transmission = &Decoded::new(connections[connection].octets(), &mut buffer);
+    if !monitor.admits(station, connection, transmission) {
+        let ignored = Note::Ignored {
+            connection,
+            transmission,
+        };
+        return monitor.note(station, ignored);
     }
-    let mut wire = Wire::new();
-    let is_sent = station.hear(octets, &mut wire);
-    let told = monitor.note(station, Note::Heard { connection, octets });
-    let result = reply(station, connections, told, is_sent, &wire, waiter, monitor);
-    waiter.handled(handled_at(connection, is_sent), monitor.pace());
+    let mut answer = MessageBuffer::new();
+    station.answer(transmission.heard(), &mut answer);
+    let heard = Note::Heard {
+        connection,
+        transmission,
+    };
+    let told = monitor.note(station, heard);
+    let result = reply(station, connections, told, &answer, waiter, monitor);
+    waiter.handled(handled_at(connection, &answer), monitor.pace());
     result
 }
 
-/// Returns what a station has handled that heard a transmission at this place.
-fn handled_at(connection: usize, is_answered: bool) -> Handled
-    ensures { result ≡ handled_if is_answered connection }
+/// Returns what a station has handled that heard a transmission at this place, by its answer.
+fn handled_at(connection: usize, answer: &MessageBuffer) -> Handled
+    ensures { result ≡ handled_if (is_some answer.now) connection }
 {
-    if is_answered {
+    if answer.is_some() {
         Handled::Answered { connection }
     } else {
         Handled::Unanswered { connection }
@@ -388,10 +398,10 @@ fn silence<
         }) }
     ensures ended { IfOk result (λ goes_on. goes_on ≡ false → M.has_ended monitor.new ≡ true) }
 {
-    let mut wire = Wire::new();
-    let is_sent = station.silence(&mut wire);
+    let mut answer = MessageBuffer::new();
+    station.act(&mut answer);
     let told = monitor.note(station, Note::Silence);
-    let result = reply(station, connections, told, is_sent, &wire, waiter, monitor);
+    let result = reply(station, connections, told, &answer, waiter, monitor);
     waiter.handled(Handled::Silence, monitor.pace());
     result
 }

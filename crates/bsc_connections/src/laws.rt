@@ -16,9 +16,9 @@ use crate::{Framing, Gaps, Monitor, SocketRecords, Waiter};
 use bsc_bid::Station;
 use std::io::{Read, Write};
 
-/// However a transmission is divided into pieces that arrive without a gap, the next gap, or the
-/// end of the input, ends a transmission of the first 2,049 of their octets: all of them if there
-/// are at most 2,048, else octets that are heard as noise.
+/// However a transmission is divided into pieces that arrive without a gap, the next gap ends a
+/// transmission of the first 2,049 of their octets: all of them if there are at most 2,048, else
+/// octets that are heard as noise.
 pub fn gaps()
     ensures ended { (old new : GapsValue) (pieces : List (List ℕ)) (ended : Bool)
         → ArriveBetweenGaps old pieces ended new → EndsAll old pieces ended new }

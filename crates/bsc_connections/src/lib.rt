@@ -12,6 +12,7 @@
 mod attending;
 mod awaited;
 mod connection;
+mod decoded;
 mod framing;
 mod gaps;
 pub mod laws;
@@ -24,6 +25,7 @@ mod socket_records;
 pub use attending::{attend, step};
 pub use awaited::{Awaited, Handled, LiveError, Pace, Waiter};
 pub use connection::{Connection, Taken};
+pub use decoded::Decoded;
 pub use framing::Framing;
 pub use gaps::Gaps;
 pub use monitor::{Monitor, Note, Refusal};

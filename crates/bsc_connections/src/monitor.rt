@@ -6,7 +6,7 @@ ghost use Rattle.bsc_connections.specs.declared.awaited.Pace.{Pace as PaceValue}
 ghost use Rattle.bsc_connections.specs.Histories.{Happening};
 ghost use Rattle.bsc_connections.specs.Notes.{told_by};
 
-use crate::{LiveError, Pace};
+use crate::{Decoded, LiveError, Pace};
 use bsc_carrier::CarrierError;
 use std::net::SocketAddr;
 use thiserror::Error;
@@ -30,33 +30,33 @@ pub enum Refusal {
 
 /// What happened. A monitor is told of it after the station has acted, and before the station's
 /// answer is sent.
-#[derive(Clone, Copy, Debug)]
+#[derive(Clone, Copy)]
 pub enum Note<'a> {
-    /// These octets were heard on the connection at this place.
+    /// This was heard on the connection at this place.
     Heard {
         connection: usize,
-        octets: &'a [u8],
+        transmission: &'a Decoded<'a>,
     },
 
-    /// These octets arrived on the connection at this place, and the station did not hear them,
-    /// since the monitor did not admit them.
+    /// This arrived on the connection at this place, and the station did not hear it, since the
+    /// monitor did not admit it.
     Ignored {
         connection: usize,
-        octets: &'a [u8],
+        transmission: &'a Decoded<'a>,
     },
 
     /// A time-out has passed.
     Silence,
 
-    /// These octets were sent on every open connection. The monitor is told of them after that.
+    /// This was sent on every open connection. The monitor is told of it after that.
     Sent {
-        octets: &'a [u8],
+        transmission: &'a Decoded<'a>,
     },
 
-    /// These octets were not sent, since the waiter says that they would be late. To the peers that
-    /// is as if they had been lost on the way. The monitor is told in place of `Sent`.
+    /// This was not sent, since the waiter says that it would be late. To the peers that is as if
+    /// it had been lost on the way. The monitor is told in place of `Sent`.
     Withheld {
-        octets: &'a [u8],
+        transmission: &'a Decoded<'a>,
     },
 
     /// This peer took the connection at this place. `replaces` tells whether the connection was
@@ -116,8 +116,8 @@ pub trait Monitor<S> {
 
     /// Returns whether the station hears this transmission, which arrived on the connection at this
     /// place. One that is not admitted is not heard; the monitor is told of it.
-    fn admits(&self, station: &S, connection: usize, octets: &[u8]) -> bool
-        ensures { result ≡ admits self.now station.now connection octets.now };
+    fn admits(&self, station: &S, connection: usize, transmission: &Decoded<'_>) -> bool
+        ensures { result ≡ admits self.now station.now connection transmission.now };
 
     /// Returns whether the peer of the connection at this place may answer what the station has
     /// sent last. It may not if the station knows that it awaits the answer of another peer.

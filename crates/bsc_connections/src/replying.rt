@@ -1,16 +1,15 @@
 //! Sends what a station answers, or withholds it.
 
-ghost use Rattle.std.specs.Prelude.{◌≡◌, Bool, IfOk, List, Option, false, not, true};
+ghost use Rattle.std.specs.Prelude.{◌≡◌, Bool, IfOk, List, false, not, true};
 ghost use Rattle.std.specs.List.{AllZip};
-ghost use Rattle.bsc_bid.specs.Station.{IsSent};
-ghost use Rattle.bsc_frame.specs.declared.message.Message.{Message};
 ghost use Rattle.bsc_connections.specs.Parts.{connection_parts};
 ghost use Rattle.bsc_connections.specs.Connections.{Sends};
 ghost use Rattle.bsc_connections.specs.Histories.{Happening, sent_if_in_time};
 ghost use Rattle.bsc_connections.specs.Attending.{Replies, WritesIfInTime};
 
-use crate::{Connection, Framing, LiveError, Monitor, Note, Waiter};
+use crate::{Connection, Decoded, Framing, LiveError, Monitor, Note, Waiter};
 use bsc_bid::Station;
+use bsc_frame::{MessageBuffer, Wire, encode};
 use std::io::{Read, Write};
 
 /// Writes a transmission to every open connection.
@@ -38,23 +37,23 @@ fn send_in_time<
 >(
     station: &S,
     connections: &mut [Connection<R, W, F>],
-    octets: &[u8],
+    transmission: &Decoded<'_>,
     waiter: &mut T,
     monitor: &mut M,
 ) -> Result<bool, LiveError>
     ensures sends { (in_time : Bool) × T.permits waiter.old in_time waiter.new
-        × WritesIfInTime (connection_parts R.Read W.Write F.Framing) in_time octets.now
+        × WritesIfInTime (connection_parts R.Read W.Write F.Framing) in_time transmission.now
         connections.old connections.new
-        × M.is_told monitor.old station.now (sent_if_in_time in_time octets.now) result
+        × M.is_told monitor.old station.now (sent_if_in_time in_time transmission.now) result
         monitor.new }
     ensures answer { IfOk result (λ goes_on. goes_on ≡ not (M.has_ended monitor.new)) }
     ensures kept { M.has_ended monitor.old ≡ true → M.has_ended monitor.new ≡ true }
 {
     if !waiter.may_send() {
-        return monitor.note(station, Note::Withheld { octets });
+        return monitor.note(station, Note::Withheld { transmission });
     }
-    send_all(connections, octets);
-    monitor.note(station, Note::Sent { octets })
+    send_all(connections, transmission.octets());
+    monitor.note(station, Note::Sent { transmission })
 }
 
 /// Sends the answer of the station, if there is one, the monitor has accepted what happened, and it
@@ -71,15 +70,13 @@ pub(crate) fn reply<
     station: &S,
     connections: &mut [Connection<R, W, F>],
     told: Result<bool, LiveError>,
-    is_sent: bool,
-    octets: &[u8],
+    answer: &MessageBuffer,
     waiter: &mut T,
     monitor: &mut M,
 ) -> Result<bool, LiveError>
     requires { IfOk told (λ goes_on. goes_on ≡ false → M.has_ended monitor.old ≡ true) }
-    ensures replies { (answer : Option Message) → IsSent answer is_sent octets.now
-        → (happened : List Happening)
-        × Replies (connection_parts R.Read W.Write F.Framing) M.is_told T.permits told answer
+    ensures replies { (happened : List Happening)
+        × Replies (connection_parts R.Read W.Write F.Framing) M.is_told T.permits told answer.now
         station.now (record { connections = connections.old; monitor = monitor.old }) waiter.old
         happened result (record { connections = connections.new; monitor = monitor.new })
         waiter.new }
@@ -89,10 +86,13 @@ pub(crate) fn reply<
         Ok(goes_on) => goes_on,
         Err(error) => return Err(error),
     };
-    if !is_sent {
+    let Some(message) = answer.message() else {
         return Ok(goes_on);
-    }
-    match send_in_time(station, connections, octets, waiter, monitor) {
+    };
+    let mut wire = Wire::new();
+    encode(&message, &mut wire);
+    let transmission = &Decoded::sent(message, &wire);
+    match send_in_time(station, connections, transmission, waiter, monitor) {
         Ok(goes_on_later) => Ok(goes_on_later && goes_on),
         Err(error) => Err(error),
     }

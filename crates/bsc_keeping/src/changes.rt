@@ -119,14 +119,14 @@ fn add_arrived<A: Allocator>(
 /// Adds what has changed of a channel on which the station receives.
 fn add_received<P: Party, V: Prints>(
     station: &P,
-    watch: &V,
+    printer: &V,
     end: &Receiving,
     step: &mut Vec<Change>,
 ) -> Result<(), StoreFault>
     ensures { OnOk result (step.new.items ≡ step.old.items
-        ++ receiving_changes P.Party station.now (V.printed watch.now) end.now) }
+        ++ receiving_changes P.Party station.now (V.printed printer.now) end.now) }
 {
-    add_printed(end, watch.printed(end.number), step)?;
+    add_printed(end, printer.printed(end.number), step)?;
     if end.number < station.spools() {
         let received = station.received(end.number);
         return add_arrived(end, received.records, step);
@@ -152,15 +152,15 @@ fn add_all_known<P: Sends>(
 /// Adds what has changed of the channels on which the station receives.
 fn add_all_received<P: Party, V: Prints>(
     station: &P,
-    watch: &V,
+    printer: &V,
     ends: &[Receiving],
     step: &mut Vec<Change>,
 ) -> Result<(), StoreFault>
     ensures { OnOk result (step.new.items ≡ step.old.items ++ flat_map
-        (receiving_changes P.Party station.now (V.printed watch.now)) ends.now) }
+        (receiving_changes P.Party station.now (V.printed printer.now)) ends.now) }
 {
     'ends: for end in ends {
-        add_received(station, watch, end, step)?;
+        add_received(station, printer, end, step)?;
     }
     Ok(())
 }
@@ -170,16 +170,16 @@ fn add_all_received<P: Party, V: Prints>(
 pub(crate) fn changes_since<P: Party + Sends, V: Prints>(
     alloc: Global,
     station: &P,
-    watch: &V,
+    printer: &V,
     sending: &[Sending],
     receiving: &[Receiving],
 ) -> Result<Vec<Change>, StoreFault>
     ensures { IfOk result (λ step. step.items
-        ≡ changes_of P.Party station.now (V.printed watch.now) P.kept_at sending.now
+        ≡ changes_of P.Party station.now (V.printed printer.now) P.kept_at sending.now
         receiving.now) }
 {
     let mut step = Vec::new(alloc);
     add_all_known(station, sending, &mut step)?;
-    add_all_received(station, watch, receiving, &mut step)?;
+    add_all_received(station, printer, receiving, &mut step)?;
     Ok(step)
 }

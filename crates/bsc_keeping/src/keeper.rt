@@ -105,12 +105,12 @@ impl<K: Store + Drop> Keeper<K> {
     pub fn keep<P: Party + Sends, V: Prints>(
         &mut self,
         station: &P,
-        watch: &V,
+        printer: &V,
     ) -> Result<(), StoreFault>
-        ensures { KeepsStep P.Party P.kept_at K.Store (V.printed watch.now) station.now result
+        ensures { KeepsStep P.Party P.kept_at K.Store (V.printed printer.now) station.now result
             self.old self.new }
     {
-        let kept = self.keep_step(station, watch);
+        let kept = self.keep_step(station, printer);
         if let Err(fault) = kept {
             self.fault = Some(fault);
         }
@@ -121,20 +121,20 @@ impl<K: Store + Drop> Keeper<K> {
     fn keep_step<P: Party + Sends, V: Prints>(
         &mut self,
         station: &P,
-        watch: &V,
+        printer: &V,
     ) -> Result<(), StoreFault>
-        ensures commits { Commits K.Store (step_of P.Party P.kept_at K.Store (V.printed watch.now)
+        ensures commits { Commits K.Store (step_of P.Party P.kept_at K.Store (V.printed printer.now)
             station.now self.old) result self.old.store self.new.store }
         ensures sending { OnOk result (self.new.sending.items
             ≡ sending_now P.kept_at station.now self.old.sending.items) }
         ensures receiving { OnOk result (self.new.receiving.items
-            ≡ receiving_now P.Party station.now (V.printed watch.now)
+            ≡ receiving_now P.Party station.now (V.printed printer.now)
             self.old.receiving.items) }
     {
-        let step = changes_since(self.alloc, station, watch, &self.sending, &self.receiving)?;
+        let step = changes_since(self.alloc, station, printer, &self.sending, &self.receiving)?;
         commit(&mut self.store, &step)?;
         advance_sending(station, &mut self.sending);
-        advance_receiving(station, watch, &mut self.receiving);
+        advance_receiving(station, printer, &mut self.receiving);
         Ok(())
     }
 }
@@ -179,22 +179,22 @@ fn arrived_on<P: Party>(station: &P, number: usize) -> usize
 }
 
 /// Sets what is kept of a channel on which the station receives.
-fn receive<P: Party, V: Prints>(station: &P, watch: &V, end: &mut Receiving)
-    ensures { end.new ≡ received_now end.old (V.printed watch.now end.old.number)
-        (records_of P.Party station.now (V.printed watch.now) end.old.number) }
+fn receive<P: Party, V: Prints>(station: &P, printer: &V, end: &mut Receiving)
+    ensures { end.new ≡ received_now end.old (V.printed printer.now end.old.number)
+        (records_of P.Party station.now (V.printed printer.now) end.old.number) }
 {
     end.arrived = end.arrived.max(arrived_on(station, end.number));
-    if let Some(printed) = watch.printed(end.number) {
+    if let Some(printed) = printer.printed(end.number) {
         end.printed = printed;
     }
 }
 
 /// Sets what is kept of each channel on which the station receives.
-fn advance_receiving<P: Party, V: Prints>(station: &P, watch: &V, ends: &mut Vec<Receiving>)
+fn advance_receiving<P: Party, V: Prints>(station: &P, printer: &V, ends: &mut Vec<Receiving>)
     ensures { ends.new.items
-        ≡ receiving_now P.Party station.now (V.printed watch.now) ends.old.items }
+        ≡ receiving_now P.Party station.now (V.printed printer.now) ends.old.items }
 {
     'ends: for end in ends.iter_mut() {
-        receive(station, watch, end);
+        receive(station, printer, end);
     }
 }

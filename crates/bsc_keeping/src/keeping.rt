@@ -5,7 +5,7 @@ ghost use Rattle.bsc_connections.specs.Notes.{told_by};
 ghost use Rattle.bsc_keeping.specs.Monitors.{KeepsIfStep};
 
 use crate::Keeps;
-use bsc_connections::{LiveError, Monitor, Note, Pace};
+use bsc_connections::{Decoded, LiveError, Monitor, Note, Pace};
 
 /// A monitor that has kept what the station has changed, and then tells another monitor what
 /// happened. If that cannot be kept it refuses the event, so that nothing is sent.
@@ -66,8 +66,8 @@ impl<'a, S, M: Monitor<S>, Q: Keeps<S>> Monitor<S> for Keeping<'a, M, Q> {
         }
     }
 
-    fn admits(&self, station: &S, connection: usize, octets: &[u8]) -> bool {
-        self.watch.admits(station, connection, octets)
+    fn admits(&self, station: &S, connection: usize, transmission: &Decoded<'_>) -> bool {
+        self.watch.admits(station, connection, transmission)
     }
 
     fn may_answer(&self, station: &S, connection: usize) -> bool {

@@ -16,8 +16,8 @@ ghost use Rattle.bsc_monitor.specs.Absences.{with_stranger, with_time_out};
 use crate::attendance::{AbsenceLimits, Attendance, Presence};
 use bsc_bid::limits::MAX_TERMINALS;
 use bsc_carrier::limits::MAX_CONNECTIONS;
-use bsc_connections::Note;
-use bsc_frame::{Heard, Message, Reply, TextBuffer, decode};
+use bsc_connections::{Decoded, Note};
+use bsc_frame::{Heard, Message, Reply};
 use bsc_report::TerminalNews;
 
 /// What an event is to the terminals.
@@ -133,8 +133,8 @@ impl Absences {
     {
         self.time = time;
         match note {
-            Note::Heard { octets, .. } => {
-                self.heard(octets, turn.called);
+            Note::Heard { transmission, .. } => {
+                self.heard(transmission, turn.called);
                 self.visited(turn.ended)
             }
             Note::Silence => {
@@ -161,14 +161,13 @@ impl Absences {
 
     /// Takes note that this was heard while this terminal was called, or none was. Noise is no
     /// answer.
-    fn heard(&mut self, octets: &[u8], called: Option<usize>)
-        ensures { self.new ≡ with_heard self.old called (heard octets.now) }
+    fn heard(&mut self, transmission: &Decoded<'_>, called: Option<usize>)
+        ensures { self.new ≡ with_heard self.old called (heard transmission.now) }
     {
-        let mut buffer = TextBuffer::new();
-        let heard = decode(octets, &mut buffer);
+        let heard = transmission.heard();
         match heard {
             Heard::Noise => {}
-            Heard::Whole(_) | Heard::Failed => self.answer(called, is_nak(&heard)),
+            Heard::Whole(_) | Heard::Failed => self.answer(called, is_nak(heard)),
         }
     }
 

@@ -16,7 +16,7 @@ use crate::progress::Progress;
 use crate::trusting::{Trusting, called_by};
 use crate::watch::{Watch, live};
 use crate::{AbsenceLimits, Limits, Presence, Presences};
-use bsc_connections::{LiveError, Monitor, Note, Pace};
+use bsc_connections::{Decoded, LiveError, Monitor, Note, Pace};
 use bsc_control::{Control, Task};
 use bsc_report::{Calls, Seen, TerminalsTold, unanswered};
 use bsc_station::Party;
@@ -161,9 +161,9 @@ impl<'a, A: Allocator + Copy, T: Timer + Meter + Drop, D: Write, B: Allocator> M
         × (OnOk result (new.answering ≡ answering_after old.answering station happening))
         × (IfErr result IsTraceFault) };
 
-    fn admits(&self, station: &Control<B>, connection: usize, octets: &[u8]) -> bool {
+    fn admits(&self, station: &Control<B>, connection: usize, transmission: &Decoded<'_>) -> bool {
         self.trusting
-            .admits_for(called_by(station), connection, octets)
+            .admits_for(called_by(station), connection, transmission)
     }
 
     fn may_answer(&self, station: &Control<B>, connection: usize) -> bool {

@@ -8,7 +8,7 @@ use crate::trusting::Trusting;
 use crate::watch::{Watch, live};
 use bsc_bid::Station;
 use bsc_bid::limits::MAX_TRIES;
-use bsc_connections::{LiveError, Monitor, Note, Pace};
+use bsc_connections::{Decoded, LiveError, Monitor, Note, Pace};
 use bsc_frame::{Heard, Message, MessageBuffer, Reply};
 use bsc_report::{Calls, Seen};
 use bsc_text::Who;
@@ -145,8 +145,8 @@ impl<'a, A: Allocator + Copy, T: Timer + Meter + Drop, D: Write> Monitor<Ended>
         (trace_of D.contents old.watch) (trace_of D.contents new.watch)))
         × (IfErr result IsTraceFault) };
 
-    fn admits(&self, _station: &Ended, connection: usize, octets: &[u8]) -> bool {
-        self.trusting.admits_last(connection, octets)
+    fn admits(&self, _station: &Ended, connection: usize, transmission: &Decoded<'_>) -> bool {
+        self.trusting.admits_last(connection, transmission)
     }
 
     fn may_answer(&self, _station: &Ended, connection: usize) -> bool {

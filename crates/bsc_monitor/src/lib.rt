@@ -1,6 +1,6 @@
 //! What watches a station of a configured line while `bscline station` runs it: the control station
 //! or one of the terminals. It counts visits and rounds, admits what may be heard, says which
-//! terminals are called, has the records and the trace printed, and ends the run.
+//! terminals are called, has the trace printed, and ends the run.
 //!
 //! Polling and selection are those of GA27-3004. Visits, rounds, absent terminals and the limits of
 //! a run are this project's own.

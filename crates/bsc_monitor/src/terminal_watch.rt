@@ -4,7 +4,7 @@ ghost use Rattle.std.specs.Prelude.{◌≡◌, None, false};
 
 use crate::watch::{Watch, live};
 use bsc_carrier::CarrierError;
-use bsc_connections::{LiveError, Monitor, Note, Pace};
+use bsc_connections::{Decoded, LiveError, Monitor, Note, Pace};
 use bsc_report::{Calls, Seen};
 use bsc_station::{LineTerminal, Party};
 use bsc_text::Who;
@@ -80,7 +80,12 @@ impl<'a, A: Allocator + Copy, T: Timer + Meter + Drop, D: Write, B: Allocator> M
         (trace_of D.contents old.watch) (trace_of D.contents new.watch)))
         × (IfErr result IsTraceFault) };
 
-    fn admits(&self, _station: &LineTerminal<B>, _connection: usize, _octets: &[u8]) -> bool {
+    fn admits(
+        &self,
+        _station: &LineTerminal<B>,
+        _connection: usize,
+        _transmission: &Decoded<'_>,
+    ) -> bool {
         true
     }
 

@@ -8,9 +8,8 @@ ghost use Rattle.bsc_monitor.specs.Trusting.{called_by, distrust_told, is_admitt
 ghost use Rattle.bsc_monitor.specs.Trusting.{address_of, ignoring_told, trust_after};
 ghost use Rattle.bsc_monitor.specs.Trusting.{moved_after, owner_if, place_in, trusting_of};
 
-use bsc_connections::Note;
+use bsc_connections::{Decoded, Note};
 use bsc_control::{Control, Task};
-use bsc_frame::{TextBuffer, decode};
 use bsc_report::{TerminalNews, moved_by};
 use bsc_trust::{Distrust, Trust};
 use std::alloc::Allocator;
@@ -52,20 +51,23 @@ impl Trusting {
     }
 
     /// Returns whether what arrived at this place is heard, if this terminal is called.
-    pub fn admits_for(&self, called: Option<usize>, place: usize, octets: &[u8]) -> bool
-        ensures { result ≡ is_admitted self.now.trust called place octets.now }
+    pub fn admits_for(
+        &self,
+        called: Option<usize>,
+        place: usize,
+        transmission: &Decoded<'_>,
+    ) -> bool
+        ensures { result ≡ is_admitted self.now.trust called place transmission.now }
     {
-        let mut buffer = TextBuffer::new();
-        self.trust
-            .admits(called, place, &decode(octets, &mut buffer))
+        self.trust.admits(called, place, transmission.heard())
     }
 
     /// Returns whether what arrived at this place is heard, if the terminal is called that was
     /// called last.
-    pub fn admits_last(&self, place: usize, octets: &[u8]) -> bool
-        ensures { result ≡ is_admitted self.now.trust self.now.called place octets.now }
+    pub fn admits_last(&self, place: usize, transmission: &Decoded<'_>) -> bool
+        ensures { result ≡ is_admitted self.now.trust self.now.called place transmission.now }
     {
-        self.admits_for(self.called, place, octets)
+        self.admits_for(self.called, place, transmission)
     }
 
     /// Returns whether the peer of the connection at this place may answer what was sent last, if
@@ -94,7 +96,10 @@ impl Trusting {
             ≡ distrust_told self.old.trust self.old.called (told_by note.now) now }
     {
         match note {
-            Note::Heard { connection, octets } => self.hear(*connection, octets, now),
+            Note::Heard {
+                connection,
+                transmission,
+            } => self.hear(*connection, transmission, now),
             Note::Ignored { connection, .. } => self.ignore(*connection),
             Note::Sent { .. } => self.trust.sent(now),
             Note::Withheld { .. } => {
@@ -144,15 +149,14 @@ impl Trusting {
     }
 
     /// Takes note of a transmission that was heard. Returns what is to be told of it.
-    fn hear(&mut self, place: usize, octets: &[u8], now: u64) -> Option<Distrust>
+    fn hear(&mut self, place: usize, transmission: &Decoded<'_>, now: u64) -> Option<Distrust>
         ensures kept { self.new ≡ trusting_of
-            (after_heard self.old.trust self.old.called place (heard octets.now) now)
+            (after_heard self.old.trust self.old.called place (heard transmission.now) now)
             self.old.called }
-        ensures told { result ≡ told_of self.old.trust (heard octets.now) now }
+        ensures told { result ≡ told_of self.old.trust (heard transmission.now) now }
     {
-        let mut buffer = TextBuffer::new();
-        let heard = decode(octets, &mut buffer);
-        self.trust.heard(self.called, place, &heard, now)
+        self.trust
+            .heard(self.called, place, transmission.heard(), now)
     }
 
     /// Takes note of a transmission that was not heard. Returns why, unless that was told of

@@ -11,9 +11,9 @@ ghost use Rattle.bsc_report.specs.Holding.{is_eot, is_poll_end, released};
 
 use crate::trace::{write_note, write_transmission};
 use arrayvec::ArrayVec;
-use bsc_connections::Note;
+use bsc_connections::{Decoded, Note};
 use bsc_frame::limits::MAX_SENT;
-use bsc_frame::{Heard, Message, TextBuffer, decode};
+use bsc_frame::{Heard, Message, TextBuffer};
 use bsc_text::{Fate, PrintError, Who};
 use std::alloc::Allocator;
 use std::io::Write;
@@ -86,27 +86,12 @@ fn is_eot(heard: &Heard<'_>) -> bool
     }
 }
 
-/// Whether these octets are EOT.
-fn are_eot(octets: &[u8]) -> bool
-    ensures { result ≡ is_eot (heard octets.now) }
-{
-    let mut buffer = TextBuffer::new();
-    is_eot(&decode(octets, &mut buffer))
-}
-
-/// Whether these octets are a call.
-fn are_call(octets: &[u8]) -> bool
-    ensures { result ≡ is_call (heard octets.now) }
-{
-    let mut buffer = TextBuffer::new();
-    is_call(&decode(octets, &mut buffer))
-}
-
 /// Returns the line of this transmission, to be held back, if it is a call of at most 1,033 octets.
-fn held_call(time: u64, fate: Fate, octets: &[u8]) -> Option<HeldCall>
-    ensures { result ≡ held_if_call time fate octets.now }
+fn held_call(time: u64, fate: Fate, transmission: &Decoded<'_>) -> Option<HeldCall>
+    ensures { result ≡ held_if_call time fate transmission.now }
 {
-    if !are_call(octets) || MAX_SENT < octets.len() {
+    let octets = transmission.octets();
+    if !is_call(transmission.heard()) || MAX_SENT < octets.len() {
         return None;
     }
     let mut own = ArrayVec::new();
@@ -123,8 +108,12 @@ fn held_of(calls: Calls, time: u64, note: &Note<'_>) -> Option<HeldCall>
     ensures { result ≡ held_for calls time (told_by note.now) }
 {
     match note {
-        Note::Heard { octets, .. } if are_heard(calls) => held_call(time, Fate::Heard, octets),
-        Note::Sent { octets } if are_sent(calls) => held_call(time, Fate::Sent, octets),
+        Note::Heard { transmission, .. } if are_heard(calls) => {
+            held_call(time, Fate::Heard, transmission)
+        }
+        Note::Sent { transmission } if are_sent(calls) => {
+            held_call(time, Fate::Sent, transmission)
+        }
         _ => None,
     }
 }
@@ -154,8 +143,8 @@ fn is_poll_end(note: &Note<'_>) -> bool
     ensures { result ≡ is_poll_end (told_by note.now) }
 {
     match note {
-        Note::Heard { octets, .. } => are_eot(octets),
-        Note::Sent { octets } => are_eot(octets),
+        Note::Heard { transmission, .. } => is_eot(transmission.heard()),
+        Note::Sent { transmission } => is_eot(transmission.heard()),
         _ => false,
     }
 }
@@ -171,8 +160,9 @@ pub fn write_held<A: Allocator, W: Write>(
 {
     match held {
         Some(call) => {
-            let octets = call.octets.as_slice();
-            write_transmission(alloc, call.time, Who::Control, call.fate, octets, out)
+            let mut buffer = TextBuffer::new();
+            let call_sent = &Decoded::new(call.octets.as_slice(), &mut buffer);
+            write_transmission(alloc, call.time, Who::Control, call.fate, call_sent, out)
         }
         None => Ok(()),
     }

@@ -15,9 +15,8 @@ ghost use Rattle.bsc_report.specs.Traces.{origin_shown, peer_shown, refusal_show
 ghost use Rattle.bsc_report.specs.Traces.{stopped_line, withheld_line};
 
 use bsc_carrier::{CarrierError, DeviceFault};
-use bsc_connections::{Note, Refusal};
+use bsc_connections::{Decoded, Note, Refusal};
 use bsc_frame::laws::{one_reading, reading};
-use bsc_frame::{TextBuffer, decode};
 use bsc_text::{
     Fate, PrintError, Who, put, write_heard_name, write_octets, write_start, write_time, write_who,
 };
@@ -33,30 +32,29 @@ pub(crate) fn write_transmission<A: Allocator, W: Write>(
     time: u64,
     who: Who,
     fate: Fate,
-    octets: &[u8],
+    transmission: &Decoded<'_>,
     out: &mut W,
 ) -> Result<(), PrintError>
     ensures { OnOk result (Appends (W.contents out.old) (W.contents out.new)
-        (transmission_line time who fate None (heard octets.now) octets.now)) }
+        (transmission_line time who fate None (heard transmission.now) transmission.now)) }
 {
     write_start(time, who, fate, None, out)?;
-    write_content(alloc, octets, out)
+    write_content(alloc, transmission, out)
 }
 
 /// Writes the name of a transmission, its octets and the end of its line.
 fn write_content<A: Allocator, W: Write>(
     alloc: A,
-    octets: &[u8],
+    transmission: &Decoded<'_>,
     out: &mut W,
 ) -> Result<(), PrintError>
     ensures { OnOk result (Appends (W.contents out.old) (W.contents out.new)
-        (name_of (heard octets.now) ++ octets_shown octets.now)) }
+        (name_of (heard transmission.now) ++ octets_shown transmission.now)) }
 {
     one_reading();
     reading();
-    let mut buffer = TextBuffer::new();
-    write_heard_name(&decode(octets, &mut buffer), out)?;
-    write_octets(alloc, octets, out)
+    write_heard_name(transmission.heard(), out)?;
+    write_octets(alloc, transmission.octets(), out)
 }
 
 /// Writes the line for an event of the station `me`: the time in milliseconds, and then the
@@ -73,17 +71,25 @@ pub fn write_note<A: Allocator, W: Write>(
         (IsTraced (told_by note.now) time me (W.contents out.old) (W.contents out.new)) }
 {
     match note {
-        Note::Heard { connection, octets } => {
+        Note::Heard {
+            connection,
+            transmission,
+        } => {
             let who = heard_from(me, *connection);
-            write_transmission(alloc, time, who, Fate::Heard, octets, out)
+            write_transmission(alloc, time, who, Fate::Heard, transmission, out)
         }
-        Note::Ignored { connection, octets } => {
+        Note::Ignored {
+            connection,
+            transmission,
+        } => {
             let who = heard_from(me, *connection);
-            write_transmission(alloc, time, who, Fate::Ignored, octets, out)
+            write_transmission(alloc, time, who, Fate::Ignored, transmission, out)
         }
-        Note::Sent { octets } => write_transmission(alloc, time, me, Fate::Sent, octets, out),
-        Note::Withheld { octets } => {
-            write_transmission(alloc, time, me, Fate::Withheld, octets, out)
+        Note::Sent { transmission } => {
+            write_transmission(alloc, time, me, Fate::Sent, transmission, out)
+        }
+        Note::Withheld { transmission } => {
+            write_transmission(alloc, time, me, Fate::Withheld, transmission, out)
         }
         Note::Silence => write_silence(time, out),
         Note::Stopped => write_stopped(time, out),

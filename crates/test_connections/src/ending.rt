@@ -5,7 +5,7 @@ use crate::meeting::{QUIET, Untold, begin, bound, peer, peers, peers_of};
 use bsc_bid::Station;
 use bsc_carrier::CarrierError;
 use bsc_connections::{
-    Connection, Framing, Gaps, LiveError, Monitor, Note, Pace, SocketRecords, attend,
+    Connection, Decoded, Framing, Gaps, LiveError, Monitor, Note, Pace, SocketRecords, attend,
 };
 use bsc_frame::{Heard, MessageBuffer, Reply};
 use bsc_sockets::{Begun, Listening, Peers};
@@ -74,13 +74,16 @@ impl Records {
 /// Records a note.
 fn tell(told: &mut String, note: &Note<'_>) {
     let _ = match *note {
-        Note::Heard { connection, octets } => {
-            let count = octets.len();
+        Note::Heard {
+            connection,
+            transmission,
+        } => {
+            let count = transmission.octets().len();
             write!(told, "heard {connection} {count}; ")
         }
         Note::Silence => write!(told, "silence; "),
-        Note::Sent { octets } => {
-            let count = octets.len();
+        Note::Sent { transmission } => {
+            let count = transmission.octets().len();
             write!(told, "sent {count}; ")
         }
         Note::Closed {
@@ -121,7 +124,7 @@ impl Monitor<Answers> for Records {
         Ok(!self.has_ended)
     }
 
-    fn admits(&self, _station: &Answers, _connection: usize, _octets: &[u8]) -> bool {
+    fn admits(&self, _station: &Answers, _connection: usize, _transmission: &Decoded<'_>) -> bool {
         true
     }
 

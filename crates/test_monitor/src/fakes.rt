@@ -1,10 +1,13 @@
 //! A scripted connection, a clock that counts, and the watches of stations.
 
 use bsc_bid::Station;
+use bsc_carrier::CarrierError;
 use bsc_connections::{
-    Awaited, Connection, Handled, LiveError, Monitor, Note, Pace, SocketRecords, Waiter, attend,
+    Awaited, Connection, Decoded, Handled, LiveError, Monitor, Note, Pace, Refusal, SocketRecords,
+    Waiter, attend,
 };
 use bsc_control::Control;
+use bsc_frame::TextBuffer;
 use bsc_keeping::{Keeping, Printed};
 use bsc_monitor::{AbsenceLimits, ControlWatch, Limits, TerminalWatch, Watch};
 use bsc_report::{RecordLines, Tracing};
@@ -234,14 +237,106 @@ pub(crate) fn terminal_watch<'a, D: Write>(
     TerminalWatch::new(Watch::new(alloc, tracing, Counting { asked: 0 }, errors))
 }
 
-/// Tells a monitor of these notes.
+/// What a monitor is told of, with the octets of a transmission before they are decoded.
+#[derive(Clone, Copy)]
+pub(crate) enum Event<'a> {
+    Heard {
+        connection: usize,
+        octets: &'a [u8],
+    },
+    Ignored {
+        connection: usize,
+        octets: &'a [u8],
+    },
+    Sent {
+        octets: &'a [u8],
+    },
+    Withheld {
+        octets: &'a [u8],
+    },
+    Silence,
+    Joined {
+        connection: usize,
+        peer: Option<SocketAddr>,
+        replaces: bool,
+    },
+    Refused {
+        peer: Option<SocketAddr>,
+        why: Refusal,
+    },
+    Closed {
+        connection: usize,
+        peer: Option<SocketAddr>,
+        why: Option<CarrierError>,
+    },
+    Stopped,
+}
+
+/// The octets of the transmission of an event, or none.
+fn octets_of<'a>(event: Event<'a>) -> &'a [u8] {
+    match event {
+        Event::Heard { octets, .. } | Event::Ignored { octets, .. } => octets,
+        Event::Sent { octets } | Event::Withheld { octets } => octets,
+        _ => &[],
+    }
+}
+
+/// The note of an event with this transmission.
+fn note_of<'a>(event: Event<'_>, transmission: &'a Decoded<'a>) -> Note<'a> {
+    match event {
+        Event::Heard { connection, .. } => Note::Heard {
+            connection,
+            transmission,
+        },
+        Event::Ignored { connection, .. } => Note::Ignored {
+            connection,
+            transmission,
+        },
+        Event::Sent { .. } => Note::Sent { transmission },
+        Event::Withheld { .. } => Note::Withheld { transmission },
+        Event::Silence => Note::Silence,
+        Event::Joined {
+            connection,
+            peer,
+            replaces,
+        } => Note::Joined {
+            connection,
+            peer,
+            replaces,
+        },
+        Event::Refused { peer, why } => Note::Refused { peer, why },
+        Event::Closed {
+            connection,
+            peer,
+            why,
+        } => Note::Closed {
+            connection,
+            peer,
+            why,
+        },
+        Event::Stopped => Note::Stopped,
+    }
+}
+
+/// Tells a monitor of an event.
+pub(crate) fn tell_event<S, M: Monitor<S>>(
+    station: &S,
+    monitor: &mut M,
+    event: Event<'_>,
+) -> Result<bool, LiveError> {
+    let mut buffer = TextBuffer::new();
+    let transmission = Decoded::new(octets_of(event), &mut buffer);
+    monitor.note(station, note_of(event, &transmission))
+}
+
+/// Tells a monitor of these events.
 pub(crate) fn tell_each<M: Monitor<Control<Global>>>(
     control: &Control<Global>,
     watch: &mut M,
-    notes: &[Note<'_>],
+    events: &[Event<'_>],
 ) -> Result<(), LiveError> {
-    for note in notes {
-        watch.note(control, *note)?;
+    for event in events {
+        tell_event(control, watch, *event)?;
     }
     Ok(())
 }

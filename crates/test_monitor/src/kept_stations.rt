@@ -3,10 +3,11 @@
 
 ghost use Rattle.std.specs.Prelude.{◌≡◌, ◌<◌, IfOk};
 
+use crate::fakes::{Event, tell_event};
 use bsc_bid::Station;
 use bsc_block::Record;
 use bsc_config::{Config, read_config};
-use bsc_connections::{LiveError, Monitor, Note, Pace};
+use bsc_connections::{Decoded, LiveError, Monitor, Note, Pace};
 use bsc_control::Control;
 use bsc_frame::Wire;
 use bsc_keeping::{
@@ -60,7 +61,7 @@ impl<S> Monitor<S> for Quiet {
         Ok(true)
     }
 
-    fn admits(&self, _station: &S, _connection: usize, _octets: &[u8]) -> bool {
+    fn admits(&self, _station: &S, _connection: usize, _transmission: &Decoded<'_>) -> bool {
         true
     }
 
@@ -81,16 +82,6 @@ struct Kept<S: Drop> {
     stored: Stored<Memory, Quiet>,
 }
 
-/// Tells a monitor what happened.
-fn tell<S: Party + Sends>(
-    monitor: Keeping<'_, Quiet, Stored<Memory, Quiet>>,
-    station: &S,
-    note: Note<'_>,
-) -> Result<bool, LiveError> {
-    let mut monitor = monitor;
-    monitor.note(station, note)
-}
-
 impl<S: Station + Party + Sends + Drop> Kept<S> {
     /// Returns the station with its store, at which nothing has happened yet.
     fn new(station: S, keeper: Keeper<Memory>) -> Kept<S> {
@@ -109,24 +100,21 @@ impl<S: Station + Party + Sends + Drop> Kept<S> {
     fn hear(&mut self, octets: &[u8], wire: &mut Wire) -> Result<bool, LiveError> {
         let is_sent = self.station.hear(octets, wire);
         let connection = 0;
-        self.note(Note::Heard { connection, octets })?;
+        self.tell(Event::Heard { connection, octets })?;
         Ok(is_sent)
     }
 
     /// Acts on a silence, and returns whether the wire has something that may be sent.
     fn silence(&mut self, wire: &mut Wire) -> Result<bool, LiveError> {
         let is_sent = self.station.silence(wire);
-        self.note(Note::Silence)?;
+        self.tell(Event::Silence)?;
         Ok(is_sent)
     }
 
-    /// Tells the monitor.
-    fn note(&mut self, note: Note<'_>) -> Result<bool, LiveError> {
-        tell(
-            Keeping::new(&mut self.watch, &mut self.stored),
-            &self.station,
-            note,
-        )
+    /// Tells the monitor what happened.
+    fn tell(&mut self, event: Event<'_>) -> Result<bool, LiveError> {
+        let mut monitor = Keeping::new(&mut self.watch, &mut self.stored);
+        tell_event(&self.station, &mut monitor, event)
     }
 
     /// Keeps a record that is offered to this selection address of this terminal, and returns it.

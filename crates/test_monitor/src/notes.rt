@@ -1,10 +1,10 @@
 //! The lines printed while a station begins, the lines of a trace, and what is said of trust, for
 //! the notes that a watch receives.
 
-use crate::fakes::{control_watch, tell_each, trust_of};
+use crate::fakes::{Event, control_watch, tell_each, trust_of};
 use crate::stations::control_of;
 use bsc_carrier::CarrierError;
-use bsc_connections::{LiveError, Note, Refusal};
+use bsc_connections::{LiveError, Refusal};
 use bsc_control::Control;
 use bsc_monitor::Limits;
 use bsc_report::{Beginning, Tracing, write_trust};
@@ -57,23 +57,23 @@ fn a_station_says_where_it_is_and_for_what_it_waits(rt: HostRuntime) -> Result<(
     Ok(())
 }
 
-/// Notes of a peer with this address, if it is known.
-fn notes_of_peer(peer: Option<SocketAddr>) -> [Note<'static>; 4] {
+/// Events of a peer with this address, if it is known.
+fn events_of_peer(peer: Option<SocketAddr>) -> [Event<'static>; 4] {
     [
-        Note::Joined {
+        Event::Joined {
             connection: 1,
             peer,
             replaces: peer.is_some(),
         },
-        Note::Refused {
+        Event::Refused {
             peer,
             why: Refusal::NotAllowed,
         },
-        Note::Refused {
+        Event::Refused {
             peer,
             why: Refusal::NoPlace,
         },
-        Note::Closed {
+        Event::Closed {
             connection: 1,
             peer,
             why: None,
@@ -81,25 +81,25 @@ fn notes_of_peer(peer: Option<SocketAddr>) -> [Note<'static>; 4] {
     ]
 }
 
-/// Other notes. There are two lines for what is ignored.
-const NOTES: &[Note<'static>] = &[
-    Note::Silence,
-    Note::Sent { octets: EOT },
-    Note::Withheld { octets: ACK1 },
-    Note::Heard {
+/// Other events. There are two lines for what is ignored.
+const EVENTS: &[Event<'static>] = &[
+    Event::Silence,
+    Event::Sent { octets: EOT },
+    Event::Withheld { octets: ACK1 },
+    Event::Heard {
         connection: 0,
         octets: EOT,
     },
-    Note::Ignored {
+    Event::Ignored {
         connection: 1,
         octets: EOT,
     },
-    Note::Refused {
+    Event::Refused {
         peer: None,
         why: Refusal::NotAccepted,
     },
-    Note::Stopped,
-    Note::Closed {
+    Event::Stopped,
+    Event::Closed {
         connection: 0,
         peer: None,
         why: Some(CarrierError::Short),
@@ -131,7 +131,7 @@ fn tell<W: Write>(
     alloc: Global,
     control: &Control<Global>,
     (trace, asked, time_out): Settings,
-    notes: &[&[Note<'_>]],
+    events: &[&[Event<'_>]],
     errors: &mut W,
 ) -> Result<(), LiveError> {
     let limits = Limits {
@@ -141,7 +141,7 @@ fn tell<W: Write>(
     };
     let settings = (trace, limits, asked, time_out);
     let mut watch = control_watch(alloc, control, settings, errors);
-    for list in notes {
+    for list in events {
         tell_each(control, &mut watch, *list)?;
     }
     Ok(())
@@ -156,20 +156,20 @@ const ALL: Settings = (Tracing::All, 0, 1_000);
 fn is_told(
     alloc: Global,
     settings: Settings,
-    notes: &[&[Note<'_>]],
+    events: &[&[Event<'_>]],
     text: &[u8],
 ) -> Result<bool, Fail> {
     let control = control_of(alloc, TWO_TERMINALS)?;
     let mut told = Vec::new(alloc);
-    tell(alloc, &control, settings, notes, &mut told)?;
+    tell(alloc, &control, settings, events, &mut told)?;
     Ok(told.as_slice() == text)
 }
 
 #[test]
 fn a_trace_has_a_line_for_each_note(rt: HostRuntime) -> Result<(), Fail> {
-    let (strangers, peers) = (notes_of_peer(None), notes_of_peer(Some(address())));
-    let notes: &[&[Note<'static>]] = &[NOTES, &strangers, &peers];
-    assert!(rt; is_told(rt.alloc(), ALL, notes, TRACE)?);
+    let (strangers, peers) = (events_of_peer(None), events_of_peer(Some(address())));
+    let events: &[&[Event<'static>]] = &[EVENTS, &strangers, &peers];
+    assert!(rt; is_told(rt.alloc(), ALL, events, TRACE)?);
     Ok(())
 }
 
@@ -177,57 +177,57 @@ fn a_trace_has_a_line_for_each_note(rt: HostRuntime) -> Result<(), Fail> {
 #[test]
 fn a_line_of_a_trace_that_is_not_taken_is_told(rt: HostRuntime) -> Result<(), Fail> {
     let control = control_of(rt.alloc(), TWO_TERMINALS)?;
-    for left in 0..NOTES.len() {
-        let told = tell(rt.alloc(), &control, ALL, &[NOTES], &mut Full { left });
+    for left in 0..EVENTS.len() {
+        let told = tell(rt.alloc(), &control, ALL, &[EVENTS], &mut Full { left });
         assert!(rt; matches!(told, Err(LiveError::Output)), "{left}");
     }
     Ok(())
 }
 
-const CALLED: Note<'static> = Note::Sent {
+const CALLED: Event<'static> = Event::Sent {
     octets: CALL_POLL_A,
 };
 
 /// What a terminal sends: noise, a text, and ENQ.
-const NOTHING: Note<'static> = Note::Heard {
+const NOTHING: Event<'static> = Event::Heard {
     connection: 0,
     octets: NOISE,
 };
 
-const TEXT: Note<'static> = Note::Heard {
+const TEXT: Event<'static> = Event::Heard {
     connection: 0,
     octets: TEXT_HI,
 };
 
-const ASKED: Note<'static> = Note::Heard {
+const ASKED: Event<'static> = Event::Heard {
     connection: 0,
     octets: ENQ,
 };
 
-const REPLIED: Note<'static> = Note::Sent { octets: ACK1 };
+const REPLIED: Event<'static> = Event::Sent { octets: ACK1 };
 
 /// The text arrives three milliseconds after the poll.
-const LATE_ANSWER: &[Note<'static>] = &[CALLED, NOTHING, NOTHING, TEXT];
+const LATE_ANSWER: &[Event<'static>] = &[CALLED, NOTHING, NOTHING, TEXT];
 
 /// The reply to the text is sent three milliseconds after it was heard.
-const LATE_REPLY: &[Note<'static>] = &[CALLED, TEXT, NOTHING, NOTHING, REPLIED];
+const LATE_REPLY: &[Event<'static>] = &[CALLED, TEXT, NOTHING, NOTHING, REPLIED];
 
 /// The same reply is withheld. The terminal repeats itself, and the reply to that is sent.
-const WITHHELD_REPLY: &[Note<'static>] = &[
+const WITHHELD_REPLY: &[Event<'static>] = &[
     CALLED,
     TEXT,
     NOTHING,
     NOTHING,
-    Note::Withheld { octets: ACK1 },
+    Event::Withheld { octets: ACK1 },
     ASKED,
     REPLIED,
 ];
 
-const SILENCE: &[Note<'static>] = &[Note::Silence];
+const SILENCE: &[Event<'static>] = &[Event::Silence];
 
 /// What happens at a control station, and what is told of it: a line of a trace has its time after
 /// years, and without a trace what is late is told. The times are those of the clock.
-const TIMED: &[(Settings, &[Note<'static>], &str)] = &[
+const TIMED: &[(Settings, &[Event<'static>], &str)] = &[
     ((Tracing::All, 65_535, 1_000), SILENCE, "+65536 silence\n"),
     (
         (Tracing::All, 4_294_967_295, 1_000),
@@ -260,8 +260,8 @@ const TIMED: &[(Settings, &[Note<'static>], &str)] = &[
 
 #[test]
 fn lines_have_their_times_and_what_is_late_is_told(rt: HostRuntime) -> Result<(), Fail> {
-    for (settings, notes, text) in TIMED {
-        let is_right = is_told(rt.alloc(), *settings, &[*notes], text.as_bytes())?;
+    for (settings, events, text) in TIMED {
+        let is_right = is_told(rt.alloc(), *settings, &[*events], text.as_bytes())?;
         assert!(rt; is_right, "{text}");
     }
     Ok(())

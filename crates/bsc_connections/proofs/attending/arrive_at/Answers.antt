@@ -1,10 +1,9 @@
 -- `arrive_at` tells the monitor what the station heard, and sends what it answers if the monitor
 -- accepts; or it tells the monitor of what the station did not hear.
 use Rattle.std.proofs.Common.{◌≡◌, ℕ, Bool, true, false, List, [], ◌∷◌, Option, None, Some, get_or}
-use Rattle.std.proofs.Common.{refl, sym, subst, ◌∙◌, ap}
+use Rattle.std.proofs.Common.{rules, refl, sym, subst, is_some, ◌∙◌, ap}
 use Rattle.std.proofs.lemmas.Option.{slice_get-get_or}
 use Rattle.bsc_frame.specs.Spells.{IsHeardAs}
-use Rattle.bsc_bid.specs.Station.{IsSent}
 use Rattle.bsc_frame.specs.declared.message.Message.{Message}
 use Rattle.bsc_connections.specs.Parts.{session_parts}
 use Rattle.bsc_connections.specs.Attending.{handled_by, handled_if, HearsIfAdmitted}
@@ -19,22 +18,20 @@ admits_same : (admits : List ℕ → Bool) (said flag : Bool) (told octets : Lis
 admits_same admits said flag told octets is by same = sym is ∙ by ∙ ap admits same
 
 -- The waiter is told that the station answered exactly if there is an answer.
-answered_if_sent : (answer : Option Message) (is_sent : Bool) (sent heard : List ℕ) (place : ℕ)
-    → IsSent answer is_sent sent
-    → handled_if is_sent place ≡ handled_by (WasHeard place heard) answer
-answered_if_sent None is_sent sent heard place (unsent, none) =
-    ap (λ (b : Bool). handled_if b place) unsent
-answered_if_sent (Some m) is_sent sent heard place (was_sent, is, message) =
-    ap (λ (b : Bool). handled_if b place) was_sent
+answered_if_some : (answer : Option Message) (heard : List ℕ) (place : ℕ)
+    → handled_if (is_some answer) place ≡ handled_by (WasHeard place heard) answer
+answered_if_some None heard place = refl
+answered_if_some (Some m) heard place = refl
 
 pub returns-then-not-admits-clause-arrives : goal.returns-then-not-admits-clause-arrives
 returns-then-not-admits-clause-arrives g c =
     let place : ℕ = c.args.connection in
     let here = get_or c.args.connections.now place c.index-connections-connection.result in
     let octets : List ℕ = g.F.Framing.last here.framing in
+    let same : c.new.result ≡ octets = search rules in
     let refused : false ≡ g.M.Monitor.admits c.args.monitor.now c.args.station.now place octets =
     admits_same (g.M.Monitor.admits c.args.monitor.now c.args.station.now place) c.admits.result
-    false _ octets c.if-not-admits.true c.admits.ensures c.octets-octets.ensures in (
+    false _ octets c.if-not-admits.true c.admits.ensures same in (
       WasIgnored place octets ∷ [],
       record {
         connection = here;
@@ -63,7 +60,7 @@ returns-then-not-admits-clause-arrives g c =
                 refl,
                 subst (λ (o : List ℕ). g.M.Monitor.is_told c.args.monitor.now
                     c.args.station.now (WasIgnored place o) c.note.result c.note.new.self)
-                    c.octets-octets.ensures c.note.ensures.told,
+                    same c.note.ensures.told,
               ),
               refl,
             );
@@ -75,12 +72,13 @@ returns-clause-arrives g c =
     let place : ℕ = c.args.connection in
     let here = get_or c.args.connections.now place c.index-connections-connection.result in
     let octets : List ℕ = g.F.Framing.last here.framing in
+    let same : c.new.result ≡ octets = search rules in
     let admitted : true ≡ g.M.Monitor.admits c.args.monitor.now c.args.station.now place octets =
     admits_same (g.M.Monitor.admits c.args.monitor.now c.args.station.now place) c.admits.result
-    true _ octets c.if-not-admits.false c.admits.ensures c.octets-octets.ensures in
-    let (heard, (is, (answer, heeds, sends))) = c.hear-is_sent.ensures in
-    let (later, replies) = c.reply-result.ensures.replies answer
-    (subst (λ (o : List ℕ). IsSent answer c.hear-is_sent.result o) (sym c.deref.ensures.0) sends) in (
+    true _ octets c.if-not-admits.false c.admits.ensures same in
+    let answer = c.answer.new.sent in
+    let heard = c.heard.result.now in
+    let (later, replies) = c.reply-result.ensures.replies in (
       WasHeard place octets ∷ later,
       record {
         connection = here;
@@ -98,7 +96,7 @@ returns-clause-arrives g c =
             })
             (WasHeard place octets ∷ later) c.reply-result.result
             (record {
-              station = c.hear-is_sent.new.self;
+              station = c.answer.new.self;
               connections = c.reply-result.new.connections;
               monitor = c.reply-result.new.monitor;
               waiter = c.handled.new.self;
@@ -106,14 +104,14 @@ returns-clause-arrives g c =
             (record {
               heard = heard;
               answer = answer;
-              is_heard = subst (λ (o : List ℕ). IsHeardAs o heard) c.octets-octets.ensures is;
-              heeds = heeds;
+              is_heard = subst (λ (o : List ℕ). IsHeardAs o heard) same c.heard.ensures.spelled;
+              heeds = c.answer.ensures;
               answers = record {
                 told = c.note-told.result;
                 monitor = c.note-told.new.self;
                 tells = subst (λ (o : List ℕ). g.M.Monitor.is_told c.args.monitor.now
-                    c.hear-is_sent.new.self (WasHeard place o) c.note-told.result
-                    c.note-told.new.self) c.octets-octets.ensures c.note-told.ensures.told;
+                    c.answer.new.self (WasHeard place o) c.note-told.result
+                    c.note-told.new.self) same c.note-told.ensures.told;
                 waiter = c.reply-result.new.waiter;
                 later = later;
                 replies = replies;
@@ -123,7 +121,7 @@ returns-clause-arrives g c =
                     (g.M.Monitor.paces c.reply-result.new.monitor)
                     c.handled.new.self)
                     (c.handled_at.ensures
-                    ∙ answered_if_sent answer c.hear-is_sent.result _ octets place sends)
+                    ∙ answered_if_some answer octets place)
                     (subst (λ (pace : Pace). g.T.Waiter.handles c.reply-result.new.waiter
                     c.handled_at.result pace c.handled.new.self) c.pace.ensures
                     c.handled.ensures);

@@ -1,6 +1,5 @@
 -- `silence` tells the monitor, and sends what the station answers if the monitor accepts.
-use Rattle.std.proofs.Common.{ℕ, List, ◌∷◌, refl, sym, subst}
-use Rattle.bsc_bid.specs.Station.{IsSent}
+use Rattle.std.proofs.Common.{◌∷◌, refl, subst}
 use Rattle.bsc_connections.specs.declared.awaited.Handled.TheVariants.{Silence}
 use Rattle.bsc_connections.specs.declared.awaited.Pace.{Pace}
 use Rattle.bsc_connections.specs.Histories.{WasSilent}
@@ -8,13 +7,11 @@ use Rattle.bsc_connections.proofs.attending.silence.Goals as goal
 
 pub returns-clause-silent : goal.returns-clause-silent
 returns-clause-silent g c =
-    let (answer, acted, sends) = c.silence-is_sent.ensures in
-    let (later, replies) = c.reply-result.ensures.replies answer
-    (subst (λ (o : List ℕ). IsSent answer c.silence-is_sent.result o) (sym c.deref.ensures.0) sends) in (
+    let (later, replies) = c.reply-result.ensures.replies in (
       WasSilent ∷ later,
       record {
-        answer = answer;
-        acted = acted;
+        answer = c.act.new.sent;
+        acted = c.act.ensures;
         answers = record {
           told = c.note-told.result;
           monitor = c.note-told.new.self;

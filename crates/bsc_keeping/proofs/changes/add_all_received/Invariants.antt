@@ -8,5 +8,5 @@ abbrev pub invariant-ends : goal.invariant-ends
 invariant-ends g l =
     l.step.items
     ≡ l.initial.step.items
-    ++ flat_map (receiving_changes g.P.Party l.station (g.V.Prints.printed l.watch))
+    ++ flat_map (receiving_changes g.P.Party l.station (g.V.Prints.printed l.printer))
     (take l.end-index l.ends)

@@ -6,7 +6,7 @@ use Rattle.bsc_keeping.proofs.keeper.advance_receiving.Goals as goal
 
 pub ends-preserved : goal.ends-preserved
 ends-preserved g c =
-    let printed = g.V.Prints.printed c.args.watch.now in
+    let printed = g.V.Prints.printed c.args.printer.now in
     let station = c.args.station.now in
     map_with_one_more
     (λ (end : Receiving). received_now end (printed end.number)

@@ -6,6 +6,6 @@ use Rattle.bsc_keeping.proofs.keeper.advance_receiving.Given as goal
 abbrev pub invariant-ends : goal.invariant-ends
 invariant-ends g l =
     l.end-items
-    ≡ receiving_now g.P.Party l.station (g.V.Prints.printed l.watch)
+    ≡ receiving_now g.P.Party l.station (g.V.Prints.printed l.printer)
     (take l.end-index l.fn.ends.items)
     ++ drop l.end-index l.fn.ends.items
