@@ -15,7 +15,8 @@ use Rattle.bsc_connections.specs.Histories.{Happening, WasHeard, WasSilent, WasS
 use Rattle.bsc_connections.specs.Histories.{WasWithheld, HasJoined, WasRefused, HasClosed}
 use Rattle.bsc_connections.specs.Histories.{WasStopped, all_sent, sent_if_in_time}
 use Rattle.bsc_keeping.specs.LiveRuns.{Moves, State, Step, StepsOrWaits, state_of}
-use Rattle.bsc_keeping.specs.Monitors.{KeepsAndTells, KeepsIfStep, TellsIfKept}
+use Rattle.bsc_keeping.specs.Monitors.{KeepsAccepted, KeepsIfAccepted, KeepsIfStep, TellsAndKeeps}
+use Rattle.bsc_keeping.specs.Monitors.{if_done}
 use Rattle.bsc_keeping.specs.declared.keeping.Keeping.{Keeping}
 use Rattle.bsc_keeping.proofs.Moving.{moves}
 use Rattle.bsc_keeping.proofs.Tellings.{IsOther, IsStep, ShownOf, shown_of_step}
@@ -23,7 +24,7 @@ use Rattle.bsc_keeping.proofs.Tellings.{IsOther, IsStep, ShownOf, shown_of_step}
 module _ {S M Q : Type 0} (keeps : Q → S → Result (Unit {0}) LiveError → Q → Type 0)
     (is_told : M → S → Happening → Result Bool LiveError → M → Type 0) where
   abbrev Tells : Keeping M Q → S → Happening → Result Bool LiveError → Keeping M Q → Type 0
-  Tells = KeepsAndTells keeps is_told
+  Tells = TellsAndKeeps keeps is_told
 
   -- What keeps is the same, or has kept once.
   abbrev pub Left : S → Keeping M Q → Keeping M Q → Type 0
@@ -46,66 +47,119 @@ module _ {S M Q : Type 0} (keeps : Q → S → Result (Unit {0}) LiveError → Q
   same_idle : (before : Keeping M Q) → IsSame before before
   same_idle before = refl
 
+  left_accepted : (station : S) (before : Keeping M Q) (goes_on : Bool) (happening : Happening)
+      (result : Result Bool LiveError) (after : Keeping M Q)
+      → KeepsAccepted keeps goes_on happening station result before.kept.now after.kept.now
+      → Left station before after
+  left_accepted station before goes_on (WasHeard place octets) result after keeping =
+      inr (keeping.done, keeping.keeps_step)
+  left_accepted station before goes_on WasSilent result after keeping =
+      inr (keeping.done, keeping.keeps_step)
+  left_accepted station before goes_on (WasIgnored place octets) result after keeping =
+      inl keeping.keeps_step.1
+  left_accepted station before goes_on (WasSent octets) result after keeping =
+      inl keeping.keeps_step.1
+  left_accepted station before goes_on (WasWithheld octets) result after keeping =
+      inl keeping.keeps_step.1
+  left_accepted station before goes_on (HasJoined place peer replaces) result after keeping =
+      inl keeping.keeps_step.1
+  left_accepted station before goes_on (WasRefused peer why) result after keeping =
+      inl keeping.keeps_step.1
+  left_accepted station before goes_on (HasClosed place peer why) result after keeping =
+      inl keeping.keeps_step.1
+  left_accepted station before goes_on WasStopped result after keeping = inl keeping.keeps_step.1
+
+  left_if : (station : S) (before : Keeping M Q) (told : Result Bool LiveError)
+      (happening : Happening) (result : Result Bool LiveError) (after : Keeping M Q)
+      → KeepsIfAccepted keeps told happening station result before.kept.now after.kept.now
+      → Left station before after
+  left_if station before (Ok goes_on) happening result after keeping =
+      left_accepted station before goes_on happening result after keeping
+  left_if station before (Err error) happening result after keeping = inl keeping.1
+
   left_told : (station : S) (before : Keeping M Q) (happening : Happening)
       (result : Result Bool LiveError) (after : Keeping M Q)
       → Tells before station happening result after → Left station before after
-  left_told station before (WasHeard place octets) result after tells = inr (tells.done, tells.keeps_step)
-  left_told station before WasSilent result after tells = inr (tells.done, tells.keeps_step)
-  left_told station before (WasIgnored place octets) result after tells = inl tells.keeps_step.1
-  left_told station before (WasSent octets) result after tells = inl tells.keeps_step.1
-  left_told station before (WasWithheld octets) result after tells = inl tells.keeps_step.1
-  left_told station before (HasJoined place peer replaces) result after tells =
-      inl tells.keeps_step.1
-  left_told station before (WasRefused peer why) result after tells = inl tells.keeps_step.1
-  left_told station before (HasClosed place peer why) result after tells = inl tells.keeps_step.1
-  left_told station before WasStopped result after tells = inl tells.keeps_step.1
+  left_told station before happening result after tells =
+      left_if station before tells.told happening result after tells.keeps_told
+
+  same_accepted : (station : S) (before : Keeping M Q) (goes_on : Bool) (happening : Happening)
+      (result : Result Bool LiveError) (after : Keeping M Q) → IsOther happening
+      → KeepsAccepted keeps goes_on happening station result before.kept.now after.kept.now
+      → IsSame before after
+  same_accepted station before goes_on (WasHeard place octets) result after is keeping = absurd is
+  same_accepted station before goes_on WasSilent result after is keeping = absurd is
+  same_accepted station before goes_on (WasIgnored place octets) result after is keeping =
+      keeping.keeps_step.1
+  same_accepted station before goes_on (WasSent octets) result after is keeping =
+      keeping.keeps_step.1
+  same_accepted station before goes_on (WasWithheld octets) result after is keeping =
+      keeping.keeps_step.1
+  same_accepted station before goes_on (HasJoined place peer replaces) result after is keeping =
+      keeping.keeps_step.1
+  same_accepted station before goes_on (WasRefused peer why) result after is keeping =
+      keeping.keeps_step.1
+  same_accepted station before goes_on (HasClosed place peer why) result after is keeping =
+      keeping.keeps_step.1
+  same_accepted station before goes_on WasStopped result after is keeping = keeping.keeps_step.1
+
+  same_if : (station : S) (before : Keeping M Q) (told : Result Bool LiveError)
+      (happening : Happening) (result : Result Bool LiveError) (after : Keeping M Q)
+      → IsOther happening
+      → KeepsIfAccepted keeps told happening station result before.kept.now after.kept.now
+      → IsSame before after
+  same_if station before (Ok goes_on) happening result after is keeping =
+      same_accepted station before goes_on happening result after is keeping
+  same_if station before (Err error) happening result after is keeping = keeping.1
 
   -- What is told of anything else changes nothing of what is kept.
   same_of_other : (station : S) (before : Keeping M Q) (happening : Happening)
       (result : Result Bool LiveError) (after : Keeping M Q) → IsOther happening
       → Tells before station happening result after → IsSame before after
-  same_of_other station before (WasHeard place octets) result after is tells = absurd is
-  same_of_other station before WasSilent result after is tells = absurd is
-  same_of_other station before (WasIgnored place octets) result after is tells = tells.keeps_step.1
-  same_of_other station before (WasSent octets) result after is tells = tells.keeps_step.1
-  same_of_other station before (WasWithheld octets) result after is tells = tells.keeps_step.1
-  same_of_other station before (HasJoined place peer replaces) result after is tells =
-      tells.keeps_step.1
-  same_of_other station before (WasRefused peer why) result after is tells = tells.keeps_step.1
-  same_of_other station before (HasClosed place peer why) result after is tells = tells.keeps_step.1
-  same_of_other station before WasStopped result after is tells = tells.keeps_step.1
+  same_of_other station before happening result after is tells =
+      same_if station before tells.told happening result after is tells.keeps_told
 
-  done_if_told : (done : Result (Unit {0}) LiveError) (happening : Happening) (station : S)
-      (goes_on : Bool) (before after : Keeping M Q)
-      → keeps before.kept.now station done after.kept.now
-      → TellsIfKept is_told done before.watch.now station happening (Ok goes_on) after.watch.now
+  done_if_returned : (done : Result (Unit {0}) LiveError) (said goes_on : Bool) (station : S)
+      (before after : Keeping M Q) → keeps before.kept.now station done after.kept.now
+      → Ok goes_on ≡ if_done done said → Done station before after
+  done_if_returned (Ok done) said goes_on station before after keeping returns = (done, keeping)
+  done_if_returned (Err error) said goes_on station before after keeping clash = absurd cc
+
+  done_if : (told : Result Bool LiveError) (happening : Happening) (station : S) (goes_on : Bool)
+      (before after : Keeping M Q)
+      → KeepsIfAccepted keeps told happening station (Ok goes_on) before.kept.now after.kept.now
+      → ((done : Result (Unit {0}) LiveError)
+      → KeepsIfStep keeps happening station done before.kept.now after.kept.now
+      → keeps before.kept.now station done after.kept.now)
       → Done station before after
-  done_if_told (Ok done) happening station goes_on before after keeping tells = (done, keeping)
-  done_if_told (Err error) happening station goes_on before after keeping (clash, same) = absurd cc
+  done_if (Ok said) happening station goes_on before after keeping step =
+      done_if_returned keeping.done said goes_on station before after
+      (step keeping.done keeping.keeps_step) keeping.returns
+  done_if (Err error) happening station goes_on before after (clash, same) step = absurd cc
 
   done_accepted : (station : S) (before : Keeping M Q) (happening : Happening) (goes_on : Bool)
       (after : Keeping M Q) → IsStep happening
       → Tells before station happening (Ok goes_on) after → Done station before after
   done_accepted station before happening goes_on after (inl is) tells =
-      done_if_told tells.done happening station goes_on before after
-      (subst
-      (λ (h : Happening). KeepsIfStep keeps h station tells.done before.kept.now after.kept.now) is
-      tells.keeps_step)
-      tells.tells
+      done_if tells.told happening station goes_on before after tells.keeps_told
+      (λ done keeping.
+      subst (λ (h : Happening). KeepsIfStep keeps h station done before.kept.now after.kept.now) is
+      keeping)
   done_accepted station before happening goes_on after (inr (place, octets, is)) tells =
-      done_if_told tells.done happening station goes_on before after
-      (subst
-      (λ (h : Happening). KeepsIfStep keeps h station tells.done before.kept.now after.kept.now) is
-      tells.keeps_step)
-      tells.tells
+      done_if tells.told happening station goes_on before after tells.keeps_told
+      (λ done keeping.
+      subst (λ (h : Happening). KeepsIfStep keeps h station done before.kept.now after.kept.now) is
+      keeping)
 
   -- What is sent or withheld changes nothing of what is kept.
   same_later : (station : S) (before : Keeping M Q) (in_time : Bool) (octets : List ℕ)
       (result : Result Bool LiveError) (after : Keeping M Q)
       → Tells before station (sent_if_in_time in_time octets) result after
       → after.kept.now ≡ before.kept.now
-  same_later station before true octets result after tells = tells.keeps_step.1
-  same_later station before false octets result after tells = tells.keeps_step.1
+  same_later station before true octets result after tells =
+      same_of_other station before (WasSent octets) result after tt tells
+  same_later station before false octets result after tells =
+      same_of_other station before (WasWithheld octets) result after tt tells
 
   left_later : (station : S) (first before : Keeping M Q) (in_time : Bool) (octets : List ℕ)
       (result : Result Bool LiveError) (after : Keeping M Q)

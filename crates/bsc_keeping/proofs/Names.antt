@@ -12,7 +12,7 @@ use Rattle.bsc_connections.specs.Attending.{Session, Steps, StepsOrFails}
 use Rattle.bsc_connections.specs.Connections.{ConnectionValue}
 use Rattle.bsc_connections.specs.Histories.{Happening, sent_if_in_time}
 use Rattle.bsc_connections.specs.Parts.{SessionParts, session_parts}
-use Rattle.bsc_keeping.specs.Monitors.{KeepsAndTells}
+use Rattle.bsc_keeping.specs.Monitors.{TellsAndKeeps}
 use Rattle.bsc_keeping.specs.declared.keeping.Keeping.{Keeping}
 use Rattle.bsc_keeping.proofs.Tellings.{shown_of_step}
 
@@ -37,7 +37,7 @@ if_same {M = M} {Q = Q} a b is =
 module _ {S M Q : Type 0} (keeps : Q → S → Result (Unit {0}) LiveError → Q → Type 0)
     (is_told : M → S → Happening → Result Bool LiveError → M → Type 0) where
   abbrev Tells : Keeping M Q → S → Happening → Result Bool LiveError → Keeping M Q → Type 0
-  Tells = KeepsAndTells keeps is_told
+  Tells = TellsAndKeeps keeps is_told
 
   abbrev Same : S → Keeping M Q → Keeping M Q → Type 0
   Same station before after = SameNames before after

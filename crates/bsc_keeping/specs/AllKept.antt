@@ -30,10 +30,12 @@ module _ {S K V Z : Type 0} (party : party_of.Ghosts S Z)
 
   -- So it is in every step of a session after which the station is attended further, or that ends
   -- it without an error.
-  abbrev pub KeepsEachChange : {R W F M T : Type 0} → SessionParts S R W F (Keeping M (Stored K V)) T → Type 0
+  abbrev pub KeepsEachChange : {R W F M T : Type 0}
+      → SessionParts S R W F (Keeping M (Stored K V)) T → Type 0
   KeepsEachChange {R} {W} {F} {M} {T} parts =
-      (old new : Session S (ConnectionValue R W F) (Keeping M (Stored K V)) T) (happened : List Happening)
-      (goes_on : Bool) → Steps parts old happened (Ok goes_on) new → IsKeptOrSame old new
+      (old new : Session S (ConnectionValue R W F) (Keeping M (Stored K V)) T)
+      (happened : List Happening) (goes_on : Bool) → Steps parts old happened (Ok goes_on) new
+      → IsKeptOrSame old new
 
   -- All records that arrived on the channel of this end are kept.
   abbrev pub HasArrived : S → Receiving → Type 0
@@ -47,7 +49,8 @@ module _ {S K V Z : Type 0} (party : party_of.Ghosts S Z)
     pub receiving : AllByRecursion (HasArrived station) keeper.receiving.items
 
   -- If that is so at the beginning of a session, it is so before each of its waits.
-  abbrev pub HasAllThroughout : {R W F M T : Type 0} → SessionParts S R W F (Keeping M (Stored K V)) T → Type 0
+  abbrev pub HasAllThroughout : {R W F M T : Type 0}
+      → SessionParts S R W F (Keeping M (Stored K V)) T → Type 0
   HasAllThroughout {R} {W} {F} {M} {T} parts =
       (steps : ℕ) (old new : Session S (ConnectionValue R W F) (Keeping M (Stored K V)) T)
       → HasAll old.station old.monitor.kept.now.keeper → GoesOn parts steps old new

@@ -58,9 +58,9 @@ module _ {S Q : Type 0} (station : station_of.Ghosts S)
   HasKept old new = (done : Unit {0}) × keeps old.kept new.station (Ok done) new.kept
 
   -- A step of a station in which these transmissions are sent; the flag says whether the station is
-  -- attended further. What it has changed is kept once, if anything is. If something is sent, all of
-  -- it is kept before, and so it is if the station is attended further, where it or what is kept of
-  -- it has changed.
+  -- attended further. What it has changed is kept once, if anything is. If something is sent, all
+  -- of it is kept before, and so it is if the station is attended further, where it or what is kept
+  -- of it has changed.
   pub record Step (sent : List (List ℕ)) (goes_on : Bool) (old new : State S Q) : Type 0 where
     pub event : Moves station old.station new.station
     pub left : (new.kept ≡ old.kept)

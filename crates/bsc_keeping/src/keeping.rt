@@ -7,8 +7,10 @@ ghost use Rattle.bsc_keeping.specs.Monitors.{KeepsIfStep};
 use crate::Keeps;
 use bsc_connections::{Decoded, LiveError, Monitor, Note, Pace};
 
-/// A monitor that has kept what the station has changed, and then tells another monitor what
-/// happened. If that cannot be kept it refuses the event, so that nothing is sent.
+/// A monitor that tells another monitor what happened, and then has kept what the station has
+/// changed. The other one is told first since it reads the clock: to keep takes as long as a disk
+/// or a reader of standard output takes, and what has arrived in time must not count as late for
+/// that. If it cannot be kept the event is refused, so that nothing is sent.
 #[derive(Drop)]
 pub struct Keeping<'a, M, Q> {
     /// The inner monitor.
@@ -19,7 +21,7 @@ pub struct Keeping<'a, M, Q> {
 }
 
 impl<'a, M, Q> Keeping<'a, M, Q> {
-    /// Returns the monitor that has this keep what the station changes and then tells `watch`.
+    /// Returns the monitor that tells `watch` and then has `kept` keep what the station changes.
     pub fn new(watch: &'a mut M, kept: &'a mut Q) -> Keeping<'a, M, Q>
         ensures watch { result.watch ≡ watch.entry }
         ensures kept { result.kept ≡ kept.entry }
@@ -47,7 +49,7 @@ impl<'a, M, Q> Keeping<'a, M, Q> {
 }
 
 impl<'a, S, M: Monitor<S>, Q: Keeps<S>> Monitor<S> for Keeping<'a, M, Q> {
-    ghost use Rattle.bsc_keeping.specs.Monitors.{KeepsAndTells};
+    ghost use Rattle.bsc_keeping.specs.Monitors.{TellsAndKeeps};
 
     ghost has_ended = { λ k. M.has_ended k.watch.now };
 
@@ -57,11 +59,12 @@ impl<'a, S, M: Monitor<S>, Q: Keeps<S>> Monitor<S> for Keeping<'a, M, Q> {
 
     ghost paces = { λ k. M.paces k.watch.now };
 
-    ghost is_told = { KeepsAndTells Q.keeps M.is_told };
+    ghost is_told = { TellsAndKeeps Q.keeps M.is_told };
 
     fn note(&mut self, station: &S, note: Note<'_>) -> Result<bool, LiveError> {
+        let goes_on = self.watch.note(station, note)?;
         match self.keep(station, &note) {
-            Ok(()) => self.watch.note(station, note),
+            Ok(()) => Ok(goes_on),
             Err(error) => Err(error),
         }
     }

@@ -149,9 +149,9 @@ fn terminals_print_what_happens_until_they_end(rt: HostRuntime) -> Result<(), Fa
 }
 
 /// The end of the trace of a terminal that cannot print the record that arrives: nothing is sent
-/// after the text that brought it, which is not traced.
-const REFUSED_END: &[u8] = b"+5 control heard CALL a 161604ff16166185ff
-+6 terminal 0 sent ACK0 161610b0ff
+/// after the text that brought it.
+const REFUSED_END: &[u8] = b"+6 terminal 0 sent ACK0 161610b0ff
++7 control heard TEXT ETX 1 161602c84919839bff
 ";
 
 /// Whether a terminal ends with `Unprinted` over this output, and sends nothing after the text.
