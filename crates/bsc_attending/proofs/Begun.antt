@@ -4,7 +4,7 @@ use Rattle.std.proofs.Common.{subst, sym, ap, IsSome}
 use Rattle.std.specs.Prelude.{IsSomeAnd}
 use Rattle.bsc_keeping.specs.declared.keeper.Keeper.{Keeper}
 use Rattle.bsc_keeping.specs.declared.own.Own.{Own}
-use Rattle.bsc_options.specs.StationWords.{AskedWords}
+use Rattle.bsc_options.specs.Words.{WordsValue}
 use Rattle.bsc_options.specs.declared.settings.Role.{Role}
 use Rattle.bsc_spool.specs.declared.ends.Receiving.{Receiving}
 use Rattle.bsc_spool.specs.declared.ends.Sending.{Sending}
@@ -32,7 +32,7 @@ module _ {K : Type 0} (store : store_of.Ghosts K) (forgets : Bool) (begun now : 
       begins)
 
   -- it was prepared, and then filled if it is to be kept
-  pub has_begun : (w : AskedWords) (role : Role) (input after : Option (List ℕ)) (is_kept : Bool)
+  pub has_begun : (w : WordsValue) (role : Role) (input after : Option (List ℕ)) (is_kept : Bool)
       (own : Option Own) → IsReady w role input after begun own → (is_kept ≡ true → IsSome own)
       → IsSameKind begun now → BeginsIf store forgets is_kept own begun now keeper
       → HasBegun store w role forgets is_kept input now keeper

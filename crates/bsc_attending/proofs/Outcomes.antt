@@ -2,7 +2,7 @@
 use Rattle.std.proofs.Common.{◌≡◌, ℕ, Bool, true, false, List, Option, Some, None, is_some}
 use Rattle.std.proofs.Common.{if◌then◌else◌, Result, Ok, Err, ◌⊎◌, inl, inr, subst, sym}
 use Rattle.std.proofs.Common.{IfErr, IfOk, IsErrAnd}
-use Rattle.bsc_options.specs.StationWords.{AskedWords}
+use Rattle.bsc_options.specs.Words.{WordsValue}
 use Rattle.bsc_carrier.specs.declared.error.CarrierError.{CarrierError}
 use Rattle.bsc_config.specs.Settings.{ConfigValue}
 use Rattle.bsc_station.specs.declared.standing.Standing.{Standing}
@@ -16,7 +16,7 @@ use Rattle.bsc_attending.specs.Errors.{IsCutShort, IsPreparingError, IsPrintFaul
 use Rattle.bsc_attending.specs.Errors.{IsUnbegun, IsUnended, closed_outcome}
 use Rattle.bsc_attending.specs.Outcomes.{Finishes, IsAnswerFor, IsReported, IsReportedFor}
 use Rattle.bsc_attending.specs.Outcomes.{IsResultOf}
-use Rattle.bsc_attending.specs.Preparing.{IsPrepared, IsStationOf}
+use Rattle.bsc_attending.specs.Preparing.{IsPrepared, IsStationOf, offers_in}
 use Rattle.bsc_attending.specs.Runs.{IsNotBegun}
 use Rattle.bsc_attending.specs.declared.error.AttendingError.{AttendingError}
 use Rattle.bsc_attending.specs.declared.error.AttendingError.TheVariants as attending
@@ -90,7 +90,7 @@ left_fits config offers input after (role.Terminal n) (prepared.Terminal l) (Con
 left_fits config offers input after (role.Terminal n) (prepared.Terminal l) (Terminal closed) s p q =
     terminal_fits n closed s.doubt s.waiting
 
-module _ (w : AskedWords) (r : Role) (input after : Option (List ℕ)) (begun : Prepared)
+module _ (w : WordsValue) (r : Role) (input after : Option (List ℕ)) (begun : Prepared)
     (prepared : IsPrepared w r input after begun)
     {W : Type 0} (contents : W → Option (List ℕ)) (form : Option Form) (ended : Prepared)
     (new : W) where
@@ -104,7 +104,7 @@ module _ (w : AskedWords) (r : Role) (input after : Option (List ℕ)) (begun : 
       inr (
         record { after = after; begun = begun; prepared = prepared },
         subst (IsResultOf r) (sym ends.concludes.result_is)
-            (left_fits prepared.config w.offers prepared.middle after r begun ends.left _
+            (left_fits prepared.config (offers_in w) prepared.middle after r begun ends.left _
             prepared.station ends.leaves),
       )
 
@@ -201,14 +201,14 @@ cut_is form ended (Err error) result old new is cut =
     subst (λ r. IsErrAnd r IsCutShort) (sym is) cut
 
 -- what a station answers that could not begin
-pub answer_unbegun : (w : AskedWords) (r : Role) (peers : ℕ) (input : Option (List ℕ))
+pub answer_unbegun : (w : WordsValue) (r : Role) (peers : ℕ) (input : Option (List ℕ))
     (error : AttendingError) → IsNotBegun w r peers input error
     → IsAnswerFor w r peers input (Err error)
 answer_unbegun w r peers input error (inl refused) = inl refused
 answer_unbegun w r peers input error (inr (begun, refused)) = inr (begun, store_fits r error refused)
 
 -- the options say which station it is and how its report is printed
-pub reported_by : (w : AskedWords) (input : Option (List ℕ)) (settings : SettingsValue)
+pub reported_by : (w : WordsValue) (input : Option (List ℕ)) (settings : SettingsValue)
     (read : settings_in w ≡ Ok settings) {W : Type 0} (contents : W → Option (List ℕ)) (new : W)
     (result : Result (Unit {0}) AttendingError)
     → IsReportedFor contents w settings.role settings.reported input result new

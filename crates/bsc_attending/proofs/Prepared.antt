@@ -1,6 +1,6 @@
 -- The configuration, and then the station.
 use Rattle.std.proofs.Common.{ℕ, List, Option, Result, Ok, Err, IfOk, IfErr, inr}
-use Rattle.bsc_options.specs.StationWords.{AskedWords}
+use Rattle.bsc_options.specs.Words.{WordsValue}
 use Rattle.bsc_config.specs.Answers.{IsRefusedFor}
 use Rattle.bsc_config.specs.Settings.{ConfigValue}
 use Rattle.bsc_config.specs.declared.error.ConfigError.{ConfigError}
@@ -9,7 +9,7 @@ use Rattle.bsc_text.specs.InputTexts.{IsTextAt}
 use Rattle.bsc_options.specs.declared.settings.Role.{Role}
 use Rattle.bsc_attending.specs.Errors.{config_error}
 use Rattle.bsc_attending.specs.Preparing.{HasNoConfig, HasNoStation, IsPrepared, IsStationOf}
-use Rattle.bsc_attending.specs.Preparing.{IsUnprepared, ReadsConfig}
+use Rattle.bsc_attending.specs.Preparing.{IsUnprepared, ReadsConfig, config_path, offers_in}
 use Rattle.bsc_attending.specs.declared.error.AttendingError.{AttendingError}
 use Rattle.bsc_attending.specs.declared.preparing.Prepared.{Prepared}
 
@@ -20,11 +20,11 @@ pub no_config : (path : List ℕ) (input : Option (List ℕ)) (text : List ℕ)
 no_config path input text is config.Memory refused = tt
 no_config path input text is error refused = (text, is, refused)
 
-module _ (w : AskedWords) (role : Role) (peers : ℕ) (input middle : Option (List ℕ))
-    (config : ConfigValue) (reads : ReadsConfig w.config input middle config) where
+module _ (w : WordsValue) (role : Role) (peers : ℕ) (input middle : Option (List ℕ))
+    (config : ConfigValue) (reads : ReadsConfig (config_path w) input middle config) where
   -- the station of the configuration was prepared
   pub is_prepared : (after : Option (List ℕ)) (result : Result Prepared AttendingError)
-      → IfOk result (IsStationOf config role w.offers middle after)
+      → IfOk result (IsStationOf config role (offers_in w) middle after)
       → IfOk result (IsPrepared w role input after)
   is_prepared after (Ok prepared) station =
       record { config = config; middle = middle; reads = reads; station = station }
@@ -32,7 +32,7 @@ module _ (w : AskedWords) (role : Role) (peers : ℕ) (input middle : Option (Li
 
   -- the station of the configuration is refused
   pub is_unprepared : (result : Result Prepared AttendingError)
-      → IfErr result (HasNoStation config role peers w.offers middle)
+      → IfErr result (HasNoStation config role peers (offers_in w) middle)
       → IfErr result (IsUnprepared w role peers input)
   is_unprepared (Ok prepared) refused = tt
   is_unprepared (Err error) refused =

@@ -1,6 +1,6 @@
 -- What a station answers: that it could not be prepared, that it was cut short, or how it ended.
 use Rattle.std.specs.Prelude.{◌≡◌, ◌⊎◌, ℕ, List, Option, Result, Ok, Err, IsErrAnd}
-use Rattle.bsc_options.specs.StationWords.{AskedWords}
+use Rattle.bsc_options.specs.Words.{WordsValue}
 use Rattle.bsc_options.specs.Admission.{IsAdmission}
 use Rattle.bsc_options.specs.Settings.{SettingsValue, settings_in}
 use Rattle.bsc_options.specs.declared.admission.Admission.{Admission}
@@ -34,14 +34,14 @@ IsResultOf role result = ⊥
 
 -- What a station answers whose options were read: the configuration or the station is refused, as
 -- the error says, or the station was prepared, and this is a result of it.
-abbrev pub IsAnswerFor : AskedWords → Role → ℕ → Option (List ℕ) → Result (Unit {0}) AttendingError
+abbrev pub IsAnswerFor : WordsValue → Role → ℕ → Option (List ℕ) → Result (Unit {0}) AttendingError
     → Type 0
 IsAnswerFor w role peers input result =
     IsErrAnd result (IsUnprepared w role peers input)
     ⊎ (IsBegun w role input × IsResultOf role result)
 
 -- The options were read, and then the station answered this.
-pub record HasAnswered (w : AskedWords) (input : Option (List ℕ))
+pub record HasAnswered (w : WordsValue) (input : Option (List ℕ))
     (result : Result (Unit {0}) AttendingError) : Type 0 where
   pub settings : SettingsValue
   pub read : settings_in w ≡ Ok settings
@@ -51,7 +51,7 @@ pub record HasAnswered (w : AskedWords) (input : Option (List ℕ))
 
 -- What a station answers to these words. The options are read first, then the configuration, and
 -- then the records; only after these are connections made.
-abbrev pub IsAnswer : AskedWords → Option (List ℕ) → Result (Unit {0}) AttendingError → Type 0
+abbrev pub IsAnswer : WordsValue → Option (List ℕ) → Result (Unit {0}) AttendingError → Type 0
 IsAnswer w input result =
     IsErrAnd result (IsOptionsRefused w) ⊎ HasAnswered w input result
 
@@ -59,7 +59,7 @@ IsAnswer w input result =
 module _ {W : Type 0} (contents : W → Option (List ℕ)) where
   -- The station that the options select was prepared, and it ended: what it prints at its end was
   -- the last that was written, and the result is that of the state in which it ended.
-  pub record HasReported (w : AskedWords) (role : Role) (form : Option Form)
+  pub record HasReported (w : WordsValue) (role : Role) (form : Option Form)
       (input : Option (List ℕ)) (result : Result (Unit {0}) AttendingError) (new : W)
       : Type 0 where
     pub after : Option (List ℕ)
@@ -69,19 +69,19 @@ module _ {W : Type 0} (contents : W → Option (List ℕ)) where
     pub ends : HasEnded contents form begun ended result new
 
   -- The station did not end, as the error says, or its report was printed.
-  abbrev pub IsReportedFor : AskedWords → Role → Option Form → Option (List ℕ)
+  abbrev pub IsReportedFor : WordsValue → Role → Option Form → Option (List ℕ)
       → Result (Unit {0}) AttendingError → W → Type 0
   IsReportedFor w role form input result new =
       IsErrAnd result IsUnended ⊎ HasReported w role form input result new
 
   -- The same, where the options say which station it is and how its report is printed.
-  pub record Reports (w : AskedWords) (input : Option (List ℕ))
+  pub record Reports (w : WordsValue) (input : Option (List ℕ))
       (result : Result (Unit {0}) AttendingError) (new : W) : Type 0 where
     pub settings : SettingsValue
     pub read : settings_in w ≡ Ok settings
     pub report : HasReported w settings.role settings.reported input result new
 
-  abbrev pub IsReported : AskedWords → Option (List ℕ) → Result (Unit {0}) AttendingError → W
+  abbrev pub IsReported : WordsValue → Option (List ℕ) → Result (Unit {0}) AttendingError → W
       → Type 0
   IsReported w input result new = IsErrAnd result IsUnended ⊎ Reports w input result new
 

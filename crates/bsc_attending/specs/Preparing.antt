@@ -2,7 +2,8 @@
 -- configuration, with its records; and what an error says of that.
 use Rattle.std.specs.Prelude.{◌≡◌, ◌≢◌, ◌⊎◌, ◌≤◌, ◌<◌, ℕ, List, length, slice_index_or, Option}
 use Rattle.std.specs.Prelude.{Ok, Err, None, Some, IfSome, codes}
-use Rattle.bsc_options.specs.StationWords.{AskedWords}
+use Rattle.bsc_options.specs.Errors.{refusal}
+use Rattle.bsc_options.specs.Words.{WordsValue, required, text_at, texts_at}
 use Rattle.bsc_config.specs.Answers.{IsRefusedFor, Says}
 use Rattle.bsc_config.specs.Settings.{ConfigValue}
 use Rattle.bsc_control.specs.Control.{ControlValue}
@@ -26,6 +27,17 @@ use Rattle.bsc_attending.specs.declared.error.AttendingError.{AttendingError}
 use Rattle.bsc_attending.specs.declared.error.AttendingError.TheVariants as attending
 use Rattle.bsc_attending.specs.declared.preparing.Prepared.{Prepared}
 use Rattle.bsc_attending.specs.declared.preparing.Prepared.TheVariants as prepared
+
+-- The path of the configuration, that of the store, if records are to be kept, and the texts of
+-- `--offer`.
+abbrev pub config_path : WordsValue → List ℕ
+config_path w = required (codes "CONFIG") w
+
+abbrev pub store_path : WordsValue → Option (List ℕ)
+store_path w = text_at (codes "store") w
+
+abbrev pub offers_in : WordsValue → List (List ℕ)
+offers_in w = texts_at (codes "offer") w
 
 -- The text at a path is this configuration.
 pub record HasConfig (path : List ℕ) (input : Option (List ℕ)) (config : ConfigValue) : Type 0 where
@@ -132,16 +144,16 @@ pub record ReadsConfig (path : List ℕ) (input middle : Option (List ℕ))
   pub unasked : path ≢ codes "-" → middle ≡ input
 
 -- The configuration of the words was read, and the station was prepared with its records.
-pub record IsPrepared (w : AskedWords) (role : Role) (input after : Option (List ℕ))
+pub record IsPrepared (w : WordsValue) (role : Role) (input after : Option (List ℕ))
     (prepared : Prepared) : Type 0 where
   pub config : ConfigValue
   pub middle : Option (List ℕ)
-  pub reads : ReadsConfig w.config input middle config
-  pub station : IsStationOf config role w.offers middle after prepared
+  pub reads : ReadsConfig (config_path w) input middle config
+  pub station : IsStationOf config role (offers_in w) middle after prepared
 
 -- The same, and if its records are to be kept, what is known of it has the channels of the
 -- configuration.
-pub record IsReady (w : AskedWords) (role : Role) (input after : Option (List ℕ))
+pub record IsReady (w : WordsValue) (role : Role) (input after : Option (List ℕ))
     (begun : Prepared) (own : Option Own) : Type 0 where
   pub prepared : IsPrepared w role input after begun
   pub sending : IfSome own (λ it.
@@ -150,32 +162,32 @@ pub record IsReady (w : AskedWords) (role : Role) (input after : Option (List �
       it.receiving.items ≡ receiving_of prepared.config.terminals (owner_of role))
 
 -- The configuration was read, and then the station was refused, with this error.
-pub record IsStationRefused (w : AskedWords) (role : Role) (peers : ℕ) (input : Option (List ℕ))
+pub record IsStationRefused (w : WordsValue) (role : Role) (peers : ℕ) (input : Option (List ℕ))
     (error : AttendingError) : Type 0 where
   pub config : ConfigValue
   pub middle : Option (List ℕ)
-  pub reads : ReadsConfig w.config input middle config
-  pub refused : HasNoStation config role peers w.offers middle error
+  pub reads : ReadsConfig (config_path w) input middle config
+  pub refused : HasNoStation config role peers (offers_in w) middle error
 
 -- The configuration or the station is refused, with this error.
-abbrev pub IsUnprepared : AskedWords → Role → ℕ → Option (List ℕ) → AttendingError → Type 0
+abbrev pub IsUnprepared : WordsValue → Role → ℕ → Option (List ℕ) → AttendingError → Type 0
 IsUnprepared w role peers input error =
-    HasNoConfig w.config input error ⊎ IsStationRefused w role peers input error
+    HasNoConfig (config_path w) input error ⊎ IsStationRefused w role peers input error
 
 -- The station that the options select was prepared with its records: what comes before its
 -- connections was done.
-pub record IsBegun (w : AskedWords) (role : Role) (input : Option (List ℕ)) : Type 0 where
+pub record IsBegun (w : WordsValue) (role : Role) (input : Option (List ℕ)) : Type 0 where
   pub after : Option (List ℕ)
   pub begun : Prepared
   pub prepared : IsPrepared w role input after begun
 
 -- The options are refused for this reason: their settings, or after them the peers.
-abbrev pub IsRefusedBy : AskedWords → OptionError → Type 0
+abbrev pub IsRefusedBy : WordsValue → OptionError → Type 0
 IsRefusedBy w why =
-    (settings_in w ≡ Err why)
+    (settings_in w ≡ Err (refusal why))
     ⊎ ((settings : SettingsValue) × (settings_in w ≡ Ok settings) × IsAdmission w (Err why))
 
 -- An error says that the options are refused, and why.
-abbrev pub IsOptionsRefused : AskedWords → AttendingError → Type 0
+abbrev pub IsOptionsRefused : WordsValue → AttendingError → Type 0
 IsOptionsRefused w (attending.Options why) = IsRefusedBy w why
 IsOptionsRefused w _ = ⊥

@@ -2,7 +2,7 @@
 use Rattle.std.specs.Prelude.{◌≡◌, ◌⊎◌, ℕ, Bool, true, false, List, Option, None, Some, is_some}
 use Rattle.std.specs.Prelude.{Result}
 use Rattle.std.specs.Prelude.{IsErrAnd, IsSomeAnd, Ok}
-use Rattle.bsc_options.specs.StationWords.{AskedWords}
+use Rattle.bsc_options.specs.Words.{WordsValue}
 use Rattle.bsc_control.specs.Control.{ControlValue}
 use Rattle.bsc_spool.specs.Contents.{Contents, GivesBack, IsRead}
 use Rattle.bsc_spool.specs.declared.channel.Channel.{Channel}
@@ -88,7 +88,7 @@ BeginsIf store forgets_printed false own old new keeper = (new ≡ old) × (keep
 
 -- A station was prepared as the words ask for it, and, if its records are to be kept, as the flag
 -- says, filled with what its store has.
-pub record HasBegun {K : Type 0} (store : store_of.Ghosts K) (w : AskedWords) (role : Role)
+pub record HasBegun {K : Type 0} (store : store_of.Ghosts K) (w : WordsValue) (role : Role)
     (forgets_printed is_kept : Bool) (input : Option (List ℕ)) (now : Prepared)
     (keeper : Option (Keeper K)) : Type 0 where
   pub after : Option (List ℕ)
@@ -102,7 +102,7 @@ pub record HasBegun {K : Type 0} (store : store_of.Ghosts K) (w : AskedWords) (r
   pub unkept : is_kept ≡ false → (now ≡ begun) × (keeper ≡ None)
 
 -- It could not be prepared, or its store is refused, with this error.
-abbrev pub IsNotBegun : AskedWords → Role → ℕ → Option (List ℕ) → AttendingError → Type 0
+abbrev pub IsNotBegun : WordsValue → Role → ℕ → Option (List ℕ) → AttendingError → Type 0
 IsNotBegun w role peers input error =
     IsUnprepared w role peers input error ⊎ (IsBegun w role input × IsStoreError error)
 
@@ -112,7 +112,7 @@ IsNotBegun w role peers input error =
 -- serves them. `runs` says what it means to run, and `contents` what was written to a writer.
 pub record RunsStored {K W : Type 0} (store : store_of.Ghosts K)
     (runs : Bool → Prepared → Keeper K → Type 0 → Prepared → Type 0)
-    (contents : W → Option (List ℕ)) (w : AskedWords) (input : Option (List ℕ))
+    (contents : W → Option (List ℕ)) (w : WordsValue) (input : Option (List ℕ))
     (result : Result (Unit {0}) AttendingError) (new : W) : Type 0 where
   pub settings : SettingsValue
   pub read : settings_in w ≡ Ok settings
@@ -130,7 +130,7 @@ pub record RunsStored {K W : Type 0} (store : store_of.Ghosts K)
 
 -- It was refused before it began, as the error says, or it ran so.
 abbrev pub IsKeptRun : {K W : Type 0} → store_of.Ghosts K
-    → (Bool → Prepared → Keeper K → Type 0 → Prepared → Type 0) → (W → Option (List ℕ)) → AskedWords
+    → (Bool → Prepared → Keeper K → Type 0 → Prepared → Type 0) → (W → Option (List ℕ)) → WordsValue
     → Option (List ℕ) → Result (Unit {0}) AttendingError → W → Type 0
 IsKeptRun store runs contents w input result new =
     IsErrAnd result IsUnbegun ⊎ RunsStored store runs contents w input result new
@@ -162,7 +162,7 @@ PreparedRunsPrinted control terminal old failure new = ⊥
 -- A station without a store was prepared as the words ask for it, with the settings that they have,
 -- and ran until it was cut short or ended. It does something for programs only if it serves them.
 pub record RunsUnkept {W : Type 0} (runs : Bool → Prepared → Type 0 → Prepared → Type 0)
-    (contents : W → Option (List ℕ)) (w : AskedWords) (input : Option (List ℕ))
+    (contents : W → Option (List ℕ)) (w : WordsValue) (input : Option (List ℕ))
     (result : Result (Unit {0}) AttendingError) (new : W) : Type 0 where
   pub settings : SettingsValue
   pub read : settings_in w ≡ Ok settings
@@ -174,7 +174,7 @@ pub record RunsUnkept {W : Type 0} (runs : Bool → Prepared → Type 0 → Prep
   pub ends : HasRun contents settings.reported begun ended result new
 
 abbrev pub IsPrintedRun : {W : Type 0} → (Bool → Prepared → Type 0 → Prepared → Type 0)
-    → (W → Option (List ℕ)) → AskedWords → Option (List ℕ) → Result (Unit {0}) AttendingError → W
+    → (W → Option (List ℕ)) → WordsValue → Option (List ℕ) → Result (Unit {0}) AttendingError → W
     → Type 0
 IsPrintedRun runs contents w input result new =
     IsErrAnd result IsUnbegun ⊎ RunsUnkept runs contents w input result new

@@ -2,13 +2,13 @@
 //! read before a connection is made.
 
 ghost use Rattle.std.specs.Prelude.{◌≡◌, ◌≢◌, ◌<◌, ◌≤◌, Err, IfErr, IfOk, IfSome, IsSome, codes};
-ghost use Rattle.std.specs.Prelude.{length, map, string_bytes};
-ghost use Rattle.bsc_options.specs.StationWords.{asked_words};
+ghost use Rattle.std.specs.Prelude.{length, string_bytes};
+ghost use Rattle.bsc_options.specs.Words.{words_value};
 ghost use Rattle.bsc_attending.specs.Errors.{IsPreparingError};
 ghost use Rattle.bsc_attending.specs.Preparing.{HasConfig, HasNoConfig, HasNoControl};
 ghost use Rattle.bsc_attending.specs.Preparing.{HasNoStation, HasNoTerminal, IsPrepared, IsReady};
 ghost use Rattle.bsc_attending.specs.Preparing.{IsStationOf, IsUnprepared, Suits, SuitsOwn};
-ghost use Rattle.bsc_attending.specs.Preparing.{owner_of};
+ghost use Rattle.bsc_attending.specs.Preparing.{offers_in, owner_of, store_path};
 ghost use Rattle.bsc_keeping.specs.Own.{receiving_of, sending_of};
 ghost use Rattle.bsc_keeping.specs.OwnText.{own_text_of};
 
@@ -17,7 +17,7 @@ use crate::offering::{offer_all_at_terminal, offer_all_for_terminals};
 use bsc_config::{Config, read_config};
 use bsc_control::Control;
 use bsc_keeping::{Own, Owner};
-use bsc_options::{GivenPeers, OptionError, Role, StationWords};
+use bsc_options::{GivenPeers, OptionError, Role, Words};
 use bsc_station::{LineTerminal, new_control, new_terminal};
 use bsc_text::{Files, read_text};
 use std::alloc::Global;
@@ -43,23 +43,23 @@ pub(crate) struct Ready {
 /// Reads and checks the configuration and all records of the station that the options select.
 pub(crate) fn prepare<R: Read, F: Files>(
     alloc: Global,
-    words: &StationWords,
+    words: &Words,
     role: Role,
     peers: GivenPeers,
     input: &mut R,
     files: &mut F,
 ) -> Result<Ready, AttendingError>
     ensures error { IfErr result IsPreparingError }
-    ensures prepared { IfOk result (λ ready. IsPrepared (asked_words words.now) role
+    ensures prepared { IfOk result (λ ready. IsPrepared (words_value words.now) role
         (R.remaining input.old) (R.remaining input.new) ready.prepared) }
-    ensures unprepared { IfErr result (IsUnprepared (asked_words words.now) role peers.terminals
+    ensures unprepared { IfErr result (IsUnprepared (words_value words.now) role peers.terminals
         (R.remaining input.old)) }
     ensures suits { IfOk result (λ ready. SuitsOwn ready.own ready.prepared) }
-    ensures kept { IfOk result (λ ready. IsSome words.now.store → IsSome ready.own) }
-    ensures ready { IfOk result (λ ready. IsReady (asked_words words.now) role
+    ensures kept { IfOk result (λ ready. IsSome (store_path (words_value words.now)) → IsSome ready.own) }
+    ensures ready { IfOk result (λ ready. IsReady (words_value words.now) role
         (R.remaining input.old) (R.remaining input.new) ready.prepared ready.own) }
 {
-    let config = config_at(alloc, words.config.as_str(), input, files)?;
+    let config = config_at(alloc, words.required("CONFIG"), input, files)?;
     let own = own_of(alloc, words, role, &config)?;
     let prepared = station_of(alloc, words, role, peers, &config, input, files)?;
     Ok(Ready { prepared, own })
@@ -68,7 +68,7 @@ pub(crate) fn prepare<R: Read, F: Files>(
 /// Returns what is to be known of the station if its records are to be kept.
 fn own_of(
     alloc: Global,
-    words: &StationWords,
+    words: &Words,
     role: Role,
     config: &Config,
 ) -> Result<Option<Own>, AttendingError>
@@ -79,10 +79,10 @@ fn own_of(
         o.sending.items ≡ sending_of config.now.terminals (owner_of role))) }
     ensures receiving { IfOk result (λ own. IfSome own (λ o.
         o.receiving.items ≡ receiving_of config.now.terminals (owner_of role))) }
-    ensures kept { IfOk result (λ own. IsSome words.now.store → IsSome own) }
+    ensures kept { IfOk result (λ own. IsSome (store_path (words_value words.now)) → IsSome own) }
     ensures error { IfErr result (λ error. error ≡ AttendingError.Memory) }
 {
-    if words.store.is_none() {
+    if words.text("store").is_none() {
         return Ok(None);
     }
     let owner = match role {
@@ -98,7 +98,7 @@ fn own_of(
 /// Returns the station that the options select, with its records.
 fn station_of<R: Read, F: Files>(
     alloc: Global,
-    words: &StationWords,
+    words: &Words,
     role: Role,
     peers: GivenPeers,
     config: &Config,
@@ -107,10 +107,10 @@ fn station_of<R: Read, F: Files>(
 ) -> Result<Prepared, AttendingError>
     ensures error { IfErr result IsPreparingError }
     ensures station { IfOk result (IsStationOf config.now role
-        (map string_bytes words.now.offers.items) (R.remaining input.old)
+        (offers_in (words_value words.now)) (R.remaining input.old)
         (R.remaining input.new)) }
     ensures refused { IfErr result (HasNoStation config.now role peers.terminals
-        (map string_bytes words.now.offers.items) (R.remaining input.old)) }
+        (offers_in (words_value words.now)) (R.remaining input.old)) }
     ensures suits { IfOk result (Suits config.now.setup.format.full) }
 {
     match role {
@@ -139,7 +139,7 @@ fn config_at<R: Read, F: Files>(
 /// be one of the configuration.
 fn control_station<R: Read, F: Files>(
     alloc: Global,
-    words: &StationWords,
+    words: &Words,
     config: &Config,
     peers: GivenPeers,
     input: &mut R,
@@ -147,27 +147,27 @@ fn control_station<R: Read, F: Files>(
 ) -> Result<Prepared, AttendingError>
     ensures error { IfErr result IsPreparingError }
     ensures station { IfOk result (IsStationOf config.now Role.Control
-        (map string_bytes words.now.offers.items) (R.remaining input.old)
+        (offers_in (words_value words.now)) (R.remaining input.old)
         (R.remaining input.new)) }
     ensures suits { IfOk result (Suits config.now.setup.format.full) }
     ensures peers { length config.now.terminals < peers.terminals →
         result ≡ Err (AttendingError.Options OptionError.NoPeer) }
     ensures refused { IfErr result (HasNoControl config.now peers.terminals
-        (map string_bytes words.now.offers.items) (R.remaining input.old)) }
+        (offers_in (words_value words.now)) (R.remaining input.old)) }
 {
     if peers.terminals > config.terminals() {
         let error = OptionError::NoPeer;
         return Err(AttendingError::Options { error });
     }
     let mut control = new_control(alloc, config)?;
-    offer_all_for_terminals(alloc, &words.offers, &mut control, input, files)?;
+    offer_all_for_terminals(alloc, words.texts("offer"), &mut control, input, files)?;
     Ok(Prepared::Control { control })
 }
 
 /// Returns the terminal with this number, with its records.
 fn terminal<R: Read, F: Files>(
     alloc: Global,
-    words: &StationWords,
+    words: &Words,
     config: &Config,
     number: usize,
     input: &mut R,
@@ -175,13 +175,13 @@ fn terminal<R: Read, F: Files>(
 ) -> Result<Prepared, AttendingError>
     ensures error { IfErr result IsPreparingError }
     ensures station { IfOk result (IsStationOf config.now (Role.Terminal number)
-        (map string_bytes words.now.offers.items) (R.remaining input.old)
+        (offers_in (words_value words.now)) (R.remaining input.old)
         (R.remaining input.new)) }
     ensures suits { IfOk result (Suits config.now.setup.format.full) }
     ensures number { length config.now.terminals ≤ number →
         result ≡ Err (AttendingError.Options OptionError.NoTerminal) }
     ensures refused { IfErr result (HasNoTerminal config.now number
-        (map string_bytes words.now.offers.items) (R.remaining input.old)) }
+        (offers_in (words_value words.now)) (R.remaining input.old)) }
 {
     if number >= config.terminals() {
         let error = OptionError::NoTerminal;
@@ -189,6 +189,13 @@ fn terminal<R: Read, F: Files>(
     }
     let mut terminal = new_terminal(alloc, config, number);
     let setup = config.setup();
-    offer_all_at_terminal(alloc, &words.offers, setup, &mut terminal, input, files)?;
+    offer_all_at_terminal(
+        alloc,
+        words.texts("offer"),
+        setup,
+        &mut terminal,
+        input,
+        files,
+    )?;
     Ok(Prepared::Terminal { terminal })
 }

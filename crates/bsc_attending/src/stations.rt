@@ -2,7 +2,7 @@
 
 ghost use Rattle.std.specs.Prelude.{◌≡◌, Bool, IfErr, IfOk, IsErr, IsErrAnd, IsNone, IsSome};
 ghost use Rattle.std.specs.Prelude.{false, is_some, true};
-ghost use Rattle.bsc_options.specs.StationWords.{asked_words};
+ghost use Rattle.bsc_options.specs.Words.{words_value};
 ghost use Rattle.bsc_options.specs.Settings.{place_value, settings_value};
 ghost use Rattle.bsc_attending.specs.Ending.{IsLeftBy, IsSameKind, channels_of};
 ghost use Rattle.bsc_attending.specs.Errors.{IsCutShort, IsEarly, IsLate, IsStoreError, IsUnbegun};
@@ -11,7 +11,7 @@ ghost use Rattle.bsc_attending.specs.Progress.{progress_in, work_in};
 ghost use Rattle.bsc_attending.specs.Outcomes.{Finishes, IsAnswer, IsReported};
 ghost use Rattle.bsc_attending.specs.Runs.{BeginsIf, HasBegun, IsKeptRun, IsNotBegun};
 ghost use Rattle.bsc_attending.specs.Runs.{IsPrintedRun};
-ghost use Rattle.bsc_attending.specs.Preparing.{SuitsOwn};
+ghost use Rattle.bsc_attending.specs.Preparing.{SuitsOwn, store_path};
 ghost use Rattle.bsc_attending.specs.Wanted.{is_listening, wanted_value, wants};
 ghost use Rattle.bsc_trust.specs.Trust.{new_trust};
 
@@ -29,7 +29,7 @@ use crate::{AttendingError, Network, Opened, Readiness, Stores, Wanted};
 use bsc_connections::{Framing, Gaps, SocketRecords};
 use bsc_control::Control;
 use bsc_keeping::{Keeper, Keeps, Own, Printed, Stored};
-use bsc_options::{Admission, Role, StationSettings, StationWords, read_admission, read_settings};
+use bsc_options::{Admission, Role, StationSettings, Words, read_admission, read_settings};
 use bsc_report::{RecordLines, Tracing};
 use bsc_spool::Store;
 use bsc_station::{LineTerminal, Party};
@@ -69,21 +69,21 @@ struct Begun<K: Drop> {
 /// records are printed in place of that.
 pub fn station<R: Read, H: Files + Network + Stores, W: Write>(
     alloc: Global,
-    words: &StationWords,
+    words: &Words,
     input: &mut R,
     machine: &mut H,
     out: &mut W,
 ) -> Result<(), AttendingError>
     ensures early { IfErr result (λ error. IsEarly error → out.new ≡ out.old) }
-    ensures answers { IsAnswer (asked_words words.now) (R.remaining input.old) result }
-    ensures reported { IsReported W.contents (asked_words words.now) (R.remaining input.old) result
+    ensures answers { IsAnswer (words_value words.now) (R.remaining input.old) result }
+    ensures reported { IsReported W.contents (words_value words.now) (R.remaining input.old) result
         out.new }
-    ensures kept { IsSome words.now.store
+    ensures kept { IsSome (store_path (words_value words.now))
         → IsKeptRun H.Store.Store (⟦<Prepared as Running>⟧.runs_kept _ H.Store.Store) W.contents
-        (asked_words words.now) (R.remaining input.old) result out.new }
-    ensures printed { IsNone words.now.store
+        (words_value words.now) (R.remaining input.old) result out.new }
+    ensures printed { IsNone (store_path (words_value words.now))
         → IsPrintedRun (⟦<Prepared as Running>⟧.runs_printed _ W.contents) W.contents
-        (asked_words words.now) (R.remaining input.old) result out.new }
+        (words_value words.now) (R.remaining input.old) result out.new }
 {
     let settings = read_settings(words)?;
     let admission = read_admission(words)?;
@@ -107,15 +107,15 @@ pub fn station<R: Read, H: Files + Network + Stores, W: Write>(
 /// to be kept.
 fn begin_station<R: Read, H: Files + Stores>(
     alloc: Global,
-    words: &StationWords,
+    words: &Words,
     options: &Options<'_>,
     input: &mut R,
     machine: &mut H,
 ) -> Result<Begun<H::Store>, AttendingError>
-    ensures begun { IfOk result (λ begun. HasBegun H.Store.Store (asked_words words.now)
+    ensures begun { IfOk result (λ begun. HasBegun H.Store.Store (words_value words.now)
         options.now.settings.role (forgets_printed_in (settings_value options.now.settings))
-        (is_some words.now.store) (R.remaining input.old) begun.prepared begun.keeper) }
-    ensures refused { IfErr result (IsNotBegun (asked_words words.now) options.now.settings.role
+        (is_some (store_path (words_value words.now))) (R.remaining input.old) begun.prepared begun.keeper) }
+    ensures refused { IfErr result (IsNotBegun (words_value words.now) options.now.settings.role
         options.now.admission.peers.terminals (R.remaining input.old)) }
     ensures unbegun { IfErr result IsUnbegun }
 {
@@ -131,7 +131,7 @@ fn begin_station<R: Read, H: Files + Stores>(
 /// them then.
 fn keeper_for<H: Stores>(
     alloc: Global,
-    words: &StationWords,
+    words: &Words,
     own: Option<Own>,
     forgets: bool,
     prepared: &mut Prepared,
@@ -140,12 +140,12 @@ fn keeper_for<H: Stores>(
     requires { SuitsOwn own prepared.old }
     ensures kind { IsSameKind prepared.old prepared.new }
     ensures error { IfErr result IsStoreError }
-    ensures begins { IfOk result (BeginsIf H.Store.Store forgets (is_some words.now.store) own
+    ensures begins { IfOk result (BeginsIf H.Store.Store forgets (is_some (store_path (words_value words.now))) own
         prepared.old prepared.new) }
 {
-    match (&words.store, own) {
+    match (words.text("store"), own) {
         (Some(path), Some(own)) => {
-            let keeper = begin(alloc, path.as_str(), own, prepared, forgets, machine)?;
+            let keeper = begin(alloc, path, own, prepared, forgets, machine)?;
             Ok(Some(keeper))
         }
         _ => Ok(None),

@@ -1,7 +1,7 @@
 //! The ladder of the trace that the words of the command name: a file, or standard input.
 ghost use Rattle.std.specs.Prelude.{◌≡◌, OnOk, IfErr, IfOk, Ok, Some, ℕ, List, Option};
 ghost use Rattle.std.specs.Prelude.{option_map, string_bytes};
-ghost use Rattle.bsc_options.specs.ChartWords.{chart_words};
+ghost use Rattle.bsc_options.specs.ChartWords.{chart_given};
 ghost use Rattle.bsc_text.specs.declared.unreadable.Unreadable.{Unreadable as UnreadableValue};
 ghost use Rattle.bsc_chart.specs.Named.{HasFailedAs, HasFailedFile, HasFailedInput};
 ghost use Rattle.bsc_chart.specs.Named.{HasFailedTrace, HoldsOf, IsCharted, IsDrawn, IsEarlyTrace};
@@ -10,7 +10,7 @@ ghost use Rattle.bsc_chart.specs.Named.{IsFileError, IsLateTrace, IsUnread, file
 
 use crate::words::{read_drawing, text_of};
 use crate::{ChartError, Drawing, chart};
-use bsc_options::ChartWords;
+use bsc_options::Words;
 use bsc_text::{STANDARD_INPUT, Unreadable};
 use std::alloc::Global;
 use std::io::{Read, Write};
@@ -60,23 +60,23 @@ pub enum TraceError {
 /// `CannotRead`.
 pub fn draw_named<R: Read, T: Traces, W: Write>(
     alloc: Global,
-    words: &ChartWords,
+    words: &Words,
     input: &mut R,
     machine: &mut T,
     out: &mut W,
 ) -> Result<(), TraceError>
-    ensures ok { OnOk result (IsCharted (chart_words words.now) (R.remaining input.old)
+    ensures ok { OnOk result (IsCharted (chart_given words.now) (R.remaining input.old)
         (W.contents out.old) (W.contents out.new)) }
-    ensures failed { IfErr result (λ error. HasFailedTrace (chart_words words.now) error
+    ensures failed { IfErr result (λ error. HasFailedTrace (chart_given words.now) error
         (R.remaining input.old) (W.contents out.old) (W.contents out.new)) }
     ensures drawn { OnOk result (ChartsNamed T.tells T.opens T.File.remaining
-        (chart_words words.now) (R.remaining input.old) (W.contents out.old)
+        (chart_given words.now) (R.remaining input.old) (W.contents out.old)
         (W.contents out.new)) }
     ensures undrawn { IfErr result (λ error. FailsChart T.tells T.opens T.refuses T.File.remaining
-        (chart_words words.now) error (R.remaining input.old) (W.contents out.old)
+        (chart_given words.now) error (R.remaining input.old) (W.contents out.old)
         (W.contents out.new)) }
     ensures early { IfErr result (λ error. IsEarlyTrace error → out.new ≡ out.old) }
-    ensures unasked { (path : List ℕ) → file_in (chart_words words.now).file ≡ Some path
+    ensures unasked { (path : List ℕ) → file_in (chart_given words.now).file ≡ Some path
         → input.new ≡ input.old }
 {
     let columns = machine.columns();
@@ -87,10 +87,10 @@ pub fn draw_named<R: Read, T: Traces, W: Write>(
 }
 
 /// Returns the path of the file that the words name, or `None` for standard input.
-fn file_of(words: &ChartWords) -> Option<&str>
-    ensures { option_map (λ p. p.now) result ≡ file_in (chart_words words.now).file }
+fn file_of(words: &Words) -> Option<&str>
+    ensures { option_map (λ p. p.now) result ≡ file_in (chart_given words.now).file }
 {
-    match text_of(&words.file) {
+    match words.text("FILE") {
         Some(path) => unless_standard(path),
         None => None,
     }
@@ -110,24 +110,24 @@ fn unless_standard(path: &str) -> Option<&str>
 /// Draws the trace that the words name in this way.
 fn draw_from<R: Read, T: Traces, W: Write>(
     alloc: Global,
-    words: &ChartWords,
+    words: &Words,
     drawing: Drawing,
     input: &mut R,
     machine: &mut T,
     out: &mut W,
 ) -> Result<(), TraceError>
-    ensures ok { OnOk result (HoldsOf (chart_words words.now) (R.remaining input.old)
+    ensures ok { OnOk result (HoldsOf (chart_given words.now) (R.remaining input.old)
         (IsDrawn (Ok drawing) (W.contents out.old) (W.contents out.new))) }
-    ensures failed { IfErr result (λ error. HasFailedAs (chart_words words.now) (Ok drawing) error
+    ensures failed { IfErr result (λ error. HasFailedAs (chart_given words.now) (Ok drawing) error
         (R.remaining input.old) (W.contents out.old) (W.contents out.new)) }
     ensures drawn { OnOk result (DrawsNamed T.opens T.File.remaining
-        (file_in (chart_words words.now).file) (Ok drawing) (R.remaining input.old)
+        (file_in (chart_given words.now).file) (Ok drawing) (R.remaining input.old)
         (W.contents out.old) (W.contents out.new)) }
     ensures undrawn { IfErr result (λ error. FailsNamed T.opens T.refuses T.File.remaining
-        (file_in (chart_words words.now).file) drawing error (R.remaining input.old)
+        (file_in (chart_given words.now).file) drawing error (R.remaining input.old)
         (W.contents out.old) (W.contents out.new)) }
     ensures late { IfErr result IsLateTrace }
-    ensures unasked { (path : List ℕ) → file_in (chart_words words.now).file ≡ Some path
+    ensures unasked { (path : List ℕ) → file_in (chart_given words.now).file ≡ Some path
         → input.new ≡ input.old }
 {
     match file_of(words) {

@@ -1,12 +1,12 @@
 //! The ladder that the words of the command ask for.
 ghost use Rattle.std.specs.Prelude.{◌≡◌, OnOk, IfErr, IfSome, IsOkAnd, option_map, string_bytes};
-ghost use Rattle.bsc_options.specs.ChartWords.{chart_words};
+ghost use Rattle.bsc_options.specs.ChartWords.{chart_given};
 ghost use Rattle.bsc_chart.specs.Asked.{HasFailed, IsEarly, drawing_of, drawing_with, form_of};
 ghost use Rattle.bsc_chart.specs.Asked.{line_of, range_of, style_of, width_of, width_on};
 ghost use Rattle.bsc_chart.specs.Inputs.{DrawsInput};
 
 use crate::{ChartError, Drawing, Form, Range, chart};
-use bsc_options::{ChartWords, number_within};
+use bsc_options::{Words, number_within};
 use bsc_trace::ladder::Style;
 use std::alloc::Allocator;
 use std::io::{Read, Write};
@@ -19,16 +19,16 @@ use std::io::{Read, Write};
 /// otherwise 80. Otherwise the same as [`chart`].
 pub fn draw<A: Allocator + Copy, R: Read, W: Write>(
     alloc: A,
-    words: &ChartWords,
+    words: &Words,
     columns: Option<&str>,
     input: &mut R,
     out: &mut W,
 ) -> Result<(), ChartError>
     ensures ok { OnOk result (IfSome (R.remaining input.old) (λ octets.
-        IsOkAnd (drawing_of (option_map (λ w. w.now) columns.entry) (chart_words words.now))
+        IsOkAnd (drawing_of (option_map (λ w. w.now) columns.entry) (chart_given words.now))
         (λ drawing. DrawsInput drawing octets (W.contents out.old) (W.contents out.new)))) }
     ensures failed { IfErr result (λ error. IfSome (R.remaining input.old) (λ octets.
-        HasFailed (drawing_of (option_map (λ w. w.now) columns.entry) (chart_words words.now)) error
+        HasFailed (drawing_of (option_map (λ w. w.now) columns.entry) (chart_given words.now)) error
         octets (W.contents out.old) (W.contents out.new))) }
     ensures early { IfErr result (λ error. IsEarly error → out.new ≡ out.old) }
 {
@@ -39,14 +39,15 @@ pub fn draw<A: Allocator + Copy, R: Read, W: Write>(
 }
 
 /// Returns how the words ask to draw on a terminal of which this width is told.
-pub(crate) fn read_drawing(words: &ChartWords, columns: Option<&str>) -> Result<Drawing, ChartError>
-    ensures { result
-        ≡ drawing_of (option_map (λ w. w.now) columns.entry) (chart_words words.now) }
+pub(crate) fn read_drawing(words: &Words, columns: Option<&str>) -> Result<Drawing, ChartError>
+    ensures { result ≡ drawing_of (option_map (λ w. w.now) columns.entry)
+        (chart_given words.now) }
 {
-    let form = read_form(words.text, words.svg, words.html);
-    let width = read_width(width_on_terminal(columns), text_of(&words.width));
-    let range = read_range(text_of(&words.from), text_of(&words.to));
-    drawing(style(words.ascii), form, width, range)
+    let (text, svg) = (words.is_given("text"), words.is_given("svg"));
+    let form = read_form(text, svg, words.is_given("html"));
+    let width = read_width(width_on_terminal(columns), words.text("width"));
+    let range = read_range(words.text("from"), words.text("to"));
+    drawing(style(words.is_given("ascii")), form, width, range)
 }
 
 /// Returns a drawing of these parts, or the first error.

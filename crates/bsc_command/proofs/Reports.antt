@@ -4,7 +4,7 @@ use Rattle.std.specs.Io.KnownBytes.{Keeps}
 use Rattle.std.proofs.KnownBytes.{Appends-kept}
 use Rattle.clap.specs.Words.{Text}
 use Rattle.bsc_options.specs.Asked.{AskedValue, names, name, show, chart, run, station, feed, store}
-use Rattle.bsc_options.specs.StationWords.{AskedWords}
+use Rattle.bsc_options.specs.Words.{WordsValue}
 use Rattle.bsc_attending.specs.Ending.{ending_text}
 use Rattle.bsc_attending.specs.Outcomes.{IsReported}
 use Rattle.bsc_attending.specs.declared.error.AttendingError.{AttendingError}
@@ -13,7 +13,7 @@ use Rattle.bsc_command.specs.declared.fault.Fault.{Fault}
 use Rattle.bsc_command.specs.Program.{HasFailedReport, HasFailedReportAt, IsReportedAt, IsReportedOn}
 
 module _ {W : Type 0} (held : W → Option (List ℕ)) (b c : W) (k : Keeps (held b) (held c)) where
-  reported_kept : (w : AskedWords) (input : Option (List ℕ))
+  reported_kept : (w : WordsValue) (input : Option (List ℕ))
       (result : Result (Unit {0}) AttendingError) → IsReported held w input result b
       → IsReported held w input result c
   reported_kept w input result (inl unended) = inl unended

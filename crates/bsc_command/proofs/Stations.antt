@@ -2,12 +2,12 @@
 use Rattle.std.proofs.Common.{ℕ, Bool, true, false, if◌then◌else◌, List, Option, Err, inl, inr}
 use Rattle.std.proofs.Common.{subst, sym}
 use Rattle.clap.specs.declared.error.kind.ErrorKind.TheVariants as kind
-use Rattle.bsc_options.specs.StationWords.{AskedWords}
+use Rattle.bsc_options.specs.Words.{WordsValue}
 use Rattle.bsc_attending.specs.Errors.{IsEarly as IsEarlyAttending}
 use Rattle.bsc_attending.specs.Outcomes.{IsAnswer}
 use Rattle.bsc_attending.specs.declared.error.AttendingError.{AttendingError}
 use Rattle.bsc_attending.specs.declared.error.AttendingError.TheVariants as attending
-use Rattle.bsc_options.specs.Errors.{is_conflict}
+use Rattle.bsc_options.specs.Errors.{is_conflict, refusal}
 use Rattle.bsc_command.specs.declared.fault.Fault.{Fault}
 use Rattle.bsc_command.specs.declared.fault.Fault.TheVariants as fault
 use Rattle.bsc_command.specs.Faults.{IsAttendingFault, IsEarly, IsStationFault, IsUsageOf}
@@ -22,11 +22,11 @@ usage_of_station false f p = inl p
 
 -- the fault is one of a station
 pub station_fault : (e : AttendingError) (f : Fault) → IsAttendingFault e f → IsStationFault f
-station_fault (attending.Options why) f p = usage_of_station (is_conflict why) f p
+station_fault (attending.Options why) f p = usage_of_station (is_conflict (refusal why)) f p
 station_fault e f p = subst IsStationFault (sym p) tt
 
 -- it says what the error says
-pub station_failed : (w : AskedWords) (input : Option (List ℕ)) (e : AttendingError) (f : Fault)
+pub station_failed : (w : WordsValue) (input : Option (List ℕ)) (e : AttendingError) (f : Fault)
     → IsAttendingFault e f → IsAnswer w input (Err e) → HasFailedStation f w input
 station_failed w input (attending.Options why) (fault.Usage error) p q = (why, p, q)
 station_failed w input (attending.Options why) (fault.Attending error) p q = absurd p

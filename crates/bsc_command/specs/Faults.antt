@@ -17,7 +17,7 @@ use Rattle.bsc_clients.specs.declared.command.error.FeedError.{FeedError}
 use Rattle.bsc_clients.specs.declared.command.error.FeedError.TheVariants as feed
 use Rattle.bsc_trace.specs.Errors.{IsLineError, IsNameError}
 use Rattle.bsc_trace.specs.declared.naming.error.NamingError.TheVariants as naming
-use Rattle.bsc_options.specs.Errors.{is_conflict}
+use Rattle.bsc_options.specs.Errors.{is_conflict, refusal}
 use Rattle.bsc_options.specs.declared.error.OptionError.{OptionError}
 use Rattle.bsc_text.specs.Lines.{in_lines}
 use Rattle.bsc_text.specs.Forms.{AreOctets, escaped, is_printable}
@@ -126,7 +126,8 @@ IsTraceFault error fault = fault ≡ Charting error
 -- The kind of wrong usage for refused options: they conflict or one is missing, or a value is
 -- wrong.
 abbrev pub options_kind : OptionError → ErrorKind
-options_kind error = if is_conflict error then kind.ArgumentConflict else kind.InvalidValue
+options_kind error =
+    if is_conflict (refusal error) then kind.ArgumentConflict else kind.InvalidValue
 
 -- The fault for an error of a station. Wrong arguments are wrong usage.
 abbrev pub IsAttendingFault : AttendingError → Fault → Type 0

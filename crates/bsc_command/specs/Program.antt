@@ -4,7 +4,7 @@ use Rattle.std.specs.Prelude.{Ok, Err, Some, true}
 use Rattle.clap.specs.Words.{HasKind, Text as WordText, kind_of}
 use Rattle.clap.specs.declared.error.Error.{Error}
 use Rattle.bsc_options.specs.ChartWords.{AskedChart}
-use Rattle.bsc_options.specs.StationWords.{AskedWords}
+use Rattle.bsc_options.specs.Words.{WordsValue}
 use Rattle.bsc_options.specs.StoreWords.{AskedStore}
 use Rattle.bsc_options.specs.Asked.{AskedValue, names, name, show, chart, run, station, feed, store}
 use Rattle.bsc_attending.specs.Outcomes.{IsAnswer, IsReported}
@@ -23,6 +23,7 @@ use Rattle.bsc_text.specs.declared.printed.Detail.TheVariants.{Name, Units}
 use Rattle.bsc_trace.specs.Inputs.{HasStopped, PrintsInput}
 use Rattle.bsc_trace.specs.declared.naming.error.NamingError.TheVariants.{NotHexadecimal}
 use Rattle.bsc_options.specs.declared.error.OptionError.{OptionError}
+use Rattle.bsc_options.specs.Errors.{refusal}
 use Rattle.bsc_options.specs.StoreWorks.{WorkValue, work_in}
 use Rattle.bsc_run.specs.Crossing.{streams_of}
 use Rattle.bsc_run.specs.Plays.{holding}
@@ -57,7 +58,7 @@ HasFailedLines fault detail input old new = Unit {0}
 
 -- What a fault of a station says: what is wrong before it makes its connections, or that it was
 -- prepared. Wrong usage is that options are refused, and is of the kind of the reason.
-abbrev pub HasFailedStation : Fault → AskedWords → Option (List ℕ) → Type 0
+abbrev pub HasFailedStation : Fault → WordsValue → Option (List ℕ) → Type 0
 HasFailedStation (Attending error) words input = IsAnswer words input (Err error)
 HasFailedStation (Usage error) words input =
     (why : OptionError) × (kind_of error ≡ options_kind why)
@@ -79,7 +80,7 @@ HasWork words = (work : WorkValue) × (work_in words ≡ Ok work)
 abbrev pub HasFailedStore : Fault → AskedStore → Type 0
 HasFailedStore (Storing error) words = HasWork words
 HasFailedStore (Usage error) words =
-    (why : OptionError) × (kind_of error ≡ options_kind why) × (work_in words ≡ Err why)
+    (why : OptionError) × (kind_of error ≡ options_kind why) × (work_in words ≡ Err (refusal why))
 HasFailedStore fault words = Unit {0}
 
 -- What a fault of drawing a trace says: the line with this number is the first that is wrong or

@@ -154,11 +154,13 @@ pub(crate) fn running_fault(alloc: Global, error: RunningError) -> Fault
 fn options_fault(alloc: Global, shown: Shown, error: OptionError) -> Fault
     ensures { IsUsageOf (options_kind error) result }
 {
-    let why = error.reason();
+    let Ok(why) = error.to_string(alloc) else {
+        return Fault::OutOfMemory;
+    };
     if error.is_conflict() {
-        words_fault(alloc, shown, ErrorKind::ArgumentConflict, why)
+        words_fault(alloc, shown, ErrorKind::ArgumentConflict, why.as_str())
     } else {
-        words_fault(alloc, shown, ErrorKind::InvalidValue, why)
+        words_fault(alloc, shown, ErrorKind::InvalidValue, why.as_str())
     }
 }
 

@@ -1,9 +1,11 @@
 //! The work of the program, over any reader, writer and machine.
 ghost use Rattle.std.specs.Prelude.{◌≡◌, ℕ, Bool, OnOk, IfErr, List};
 ghost use Rattle.std.specs.Prelude.{IsTrue, Some, map, string_bytes, true};
-ghost use Rattle.bsc_options.specs.Asked.{asked as asked_now, name as name_asked, run as run_asked};
-ghost use Rattle.bsc_options.specs.ChartWords.{chart_words};
-ghost use Rattle.bsc_options.specs.StoreWords.{store_words};
+ghost use Rattle.bsc_options.specs.Asked.{asked as asked_now, name as name_asked};
+ghost use Rattle.bsc_options.specs.Asked.{run as run_asked, run_in};
+ghost use Rattle.bsc_options.specs.ChartWords.{chart_given};
+ghost use Rattle.bsc_options.specs.StoreWords.{store_given};
+ghost use Rattle.bsc_options.specs.Words.{words_value};
 ghost use Rattle.bsc_command.specs.Faults.{IsChartingFault, IsEarly, IsFeedFault, IsStoreFault};
 ghost use Rattle.bsc_command.specs.Faults.{IsTraceFault};
 ghost use Rattle.bsc_command.specs.Program.{HasDoneRun, HasFailedAs, HasFailedOn, HasFailedWith};
@@ -21,7 +23,7 @@ use crate::fault::{attending_fault, feeding_fault, running_fault, store_words_fa
 use bsc_attending::{Network, Stores, station};
 use bsc_chart::{Traces, draw_named};
 use bsc_clients::command::{Stations, feed_at};
-use bsc_options::{Asked, ChartWords, StoreWords, read_store_work};
+use bsc_options::{Asked, Words, read_store_work};
 use bsc_run::{Cables, RunWords, RunningError, run};
 use bsc_storing::{StoreFiles, store};
 use bsc_text::Files;
@@ -67,36 +69,36 @@ pub fn perform<
 {
     match asked {
         Asked::Names => Ok(names(alloc, input, out)?),
-        Asked::Name(text) => Ok(name(alloc, text.as_str(), out)?),
+        Asked::Name { words } => Ok(name(alloc, words.required("HEX"), out)?),
         Asked::Show => Ok(show(alloc, input, out)?),
-        Asked::Chart(words) => draw_chart(alloc, words, input, machine, out),
-        Asked::Run {
-            config,
-            script,
-            check,
-            trace,
-            quiet,
-        } => {
-            let words = RunWords {
-                config: config.as_str(),
-                script: script.as_str(),
-                check: *check,
-                trace: *trace,
-                quiet: *quiet,
-            };
-            match run_traced(alloc, words, input, machine, out) {
-                Ok(()) => Ok(()),
-                Err(error) => Err(running_fault(alloc, error)),
-            }
-        }
-        Asked::Station(words) => match station(alloc, words, input, machine, out) {
+        Asked::Chart { words } => draw_chart(alloc, words, input, machine, out),
+        Asked::Run { words } => match run_traced(alloc, run_words(words), input, machine, out) {
+            Ok(()) => Ok(()),
+            Err(error) => Err(running_fault(alloc, error)),
+        },
+        Asked::Station { words } => match station(alloc, words, input, machine, out) {
             Ok(()) => Ok(()),
             Err(error) => Err(attending_fault(alloc, error)),
         },
-        Asked::Feed { address, command } => {
-            feed_station(alloc, address.as_str(), command, input, machine, out)
+        Asked::Feed { words } => {
+            let (address, command) = (words.required("ADDRESS"), words.texts("COMMAND"));
+            feed_station(alloc, address, command, input, machine, out)
         }
-        Asked::Store(words) => do_store(alloc, words, input, machine, out),
+        Asked::Store { words } => do_store(alloc, words, input, machine, out),
+    }
+}
+
+/// Returns the run that the words ask for.
+fn run_words(words: &Words) -> RunWords<'_>
+    ensures { run_asked result.config.now result.script.now result.check result.trace result.quiet
+        ≡ run_in (words_value words.now) }
+{
+    RunWords {
+        config: words.required("CONFIG"),
+        script: words.required("SCRIPT"),
+        check: words.is_given("check"),
+        trace: words.is_given("trace"),
+        quiet: words.is_given("quiet"),
     }
 }
 
@@ -149,19 +151,19 @@ fn run_traced<R: Read, H: Files + Cables + Network, W: Write>(
 /// Does a work on a store.
 fn do_store<R: Read, H: Files + StoreFiles, W: Write>(
     alloc: Global,
-    words: &StoreWords,
+    words: &Words,
     input: &mut R,
     machine: &mut H,
     out: &mut W,
 ) -> Result<(), Fault>
-    ensures ok { OnOk result (HasWork (store_words words.now)) }
+    ensures ok { OnOk result (HasWork (store_given words.now)) }
     ensures fault { IfErr result IsStoreFault }
-    ensures failed { IfErr result (λ fault. HasFailedStore fault (store_words words.now)) }
+    ensures failed { IfErr result (λ fault. HasFailedStore fault (store_given words.now)) }
     ensures early { IfErr result (λ fault. IsEarly fault → out.new ≡ out.old) }
 {
     match read_store_work(words) {
         Err(error) => Err(store_words_fault(alloc, error)),
-        Ok(work) => match store(alloc, words.file.as_str(), work, input, machine, out) {
+        Ok(work) => match store(alloc, words.required("FILE"), work, input, machine, out) {
             Ok(()) => Ok(()),
             Err(error) => Err(Fault::Storing { error }),
         },
@@ -171,23 +173,23 @@ fn do_store<R: Read, H: Files + StoreFiles, W: Write>(
 /// Draws a ladder.
 fn draw_chart<R: Read, T: Traces, W: Write>(
     alloc: Global,
-    words: &ChartWords,
+    words: &Words,
     input: &mut R,
     machine: &mut T,
     out: &mut W,
 ) -> Result<(), Fault>
-    ensures ok { OnOk result (IsCharted (chart_words words.now) (R.remaining input.old)
+    ensures ok { OnOk result (IsCharted (chart_given words.now) (R.remaining input.old)
         (W.contents out.old) (W.contents out.new)) }
     ensures fault { IfErr result IsChartingFault }
-    ensures failed { IfErr result (λ fault. HasFailedChart fault (chart_words words.now)
+    ensures failed { IfErr result (λ fault. HasFailedChart fault (chart_given words.now)
         (R.remaining input.old) (W.contents out.old) (W.contents out.new)) }
     ensures drawn { OnOk result (ChartsNamed T.tells T.opens T.File.remaining
-        (chart_words words.now) (R.remaining input.old) (W.contents out.old)
+        (chart_given words.now) (R.remaining input.old) (W.contents out.old)
         (W.contents out.new)) }
     ensures undrawn { IfErr result (λ fault. (error : TraceError) × IsTraceFault error fault
-        × FailsChart T.tells T.opens T.refuses T.File.remaining (chart_words words.now) error
+        × FailsChart T.tells T.opens T.refuses T.File.remaining (chart_given words.now) error
         (R.remaining input.old) (W.contents out.old) (W.contents out.new)) }
-    ensures unasked { (path : List ℕ) → file_of (chart_words words.now).file ≡ Some path
+    ensures unasked { (path : List ℕ) → file_of (chart_given words.now).file ≡ Some path
         → input.new ≡ input.old }
     ensures early { IfErr result (λ fault. IsEarly fault → out.new ≡ out.old) }
 {

@@ -21,15 +21,15 @@ use bsc_words::read_words;
 use std::alloc::{AllocError, Global};
 use std::io::{BufWriter, Read, Write};
 
-/// Returns the arguments as `clap` takes them.
-fn lent(alloc: Global, words: &[String]) -> Result<Vec<&str>, AllocError>
-    ensures { IfOk result (λ lent. map (λ s. s.now) lent.items ≡ map string_bytes words.now) }
+/// Returns the arguments as texts, as `clap` takes them.
+fn texts_of(alloc: Global, words: &[String]) -> Result<Vec<&str>, AllocError>
+    ensures { IfOk result (λ texts. map (λ s. s.now) texts.items ≡ map string_bytes words.now) }
 {
-    let mut lent = Vec::new(alloc);
+    let mut texts = Vec::new(alloc);
     'words: for word in words {
-        lent.push(word.as_str())?;
+        texts.push(word.as_str())?;
     }
-    Ok(lent)
+    Ok(texts)
 }
 
 /// Does the work that the arguments ask for, or prints the help or the version.
@@ -54,7 +54,7 @@ fn obey<R: Read, H: Files + Traces + Cables + Network + Stations + Stores + Stor
         (map string_bytes words.now) fault (R.remaining input.old) out.new) }
     ensures early { IfErr result (λ fault. IsEarly fault → out.new ≡ out.old) }
 {
-    let words = lent(alloc, words)?;
+    let words = texts_of(alloc, words)?;
     match read_words(alloc, &words) {
         Ok(asked) => perform(alloc, &asked, input, machine, out),
         Err(error) => help_or_fault(error, out),

@@ -2,11 +2,10 @@
 use Rattle.std.proofs.Common.{◌≡◌, ◌+◌, ◌≤◌, ◌<◌, ℕ, Bool, true, false, List, [], ◌∷◌}
 use Rattle.std.proofs.Common.{map, take, length, get_or, refl, ap, sym, ◌∙◌, arith}
 use Rattle.std.proofs.Common.{string_bytes}
-use Rattle.std.specs.Prelude.{String, count_by}
+use Rattle.std.specs.Prelude.{String, codes, count_by, unwrap_or}
 use Rattle.std.proofs.lemmas.List.Sums.{count_by_more_no, count_by_more_yes, sum_by-cons}
 use Rattle.std.proofs.lemmas.List.Sums.{sum_by-take-le}
-use Rattle.bsc_options.specs.StationWords.{asked_words}
-use Rattle.bsc_options.specs.declared.station_words.StationWords.{StationWords}
+use Rattle.bsc_options.specs.Words.{WordsValue, is_given, text_at, texts_at}
 use Rattle.bsc_options.specs.declared.settings.Role.{Role}
 use Rattle.bsc_options.specs.Inputs.{is_input, one_if, path_in, uses_of_input}
 
@@ -15,9 +14,10 @@ abbrev pub names_input : {Z : Type 0} → Role → String Z → Bool
 names_input role offer = is_input (path_in role (string_bytes offer))
 
 -- the uses as the configuration and for the end of the station
-abbrev pub uses_before : StationWords → ℕ
-uses_before words =
-    one_if (is_input (string_bytes words.config)) + one_if words.until_input_ends
+abbrev pub uses_before : WordsValue → ℕ
+uses_before w =
+    one_if (is_input (unwrap_or (text_at (codes "CONFIG") w) []))
+    + one_if (is_given (codes "until-input-ends") w)
 
 count_cons : {X : Type 0} (p : X → Bool) (x : X) (xs : List X)
     → count_by p (x ∷ xs) ≡ one_if (p x) + count_by p xs
@@ -33,25 +33,25 @@ count_paths role (offer ∷ offers) =
     ∙ ap (λ n. one_if (names_input role offer) + n) (count_paths role offers)
     ∙ sym (count_cons (names_input role) offer offers)
 
--- all uses
-pub uses_all : (words : StationWords) (role : Role)
-    → uses_of_input (asked_words words) role
-    ≡ uses_before words + count_by (names_input role) words.offers.items
-uses_all words role =
-    let asked = asked_words words in
-    let first = count_cons is_input asked.config (map (path_in role) asked.offers) in
-    let paths = count_paths role words.offers.items in
-    omega arith
+-- all uses, where these are the texts that are offered
+module _ {Z : Type 0} (w : WordsValue) (role : Role) (offers : List (String Z))
+    (is : map string_bytes offers ≡ texts_at (codes "offer") w) where
+  pub uses_all : uses_of_input w role
+      ≡ uses_before w + count_by (names_input role) offers
+  uses_all =
+      let config = unwrap_or (text_at (codes "CONFIG") w) [] in
+      let first = count_cons is_input config (map (path_in role) (texts_at (codes "offer") w)) in
+      let same = ap (λ texts. count_by is_input (map (path_in role) texts)) is in
+      let paths = count_paths role offers in
+      omega arith
 
--- the uses so far are no more than all
-pub uses_within : (words : StationWords) (role : Role) (n : ℕ)
-    → uses_before words + count_by (names_input role) (take n words.offers.items)
-    ≤ uses_of_input (asked_words words) role
-uses_within words role n =
-    let all = uses_all words role in
-    let front =
-    sum_by-take-le (λ o. one_if (names_input role o)) words.offers.items n in
-    omega arith
+  -- the uses so far are no more than all
+  pub uses_within : (n : ℕ)
+      → uses_before w + count_by (names_input role) (take n offers) ≤ uses_of_input w role
+  uses_within n =
+      let all = uses_all in
+      let front = sum_by-take-le (λ o. one_if (names_input role o)) offers n in
+      omega arith
 
 -- one more text
 pub uses_more : {X : Type 0} (p : X → Bool) (xs : List X) (n : ℕ) (x : X) (b : Bool)

@@ -1,10 +1,10 @@
 -- The peers that may connect, and those that answer for terminals.
 use Rattle.std.specs.Prelude.{◌≡◌, ◌≤◌, ◌<◌, ◌+◌, ◌⊎◌, ℕ, max, List, [], ◌∷◌, ◌++◌, length}
 use Rattle.std.specs.Prelude.{replicate, slice_set, Option, Some, None, MatchOption}
-use Rattle.std.specs.Prelude.{Result, Ok, Err, MatchResult}
+use Rattle.std.specs.Prelude.{Result, Ok, Err, MatchResult, codes}
 use Rattle.std.specs.Net.Grammar.{IsIpText}
 use Rattle.std.specs.declared.net.ip_addr.IpAddr.{IpAddr}
-use Rattle.bsc_options.specs.StationWords.{AskedWords}
+use Rattle.bsc_options.specs.Words.{WordsValue, texts_at}
 use Rattle.bsc_text.specs.Parts.{after_octet, before_octet}
 use Rattle.bsc_bid.specs.declared.limits.TheConstants.{MAX_TERMINALS}
 use Rattle.bsc_trust.specs.Lists.{listed}
@@ -111,9 +111,11 @@ abbrev pub ReadsPeers : List (List ℕ) → Result GivenPeers OptionError → Ty
 ReadsPeers = ReadsFrom IsNobody AddsPeer
 
 -- The peers in the options, or the first reason for refusing them.
-abbrev pub IsAdmission : AskedWords → Result Admission OptionError → Type 0
+abbrev pub IsAdmission : WordsValue → Result Admission OptionError → Type 0
 IsAdmission w (Ok admission) =
-    ReadsNetworks w.allowed (Ok admission.allowed) × ReadsPeers w.peers (Ok admission.peers)
+    ReadsNetworks (texts_at (codes "allow") w) (Ok admission.allowed)
+    × ReadsPeers (texts_at (codes "peer") w) (Ok admission.peers)
 IsAdmission w (Err why) =
-    ReadsNetworks w.allowed (Err why)
-    ⊎ ((allowed : Networks) × ReadsNetworks w.allowed (Ok allowed) × ReadsPeers w.peers (Err why))
+    ReadsNetworks (texts_at (codes "allow") w) (Err why)
+    ⊎ ((allowed : Networks) × ReadsNetworks (texts_at (codes "allow") w) (Ok allowed)
+    × ReadsPeers (texts_at (codes "peer") w) (Err why))

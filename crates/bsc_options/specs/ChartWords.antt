@@ -1,6 +1,7 @@
 -- The arguments of `chart` as texts.
-use Rattle.std.specs.Prelude.{ℕ, List, Bool, Option, option_map, string_bytes}
-use Rattle.bsc_options.specs.declared.chart_words.ChartWords.{ChartWords}
+use Rattle.std.specs.Prelude.{ℕ, List, Bool, Option, codes}
+use Rattle.bsc_options.specs.Words.{WordsValue, is_given, text_at, words_value}
+use Rattle.bsc_options.specs.declared.words.Words.{Words}
 
 -- The arguments as texts.
 pub record AskedChart : Type 0 where
@@ -13,15 +14,19 @@ pub record AskedChart : Type 0 where
   pub from : Option (List ℕ)
   pub to : Option (List ℕ)
 
--- The value of the arguments in the code.
-abbrev pub chart_words : ChartWords → AskedChart
+-- Those that were given.
+abbrev pub chart_words : WordsValue → AskedChart
 chart_words w = record {
-  file = option_map string_bytes w.file;
-  text = w.text;
-  svg = w.svg;
-  html = w.html;
-  ascii = w.ascii;
-  width = option_map string_bytes w.width;
-  from = option_map string_bytes w.from;
-  to = option_map string_bytes w.to;
+  file = text_at (codes "FILE") w;
+  text = is_given (codes "text") w;
+  svg = is_given (codes "svg") w;
+  html = is_given (codes "html") w;
+  ascii = is_given (codes "ascii") w;
+  width = text_at (codes "width") w;
+  from = text_at (codes "from") w;
+  to = text_at (codes "to") w;
 }
+
+-- Those in the words of the code.
+abbrev pub chart_given : Words → AskedChart
+chart_given words = chart_words (words_value words)

@@ -1,7 +1,7 @@
 -- How often the options of a station name standard input.
-use Rattle.std.specs.Prelude.{ℕ, ◌+◌, nat_lt, Bool, List, ◌∷◌, map, count_by, bytes_eq, codes}
+use Rattle.std.specs.Prelude.{ℕ, ◌+◌, nat_lt, Bool, List, [], ◌∷◌, map, count_by, bytes_eq, codes}
 use Rattle.std.specs.Prelude.{unwrap_or, if◌then◌else◌}
-use Rattle.bsc_options.specs.StationWords.{AskedWords}
+use Rattle.bsc_options.specs.Words.{WordsValue, is_given, text_at, texts_at}
 use Rattle.bsc_text.specs.Parts.{after_octet}
 use Rattle.bsc_options.specs.declared.settings.Role.{Role}
 use Rattle.bsc_options.specs.declared.settings.Role.TheVariants.{Control, Terminal}
@@ -21,10 +21,12 @@ one_if b = if b then 1 else 0
 
 -- The number of times that standard input is used: as the configuration, as each text that is
 -- offered, and if the station ends with it.
-abbrev pub uses_of_input : AskedWords → Role → ℕ
+abbrev pub uses_of_input : WordsValue → Role → ℕ
 uses_of_input w role =
-    count_by is_input (w.config ∷ map (path_in role) w.offers) + one_if w.until_input_ends
+    count_by is_input
+    (unwrap_or (text_at (codes "CONFIG") w) [] ∷ map (path_in role) (texts_at (codes "offer") w))
+    + one_if (is_given (codes "until-input-ends") w)
 
 -- Whether standard input is used more than once.
-abbrev pub repeats_input : AskedWords → Role → Bool
+abbrev pub repeats_input : WordsValue → Role → Bool
 repeats_input w role = nat_lt 1 (uses_of_input w role)

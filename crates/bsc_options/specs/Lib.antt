@@ -1,10 +1,11 @@
 pub mod ChartWords
-pub mod StationWords
+pub mod Words
 pub mod StoreWords
 pub mod Asked
 pub mod Errors
 pub mod Readings
 pub mod Numbers
+pub mod Entries
 pub mod Inputs
 pub mod Offers
 pub mod Admission

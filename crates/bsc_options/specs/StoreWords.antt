@@ -1,6 +1,7 @@
 -- The arguments of `store` as texts.
-use Rattle.std.specs.Prelude.{ℕ, List, Bool, Option, option_map, string_bytes}
-use Rattle.bsc_options.specs.declared.store_words.StoreWords.{StoreWords}
+use Rattle.std.specs.Prelude.{ℕ, List, [], Bool, Option, codes, unwrap_or}
+use Rattle.bsc_options.specs.Words.{WordsValue, is_given, text_at, words_value}
+use Rattle.bsc_options.specs.declared.words.Words.{Words}
 
 -- The arguments as texts.
 pub record AskedStore : Type 0 where
@@ -13,15 +14,19 @@ pub record AskedStore : Type 0 where
   pub from : Option (List ℕ)
   pub text : Bool
 
--- The value of the arguments in the code.
-abbrev pub store_words : StoreWords → AskedStore
+-- Those that were given.
+abbrev pub store_words : WordsValue → AskedStore
 store_words w = record {
-  file = string_bytes w.file;
-  work = string_bytes w.work;
-  first = option_map string_bytes w.first;
-  second = option_map string_bytes w.second;
-  control = w.control;
-  terminal = option_map string_bytes w.terminal;
-  from = option_map string_bytes w.from;
-  text = w.text;
+  file = unwrap_or (text_at (codes "FILE") w) [];
+  work = unwrap_or (text_at (codes "WORK") w) [];
+  first = text_at (codes "FIRST") w;
+  second = text_at (codes "SECOND") w;
+  control = is_given (codes "control") w;
+  terminal = text_at (codes "terminal") w;
+  from = text_at (codes "from") w;
+  text = is_given (codes "text") w;
 }
+
+-- Those in the words of the code.
+abbrev pub store_given : Words → AskedStore
+store_given words = store_words (words_value words)

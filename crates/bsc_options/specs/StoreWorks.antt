@@ -3,7 +3,7 @@ use Rattle.std.specs.Prelude.{ℕ, ◌-◌, ◌^◌, ◌||◌, Bool, true, false
 use Rattle.std.specs.Prelude.{is_some, ok_or, option_map, Result, Ok, codes, if◌then◌else◌}
 use Rattle.std.specs.Str.{bytes_eq}
 use Rattle.bsc_options.specs.StoreWords.{AskedStore}
-use Rattle.bsc_options.specs.declared.error.OptionError.{OptionError}
+use Rattle.bsc_options.specs.Errors.{Refusal, plain}
 use Rattle.bsc_options.specs.declared.error.OptionError.TheVariants as error
 use Rattle.bsc_options.specs.declared.settings.Role.{Role}
 use Rattle.bsc_options.specs.declared.store_works.Task.{Task}
@@ -72,12 +72,12 @@ abbrev pub has_printing : AskedStore → Bool
 has_printing w = w.text || is_some w.from
 
 -- The options are those of the work.
-abbrev pub fits_task : AskedStore → TaskValue → Result (Unit {0}) OptionError
-fits_task w (makes config) = unless (has_printing w) error.NeedsArrived
-fits_task w (prints channel) = unless (has_station w) error.NeedsInit
+abbrev pub fits_task : AskedStore → TaskValue → Result (Unit {0}) Refusal
+fits_task w (makes config) = unless (has_printing w) (plain error.NeedsArrived)
+fits_task w (prints channel) = unless (has_station w) (plain error.NeedsInit)
 fits_task w other = do
-  station ← unless (has_station w) error.NeedsInit
-  unless (has_printing w) error.NeedsArrived
+  station ← unless (has_station w) (plain error.NeedsInit)
+  unless (has_printing w) (plain error.NeedsArrived)
 
 -- What is to be done, with a channel by the number of its terminal and that of the selection
 -- address of the terminal.
@@ -99,42 +99,42 @@ work_value (work.Release channel count) = release (channel.terminal, channel.sel
 work_value (work.Reconcile other) = reconcile other.now
 
 -- The channel in `T.S`, or in `T` for address 0.
-abbrev pub channel_read : List ℕ → Result (ℕ × ℕ) OptionError
-channel_read text = ok_or (channel_in text) error.ChannelForm
+abbrev pub channel_read : List ℕ → Result (ℕ × ℕ) Refusal
+channel_read text = ok_or (channel_in text) (plain error.ChannelForm)
 
 -- The number of records in COUNT: from 0 up, below 2^32.
-abbrev pub count_in : List ℕ → Result ℕ OptionError
-count_in text = ok_or (number_within 0 (2 ^ 32 - 1) text) error.Count
+abbrev pub count_in : List ℕ → Result ℕ Refusal
+count_in text = ok_or (number_within 0 (2 ^ 32 - 1) text) (plain error.Count)
 
 -- The number of the first record that is printed: 0 unless given.
-abbrev pub first_in : Option (List ℕ) → Result ℕ OptionError
+abbrev pub first_in : Option (List ℕ) → Result ℕ Refusal
 first_in None = Ok 0
-first_in (Some text) = ok_or (number_within 0 (2 ^ 32 - 1) text) error.From
+first_in (Some text) = ok_or (number_within 0 (2 ^ 32 - 1) text) (plain error.From)
 
 -- Each work with the values of its words.
-abbrev pub init_of : AskedStore → List ℕ → Result WorkValue OptionError
+abbrev pub init_of : AskedStore → List ℕ → Result WorkValue Refusal
 init_of w config = do
   role ← role_in w.control w.terminal
   Ok (init config role)
 
-abbrev pub offer_of : List ℕ → List ℕ → Result WorkValue OptionError
+abbrev pub offer_of : List ℕ → List ℕ → Result WorkValue Refusal
 offer_of channel path = do
   place ← channel_read channel
   Ok (offer place path)
 
-abbrev pub arrived_of : AskedStore → List ℕ → Result WorkValue OptionError
+abbrev pub arrived_of : AskedStore → List ℕ → Result WorkValue Refusal
 arrived_of w channel = do
   place ← channel_read channel
   first ← first_in w.from
   Ok (arrived place first w.text)
 
-abbrev pub release_of : List ℕ → List ℕ → Result WorkValue OptionError
+abbrev pub release_of : List ℕ → List ℕ → Result WorkValue Refusal
 release_of channel text = do
   place ← channel_read channel
   count ← count_in text
   Ok (release place count)
 
-abbrev pub work_of : AskedStore → TaskValue → Result WorkValue OptionError
+abbrev pub work_of : AskedStore → TaskValue → Result WorkValue Refusal
 work_of w (makes config) = init_of w config
 work_of w (adds channel path) = offer_of channel path
 work_of w (prints channel) = arrived_of w channel
@@ -143,8 +143,8 @@ work_of w (ends channel count) = release_of channel count
 work_of w (ends_all other) = Ok (reconcile other)
 
 -- The work in the words, or the first reason for refusing them.
-abbrev pub work_in : AskedStore → Result WorkValue OptionError
+abbrev pub work_in : AskedStore → Result WorkValue Refusal
 work_in w = do
-  its ← ok_or (task_in w.work w.first w.second) error.StoreWork
+  its ← ok_or (task_in w.work w.first w.second) (plain error.StoreWork)
   fits ← fits_task w its
   work_of w its

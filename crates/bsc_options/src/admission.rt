@@ -1,14 +1,14 @@
 //! The peers that may connect, and those that answer for terminals.
 
 ghost use Rattle.std.specs.Prelude.{◌≡◌, ℕ, List, Result, map, string_bytes};
-ghost use Rattle.bsc_options.specs.StationWords.{asked_words};
+ghost use Rattle.bsc_options.specs.Words.{words_value};
 ghost use Rattle.bsc_options.specs.Admission.{AddsNetwork, AddsPeer, HasNoNetwork, IsAdmission};
 ghost use Rattle.bsc_options.specs.Admission.{IsNobody, ReadsFrom, ReadsPeer};
 ghost use Rattle.bsc_options.specs.declared.error.OptionError.{OptionError as OptionErrorValue};
 
 use crate::numbers::octet_in;
 use crate::splitting::split_at;
-use crate::{OptionError, StationWords};
+use crate::{OptionError, Words};
 use bsc_trust::{Network, Networks, TerminalPeers};
 use std::net::IpAddr;
 
@@ -123,10 +123,10 @@ impl Given for GivenPeers {
 
 /// Reads the peers in the options, or returns the first reason for refusing them: those of
 /// `--allow` come before those of `--peer`.
-pub fn read_admission(words: &StationWords) -> Result<Admission, OptionError>
-    ensures { IsAdmission (asked_words words.now) result }
+pub fn read_admission(words: &Words) -> Result<Admission, OptionError>
+    ensures { IsAdmission (words_value words.now) result }
 {
-    let allowed: Networks = read_each(&words.allowed)?;
-    let peers: GivenPeers = read_each(&words.peers)?;
+    let allowed: Networks = read_each(words.texts("allow"))?;
+    let peers: GivenPeers = read_each(words.texts("peer"))?;
     Ok(Admission { allowed, peers })
 }

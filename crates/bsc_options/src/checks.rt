@@ -1,90 +1,95 @@
 //! The rules by which options fit the station and one another.
 
-ghost use Rattle.std.specs.Prelude.{◌≡◌, is_some, map, option_map, string_bytes};
-ghost use Rattle.bsc_options.specs.StationWords.{asked_words};
-ghost use Rattle.bsc_options.specs.Settings.{fits_place, fits_role, fits_together, is_any};
-ghost use Rattle.bsc_options.specs.Settings.{unless as error_unless};
+ghost use Rattle.std.specs.Prelude.{map};
+ghost use Rattle.bsc_options.specs.Entries.{entry_value, fits_entry, fits_station, fits_table};
+ghost use Rattle.bsc_options.specs.Entries.{has_needed, has_none_of};
+ghost use Rattle.bsc_options.specs.Errors.{refusal};
+ghost use Rattle.bsc_options.specs.Readings.{GivesIt};
+ghost use Rattle.bsc_options.specs.Settings.{fits_together, unless as error_unless};
+ghost use Rattle.bsc_options.specs.Words.{words_value};
 
+use crate::entry::Entry;
 use crate::inputs::repeats_input;
 use crate::serves::is_at_address;
-use crate::{OptionError, Role, StationWords};
+use crate::tables::STATION;
+use crate::{OptionError, Role, Words};
 
 /// Returns an error if a rule is broken.
 pub(crate) fn unless(is_broken: bool, why: OptionError) -> Result<(), OptionError>
-    ensures { result ≡ error_unless is_broken why }
+    ensures { GivesIt result (error_unless is_broken (refusal why)) }
 {
     if is_broken { Err(why) } else { Ok(()) }
 }
 
-/// Whether an option is given.
-pub(crate) fn is_given(option: &Option<String>) -> bool
-    ensures { result ≡ is_some (option_map string_bytes option.now) }
+/// Checks that all options are given that this one needs.
+fn check_needed(words: &Words, entry: &Entry) -> Result<(), OptionError>
+    ensures { GivesIt result (has_needed (entry_value entry.now).id (words_value words.now)
+        (entry_value entry.now).needs) }
 {
-    match option {
-        Some(_) => true,
-        None => false,
-    }
-}
-
-/// Whether an option is given that may be given any number of times.
-fn has_any(texts: &Vec<String>) -> bool
-    ensures { result ≡ is_any (map string_bytes texts.now.items) }
-{
-    match texts.first() {
-        Some(_) => true,
-        None => false,
-    }
-}
-
-/// Checks the options that only one kind of station may have, or needs.
-fn check_role(words: &StationWords, role: Role) -> Result<(), OptionError>
-    ensures { result ≡ fits_role (asked_words words.now) role }
-{
-    match role {
-        Role::Control => {
-            let is_broken = is_given(&words.connect) && !words.shared;
-            unless(is_broken, OptionError::ConnectNeedsShared)
-        }
-        Role::Terminal { .. } => {
-            let counts = is_given(&words.rounds) || is_given(&words.idle_rounds);
-            let calls = is_given(&words.absent_after) || is_given(&words.retry_absent);
-            let is_broken = words.shared || is_given(&words.pause) || counts || calls;
-            unless(is_broken, OptionError::NeedsControl)
+    'needed: for needed in entry.needs {
+        if !words.is_given(*needed) {
+            return Err(OptionError::Needs {
+                option: entry.id,
+                needed: *needed,
+            });
         }
     }
+    Ok(())
 }
 
-/// Checks the options that need a place of the connections.
-fn check_place(words: &StationWords) -> Result<(), OptionError>
-    ensures { result ≡ fits_place (asked_words words.now) }
+/// Checks that no option is given that this one excludes.
+fn check_excluded(words: &Words, entry: &Entry) -> Result<(), OptionError>
+    ensures { GivesIt result (has_none_of (entry_value entry.now).id (words_value words.now)
+        (entry_value entry.now).excludes) }
 {
-    let is_broken = is_given(&words.patience) && !is_given(&words.connect);
-    unless(is_broken, OptionError::PatienceNeedsConnect)?;
-    let listens = is_given(&words.listen);
-    let is_listening = words.control && listens;
-    let is_broken = is_given(&words.replace_after) && !is_listening;
-    unless(is_broken, OptionError::ReplaceAfterNeedsListen)?;
-    let is_broken = is_given(&words.begin_with) && !is_listening;
-    unless(is_broken, OptionError::BeginWithNeedsListen)?;
-    unless(
-        has_any(&words.allowed) && !listens,
-        OptionError::AllowNeedsListen,
-    )?;
-    let is_broken = has_any(&words.peers) && (!is_listening || words.shared);
-    unless(is_broken, OptionError::PeerNeedsListen)
+    'others: for other in entry.excludes {
+        if words.is_given(*other) {
+            return Err(OptionError::Both {
+                one: *other,
+                other: entry.id,
+            });
+        }
+    }
+    Ok(())
 }
 
-/// Checks that the options fit the station and one another.
-pub(crate) fn check_together(words: &StationWords, role: Role) -> Result<(), OptionError>
-    ensures { result ≡ fits_together (asked_words words.now) role }
+/// Checks that an option fits those that are given too.
+fn check_entry(words: &Words, entry: &Entry) -> Result<(), OptionError>
+    ensures { GivesIt result (fits_entry (words_value words.now) (entry_value entry.now)) }
 {
-    check_role(words, role)?;
-    check_place(words)?;
-    unless(is_given(&words.gap) && !words.raw, OptionError::GapNeedsRaw)?;
-    unless(words.text && words.bytes, OptionError::TextAndBytes)?;
-    let is_broken = is_given(&words.store) && has_any(&words.offers);
-    unless(is_broken, OptionError::StoreAndOffer)?;
-    let is_broken = words.serve_anyone && !is_at_address(&words.serve);
+    if !words.is_given(entry.id) {
+        return Ok(());
+    }
+    check_needed(words, entry)?;
+    check_excluded(words, entry)
+}
+
+/// Checks that all options of a table fit one another.
+fn check_table(words: &Words, entries: &[Entry]) -> Result<(), OptionError>
+    ensures { GivesIt result (fits_table (words_value words.now) (map entry_value entries.now)) }
+{
+    'entries: for entry in entries {
+        check_entry(words, entry)?;
+    }
+    Ok(())
+}
+
+/// Checks that all options of a station fit one another.
+#[tactic(auto, unfolding(crate::specs::Entries::fits_station))]
+pub(crate) fn check_station(words: &Words) -> Result<(), OptionError>
+    ensures { GivesIt result (fits_station (words_value words.now)) }
+{
+    check_table(words, STATION.entries)
+}
+
+/// Checks what a table does not say of how the options fit the station and one another.
+pub(crate) fn check_together(words: &Words, role: Role) -> Result<(), OptionError>
+    ensures { GivesIt result (fits_together (words_value words.now) role) }
+{
+    let is_unshared = words.is_given("control") && !words.is_given("shared");
+    let is_broken = is_unshared && words.is_given("connect");
+    unless(is_broken, OptionError::ConnectNeedsShared)?;
+    let is_broken = words.is_given("serve-anyone") && !is_at_address(words.text("serve"));
     unless(is_broken, OptionError::ServeAnyoneNeedsServe)?;
     unless(repeats_input(words, role), OptionError::RepeatedInput)
 }

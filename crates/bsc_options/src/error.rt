@@ -1,15 +1,34 @@
 //! The reasons for refusing the options of a station, and the words of `store`.
 
-ghost use Rattle.std.specs.Prelude.{◌≡◌};
-ghost use Rattle.bsc_options.specs.Errors.{is_conflict, reason};
+ghost use Rattle.std.specs.Prelude.{◌≡◌, ◌++◌, codes};
+ghost use Rattle.std.specs.Fmt.{WritesOnOk};
+ghost use Rattle.bsc_options.specs.Errors.{is_conflict, plain_reason, refusal};
 
 use std::fmt;
 
-/// The reason for refusing the options of a station: the first of these, in this order, that
-/// applies, up to `NoChannel`. Its last four are found after the configuration is read, those of
-/// offers offer by offer. The other reasons are for refusing the words of `store`.
-#[derive(Clone, Copy, Debug, PartialEq, Eq)]
+/// The reason for refusing the options of a station: the first of these, in the order of the
+/// checks, that applies, up to `NoChannel`. Its last four are found after the configuration is
+/// read, those of offers offer by offer. The other reasons are for refusing the words of `store`.
+#[derive(Clone, Copy, Debug)]
 pub enum OptionError {
+    /// The value of an option is none of those that it takes.
+    Value {
+        option: &'static str,
+        takes: &'static str,
+    },
+
+    /// An option is given without another one that it needs.
+    Needs {
+        option: &'static str,
+        needed: &'static str,
+    },
+
+    /// Two options are given that exclude each other.
+    Both {
+        one: &'static str,
+        other: &'static str,
+    },
+
     /// Not exactly one of `--control` and `--terminal` is given.
     Station,
 
@@ -22,75 +41,17 @@ pub enum OptionError {
     /// `--control` and `--connect` are given without `--shared`.
     ConnectNeedsShared,
 
-    /// `--shared`, `--pause`, `--rounds`, `--idle-rounds`, `--absent-after` or `--retry-absent` is
-    /// given without `--control`.
-    NeedsControl,
-
-    /// `--patience` is given without `--connect`.
-    PatienceNeedsConnect,
-
-    /// `--replace-after` is given without both `--control` and `--listen`.
-    ReplaceAfterNeedsListen,
-
-    /// `--begin-with` is given without both `--control` and `--listen`.
-    BeginWithNeedsListen,
-
-    /// `--allow` is given without `--listen`.
-    AllowNeedsListen,
-
-    /// `--peer` is given without both `--control` and `--listen`, or with `--shared`.
-    PeerNeedsListen,
-
-    /// `--gap` is given without `--raw`.
-    GapNeedsRaw,
-
-    /// `--text` and `--bytes` are both given.
-    TextAndBytes,
-
-    /// `--store` and `--offer` are both given.
-    StoreAndOffer,
-
-    /// `--serve-anyone` is given without `--serve` with an address other than `unix:PATH`.
+    /// `--serve-anyone` is given with `--serve` at `unix:PATH`.
     ServeAnyoneNeedsServe,
 
     /// Standard input is used more than once, by CONFIG, `--offer` and `--until-input-ends`.
     RepeatedInput,
 
-    /// The value of `--gap` is not a number of milliseconds up to an hour.
-    Gap,
-
-    /// The value of `--time-out` is not a number of milliseconds up to an hour.
-    TimeOut,
-
     /// The gap of `--raw` is not less than the time-out.
     GapNotBelowTimeOut,
 
-    /// The value of `--patience` is not a number of milliseconds up to an hour.
-    Patience,
-
-    /// The value of `--replace-after` is not a number of milliseconds up to an hour.
-    ReplaceAfter,
-
-    /// The value of `--begin-with` is not a number from 0 to 64.
-    BeginWith,
-
-    /// The value of `--pause` is not a number of milliseconds from 0 up to an hour.
-    Pause,
-
     /// The pause that `--pause` gives is not less than half of the time-out.
     PauseNotBelowHalf,
-
-    /// The value of `--rounds` is not a number from 1 up.
-    Rounds,
-
-    /// The value of `--idle-rounds` is not a number from 1 up.
-    IdleRounds,
-
-    /// The value of `--absent-after` is not a number from 0 up.
-    AbsentAfter,
-
-    /// The value of `--retry-absent` is not a number of seconds up to an hour.
-    RetryAbsent,
 
     /// The value of an `--allow` is not an IP address, with or without a number of leading bits.
     AllowForm,
@@ -136,11 +97,12 @@ pub enum OptionError {
 }
 
 impl OptionError {
-    /// Returns the reason in words; it names the options at fault.
-    pub fn reason(self) -> &'static str
-        ensures { result.now ≡ reason self }
+    /// Returns the reason in words of an error without fields; it names the options at fault.
+    fn plain_reason(self) -> &'static str
+        ensures { result.now ≡ plain_reason self }
     {
         match self {
+            OptionError::Value { .. } | OptionError::Needs { .. } | OptionError::Both { .. } => "",
             OptionError::Station => {
                 "exactly one of --control and --terminal must say which station it is"
             }
@@ -149,36 +111,12 @@ impl OptionError {
                 "exactly one of --listen and --connect must say where its connections are"
             }
             OptionError::ConnectNeedsShared => "--control with --connect needs --shared",
-            OptionError::NeedsControl => {
-                "--shared, --pause, --rounds, --idle-rounds, --absent-after and --retry-absent \
-                 need --control"
-            }
-            OptionError::PatienceNeedsConnect => "--patience needs --connect",
-            OptionError::ReplaceAfterNeedsListen => "--replace-after needs --control and --listen",
-            OptionError::BeginWithNeedsListen => "--begin-with needs --control and --listen",
-            OptionError::AllowNeedsListen => "--allow needs --listen",
-            OptionError::PeerNeedsListen => {
-                "--peer needs --control and --listen, and not --shared"
-            }
-            OptionError::GapNeedsRaw => "--gap needs --raw",
-            OptionError::TextAndBytes => "--text and --bytes cannot both be given",
-            OptionError::StoreAndOffer => "--store and --offer cannot both be given",
             OptionError::ServeAnyoneNeedsServe => "--serve-anyone needs --serve with HOST:PORT",
             OptionError::RepeatedInput => {
                 "CONFIG, --offer and --until-input-ends cannot use standard input more than once"
             }
-            OptionError::Gap => "--gap takes milliseconds, 1 to 3600000",
-            OptionError::TimeOut => "--time-out takes milliseconds, 1 to 3600000",
             OptionError::GapNotBelowTimeOut => "with --raw the gap must be less than the time-out",
-            OptionError::Patience => "--patience takes milliseconds, 1 to 3600000",
-            OptionError::ReplaceAfter => "--replace-after takes milliseconds, 1 to 3600000",
-            OptionError::BeginWith => "--begin-with takes a number, 0 to 64",
-            OptionError::Pause => "--pause takes milliseconds, 0 to 3600000",
             OptionError::PauseNotBelowHalf => "--pause must be less than half of the time-out",
-            OptionError::Rounds => "--rounds takes a number from 1 up",
-            OptionError::IdleRounds => "--idle-rounds takes a number from 1 up",
-            OptionError::AbsentAfter => "--absent-after takes a number from 0 up",
-            OptionError::RetryAbsent => "--retry-absent takes seconds, 1 to 3600",
             OptionError::AllowForm => "--allow takes ADDRESS/BITS",
             OptionError::TooManyNetworks => "--allow cannot be given more than 16 times",
             OptionError::PeerForm => "--peer takes T=ADDRESS",
@@ -202,21 +140,14 @@ impl OptionError {
     /// Whether options contradict one another or one is missing; otherwise the value of one is
     /// wrong.
     pub fn is_conflict(self) -> bool
-        ensures { result ≡ is_conflict self }
+        ensures { result ≡ is_conflict (refusal self) }
     {
         match self {
-            OptionError::Station
+            OptionError::Needs { .. }
+            | OptionError::Both { .. }
+            | OptionError::Station
             | OptionError::Place
             | OptionError::ConnectNeedsShared
-            | OptionError::NeedsControl
-            | OptionError::PatienceNeedsConnect
-            | OptionError::ReplaceAfterNeedsListen
-            | OptionError::BeginWithNeedsListen
-            | OptionError::AllowNeedsListen
-            | OptionError::PeerNeedsListen
-            | OptionError::GapNeedsRaw
-            | OptionError::TextAndBytes
-            | OptionError::StoreAndOffer
             | OptionError::ServeAnyoneNeedsServe
             | OptionError::RepeatedInput
             | OptionError::GapNotBelowTimeOut
@@ -224,7 +155,8 @@ impl OptionError {
             | OptionError::RepeatedPeer
             | OptionError::NeedsInit
             | OptionError::NeedsArrived => true,
-            OptionError::TerminalNumber
+            OptionError::Value { .. }
+            | OptionError::TerminalNumber
             | OptionError::AllowForm
             | OptionError::TooManyNetworks
             | OptionError::PeerForm
@@ -235,29 +167,43 @@ impl OptionError {
             | OptionError::StoreWork
             | OptionError::ChannelForm
             | OptionError::Count
-            | OptionError::From
-            | OptionError::Gap
-            | OptionError::TimeOut
-            | OptionError::Patience
-            | OptionError::ReplaceAfter
-            | OptionError::BeginWith
-            | OptionError::Pause
-            | OptionError::Rounds
-            | OptionError::IdleRounds
-            | OptionError::AbsentAfter
-            | OptionError::RetryAbsent => false,
+            | OptionError::From => false,
         }
     }
 }
 
+/// Writes two words with a text between them, the first as the name of an option.
+fn write_pair<W: fmt::Write>(
+    f: &mut fmt::Formatter<W>,
+    one: &str,
+    between: &str,
+    other: &str,
+) -> fmt::Result
+    ensures { WritesOnOk W.write_str_gives f.old result
+        (codes "--" ++ one.now ++ between.now ++ other.now) f.new }
+{
+    f.write_str("--")?;
+    f.write_str(one)?;
+    f.write_str(between)?;
+    f.write_str(other)
+}
+
 impl fmt::Display for OptionError {
     ghost use Rattle.std.specs.Prelude.{Some};
-    ghost use Rattle.bsc_options.specs.Errors.{reason};
+    ghost use Rattle.bsc_options.specs.Errors.{reason, refusal};
 
-    ghost output = { λ error. Some (reason error) };
+    ghost output = { λ error. Some (reason (refusal error)) };
 
-    /// Writes the reason in words.
+    /// Writes the reason in words; it names the options at fault.
     fn fmt<W: fmt::Write>(&self, f: &mut fmt::Formatter<W>) -> fmt::Result {
-        f.write_str(self.reason())
+        match *self {
+            OptionError::Value { option, takes } => write_pair(f, option, " takes ", takes),
+            OptionError::Needs { option, needed } => write_pair(f, option, " needs --", needed),
+            OptionError::Both { one, other } => {
+                write_pair(f, one, " and --", other)?;
+                f.write_str(" cannot both be given")
+            }
+            error => f.write_str(error.plain_reason()),
+        }
     }
 }

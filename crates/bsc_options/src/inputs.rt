@@ -1,11 +1,11 @@
 //! The uses of standard input.
 
 ghost use Rattle.std.specs.Prelude.{◌≡◌};
-ghost use Rattle.bsc_options.specs.StationWords.{asked_words};
 ghost use Rattle.bsc_options.specs.Inputs.{is_input, path_in, repeats_input as is_repeated};
+ghost use Rattle.bsc_options.specs.Words.{words_value};
 
 use crate::splitting::split_at;
-use crate::{Role, StationWords};
+use crate::{Role, Words};
 use bsc_text::STANDARD_INPUT;
 
 /// Whether a path is standard input.
@@ -29,15 +29,16 @@ fn path_of(text: &str, role: Role) -> &str
 }
 
 /// Whether standard input is used more than once.
-pub(crate) fn repeats_input(words: &StationWords, role: Role) -> bool
-    ensures { result ≡ is_repeated (asked_words words.now) role }
+pub(crate) fn repeats_input(words: &Words, role: Role) -> bool
+    ensures { result ≡ is_repeated (words_value words.now) role }
 {
-    let is_config = is_standard_input(words.config.as_str());
-    if is_config && words.until_input_ends {
+    let is_config = is_standard_input(words.required("CONFIG"));
+    let ends_with_it = words.is_given("until-input-ends");
+    if is_config && ends_with_it {
         return true;
     }
-    let mut is_used = is_config || words.until_input_ends;
-    'offers: for offer in &words.offers {
+    let mut is_used = is_config || ends_with_it;
+    'offers: for offer in words.texts("offer") {
         if is_standard_input(path_of(offer.as_str(), role)) {
             if is_used {
                 return true;

@@ -1,6 +1,6 @@
 //! The place at which programs feed a station.
 
-ghost use Rattle.std.specs.Prelude.{◌≡◌, option_map, string_bytes};
+ghost use Rattle.std.specs.Prelude.{◌≡◌, option_map};
 ghost use Rattle.bsc_options.specs.Serves.{is_address, serves_at, serves_in, serves_value};
 
 use crate::splitting::split_at;
@@ -28,19 +28,19 @@ pub fn read_serves(address: &str, anyone: bool) -> Serves<'_>
 }
 
 /// Returns the place that the options give, if they give one.
-pub(crate) fn serves_of(serve: &Option<String>, anyone: bool) -> Option<Serves<'_>>
+pub(crate) fn serves_of(serve: Option<&str>, anyone: bool) -> Option<Serves<'_>>
     ensures { option_map serves_value result
-        ≡ serves_in (option_map string_bytes serve.now) anyone }
+        ≡ serves_in (option_map (λ text. text.now) serve.entry) anyone }
 {
     match serve {
-        Some(text) => Some(read_serves(text.as_str(), anyone)),
+        Some(text) => Some(read_serves(text, anyone)),
         None => None,
     }
 }
 
 /// Whether the options give a place that is an address.
-pub(crate) fn is_at_address(serve: &Option<String>) -> bool
-    ensures { result ≡ is_address (option_map string_bytes serve.now) }
+pub(crate) fn is_at_address(serve: Option<&str>) -> bool
+    ensures { result ≡ is_address (option_map (λ text. text.now) serve.entry) }
 {
     match serves_of(serve, false) {
         Some(Serves::Address { .. }) => true,

@@ -1,54 +1,26 @@
 //! The settings in the options of a station.
 
 ghost use Rattle.std.specs.Prelude.{◌≡◌, option_map, string_bytes};
-ghost use Rattle.bsc_options.specs.StationWords.{asked_words};
-ghost use Rattle.bsc_options.specs.Readings.{Gives};
+ghost use Rattle.bsc_options.specs.Entries.{absent_in, number_by};
+ghost use Rattle.bsc_options.specs.Readings.{Gives, GivesIt};
 ghost use Rattle.bsc_options.specs.Settings.{absence_in, absent_idle_rounds, absent_pause};
-ghost use Rattle.bsc_options.specs.Settings.{form_in, limits_in};
-ghost use Rattle.bsc_options.specs.Settings.{number_in, place_in, place_value};
+ghost use Rattle.bsc_options.specs.Settings.{form_in, limits_in, place_in, place_value};
 ghost use Rattle.bsc_options.specs.Settings.{printing_in, reported_in, role_in, rounds_in};
 ghost use Rattle.bsc_options.specs.Settings.{settings_in, settings_value, times_in, tracing_in};
+ghost use Rattle.bsc_options.specs.Words.{words_value};
 
-use crate::checks::{check_together, is_given, unless};
+use crate::checks::{check_station, check_together, unless};
+use crate::entry::{Entry, Takes};
 use crate::numbers::{number_within, octet_in};
 use crate::serves::serves_of;
-use crate::{OptionError, Serves, StationWords};
+use crate::tables::station::{
+    ABSENT_AFTER, BEGIN_WITH, GAP, IDLE_ROUNDS, PATIENCE, PAUSE, REPLACE_AFTER, RETRY_ABSENT,
+    ROUNDS, TIME_OUT,
+};
+use crate::{OptionError, Serves, Words};
 use bsc_monitor::{AbsenceLimits, Limits};
 use bsc_report::{Printing, RecordLines, Tracing};
 use bsc_text::Form;
-
-/// The gap in milliseconds, unless given.
-const GAP: u64 = 50;
-
-/// The time-out in milliseconds, unless given.
-const TIME_OUT: u64 = 3_000;
-
-/// The most milliseconds of the pause after a round in which nothing got through, unless given.
-const PAUSE: u64 = 20;
-
-/// The same for a station that programs feed, where it is at most a quarter of the time-out.
-const SERVING_PAUSE: u64 = 100;
-
-/// The number of idle rounds in a row after which a control station ends, unless given.
-const IDLE_ROUNDS: u64 = 2;
-
-/// The same for a station that programs feed: as many as are counted, which never come.
-const SERVING_IDLE_ROUNDS: u64 = u64::MAX;
-
-/// The maximum of the terminals for which a control station waits: as many as there can be.
-const MOST_TERMINALS: u64 = 64;
-
-/// The number of visits in a row without an answer after which a terminal is absent, unless given.
-const ABSENT_AFTER: u64 = 2;
-
-/// After how many seconds an absent terminal is called again, unless given.
-const RETRY_ABSENT: u64 = 30;
-
-/// The most of these: one hour.
-const MOST_RETRY: u64 = 3_600;
-
-/// The maximum of each time, in milliseconds: one hour.
-const HOUR: u64 = 3_600_000;
 
 /// The station of a line that is run.
 #[derive(Clone, Copy)]
@@ -139,19 +111,9 @@ pub struct StationSettings<'a> {
     pub reported: Option<Form>,
 }
 
-/// Returns the text of an option, if it is given.
-pub(crate) fn text_of(option: &Option<String>) -> Option<&str>
-    ensures { option_map (λ text. text.now) result ≡ option_map string_bytes option.now }
-{
-    match option {
-        Some(text) => Some(text.as_str()),
-        None => None,
-    }
-}
-
 /// Returns the station that is run.
 pub(crate) fn role_of(control: bool, terminal: Option<&str>) -> Result<Role, OptionError>
-    ensures { result ≡ role_in control (option_map (λ text. text.now) terminal.entry) }
+    ensures { GivesIt result (role_in control (option_map (λ text. text.now) terminal.entry)) }
 {
     match terminal {
         None if control => Ok(Role::Control),
@@ -175,22 +137,36 @@ fn place_of<'a>(listen: Option<&'a str>, connect: Option<&'a str>) -> Result<Pla
     }
 }
 
-/// Returns the number of an option from `least` to `most`, or `absent` if it is not given.
-fn number(
-    option: &Option<String>,
-    least: u64,
-    most: u64,
-    absent: u64,
-    why: OptionError,
-) -> Result<u64, OptionError>
-    ensures { result ≡ number_in why least most absent (option_map string_bytes option.now) }
+/// Returns the number of an option, or `absent` if it is not given.
+fn number_or(words: &Words, entry: &Entry, absent: u64) -> Result<u64, OptionError>
+    ensures { GivesIt result (number_by entry.now.id.now entry.now.kind.now entry.now.takes absent
+        (words_value words.now)) }
 {
-    match option {
-        None => Ok(absent),
-        Some(text) => match number_within(text.as_str(), least, most) {
-            Some(number) => Ok(number),
-            None => Err(why),
-        },
+    match entry.takes {
+        Takes::Number { least, most, .. } | Takes::Derived { least, most } => {
+            match words.text(entry.id) {
+                None => Ok(absent),
+                Some(text) => match number_within(text, least, most) {
+                    Some(number) => Ok(number),
+                    None => Err(OptionError::Value {
+                        option: entry.id,
+                        takes: entry.kind,
+                    }),
+                },
+            }
+        }
+        _ => Ok(absent),
+    }
+}
+
+/// Returns the number of an option, or what it is unless it is given.
+fn number(words: &Words, entry: &Entry) -> Result<u64, OptionError>
+    ensures { GivesIt result (number_by entry.now.id.now entry.now.kind.now entry.now.takes
+        (absent_in entry.now.takes) (words_value words.now)) }
+{
+    match entry.takes {
+        Takes::Number { absent, .. } => number_or(words, entry, absent),
+        _ => number_or(words, entry, 0),
     }
 }
 
@@ -200,7 +176,7 @@ fn number(
 fn absent_pause(serves: bool, time_out: u64) -> u64
     ensures { result ≡ absent_pause serves time_out }
 {
-    let most = if serves { SERVING_PAUSE } else { PAUSE };
+    let most = if serves { 100 } else { 20 };
     (time_out / 4).min(most)
 }
 
@@ -209,39 +185,24 @@ fn absent_pause(serves: bool, time_out: u64) -> u64
 fn absent_idle_rounds(serves: bool) -> u64
     ensures { result ≡ absent_idle_rounds serves }
 {
-    if serves {
-        SERVING_IDLE_ROUNDS
-    } else {
-        IDLE_ROUNDS
-    }
+    if serves { u64::MAX } else { 2 }
 }
 
 /// Returns the times. With raw octets the gap has to be less than the time-out, and a pause that is
 /// given less than half of it.
-fn read_times(words: &StationWords) -> Result<Times, OptionError>
-    ensures { result ≡ times_in (asked_words words.now) }
+fn read_times(words: &Words) -> Result<Times, OptionError>
+    ensures { GivesIt result (times_in (words_value words.now)) }
 {
-    let gap = number(&words.gap, 1, HOUR, GAP, OptionError::Gap)?;
-    let time_out = number(&words.time_out, 1, HOUR, TIME_OUT, OptionError::TimeOut)?;
-    unless(
-        words.raw && time_out <= gap,
-        OptionError::GapNotBelowTimeOut,
-    )?;
-    let patience = number(&words.patience, 1, HOUR, time_out, OptionError::Patience)?;
-    let three = time_out.saturating_mul(3);
-    let replace_after = number(
-        &words.replace_after,
-        1,
-        HOUR,
-        three,
-        OptionError::ReplaceAfter,
-    )?;
-    let absent = absent_pause(is_given(&words.serve), time_out);
-    let pause = number(&words.pause, 0, HOUR, absent, OptionError::Pause)?;
-    unless(
-        words.pause.is_some() && time_out <= pause.saturating_mul(2),
-        OptionError::PauseNotBelowHalf,
-    )?;
+    let gap = number(words, &GAP)?;
+    let time_out = number(words, &TIME_OUT)?;
+    let is_broken = words.is_given("raw") && time_out <= gap;
+    unless(is_broken, OptionError::GapNotBelowTimeOut)?;
+    let patience = number_or(words, &PATIENCE, time_out)?;
+    let replace_after = number_or(words, &REPLACE_AFTER, time_out.saturating_mul(3))?;
+    let absent = absent_pause(words.is_given("serve"), time_out);
+    let pause = number_or(words, &PAUSE, absent)?;
+    let is_broken = words.is_given("pause") && time_out <= pause.saturating_mul(2);
+    unless(is_broken, OptionError::PauseNotBelowHalf)?;
     Ok(Times {
         gap,
         time_out,
@@ -252,41 +213,36 @@ fn read_times(words: &StationWords) -> Result<Times, OptionError>
 }
 
 /// Returns the number of rounds, if it is limited.
-fn read_rounds(rounds: &Option<String>) -> Result<Option<u64>, OptionError>
-    ensures { result ≡ rounds_in (option_map string_bytes rounds.now) }
+fn read_rounds(words: &Words) -> Result<Option<u64>, OptionError>
+    ensures { GivesIt result (rounds_in (words_value words.now)) }
 {
-    match rounds {
-        None => Ok(None),
-        Some(text) => match number_within(text.as_str(), 1, u64::MAX) {
-            Some(rounds) => Ok(Some(rounds)),
-            None => Err(OptionError::Rounds),
-        },
+    if !words.is_given("rounds") {
+        return Ok(None);
     }
+    let rounds = number(words, &ROUNDS)?;
+    Ok(Some(rounds))
 }
 
 /// Returns the limits at which a control station ends that waits for this many terminals.
-fn read_limits(words: &StationWords, begin_with: u64) -> Result<Limits, OptionError>
-    ensures { result ≡ limits_in (asked_words words.now) begin_with }
+fn read_limits(words: &Words, begin_with: u64) -> Result<Limits, OptionError>
+    ensures { GivesIt result (limits_in (words_value words.now) begin_with) }
 {
-    let rounds = read_rounds(&words.rounds)?;
-    let why = OptionError::IdleRounds;
-    let absent = absent_idle_rounds(is_given(&words.serve));
-    let idle_rounds = number(&words.idle_rounds, 1, u64::MAX, absent, why)?;
+    let rounds = read_rounds(words)?;
+    let absent = absent_idle_rounds(words.is_given("serve"));
+    let idle_rounds = number_or(words, &IDLE_ROUNDS, absent)?;
     Ok(Limits {
         rounds,
         idle_rounds,
-        counts_at_once: !is_given(&words.listen) || begin_with > 0,
+        counts_at_once: !words.is_given("listen") || begin_with > 0,
     })
 }
 
 /// Returns when a terminal is absent, and when it is called again.
-fn read_absence(words: &StationWords) -> Result<AbsenceLimits, OptionError>
-    ensures { result ≡ absence_in (asked_words words.now) }
+fn read_absence(words: &Words) -> Result<AbsenceLimits, OptionError>
+    ensures { GivesIt result (absence_in (words_value words.now)) }
 {
-    let why = OptionError::AbsentAfter;
-    let absent_after = number(&words.absent_after, 0, u64::MAX, ABSENT_AFTER, why)?;
-    let why = OptionError::RetryAbsent;
-    let seconds = number(&words.retry_absent, 1, MOST_RETRY, RETRY_ABSENT, why)?;
+    let absent_after = number(words, &ABSENT_AFTER)?;
+    let seconds = number(words, &RETRY_ABSENT)?;
     Ok(AbsenceLimits {
         absent_after,
         retry: seconds.saturating_mul(1_000),
@@ -294,12 +250,12 @@ fn read_absence(words: &StationWords) -> Result<AbsenceLimits, OptionError>
 }
 
 /// Returns the form of records in the output.
-fn form_of(words: &StationWords) -> Form
-    ensures { result ≡ form_in words.now.text words.now.bytes }
+fn form_of(words: &Words) -> Form
+    ensures { result ≡ form_in (words_value words.now) }
 {
-    if words.text {
+    if words.is_given("text") {
         Form::Text
-    } else if words.bytes {
+    } else if words.is_given("bytes") {
         Form::Bytes
     } else {
         Form::Hexadecimal
@@ -318,23 +274,23 @@ fn tracing_of(times: u8) -> Tracing
 }
 
 /// Returns the output of the station.
-fn printing_of(words: &StationWords) -> Printing
-    ensures { result ≡ printing_in (asked_words words.now) }
+fn printing_of(words: &Words) -> Printing
+    ensures { result ≡ printing_in (words_value words.now) }
 {
     Printing {
         records: RecordLines {
             form: form_of(words),
-            numbers: words.numbers,
+            numbers: words.is_given("numbers"),
         },
-        trace: tracing_of(words.trace),
+        trace: tracing_of(words.times("trace")),
     }
 }
 
 /// Returns the form in which the report repeats the records that arrived, if it does.
-fn reported_of(words: &StationWords) -> Option<Form>
-    ensures { result ≡ reported_in (asked_words words.now) }
+fn reported_of(words: &Words) -> Option<Form>
+    ensures { result ≡ reported_in (words_value words.now) }
 {
-    if words.report_records {
+    if words.is_given("report-records") {
         Some(form_of(words))
     } else {
         None
@@ -344,36 +300,31 @@ fn reported_of(words: &StationWords) -> Option<Form>
 /// Reads the settings in the options, or returns the first reason for refusing them, in the order
 /// of the checks: the station, the place of its connections, what does not fit together, the
 /// terminals that are waited for, the times, the limits, and when a terminal is absent.
-pub fn read_settings(words: &StationWords) -> Result<StationSettings<'_>, OptionError>
-    ensures { Gives settings_value result (settings_in (asked_words words.now)) }
+pub fn read_settings(words: &Words) -> Result<StationSettings<'_>, OptionError>
+    ensures { Gives settings_value result (settings_in (words_value words.now)) }
 {
-    let role = role_of(words.control, text_of(&words.terminal))?;
-    let place = place_of(text_of(&words.listen), text_of(&words.connect))?;
+    let role = role_of(words.is_given("control"), words.text("terminal"))?;
+    let place = place_of(words.text("listen"), words.text("connect"))?;
+    check_station(words)?;
     check_together(words, role)?;
-    let begin_with = number(
-        &words.begin_with,
-        0,
-        MOST_TERMINALS,
-        0,
-        OptionError::BeginWith,
-    )?;
+    let begin_with = number(words, &BEGIN_WITH)?;
     let times = read_times(words)?;
     let limits = read_limits(words, begin_with)?;
     let absence = read_absence(words)?;
     Ok(StationSettings {
         role,
         place,
-        serves: serves_of(&words.serve, words.serve_anyone),
-        shared: words.shared,
+        serves: serves_of(words.text("serve"), words.is_given("serve-anyone")),
+        shared: words.is_given("shared"),
         begin_with,
-        raw: words.raw,
+        raw: words.is_given("raw"),
         times,
         limits,
         absence,
-        until_input_ends: words.until_input_ends,
-        is_kept: is_given(&words.store),
-        sync: words.sync,
-        quiet: words.quiet,
+        until_input_ends: words.is_given("until-input-ends"),
+        is_kept: words.is_given("store"),
+        sync: words.is_given("sync"),
+        quiet: words.is_given("quiet"),
         printing: printing_of(words),
         reported: reported_of(words),
     })

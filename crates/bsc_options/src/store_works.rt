@@ -1,18 +1,18 @@
 //! What is to be done with the store of a station.
 
-ghost use Rattle.std.specs.Prelude.{◌≡◌, option_map, string_bytes};
-ghost use Rattle.bsc_options.specs.StoreWords.{store_words};
-ghost use Rattle.bsc_options.specs.Readings.{Gives};
+ghost use Rattle.std.specs.Prelude.{◌≡◌, option_map};
+ghost use Rattle.bsc_options.specs.StoreWords.{store_given};
+ghost use Rattle.bsc_options.specs.Readings.{Gives, GivesIt};
 ghost use Rattle.bsc_options.specs.StoreWorks.{channel_read, count_in, first_in, fits_task};
 ghost use Rattle.bsc_options.specs.StoreWorks.{no_word, one_word, task_in, task_value, two_words};
 ghost use Rattle.bsc_options.specs.StoreWorks.{init_of, offer_of as offer_asked, arrived_of};
 ghost use Rattle.bsc_options.specs.StoreWorks.{release_of, work_in, work_value};
 
-use crate::checks::{is_given, unless};
+use crate::checks::unless;
 use crate::numbers::count_of;
 use crate::offers::channel_of;
-use crate::settings::{role_of, text_of};
-use crate::{OptionError, Role, StoreWords};
+use crate::settings::role_of;
+use crate::{OptionError, Role, Words};
 
 /// A channel at a station: its terminal, and the selection address of that terminal, counted from
 /// 0. A channel from a terminal has the address 0.
@@ -144,11 +144,12 @@ fn task_of<'a>(work: &str, first: Option<&'a str>, second: Option<&'a str>) -> O
 }
 
 /// Checks that the options are those of the work.
-fn check_task(words: &StoreWords, task: Task<'_>) -> Result<(), OptionError>
-    ensures { result ≡ fits_task (store_words words.now) (task_value task.entry) }
+fn check_task(words: &Words, task: Task<'_>) -> Result<(), OptionError>
+    ensures { GivesIt result (fits_task (store_given words.now)
+        (task_value task.entry)) }
 {
-    let stations = words.control || is_given(&words.terminal);
-    let printing = words.text || is_given(&words.from);
+    let stations = words.is_given("control") || words.text("terminal").is_some();
+    let printing = words.is_given("text") || words.text("from").is_some();
     match task {
         Task::Init { .. } => unless(printing, OptionError::NeedsArrived),
         Task::Arrived { .. } => unless(stations, OptionError::NeedsInit),
@@ -172,7 +173,7 @@ fn read_channel(text: &str) -> Result<StoreChannel, OptionError>
 
 /// Returns the number of records in COUNT.
 fn read_count(text: &str) -> Result<u32, OptionError>
-    ensures { result ≡ count_in text.now }
+    ensures { GivesIt result (count_in text.now) }
 {
     match count_of(text) {
         Some(count) => Ok(count),
@@ -181,12 +182,12 @@ fn read_count(text: &str) -> Result<u32, OptionError>
 }
 
 /// Returns the number of the first record that is printed.
-fn read_first(from: &Option<String>) -> Result<u32, OptionError>
-    ensures { result ≡ first_in (option_map string_bytes from.now) }
+fn read_first(from: Option<&str>) -> Result<u32, OptionError>
+    ensures { GivesIt result (first_in (option_map (λ text. text.now) from.entry)) }
 {
     match from {
         None => Ok(0),
-        Some(text) => match count_of(text.as_str()) {
+        Some(text) => match count_of(text) {
             Some(first) => Ok(first),
             None => Err(OptionError::From),
         },
@@ -195,12 +196,11 @@ fn read_first(from: &Option<String>) -> Result<u32, OptionError>
 
 /// Reads the work in the words, or returns the first reason for refusing them: the work and how
 /// many words it takes, options of another work, and then the values.
-pub fn read_store_work(words: &StoreWords) -> Result<StoreWork<'_>, OptionError>
-    ensures { Gives work_value result (work_in (store_words words.now)) }
+pub fn read_store_work(words: &Words) -> Result<StoreWork<'_>, OptionError>
+    ensures { Gives work_value result (work_in (store_given words.now)) }
 {
-    let first = text_of(&words.first);
-    let second = text_of(&words.second);
-    let Some(task) = task_of(words.work.as_str(), first, second) else {
+    let (first, second) = (words.text("FIRST"), words.text("SECOND"));
+    let Some(task) = task_of(words.text("WORK").unwrap_or(""), first, second) else {
         return Err(OptionError::StoreWork);
     };
     check_task(words, task)?;
@@ -215,10 +215,10 @@ pub fn read_store_work(words: &StoreWords) -> Result<StoreWork<'_>, OptionError>
 }
 
 /// Returns the work `init`.
-fn init<'a>(words: &StoreWords, config: &'a str) -> Result<StoreWork<'a>, OptionError>
-    ensures { Gives work_value result (init_of (store_words words.now) config.entry.now) }
+fn init<'a>(words: &Words, config: &'a str) -> Result<StoreWork<'a>, OptionError>
+    ensures { Gives work_value result (init_of (store_given words.now) config.entry.now) }
 {
-    let role = role_of(words.control, text_of(&words.terminal))?;
+    let role = role_of(words.is_given("control"), words.text("terminal"))?;
     Ok(StoreWork::Init { config, role })
 }
 
@@ -231,12 +231,12 @@ fn offer<'a>(channel: &str, path: &'a str) -> Result<StoreWork<'a>, OptionError>
 }
 
 /// Returns the work `arrived`.
-fn arrived<'a>(words: &StoreWords, channel: &str) -> Result<StoreWork<'a>, OptionError>
-    ensures { Gives work_value result (arrived_of (store_words words.now) channel.now) }
+fn arrived<'a>(words: &Words, channel: &str) -> Result<StoreWork<'a>, OptionError>
+    ensures { Gives work_value result (arrived_of (store_given words.now) channel.now) }
 {
     let channel = read_channel(channel)?;
-    let first = read_first(&words.from)?;
-    let text = words.text;
+    let first = read_first(words.text("from"))?;
+    let text = words.is_given("text");
     Ok(StoreWork::Arrived {
         channel,
         first,

@@ -51,8 +51,8 @@ module _ {S Q V : Type 0} (offers : S → ℕ → Way → List ℕ → Result �
     pub done : OffersIfKept given old t way chars result new
     pub same : IsSameFed old new
 
--- What is answered to a release that the station did, and why the station has to end, by whether the
--- release is kept.
+-- What is answered to a release that the station did, and why the station has to end, by whether
+-- the release is kept.
 abbrev pub AnswersKept : Result (Unit {0}) LiveError → Option LiveError
     → Result (Unit {0}) Fault → Option LiveError → Type 0
 AnswersKept (Ok done) before result after = (result ≡ Ok tt) × (after ≡ before)

@@ -1,1 +1,2 @@
 pub mod Simple
+mod Shaped

@@ -1,103 +1,67 @@
 -- The command line: the commands that `clap` reads, and the work that their matches ask for.
-use Rattle.std.specs.Prelude.{◌≡◌, ◌⊎◌, List, [], ◌∷◌, true, Option, Some, None, codes}
+use Rattle.std.specs.Prelude.{◌≡◌, ◌⊎◌, List, [], ◌∷◌, map, true, Option, Some, None, codes}
 use Rattle.std.specs.Prelude.{if◌then◌else◌}
 use Rattle.std.specs.Str.{bytes_eq}
-use Rattle.clap.specs.Words.{App, Kinds, Row, Text, fault_of, first_of, new_app, subcommand_of}
+use Rattle.clap.specs.Words.{App, Kinds, Row, Shape, Text, fault_of, new_app, subcommand_of}
 use Rattle.clap.specs.declared.error.kind.ErrorKind.{ErrorKind}
 use Rattle.clap.specs.declared.error.kind.ErrorKind.TheVariants.{DisplayHelp, DisplayVersion}
-use Rattle.bsc_options.specs.Asked.{AskedValue, names, name, show, chart, run, station, feed, store}
-use Rattle.bsc_words.specs.Options.{flag, is_true_text, option, optional, required, rest, value_at}
-use Rattle.bsc_words.specs.Options.{values_of, with_rules, with_shapes}
-use Rattle.bsc_words.specs.StationWords.{station_app, words_in}
-use Rattle.bsc_words.specs.StoreWords.{store_app, store_words_in}
+use Rattle.bsc_options.specs.Asked.{AskedValue, chart_in, feed_in, name_in, names, run_in, show}
+use Rattle.bsc_options.specs.Asked.{station, store_in}
+use Rattle.bsc_options.specs.Entries.{chart_table, feed_table, name_table, run_table, station_table}
+use Rattle.bsc_options.specs.Entries.{store_table}
+use Rattle.bsc_words.specs.Options.{row_rule, with_rules, with_shapes, words_in}
 
--- `name HEX`.
+-- The commands with the rows of their tables.
 abbrev pub name_app : App
-name_app = with_rules (new_app (codes "name")) (required (codes "HEX") ∷ [])
+name_app = with_rules (new_app (codes "name")) (map row_rule name_table)
 
--- `show`.
 abbrev pub show_app : App
 show_app = new_app (codes "show")
 
--- `chart FILE`, of which FILE may be left out, with the flags `--text`, `--svg`, `--html` and
--- `--ascii` and the options `--width`, `--from` and `--to`.
 abbrev pub chart_app : App
-chart_app =
-    with_rules (new_app (codes "chart"))
-    (optional (codes "FILE") ∷ flag (codes "text") ∷ flag (codes "svg") ∷ flag (codes "html")
-    ∷ flag (codes "ascii") ∷ option (codes "width") ∷ option (codes "from")
-    ∷ option (codes "to") ∷ [])
+chart_app = with_rules (new_app (codes "chart")) (map row_rule chart_table)
 
--- `run CONFIG SCRIPT`, with the flags `--check`, `--trace` and `--quiet`.
 abbrev pub run_app : App
-run_app =
-    with_rules (new_app (codes "run"))
-    (required (codes "CONFIG") ∷ required (codes "SCRIPT") ∷ flag (codes "check")
-    ∷ flag (codes "trace") ∷ flag (codes "quiet") ∷ [])
+run_app = with_rules (new_app (codes "run")) (map row_rule run_table)
 
--- `feed ADDRESS`, and after it the words of a command.
+abbrev pub station_app : App
+station_app = with_rules (new_app (codes "station")) (map row_rule station_table)
+
 abbrev pub feed_app : App
-feed_app =
-    with_rules (new_app (codes "feed")) (required (codes "ADDRESS") ∷ rest (codes "COMMAND") ∷ [])
+feed_app = with_rules (new_app (codes "feed")) (map row_rule feed_table)
+
+abbrev pub store_app : App
+store_app = with_rules (new_app (codes "store")) (map row_rule store_table)
 
 -- The program, which has a version, without its commands.
 abbrev pub program_app : App
 program_app =
     record { top = record (new_app (codes "bscline")).top { has_version = true }; subs = [] }
 
+-- The commands for transmissions, traces and whole lines, and those for one station.
+abbrev pub line_shapes : List Shape
+line_shapes = name_app.top ∷ show_app.top ∷ chart_app.top ∷ run_app.top ∷ []
+
+abbrev pub station_shapes : List Shape
+station_shapes = station_app.top ∷ feed_app.top ∷ store_app.top ∷ []
+
 -- The program with its commands.
 abbrev pub bscline_app : App
-bscline_app =
-    with_shapes program_app
-    (name_app.top ∷ show_app.top ∷ chart_app.top ∷ run_app.top ∷ station_app.top ∷ feed_app.top
-    ∷ store_app.top ∷ [])
+bscline_app = with_shapes (with_shapes program_app line_shapes) station_shapes
 
 -- The kinds of error that `clap` may return for the arguments; none if they are a command.
 unfoldable pub faults_at : List Text → Kinds
 faults_at words = fault_of bscline_app words
 
--- A ladder, with its arguments.
-abbrev pub asked_chart : List Row → AskedValue
-asked_chart rows = chart (record {
-  file = first_of (codes "FILE") rows;
-  text = is_true_text (value_at (codes "text") rows);
-  svg = is_true_text (value_at (codes "svg") rows);
-  html = is_true_text (value_at (codes "html") rows);
-  ascii = is_true_text (value_at (codes "ascii") rows);
-  width = first_of (codes "width") rows;
-  from = first_of (codes "from") rows;
-  to = first_of (codes "to") rows;
-})
-
--- A run: the paths of the configuration and the script, whether they are only checked, whether a
--- trace is printed, and whether no progress is shown.
-abbrev pub asked_run : List Row → AskedValue
-asked_run rows =
-    run (value_at (codes "CONFIG") rows) (value_at (codes "SCRIPT") rows)
-    (is_true_text (value_at (codes "check") rows)) (is_true_text (value_at (codes "trace") rows))
-    (is_true_text (value_at (codes "quiet") rows))
-
--- A station, with its arguments.
-abbrev pub asked_station : List Row → AskedValue
-asked_station rows = station (words_in rows)
-
--- What a station is fed: its address, and the words of the command.
-abbrev pub asked_feed : List Row → AskedValue
-asked_feed rows = feed (value_at (codes "ADDRESS") rows) (values_of (codes "COMMAND") rows)
-
--- A work on a store, with its arguments.
-abbrev pub asked_store : List Row → AskedValue
-asked_store rows = store (store_words_in rows)
-
--- The work for the name of a command and its values.
+-- The work for the name of a command, with what was given of its table.
 abbrev pub asked_by : Text → List Row → AskedValue
 asked_by sub rows =
-    if bytes_eq sub (codes "name") then name (value_at (codes "HEX") rows)
-    else (if bytes_eq sub (codes "chart") then asked_chart rows
-    else (if bytes_eq sub (codes "run") then asked_run rows
-    else (if bytes_eq sub (codes "station") then asked_station rows
-    else (if bytes_eq sub (codes "feed") then asked_feed rows
-    else (if bytes_eq sub (codes "store") then asked_store rows else show)))))
+    if bytes_eq sub (codes "name") then name_in (words_in name_table rows)
+    else (if bytes_eq sub (codes "chart") then chart_in (words_in chart_table rows)
+    else (if bytes_eq sub (codes "run") then run_in (words_in run_table rows)
+    else (if bytes_eq sub (codes "station") then station (words_in station_table rows)
+    else (if bytes_eq sub (codes "feed") then feed_in (words_in feed_table rows)
+    else (if bytes_eq sub (codes "store") then store_in (words_in store_table rows) else show)))))
 
 -- The work for a command. Without a command it is naming the lines of standard input.
 abbrev pub asked_sub : Option (Text × List Row) → AskedValue

@@ -1,4 +1,2 @@
 pub mod Options
-pub mod StationWords
-pub mod StoreWords
 pub mod CommandLine

@@ -4,65 +4,9 @@ ghost use Rattle.clap.specs.Words.{app_of, rule_of, shape_of, with_subcommand as
 ghost use Rattle.clap.specs.declared.builder.command.Command.TheViews.{out-Command};
 ghost use Rattle.bsc_words.specs.Options.{entry_rule, subcommand_shape, with_rules, with_shapes};
 
+use bsc_options::{Entry, Subcommand, Takes};
 use clap::{Arg, ArgAction, Command};
 use std::alloc::{AllocError, Global};
-
-/// The form in which an entry is given.
-#[derive(Clone, Copy)]
-pub(crate) enum Given {
-    /// A required value without a name.
-    Required,
-
-    /// A value without a name, which may be left out.
-    Optional,
-
-    /// A name only.
-    Flag,
-
-    /// A name only, counted: any number of times.
-    Count,
-
-    /// A name and a value.
-    Value,
-
-    /// A name and a value, any number of times.
-    Values,
-
-    /// Values without a name, any number of them: from the first of them on all words are values.
-    Rest,
-}
-
-/// An argument or an option of a command.
-#[derive(Clone, Copy)]
-pub(crate) struct Entry {
-    /// Its name, without the two hyphens of an option.
-    pub(crate) id: &'static str,
-
-    /// The form in which it is given.
-    pub(crate) given: Given,
-
-    /// The name of its value in the help; empty if it has no value.
-    pub(crate) value: &'static str,
-
-    /// Its description in the help.
-    pub(crate) help: &'static str,
-}
-
-/// A command of the program.
-#[derive(Clone, Copy)]
-pub(crate) struct Subcommand {
-    /// Its name.
-    pub(crate) name: &'static str,
-
-    /// Its description in the help.
-    pub(crate) about: &'static str,
-
-    /// An example of its use, at the end of the help.
-    pub(crate) example: &'static str,
-
-    /// Its arguments and options.
-    pub(crate) entries: &'static [Entry],
-}
 
 /// Returns the `clap` argument for an entry.
 fn argument<'a>(alloc: Global, entry: &'a Entry) -> Arg<'a>
@@ -70,14 +14,16 @@ fn argument<'a>(alloc: Global, entry: &'a Entry) -> Arg<'a>
     ensures local { result.global ≡ false }
 {
     let argument = Arg::new(alloc, entry.id).help(entry.help);
-    match entry.given {
-        Given::Required => argument.required(true).action(ArgAction::Set),
-        Given::Optional => argument.action(ArgAction::Set),
-        Given::Flag => argument.long(entry.id).action(ArgAction::SetTrue),
-        Given::Count => argument.long(entry.id).action(ArgAction::Count),
-        Given::Value => with_value(argument, entry).action(ArgAction::Set),
-        Given::Values => with_value(argument, entry).action(ArgAction::Append),
-        Given::Rest => argument.action(ArgAction::Append).trailing_var_arg(true),
+    match entry.takes {
+        Takes::Required => argument.required(true).action(ArgAction::Set),
+        Takes::Optional => argument.action(ArgAction::Set),
+        Takes::Rest => argument.action(ArgAction::Append).trailing_var_arg(true),
+        Takes::Flag => argument.long(entry.id).action(ArgAction::SetTrue),
+        Takes::Count => argument.long(entry.id).action(ArgAction::Count),
+        Takes::Values => with_value(argument, entry).action(ArgAction::Append),
+        Takes::Value | Takes::Number { .. } | Takes::Derived { .. } => {
+            with_value(argument, entry).action(ArgAction::Set)
+        }
     }
 }
 

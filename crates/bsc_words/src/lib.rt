@@ -3,10 +3,7 @@
 #![tactic(auto)]
 
 mod entries;
-mod station_words;
-mod store_words;
-mod tables;
-mod values;
+mod given;
 mod words;
 
 pub use words::{Shown, read_words, wrong_words};

@@ -1,19 +1,18 @@
 //! The arguments of the command line.
 ghost use Rattle.std.specs.Prelude.{◌≡◌, ◌⊎◌, [], map, IfOk, IfErr, IfSome, OnOk};
 ghost use Rattle.std.specs.Prelude.{string_bytes};
-ghost use Rattle.clap.specs.Words.{HasKind, app_of, found_of, kind_of, rows_of, subcommand_rows_of};
+ghost use Rattle.clap.specs.Words.{HasKind, app_of, kind_of, subcommand_rows_of};
 ghost use Rattle.bsc_options.specs.Asked.{asked};
 ghost use Rattle.bsc_text.specs.Forms.{escaped};
-ghost use Rattle.bsc_words.specs.CommandLine.{asked_chart, asked_feed, asked_of, asked_run};
-ghost use Rattle.bsc_words.specs.CommandLine.{asked_station, asked_store, asked_sub, bscline_app};
-ghost use Rattle.bsc_words.specs.CommandLine.{faults_at, program_app};
+ghost use Rattle.bsc_words.specs.CommandLine.{asked_of, asked_sub, bscline_app, faults_at};
+ghost use Rattle.bsc_words.specs.CommandLine.{line_shapes, program_app};
+ghost use Rattle.bsc_words.specs.Options.{with_shapes};
 
-use crate::entries::{Subcommand, command_of, with_subcommands};
-use crate::station_words::station_words;
-use crate::store_words::store_words;
-use crate::tables::{CHART, COMMANDS, FEED, RUN, STATION, STORE};
-use crate::values::{is_given, option_text, option_texts, required_text};
-use bsc_options::{Asked, ChartWords};
+use crate::entries::{command_of, with_subcommands};
+use crate::given::words_of;
+use bsc_options::{
+    Asked, CHART, FEED, LINE_COMMANDS, NAME, RUN, STATION, STATION_COMMANDS, STORE, Subcommand,
+};
 use bsc_text::Escaped;
 use clap::error::ErrorKind;
 use clap::{ArgMatches, Command, Error};
@@ -30,65 +29,20 @@ fn program<'a>(alloc: Global) -> Result<Command<'a>, AllocError>
         .bin_name("bscline")
 }
 
+/// Returns the program with its commands for transmissions, traces and whole lines.
+fn with_lines<'a>(alloc: Global) -> Result<Command<'a>, AllocError>
+    ensures { IfOk result (λ c. app_of c ≡ with_shapes program_app line_shapes) }
+{
+    let program = program(alloc)?;
+    with_subcommands(alloc, program, LINE_COMMANDS)
+}
+
 /// Returns the command line of `bscline`.
 fn command_line<'a>(alloc: Global) -> Result<Command<'a>, AllocError>
     ensures { IfOk result (λ c. app_of c ≡ bscline_app) }
 {
-    let program = program(alloc)?;
-    with_subcommands(alloc, program, COMMANDS)
-}
-
-/// Returns the ladder that the matches of `chart` ask for.
-fn chart_of(alloc: Global, matches: &ArgMatches<'_>) -> Result<Asked, AllocError>
-    ensures { IfOk result (λ w. asked w ≡ asked_chart (rows_of (found_of matches.now))) }
-{
-    Ok(Asked::Chart(ChartWords {
-        file: option_text(alloc, matches, "FILE")?,
-        text: is_given(matches, "text"),
-        svg: is_given(matches, "svg"),
-        html: is_given(matches, "html"),
-        ascii: is_given(matches, "ascii"),
-        width: option_text(alloc, matches, "width")?,
-        from: option_text(alloc, matches, "from")?,
-        to: option_text(alloc, matches, "to")?,
-    }))
-}
-
-/// Returns the run that the matches of `run` ask for.
-fn run_of(alloc: Global, matches: &ArgMatches<'_>) -> Result<Asked, AllocError>
-    ensures { IfOk result (λ w. asked w ≡ asked_run (rows_of (found_of matches.now))) }
-{
-    Ok(Asked::Run {
-        config: required_text(alloc, matches, "CONFIG")?,
-        script: required_text(alloc, matches, "SCRIPT")?,
-        check: is_given(matches, "check"),
-        trace: is_given(matches, "trace"),
-        quiet: is_given(matches, "quiet"),
-    })
-}
-
-/// Returns the station that the matches of `station` ask for.
-fn station_of(alloc: Global, matches: &ArgMatches<'_>) -> Result<Asked, AllocError>
-    ensures { IfOk result (λ w. asked w ≡ asked_station (rows_of (found_of matches.now))) }
-{
-    Ok(Asked::Station(station_words(alloc, matches)?))
-}
-
-/// Returns what the matches of `feed` ask to feed a station.
-fn feed_of(alloc: Global, matches: &ArgMatches<'_>) -> Result<Asked, AllocError>
-    ensures { IfOk result (λ w. asked w ≡ asked_feed (rows_of (found_of matches.now))) }
-{
-    Ok(Asked::Feed {
-        address: required_text(alloc, matches, "ADDRESS")?,
-        command: option_texts(alloc, matches, "COMMAND")?,
-    })
-}
-
-/// Returns the work on a store that the matches of `store` ask for.
-fn store_of(alloc: Global, matches: &ArgMatches<'_>) -> Result<Asked, AllocError>
-    ensures { IfOk result (λ w. asked w ≡ asked_store (rows_of (found_of matches.now))) }
-{
-    Ok(Asked::Store(store_words(alloc, matches)?))
+    let program = with_lines(alloc)?;
+    with_subcommands(alloc, program, STATION_COMMANDS)
 }
 
 /// Returns the work that the matches ask for.
@@ -98,12 +52,24 @@ fn work_of(alloc: Global, matches: &ArgMatches<'_>) -> Result<Asked, AllocError>
     match matches.subcommand() {
         None => Ok(Asked::Names),
         Some((sub, inner)) => match sub {
-            "name" => Ok(Asked::Name(required_text(alloc, inner, "HEX")?)),
-            "chart" => chart_of(alloc, inner),
-            "run" => run_of(alloc, inner),
-            "station" => station_of(alloc, inner),
-            "feed" => feed_of(alloc, inner),
-            "store" => store_of(alloc, inner),
+            "name" => Ok(Asked::Name {
+                words: words_of(alloc, NAME.entries, inner)?,
+            }),
+            "chart" => Ok(Asked::Chart {
+                words: words_of(alloc, CHART.entries, inner)?,
+            }),
+            "run" => Ok(Asked::Run {
+                words: words_of(alloc, RUN.entries, inner)?,
+            }),
+            "station" => Ok(Asked::Station {
+                words: words_of(alloc, STATION.entries, inner)?,
+            }),
+            "feed" => Ok(Asked::Feed {
+                words: words_of(alloc, FEED.entries, inner)?,
+            }),
+            "store" => Ok(Asked::Store {
+                words: words_of(alloc, STORE.entries, inner)?,
+            }),
             _ => Ok(Asked::Show),
         },
     }

@@ -10,7 +10,7 @@
 
 use anyhow::{Result, bail};
 use bsc_chart::draw;
-use bsc_options::ChartWords;
+use bsc_options::{Given, Words};
 use bsc_text::{read_input, split_at_first};
 use std::alloc::Global;
 use std::io;
@@ -22,17 +22,14 @@ fn main(rt: HostRuntime) -> Result<()> {
 }
 
 /// Returns the words for a page or for a picture.
-fn words(html: bool) -> ChartWords {
-    ChartWords {
-        file: None,
-        text: false,
-        svg: !html,
-        html,
-        ascii: false,
-        width: None,
-        from: None,
-        to: None,
-    }
+fn words(alloc: Global, html: bool) -> Result<Words> {
+    let mut given = Vec::new(alloc);
+    given.push(Given {
+        id: if html { "html" } else { "svg" },
+        times: 1,
+        texts: Vec::new(alloc),
+    })?;
+    Ok(Words { given })
 }
 
 /// Draws each trace of the input.
@@ -62,7 +59,7 @@ fn draw_section<W: Write>(alloc: Global, section: &[u8], out: &mut W) -> Result<
     out.write_all(b"%")?;
     out.write_all(name)?;
     out.write_all(b"\n")?;
-    let words = words(name.ends_with(b".html"));
+    let words = words(alloc, name.ends_with(b".html"))?;
     match draw(alloc, &words, None, &mut trace, out) {
         Ok(()) => Ok(()),
         Err(_) => bail!("a trace is not drawn"),

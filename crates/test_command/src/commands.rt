@@ -103,7 +103,7 @@ usage --from or --to is not the number of a line
 $ station c --terminal 0 --connect h:1 --gap 9
 usage --gap needs --raw
 $ station line.toml --terminal 0 --listen h:1 --begin-with 1
-usage --begin-with needs --control and --listen
+usage --begin-with needs --control
 $ station line.toml --control --listen h:1 --begin-with 65
 usage --begin-with takes a number, 0 to 64
 $ station line.toml --control --listen h:1 --peer x --allow 10.0.0.0/

@@ -6,7 +6,7 @@ use crate::sweeps::{line_of, offers_of};
 use bsc_carrier::Cable;
 use bsc_carrier::loopback::{LoopbackError, connect};
 use bsc_chart::draw;
-use bsc_options::ChartWords;
+use bsc_options::{Given, Words};
 use bsc_run::{Cables, RunWords, RunningError, run};
 use bsc_text::progress::{Unmetered, Work};
 use bsc_text::{Files, InputError, Unreadable};
@@ -143,17 +143,14 @@ const LADDER: &str = "    time control
 ";
 
 /// The words that ask for a ladder of ASCII characters.
-fn ascii_words() -> ChartWords {
-    ChartWords {
-        file: None,
-        text: false,
-        svg: false,
-        html: false,
-        ascii: true,
-        width: None,
-        from: None,
-        to: None,
-    }
+fn ascii_words(alloc: Global) -> Result<Words, Fail> {
+    let mut given = Vec::new(alloc);
+    given.push(Given {
+        id: "ascii",
+        times: 1,
+        texts: Vec::new(alloc),
+    })?;
+    Ok(Words { given })
 }
 
 #[test]
@@ -161,7 +158,8 @@ fn the_trace_of_an_example_is_drawn(rt: HostRuntime) -> Result<(), Fail> {
     let config = format!(in rt.alloc(); "tries = 2\n{TWO_TERMINALS}")?;
     let ran = run_at(&rt, rt.alloc(), (&config, LOSSY_LINE), FILES, (false, true));
     let (mut trace, mut drawn) = (ran.trace.as_slice(), Vec::<u8>::new(rt.alloc()));
-    draw(rt.alloc(), &ascii_words(), None, &mut trace, &mut drawn)?;
+    let words = ascii_words(rt.alloc())?;
+    draw(rt.alloc(), &words, None, &mut trace, &mut drawn)?;
     assert!(rt; ran.answer.is_ok() && drawn.as_slice() == LADDER.as_bytes());
     Ok(())
 }

@@ -2,7 +2,7 @@
 
 use crate::facts::{Fact, change};
 use crate::lines::OWN;
-use bsc_options::{StoreWords, read_store_work};
+use bsc_options::{Given, Words, read_store_work};
 use bsc_spool::{Change, Channel, Found, Progress, Store, StoreFault};
 use bsc_store::TableStore;
 use bsc_storing::{Opened, StoreFiles, StoringError, store};
@@ -200,28 +200,47 @@ fn value(words: &'static str, option: &str) -> Option<&'static str> {
     rest.split(' ').next()
 }
 
-/// Returns a copy of a word.
-fn copy(alloc: Global, word: Option<&str>) -> Result<Option<String>, AllocError> {
-    match word {
-        Some(word) => Ok(Some(String::from_str(alloc, word)?)),
-        None => Ok(None),
+/// The arguments of a work on a store, in order: the path of the store, the work, and up to two
+/// words more.
+const ARGUMENTS: &[&str] = &["FILE", "WORK", "FIRST", "SECOND"];
+
+/// The options with a value, and what comes before it.
+const VALUES: &[(&str, &str)] = &[("terminal", " --terminal "), ("from", " --from ")];
+
+/// The options without one, and how they are given.
+const FLAGS: &[(&str, &str)] = &[("control", " --control"), ("text", " --text")];
+
+/// Returns what is given of an argument or an option with a value.
+fn value_given(alloc: Global, id: &'static str, word: Option<&str>) -> Result<Given, AllocError> {
+    let mut texts = Vec::new(alloc);
+    if let Some(word) = word {
+        texts.push(String::from_str(alloc, word)?)?;
     }
+    Ok(Given {
+        id,
+        times: 0,
+        texts,
+    })
 }
 
-/// Returns the words as the command has read them: the path of a store, a work, up to two words
-/// more, and options.
-fn words_of(alloc: Global, text: &'static str) -> Result<StoreWords, AllocError> {
+/// Returns the words as the command has read them.
+fn words_of(alloc: Global, text: &'static str) -> Result<Words, AllocError> {
+    let mut given = Vec::new(alloc);
     let mut words = text.split(" --").next().unwrap_or("").split(' ');
-    Ok(StoreWords {
-        file: String::from_str(alloc, words.next().unwrap_or(""))?,
-        work: String::from_str(alloc, words.next().unwrap_or(""))?,
-        first: copy(alloc, words.next())?,
-        second: copy(alloc, words.next())?,
-        control: text.contains(" --control"),
-        terminal: copy(alloc, value(text, " --terminal "))?,
-        from: copy(alloc, value(text, " --from "))?,
-        text: text.contains(" --text"),
-    })
+    for id in ARGUMENTS {
+        given.push(value_given(alloc, *id, words.next())?)?;
+    }
+    for (id, option) in VALUES {
+        given.push(value_given(alloc, *id, value(text, *option))?)?;
+    }
+    for (id, option) in FLAGS {
+        given.push(Given {
+            id: *id,
+            times: if text.contains(*option) { 1 } else { 0 },
+            texts: Vec::new(alloc),
+        })?;
+    }
+    Ok(Words { given })
 }
 
 /// Does what the words ask for, with this standard input.
@@ -236,7 +255,14 @@ fn done<W: Write>(
     let mut input = input.as_bytes();
     match read_store_work(&words) {
         Err(_) => Err(StoringError::NoTerminal),
-        Ok(work) => store(alloc, words.file.as_str(), work, &mut input, machine, out),
+        Ok(work) => store(
+            alloc,
+            words.required("FILE"),
+            work,
+            &mut input,
+            machine,
+            out,
+        ),
     }
 }
 

@@ -1,11 +1,17 @@
 //! Traces, and the ladders that are drawn of them.
 
 use bsc_chart::{ChartError, draw};
-use bsc_options::ChartWords;
+use bsc_options::{Given, Words};
 use std::alloc::{AllocError, Global};
 
 /// A trace, the words with which it is drawn, and the ladder.
 type Row = (&'static str, &'static str, &'static str);
+
+/// The options without a value.
+const FLAGS: &[&str] = &["text", "svg", "html", "ascii"];
+
+/// Those with one, and what comes before it.
+const VALUES: &[(&str, &str)] = &[("width", "width="), ("from", "from="), ("to", "to=")];
 
 /// The value after this name and before a space, if the name is there.
 fn value_of(alloc: Global, asked: &str, name: &str) -> Result<Option<String>, AllocError> {
@@ -21,17 +27,27 @@ fn value_of(alloc: Global, asked: &str, name: &str) -> Result<Option<String>, Al
 
 /// The words that are asked for: `text`, `svg`, `html`, `ascii`, `width=`, `from=` and `to=`. If
 /// there are none, a text in box-drawing characters is drawn.
-pub(crate) fn words_of(alloc: Global, asked: &str) -> Result<ChartWords, AllocError> {
-    Ok(ChartWords {
-        file: None,
-        text: asked.contains("text"),
-        svg: asked.contains("svg"),
-        html: asked.contains("html"),
-        ascii: asked.contains("ascii"),
-        width: value_of(alloc, asked, "width=")?,
-        from: value_of(alloc, asked, "from=")?,
-        to: value_of(alloc, asked, "to=")?,
-    })
+pub(crate) fn words_of(alloc: Global, asked: &str) -> Result<Words, AllocError> {
+    let mut given = Vec::new(alloc);
+    for id in FLAGS {
+        given.push(Given {
+            id: *id,
+            times: if asked.contains(*id) { 1 } else { 0 },
+            texts: Vec::new(alloc),
+        })?;
+    }
+    for (id, name) in VALUES {
+        let mut texts = Vec::new(alloc);
+        if let Some(text) = value_of(alloc, asked, *name)? {
+            texts.push(text)?;
+        }
+        given.push(Given {
+            id: *id,
+            times: 0,
+            texts,
+        })?;
+    }
+    Ok(Words { given })
 }
 
 /// Each fate of what the control station and another station sent, to all and to one.

@@ -1,7 +1,8 @@
 -- Shows that a station was prepared, and then filled if it is to be kept; or that it has not begun.
 use Rattle.std.proofs.Common.{rules, ◌≡◌, Err, IfErr, is_some, subst, sym}
-use Rattle.bsc_options.specs.StationWords.{asked_words}
+use Rattle.bsc_options.specs.Words.{words_value}
 use Rattle.bsc_attending.specs.Errors.{IsPreparingError, IsStoreError, IsUnbegun}
+use Rattle.bsc_attending.specs.Preparing.{store_path}
 use Rattle.bsc_attending.specs.Runs.{HasBegun}
 use Rattle.bsc_attending.proofs.Begun.{has_begun}
 use Rattle.bsc_attending.proofs.Outcomes.{unbegun_if_refused, unbegun_if_unprepared}
@@ -24,8 +25,8 @@ returns-in_err-keeper-clause-unbegun g c =
 pub returns-clause-begun : goal.returns-clause-begun
 returns-clause-begun g c =
     let left = g.R.Read.remaining in
-    let w = asked_words c.args.words.now in
-    let is_kept = is_some c.args.words.now.store in
+    let w = words_value c.args.words.now in
+    let is_kept = is_some (store_path (words_value c.args.words.now)) in
     let role = c.args.options.now.settings.role in
     subst
     (λ forgets. HasBegun g.H.Store.Store w role forgets is_kept (left c.args.input.now)

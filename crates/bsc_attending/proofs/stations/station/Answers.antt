@@ -4,7 +4,7 @@ use Rattle.std.proofs.Common.{is_some, subst, sym, ◌∙◌, Option, Some, None
 use Rattle.std.specs.Prelude.{IsSomeAnd}
 use Rattle.bsc_options.specs.Admission.{IsAdmission}
 use Rattle.bsc_options.specs.Settings.{settings_in, settings_value}
-use Rattle.bsc_options.specs.StationWords.{asked_words}
+use Rattle.bsc_options.specs.Words.{words_value}
 use Rattle.bsc_attending.specs.Ending.{HasRun}
 use Rattle.bsc_attending.specs.Errors.{IsCutShort, IsUnbegun, IsUnended}
 use Rattle.bsc_attending.specs.Outcomes.{IsAnswer}
@@ -24,7 +24,7 @@ none_of P it is has = subst (λ o. IsSomeAnd o P) is has
 
 pub returns-in_err-begun-clause-answers : goal.returns-in_err-begun-clause-answers
 returns-in_err-begun-clause-answers g c =
-    let w = asked_words c.args.words.now in
+    let w = words_value c.args.words.now in
     let settings = settings_value c.in_ok-settings.settings in
     let read : settings_in w ≡ Ok settings = search rules in
     let admission = c.in_ok-admission.admission in
@@ -65,7 +65,7 @@ returns-in_err-begun-clause-printed g c unstored =
 
 pub returns-clause-answers : goal.returns-clause-answers
 returns-clause-answers g c =
-    let w = asked_words c.args.words.now in
+    let w = words_value c.args.words.now in
     let settings = settings_value c.in_ok-settings.settings in
     let read : settings_in w ≡ Ok settings = search rules in
     let b = c.in_ok-begun.ensures.begun in
@@ -102,7 +102,7 @@ returns-clause-answers g c =
 
 pub returns-clause-reported : goal.returns-clause-reported
 returns-clause-reported g c =
-    let w = asked_words c.args.words.now in
+    let w = words_value c.args.words.now in
     let settings = settings_value c.in_ok-settings.settings in
     let read : settings_in w ≡ Ok settings = search rules in
     let b = c.in_ok-begun.ensures.begun in
@@ -130,7 +130,7 @@ returns-clause-reported g c =
 
 pub returns-clause-kept : goal.returns-clause-kept
 returns-clause-kept g c stored =
-    let w = asked_words c.args.words.now in
+    let w = words_value c.args.words.now in
     let settings = settings_value c.in_ok-settings.settings in
     let read : settings_in w ≡ Ok settings = search rules in
     let b = c.in_ok-begun.ensures.begun in
@@ -179,7 +179,7 @@ returns-clause-kept g c stored =
 
 pub returns-clause-printed : goal.returns-clause-printed
 returns-clause-printed g c unstored =
-    let w = asked_words c.args.words.now in
+    let w = words_value c.args.words.now in
     let settings = settings_value c.in_ok-settings.settings in
     let read : settings_in w ≡ Ok settings = search rules in
     let b = c.in_ok-begun.ensures.begun in

@@ -1,5 +1,5 @@
 -- Shows that the fault of drawing says what its error says.
-use Rattle.bsc_options.specs.ChartWords.{chart_words}
+use Rattle.bsc_options.specs.ChartWords.{chart_given}
 use Rattle.bsc_command.proofs.Charts.{trace_early, trace_failed, trace_is_fault}
 use Rattle.bsc_command.proofs.program.draw_chart.Goals as goal
 
@@ -9,7 +9,7 @@ returns-in-Err-clause-fault g c =
 
 pub returns-in-Err-clause-failed : goal.returns-in-Err-clause-failed
 returns-in-Err-clause-failed g c =
-    trace_failed (chart_words c.args.words.now) (g.R.Read.remaining c.args.input.now)
+    trace_failed (chart_given c.args.words.now) (g.R.Read.remaining c.args.input.now)
     (g.W.Write.contents c.args.out.now) (g.W.Write.contents c.draw_named.new.out) c.in-Err.error
     c.trace_fault.result c.trace_fault.ensures c.in-Err.ensures.failed
 
