@@ -6,7 +6,7 @@ use Rattle.bsc_report.specs.Following.{left_after, share_of, unprinted_on}
 use Rattle.bsc_station.specs.declared.party.Party as party_of
 use Rattle.bsc_text.specs.declared.error.PrintError.{PrintError}
 use Rattle.bsc_text.specs.declared.error.PrintError.TheVariants as print
-use Rattle.bsc_attending.specs.declared.error.AttendingError.{AttendingError}
+use Rattle.bsc_attending.specs.declared.cut_short.CutShort.{CutShort}
 use Rattle.bsc_attending.specs.Printer.{AreAllPrinted, Followed, Turn, WritesSome, outcome_after}
 
 module _ {P M : Type 0} (party : party_of.Ghosts P M) (station : P) where
@@ -53,7 +53,7 @@ module _ {P M : Type 0} (party : party_of.Ghosts P M) (station : P) where
       omega (arith, counted, all)
 
   -- so all are after the last turn, unless a record could not be printed
-  pub all_unless_failed : (most : ℕ) (old new : Followed) (result : Result (Unit {0}) AttendingError)
+  pub all_unless_failed : (most : ℕ) (old new : Followed) (result : Result (Unit {0}) CutShort)
       → Turn party station most false old new → result ≡ outcome_after new.fault
       → IfOk result (λ _. AreAllPrinted party station new)
   all_unless_failed most old new result turn is =

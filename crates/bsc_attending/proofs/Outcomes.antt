@@ -1,7 +1,7 @@
 -- What a station answers, by how it was prepared and how it ran.
 use Rattle.std.proofs.Common.{◌≡◌, ℕ, Bool, true, false, List, Option, Some, None, is_some}
 use Rattle.std.proofs.Common.{if◌then◌else◌, Result, Ok, Err, ◌⊎◌, inl, inr, subst, sym}
-use Rattle.std.proofs.Common.{IfErr, IfOk, IsErrAnd}
+use Rattle.std.proofs.Common.{IfOk, IsErr, IsErrAnd, refl}
 use Rattle.bsc_options.specs.Words.{WordsValue}
 use Rattle.bsc_carrier.specs.declared.error.CarrierError.{CarrierError}
 use Rattle.bsc_config.specs.Settings.{ConfigValue}
@@ -13,11 +13,13 @@ use Rattle.bsc_text.specs.declared.form.Form.{Form}
 use Rattle.bsc_trust.specs.declared.distrust.Distrust.{Distrust}
 use Rattle.bsc_attending.specs.Ending.{HasRun, IsLeftBy, IsSameKind, result_of}
 use Rattle.bsc_attending.specs.Errors.{IsCutShort, IsPreparingError, IsPrintFault, IsStoreError}
-use Rattle.bsc_attending.specs.Errors.{IsUnbegun, IsUnended, closed_outcome}
+use Rattle.bsc_attending.specs.Errors.{IsUnbegun, IsUnended, closed_outcome, cut_short_error}
 use Rattle.bsc_attending.specs.Outcomes.{Finishes, IsAnswerFor, IsReported, IsReportedFor}
 use Rattle.bsc_attending.specs.Outcomes.{IsResultOf}
 use Rattle.bsc_attending.specs.Preparing.{IsPrepared, IsStationOf, offers_in}
 use Rattle.bsc_attending.specs.Runs.{IsNotBegun}
+use Rattle.bsc_attending.specs.declared.cut_short.CutShort.{CutShort}
+use Rattle.bsc_attending.specs.declared.cut_short.CutShort.TheVariants as cut
 use Rattle.bsc_attending.specs.declared.error.AttendingError.{AttendingError}
 use Rattle.bsc_attending.specs.declared.error.AttendingError.TheVariants as attending
 use Rattle.bsc_attending.specs.declared.preparing.Prepared.{Prepared}
@@ -26,22 +28,28 @@ use Rattle.bsc_attending.specs.declared.attending.Left.{Left}
 use Rattle.bsc_attending.specs.declared.attending.Left.TheVariants.{Control, Terminal}
 
 -- an error that cuts a station short is none of its end
+cut_unended : (why : CutShort) → IsUnended (cut_short_error why)
+cut_unended (cut.Connections error) = tt
+cut_unended (cut.Programs error) = tt
+cut_unended cut.Output = tt
+cut_unended cut.Unprinted = tt
+cut_unended (cut.Unkept error) = tt
+cut_unended cut.Memory = tt
+
 pub unended_if_cut : (e : AttendingError) → IsCutShort e → IsUnended e
-unended_if_cut (attending.Closed error) p = absurd p
-unended_if_cut attending.NotTrusted p = absurd p
-unended_if_cut attending.InDoubt p = absurd p
-unended_if_cut attending.Undelivered p = absurd p
-unended_if_cut error p = tt
+unended_if_cut e (why, is) = subst (λ error. IsUnended error) (sym is) (cut_unended why)
 
 -- any station may be cut short
+cut_result : (r : Role) (why : CutShort) → IsResultOf r (Err (cut_short_error why))
+cut_result r (cut.Connections error) = tt
+cut_result r (cut.Programs error) = tt
+cut_result r cut.Output = tt
+cut_result r cut.Unprinted = tt
+cut_result r (cut.Unkept error) = tt
+cut_result r cut.Memory = tt
+
 cut_fits : (r : Role) (e : AttendingError) → IsCutShort e → IsResultOf r (Err e)
-cut_fits r (attending.Connections error) p = tt
-cut_fits r (attending.Programs error) p = tt
-cut_fits r attending.Output p = tt
-cut_fits r attending.Unprinted p = tt
-cut_fits r (attending.Unkept error) p = tt
-cut_fits r attending.Memory p = tt
-cut_fits r error p = absurd p
+cut_fits r e (why, is) = subst (λ error. IsResultOf r (Err error)) (sym is) (cut_result r why)
 
 -- any station may have a store that is refused
 store_fits : (r : Role) (e : AttendingError) → IsStoreError e → IsResultOf r (Err e)
@@ -97,9 +105,9 @@ module _ (w : WordsValue) (r : Role) (input after : Option (List ℕ)) (begun : 
   -- what a station answers that was prepared and has run
   pub answer_after : (peers : ℕ) (result : Result (Unit {0}) AttendingError)
       → HasRun contents form begun ended result new → IsAnswerFor w r peers input result
-  answer_after peers (Ok done) (inl cut) = absurd cut
-  answer_after peers (Err error) (inl cut) =
-      inr (record { after = after; begun = begun; prepared = prepared }, cut_fits r error cut)
+  answer_after peers (Ok done) (inl short) = absurd short
+  answer_after peers (Err error) (inl short) =
+      inr (record { after = after; begun = begun; prepared = prepared }, cut_fits r error short)
   answer_after peers result (inr ends) =
       inr (
         record { after = after; begun = begun; prepared = prepared },
@@ -112,8 +120,8 @@ module _ (w : WordsValue) (r : Role) (input after : Option (List ℕ)) (begun : 
   pub report_after : (result : Result (Unit {0}) AttendingError)
       → HasRun contents form begun ended result new
       → IsReportedFor contents w r form input result new
-  report_after (Ok done) (inl cut) = absurd cut
-  report_after (Err error) (inl cut) = inl (unended_if_cut error cut)
+  report_after (Ok done) (inl short) = absurd short
+  report_after (Err error) (inl short) = inl (unended_if_cut error short)
   report_after result (inr ends) =
       inr (record {
         after = after;
@@ -138,7 +146,7 @@ pub ran_filled : {W : Type 0} (contents : W → Option (List ℕ)) (form : Optio
     (before after ended : Prepared) (result : Result (Unit {0}) AttendingError) (new : W)
     → IsSameKind before after → HasRun contents form after ended result new
     → HasRun contents form before ended result new
-ran_filled contents form before after ended result new same (inl cut) = inl cut
+ran_filled contents form before after ended result new same (inl short) = inl short
 ran_filled contents form before after ended result new same (inr ends) =
     inr (record {
       left = ends.left;
@@ -150,22 +158,21 @@ ran_filled contents form before after ended result new same (inr ends) =
 
 -- an error of printing is one that cuts short
 cut_if_unprinted : (e : AttendingError) → IsPrintFault e → IsCutShort e
-cut_if_unprinted attending.Output p = tt
-cut_if_unprinted attending.Memory p = tt
+cut_if_unprinted attending.Output p = (cut.Output, refl)
+cut_if_unprinted attending.Memory p = (cut.Memory, refl)
 cut_if_unprinted error p = absurd p
 
 -- a station that was attended, and then finished
 pub has_run : {W : Type 0} (contents : W → Option (List ℕ)) (form : Option Form)
-    (begun ended : Prepared) (attended : Result Left AttendingError)
+    (begun ended : Prepared) (attended : Result Left CutShort)
     (result : Result (Unit {0}) AttendingError) (before new : W)
-    → IfErr attended IsCutShort
     → IfOk attended (λ left. IsLeftBy begun left × IsLeftBy ended left)
     → Finishes form ended attended result (contents before) (contents new)
     → HasRun contents form begun ended result new
-has_run contents form begun ended (Ok left) (Ok done) before new cut leaves (inl fault) = absurd fault
-has_run contents form begun ended (Ok left) (Err error) before new cut leaves (inl fault) =
+has_run contents form begun ended (Ok left) (Ok done) before new leaves (inl fault) = absurd fault
+has_run contents form begun ended (Ok left) (Err error) before new leaves (inl fault) =
     inl (cut_if_unprinted error fault)
-has_run contents form begun ended (Ok left) result before new cut leaves (inr concludes) =
+has_run contents form begun ended (Ok left) result before new leaves (inr concludes) =
     inr (record {
       left = left;
       leaves = leaves.0;
@@ -173,32 +180,31 @@ has_run contents form begun ended (Ok left) result before new cut leaves (inr co
       before = before;
       concludes = concludes;
     })
-has_run contents form begun ended (Err error) result before new cut leaves is =
-    inl (subst (λ r. IsErrAnd r IsCutShort) (sym is) cut)
+has_run contents form begun ended (Err why) result before new leaves is =
+    inl (subst (λ r. IsErrAnd r IsCutShort) (sym is) (why, refl))
 
 -- the same, where the end of it is known by other names
 pub run_is : {W : Type 0} (contents : W → Option (List ℕ)) (form : Option Form)
-    (begun ended last : Prepared) (attended got : Result Left AttendingError)
+    (begun ended last : Prepared) (attended got : Result Left CutShort)
     (result : Result (Unit {0}) AttendingError) (before new : W) → ended ≡ last → attended ≡ got
-    → IfErr got IsCutShort → IfOk got (λ left. IsLeftBy begun left × IsLeftBy last left)
+    → IfOk got (λ left. IsLeftBy begun left × IsLeftBy last left)
     → Finishes form ended attended result (contents before) (contents new)
     → HasRun contents form begun ended result new
-run_is contents form begun ended last attended got result before new is_last is_got cut leaves
+run_is contents form begun ended last attended got result before new is_last is_got leaves
     finishes =
     has_run contents form begun ended attended result before new
-    (subst (λ r. IfErr r IsCutShort) (sym is_got) cut)
     (subst (λ e. IfOk attended (λ left. IsLeftBy begun left × IsLeftBy e left)) (sym is_last)
     (subst (λ r. IfOk r (λ left. IsLeftBy begun left × IsLeftBy last left)) (sym is_got) leaves))
     finishes
 
--- an error that cut it short is its result
-pub cut_is : (form : Option Form) (ended : Prepared) (attended : Result Left AttendingError)
+-- what cut it short is its result
+pub cut_is : (form : Option Form) (ended : Prepared) (attended : Result Left CutShort)
     (result : Result (Unit {0}) AttendingError) (old new : Option (List ℕ))
-    → Finishes form ended attended result old new → IsErrAnd attended IsCutShort
-    → IsErrAnd result IsCutShort
-cut_is form ended (Ok left) result old new finishes cut = absurd cut
-cut_is form ended (Err error) result old new is cut =
-    subst (λ r. IsErrAnd r IsCutShort) (sym is) cut
+    → Finishes form ended attended result old new → IsErr attended → IsErrAnd result IsCutShort
+cut_is form ended (Ok left) result old new finishes so =
+    let clash : false ≡ true = so in absurd cc
+cut_is form ended (Err why) result old new is so =
+    subst (λ r. IsErrAnd r IsCutShort) (sym is) (why, refl)
 
 -- what a station answers that could not begin
 pub answer_unbegun : (w : WordsValue) (r : Role) (peers : ℕ) (input : Option (List ℕ))

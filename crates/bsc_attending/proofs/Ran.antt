@@ -1,6 +1,6 @@
 -- What a station that was attended has done, by what keeps what it changes.
 use Rattle.std.proofs.Common.{◌≡◌, ℕ, Bool, true, false, List, sym, subst}
-use Rattle.std.proofs.Common.{Result, Ok, Err, IfErr, IsErr, IsErrAnd, ◌⊎◌, inl, inr, refl, ap, ◌∙◌}
+use Rattle.std.proofs.Common.{Result, Ok, Err, IsErr, ◌⊎◌, inl, inr, refl, ap, ◌∙◌}
 use Rattle.bsc_control.specs.Control.{ControlValue}
 use Rattle.bsc_connections.specs.declared.awaited.LiveError.{LiveError}
 use Rattle.bsc_keeping.specs.LiveRuns.{Course, State, ended, failed, goes, is_fine}
@@ -9,19 +9,11 @@ use Rattle.bsc_keeping.specs.Runs.{Moment}
 use Rattle.bsc_keeping.specs.declared.keeper.Keeper.{Keeper}
 use Rattle.bsc_keeping.specs.declared.stored.Stored.{Stored}
 use Rattle.bsc_station.specs.LineTerminal.{LineTerminalValue}
-use Rattle.bsc_attending.specs.Errors.{IsCutShort}
 use Rattle.bsc_attending.specs.Live.{PreparedRanLive, RanLive, state}
 use Rattle.bsc_attending.specs.Runs.{HasRunPrinted, PreparedRunsKept, PreparedRunsPrinted}
 use Rattle.bsc_attending.specs.Runs.{RunsKept, RunsPrinted, at}
-use Rattle.bsc_attending.specs.declared.error.AttendingError.{AttendingError}
 use Rattle.bsc_attending.specs.declared.preparing.Prepared.{Prepared}
 use Rattle.bsc_attending.specs.declared.preparing.Prepared.TheVariants as prepared
-
--- an error that may only be one that cuts a station short
-pub cut_if_err : {A : Type 0} (result : Result A AttendingError) → IfErr result IsCutShort
-    → IsErr result → IsErrAnd result IsCutShort
-cut_if_err (Ok done) cut is = let clash : false ≡ true = is in absurd cc
-cut_if_err (Err error) cut is = cut
 
 -- a station that was attended with this result
 pub ran_as : {S Q A : Type 0} (runs : Course → State S Q → State S Q → Type 0) (old new : S)

@@ -1,5 +1,5 @@
 -- The errors of a station for those of its parts, and the errors of each part of its work.
-use Rattle.std.specs.Prelude.{Result, Ok, Err, Option, Some, None, is_some, if◌then◌else◌}
+use Rattle.std.specs.Prelude.{◌≡◌, Result, Ok, Err, Option, Some, None, is_some, if◌then◌else◌}
 use Rattle.bsc_carrier.specs.declared.error.CarrierError.{CarrierError}
 use Rattle.bsc_clients.specs.declared.error.ClientsError.{ClientsError}
 use Rattle.bsc_clients.specs.declared.error.ClientsError.TheVariants as clients
@@ -19,6 +19,8 @@ use Rattle.bsc_sockets.specs.declared.error.SocketsError.{SocketsError}
 use Rattle.bsc_sockets.specs.declared.error.SocketsError.TheVariants as sockets
 use Rattle.bsc_trust.specs.declared.trust.Trust.{Trust}
 use Rattle.bsc_station.specs.declared.standing.Standing.{Standing}
+use Rattle.bsc_attending.specs.declared.cut_short.CutShort.{CutShort}
+use Rattle.bsc_attending.specs.declared.cut_short.CutShort.TheVariants as cut
 use Rattle.bsc_attending.specs.declared.error.AttendingError.{AttendingError}
 use Rattle.bsc_attending.specs.declared.error.AttendingError.TheVariants as attending
 
@@ -43,35 +45,44 @@ IsPrintFault attending.Output = Unit {0}
 IsPrintFault attending.Memory = Unit {0}
 IsPrintFault _ = ⊥
 
--- The error for connections that could not be made.
-abbrev pub sockets_error : SocketsError → AttendingError
-sockets_error sockets.Memory = attending.Memory
-sockets_error error = attending.Connections error
-
--- The error for programs that cannot be served.
-abbrev pub clients_error : ClientsError → AttendingError
-clients_error clients.Memory = attending.Memory
-clients_error error = attending.Programs error
-
 -- The error for a store that is refused.
 abbrev pub store_error : StoreFault → AttendingError
 store_error fault.OutOfMemory = attending.Memory
 store_error error = attending.Store error
 
--- The error for the end of attending.
-abbrev pub live_error : LiveError → AttendingError
-live_error live.Wait = attending.Connections sockets.Sockets
-live_error live.Count = attending.Connections sockets.Sockets
-live_error live.Output = attending.Output
-live_error live.Unprinted = attending.Unprinted
-live_error live.Unkept = attending.Unkept fault.Unreachable
-live_error live.Memory = attending.Memory
+-- What cuts a station short whose connections cannot be made.
+abbrev pub sockets_cut : SocketsError → CutShort
+sockets_cut sockets.Memory = cut.Memory
+sockets_cut error = cut.Connections error
 
--- The error of a station that was attended: if its records could not be kept, it has the fault of
--- its store.
-abbrev pub with_fault : AttendingError → Option StoreFault → AttendingError
-with_fault (attending.Unkept error) (Some fault) = attending.Unkept fault
-with_fault error fault = error
+-- What cuts a station short that programs cannot reach.
+abbrev pub clients_cut : ClientsError → CutShort
+clients_cut clients.Memory = cut.Memory
+clients_cut error = cut.Programs error
+
+-- What cuts a station short whose attending ends so.
+abbrev pub live_cut : LiveError → CutShort
+live_cut live.Wait = cut.Connections sockets.Sockets
+live_cut live.Count = cut.Connections sockets.Sockets
+live_cut live.Output = cut.Output
+live_cut live.Unprinted = cut.Unprinted
+live_cut live.Unkept = cut.Unkept fault.Unreachable
+live_cut live.Memory = cut.Memory
+
+-- What cuts a station short that was attended: if its records could not be kept, it has the fault
+-- of its store.
+abbrev pub with_fault : CutShort → Option StoreFault → CutShort
+with_fault (cut.Unkept error) (Some fault) = cut.Unkept fault
+with_fault why fault = why
+
+-- The error of a station that was cut short.
+abbrev pub cut_short_error : CutShort → AttendingError
+cut_short_error (cut.Connections error) = attending.Connections error
+cut_short_error (cut.Programs error) = attending.Programs error
+cut_short_error cut.Output = attending.Output
+cut_short_error cut.Unprinted = attending.Unprinted
+cut_short_error (cut.Unkept error) = attending.Unkept error
+cut_short_error cut.Memory = attending.Memory
 
 -- The reasons for refusing options that are found after the configuration is read.
 abbrev pub IsFoundLate : OptionError → Type 0
@@ -132,15 +143,10 @@ IsLate attending.Memory = Unit {0}
 IsLate _ = ⊥
 
 -- The errors that end a station before it has ended by itself: no connections could be made, also
--- none of programs, waiting for them failed, something could not be printed, or memory ran out.
+-- none of programs, waiting for them failed, something could not be printed or kept, or memory ran
+-- out.
 abbrev pub IsCutShort : AttendingError → Type 0
-IsCutShort (attending.Connections error) = Unit {0}
-IsCutShort (attending.Programs error) = Unit {0}
-IsCutShort attending.Output = Unit {0}
-IsCutShort attending.Unprinted = Unit {0}
-IsCutShort (attending.Unkept error) = Unit {0}
-IsCutShort attending.Memory = Unit {0}
-IsCutShort _ = ⊥
+IsCutShort error = (why : CutShort) × (error ≡ cut_short_error why)
 
 -- The errors after which nothing is promised of a report: all but those that say in which state the
 -- station ended.

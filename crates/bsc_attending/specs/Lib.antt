@@ -2,6 +2,7 @@ pub mod Errors
 pub mod Ending
 pub mod Framings
 pub mod Offering
+pub mod Opening
 pub mod Outcomes
 pub mod Preparing
 pub mod Serving

@@ -37,8 +37,8 @@ abbrev pub live_parts : {S Q : Type 0} → station_of.Ghosts S
     → (S → ℕ → Way → ℕ → Result (Unit {0}) Fault → S → Type 0)
     → (S → Bool → Result (Unit {0}) Fault → S → Type 0)
     → (S → Result (Unit {0}) Fault → S → Type 0) → LiveParts S Q
-live_parts station keeps keeps_offer prints forgets_sent forgets_arrived polls offers releases readies
-    urges =
+live_parts station keeps keeps_offer prints forgets_sent forgets_arrived polls offers releases
+    readies urges =
     record {
       station = station;
       keeps = keeps;
@@ -54,8 +54,8 @@ live_parts station keeps keeps_offer prints forgets_sent forgets_arrived polls o
 abbrev pub state : {S Q : Type 0} → S → Q → State S Q
 state station kept = record { station = station; kept = kept }
 
--- The terminals, this many, are polled that are wanted, and then a step of the station follows, or a
--- wait that fails.
+-- The terminals, this many, are polled that are wanted, and then a step of the station follows, or
+-- a wait that fails.
 pub record SettlesAndSteps {S Q : Type 0} (station : station_of.Ghosts S)
     (keeps : Q → S → Result (Unit {0}) LiveError → Q → Type 0) (polls : S → ℕ → Bool → S → Type 0)
     (wanted : ℕ → Bool) (count : ℕ) (old : State S Q) (result : Result Bool LiveError)

@@ -8,9 +8,10 @@ use Rattle.bsc_options.specs.declared.settings.Role.{Role}
 use Rattle.bsc_options.specs.declared.settings.Role.TheVariants as role
 use Rattle.bsc_text.specs.declared.form.Form.{Form}
 use Rattle.bsc_attending.specs.Ending.{HasEnded, IsConcluded}
-use Rattle.bsc_attending.specs.Errors.{IsUnended}
+use Rattle.bsc_attending.specs.Errors.{IsUnended, cut_short_error}
 use Rattle.bsc_attending.specs.Preparing.{IsBegun, IsOptionsRefused, IsPrepared, IsUnprepared}
 use Rattle.bsc_attending.specs.declared.attending.Left.{Left}
+use Rattle.bsc_attending.specs.declared.cut_short.CutShort.{CutShort}
 use Rattle.bsc_attending.specs.declared.error.AttendingError.{AttendingError}
 use Rattle.bsc_attending.specs.declared.error.AttendingError.TheVariants as attending
 use Rattle.bsc_attending.specs.declared.preparing.Prepared.{Prepared}
@@ -86,8 +87,8 @@ module _ {W : Type 0} (contents : W → Option (List ℕ)) where
   IsReported w input result new = IsErrAnd result IsUnended ⊎ Reports w input result new
 
 -- What a station prints at its end and its result, by the result with which it was attended: its
--- report and its outcome, or the error that cut it short.
-abbrev pub Finishes : Option Form → Prepared → Result Left AttendingError
+-- report and its outcome, or the error of what cut it short.
+abbrev pub Finishes : Option Form → Prepared → Result Left CutShort
     → Result (Unit {0}) AttendingError → Option (List ℕ) → Option (List ℕ) → Type 0
 Finishes form station (Ok left) result old new = IsConcluded form station left result old new
-Finishes form station (Err error) result old new = result ≡ Err error
+Finishes form station (Err why) result old new = result ≡ Err (cut_short_error why)

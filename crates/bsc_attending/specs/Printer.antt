@@ -12,8 +12,8 @@ use Rattle.bsc_report.specs.declared.record_lines.RecordLines.{RecordLines}
 use Rattle.bsc_text.specs.declared.error.PrintError.{PrintError}
 use Rattle.bsc_text.specs.declared.error.PrintError.TheVariants as print
 use Rattle.bsc_text.specs.Channels.{each_below}
-use Rattle.bsc_attending.specs.declared.error.AttendingError.{AttendingError}
-use Rattle.bsc_attending.specs.declared.error.AttendingError.TheVariants as attending
+use Rattle.bsc_attending.specs.declared.cut_short.CutShort.{CutShort}
+use Rattle.bsc_attending.specs.declared.cut_short.CutShort.TheVariants as cut
 use Rattle.bsc_attending.specs.declared.preparing.Prepared.{Prepared}
 use Rattle.bsc_attending.specs.declared.preparing.Prepared.TheVariants as prepared
 use Rattle.bsc_attending.specs.declared.printer.Printer.{Printer}
@@ -49,10 +49,10 @@ counts_below printed zero = []
 counts_below printed (suc number) = counts_below printed number ++ (printed number ∷ [])
 
 -- What becomes of a station whose records cannot be printed any more.
-abbrev pub outcome_after : Option PrintError → Result (Unit {0}) AttendingError
+abbrev pub outcome_after : Option PrintError → Result (Unit {0}) CutShort
 outcome_after None = Ok tt
-outcome_after (Some print.Output) = Err attending.Unprinted
-outcome_after (Some print.Memory) = Err attending.Memory
+outcome_after (Some print.Output) = Err cut.Unprinted
+outcome_after (Some print.Memory) = Err cut.Memory
 
 -- What is known of a station with memory of type M, and the station.
 module _ {P M : Type 0} (party : party_of.Ghosts P M) (station : P) where

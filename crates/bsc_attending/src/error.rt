@@ -1,10 +1,10 @@
 //! The reasons why a station fails.
 ghost use Rattle.std.specs.Prelude.{◌≡◌};
 
+use crate::cut_short::CutShort;
 use bsc_carrier::CarrierError;
 use bsc_clients::ClientsError;
 use bsc_config::ConfigError;
-use bsc_connections::LiveError;
 use bsc_options::OptionError;
 use bsc_sockets::SocketsError;
 use bsc_spool::StoreFault;
@@ -148,32 +148,6 @@ impl From<PrintError> for AttendingError {
     }
 }
 
-impl From<SocketsError> for AttendingError {
-    ghost use Rattle.bsc_attending.specs.Errors.{sockets_error};
-
-    ghost from_gives = { λ error attending. attending ≡ sockets_error error };
-
-    fn from(error: SocketsError) -> AttendingError {
-        match error {
-            SocketsError::Memory => AttendingError::Memory,
-            error => AttendingError::Connections { error },
-        }
-    }
-}
-
-impl From<ClientsError> for AttendingError {
-    ghost use Rattle.bsc_attending.specs.Errors.{clients_error};
-
-    ghost from_gives = { λ error attending. attending ≡ clients_error error };
-
-    fn from(error: ClientsError) -> AttendingError {
-        match error {
-            ClientsError::Memory => AttendingError::Memory,
-            error => AttendingError::Programs { error },
-        }
-    }
-}
-
 impl From<StoreFault> for AttendingError {
     ghost use Rattle.bsc_attending.specs.Errors.{store_error};
 
@@ -187,22 +161,19 @@ impl From<StoreFault> for AttendingError {
     }
 }
 
-impl From<LiveError> for AttendingError {
-    ghost use Rattle.bsc_attending.specs.Errors.{live_error};
+impl From<CutShort> for AttendingError {
+    ghost use Rattle.bsc_attending.specs.Errors.{cut_short_error};
 
-    ghost from_gives = { λ error attending. attending ≡ live_error error };
+    ghost from_gives = { λ cut attending. attending ≡ cut_short_error cut };
 
-    fn from(error: LiveError) -> AttendingError {
-        match error {
-            LiveError::Wait | LiveError::Count => AttendingError::Connections {
-                error: SocketsError::Sockets,
-            },
-            LiveError::Output => AttendingError::Output,
-            LiveError::Unprinted => AttendingError::Unprinted,
-            LiveError::Unkept => AttendingError::Unkept {
-                error: StoreFault::Unreachable,
-            },
-            LiveError::Memory => AttendingError::Memory,
+    fn from(cut: CutShort) -> AttendingError {
+        match cut {
+            CutShort::Connections { error } => AttendingError::Connections { error },
+            CutShort::Programs { error } => AttendingError::Programs { error },
+            CutShort::Output => AttendingError::Output,
+            CutShort::Unprinted => AttendingError::Unprinted,
+            CutShort::Unkept { error } => AttendingError::Unkept { error },
+            CutShort::Memory => AttendingError::Memory,
         }
     }
 }

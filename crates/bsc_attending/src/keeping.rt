@@ -3,11 +3,12 @@
 ghost use Rattle.std.specs.Prelude.{◌≡◌, IfErr, IfOk, slice_get};
 ghost use Rattle.bsc_keeping.specs.Changes.{printed_of};
 ghost use Rattle.bsc_attending.specs.Ending.{IsSameKind};
-ghost use Rattle.bsc_attending.specs.Errors.{IsCutShort, IsStoreError, with_fault};
+ghost use Rattle.bsc_attending.specs.Errors.{IsStoreError, with_fault};
 ghost use Rattle.bsc_attending.specs.Preparing.{Suits};
 ghost use Rattle.bsc_attending.specs.Printer.{AreAllPrinted, counts_below, followed_of};
 ghost use Rattle.bsc_attending.specs.Runs.{BeginsFrom};
 
+use crate::cut_short::CutShort;
 use crate::preparing::Prepared;
 use crate::printer::Printer;
 use crate::running::Running;
@@ -16,7 +17,7 @@ use bsc_connections::LiveError;
 use bsc_keeping::{Keeper, Own, Sends, Stored, begin_control, begin_terminal};
 use bsc_spool::{Store, StoreFault};
 use bsc_station::Party;
-use std::alloc::Global;
+use std::alloc::{AllocError, Global};
 use std::io::Write;
 
 /// How many records are printed at once, at most, when a station has ended.
@@ -75,11 +76,10 @@ pub(crate) fn printed_before<K: Store + Drop>(
     alloc: Global,
     keeper: &Keeper<K>,
     channels: usize,
-) -> Result<Vec<usize>, AttendingError>
+) -> Result<Vec<usize>, AllocError>
     ensures printed { IfOk result (λ counts. counts.items
         ≡ counts_below (λ number.
         printed_of (slice_get keeper.now.receiving.items number)) channels) }
-    ensures cut { IfErr result IsCutShort }
 {
     let mut counts = Vec::new(alloc);
     'channels: for number in 0..channels {
@@ -93,32 +93,30 @@ pub(crate) fn printed_before<K: Store + Drop>(
 fn print_all<S: Party + Sends, K: Store + Drop, W: Write, D: Write + Drop, R: Readiness + Drop>(
     station: &S,
     stored: &mut Stored<K, Printer<'_, W, D, R>>,
-) -> Result<(), AttendingError>
+) -> Result<(), CutShort>
     ensures printed { IfOk result (λ _.
         AreAllPrinted S.Party station.now (followed_of W.contents stored.new.printer)) }
-    ensures cut { IfErr result IsCutShort }
 {
     'turns: for _ in 0..u64::MAX {
         let more = stored.printer.print_turn(station, AT_END);
         if stored.keeper.keep(station, &stored.printer).is_err() {
-            let error = AttendingError::from(LiveError::Unkept);
-            return Err(with_fault(&stored.keeper, error));
+            let cut = CutShort::from(LiveError::Unkept);
+            return Err(with_fault(&stored.keeper, cut));
         }
         if !more {
             return stored.printer.outcome();
         }
     }
-    Err(AttendingError::from(LiveError::Count))
+    Err(CutShort::from(LiveError::Count))
 }
 
 /// Prints what is left of the records that arrived at a station that has ended.
 pub(crate) fn print_rest<K: Store + Drop, W: Write, D: Write + Drop, R: Readiness + Drop>(
     prepared: &Prepared,
     stored: &mut Stored<K, Printer<'_, W, D, R>>,
-) -> Result<(), AttendingError>
+) -> Result<(), CutShort>
     ensures printed { IfOk result (λ _. ⟦<Prepared as Running>⟧.are_all_printed prepared.now
         (followed_of W.contents stored.new.printer)) }
-    ensures cut { IfErr result IsCutShort }
 {
     match prepared {
         Prepared::Control { control } => print_all(control, stored),
@@ -126,18 +124,12 @@ pub(crate) fn print_rest<K: Store + Drop, W: Write, D: Write + Drop, R: Readines
     }
 }
 
-/// Returns the error of a station that was attended, with the fault of its store if its records
-/// could not be kept.
-pub(crate) fn with_fault<K: Store + Drop>(
-    keeper: &Keeper<K>,
-    error: AttendingError,
-) -> AttendingError
-    requires { IsCutShort error }
-    ensures cut { IsCutShort result }
-    ensures fault { result ≡ with_fault error keeper.now.fault }
+/// Returns what cut a station short, with the fault of its store if its records could not be kept.
+pub(crate) fn with_fault<K: Store + Drop>(keeper: &Keeper<K>, cut: CutShort) -> CutShort
+    ensures { result ≡ with_fault cut keeper.now.fault }
 {
-    match (error, keeper.fault()) {
-        (AttendingError::Unkept { .. }, Some(error)) => AttendingError::Unkept { error },
-        (error, _) => error,
+    match (cut, keeper.fault()) {
+        (CutShort::Unkept { .. }, Some(error)) => CutShort::Unkept { error },
+        (cut, _) => cut,
     }
 }

@@ -8,6 +8,7 @@
 mod attending;
 mod concluding;
 mod connections;
+mod cut_short;
 mod error;
 mod forgetting;
 mod keeping;

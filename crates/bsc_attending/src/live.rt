@@ -1,13 +1,17 @@
 //! The loop of a live station.
 
-ghost use Rattle.std.specs.Prelude.{◌≡◌, ◌&&◌, OnOk, is_some, length, not, true};
+ghost use Rattle.std.specs.Prelude.{◌≡◌, ◌&&◌, IfOk, OnOk, is_some, length, not, true};
 ghost use Rattle.bsc_attending.specs.Ending.{JoinsFirst};
 ghost use Rattle.bsc_attending.specs.Framings.{NamesAddress};
 ghost use Rattle.bsc_attending.specs.Live.{RunsLive, SettlesAndSteps, TellsStopped};
 ghost use Rattle.bsc_attending.specs.Live.{live_parts, state};
+ghost use Rattle.bsc_attending.specs.Opening.{IsLiveOver};
 ghost use Rattle.bsc_keeping.specs.LiveRuns.{course_of, ended, unless_failed};
 
+use crate::connections::connections_at;
 use crate::forgetting::forget_at_times;
+use crate::serving::serving_of;
+use crate::{Opened, Reachable};
 use bsc_bid::Station;
 use bsc_connections::{Connection, Framing, LiveError, Monitor, Note, Waiter, attend};
 use bsc_keeping::{Keeping, Keeps, step_kept};
@@ -15,6 +19,7 @@ use bsc_monitor::{Polls, Presences, settle};
 use bsc_serving::{Feeds, Programs, Serving};
 use bsc_station::Forgets;
 use bsc_trust::Trust;
+use std::alloc::{AllocError, Global};
 use std::io::{Read, Write};
 use std::net::IpAddr;
 
@@ -41,6 +46,32 @@ impl<
     T: Waiter<R, W> + Drop,
     P: Programs + Drop,
 > Live<R, W, F, T, P> {
+    /// Returns what a station is attended with over connections that are made, with vacant places
+    /// after them, by which programs can reach it, if any can. Fails if an allocation does.
+    pub(crate) fn over(
+        alloc: Global,
+        opened: Opened<R, W, T>,
+        reachable: Option<Reachable<P>>,
+        forgets_printed: bool,
+    ) -> Result<Live<R, W, F, T, P>, AllocError>
+        ensures over { IfOk result (λ live. IsLiveOver opened reachable forgets_printed live) }
+        ensures fed { IfOk result (λ live. is_some live.programs ≡ is_some reachable) }
+    {
+        let Opened {
+            waiter,
+            connections,
+            places,
+        } = opened;
+        let programs = serving_of(alloc, reachable)?;
+        let connections = connections_at(alloc, connections, places)?;
+        Ok(Live {
+            connections,
+            waiter,
+            programs,
+            forgets_printed,
+        })
+    }
+
     /// Attends a station until its monitor ends it. The terminals are polled that the monitor
     /// wants, and then the station takes a step, in which what it has changed is kept before its
     /// answer goes out. After it the records that are kept are printed as standard output takes

@@ -1,6 +1,12 @@
 //! The connections, the clock, the trace and the store that a station needs from the machine.
 
-ghost use Rattle.std.specs.Prelude.{◌≡◌, ◌≤◌, ◌⊎◌, ℤ, Bool, Option};
+ghost use Rattle.std.specs.Prelude.{◌≡◌, ◌≤◌, ◌⊎◌, ℤ, Bool, Option, Result};
+ghost use Rattle.bsc_clients.specs.declared.error.ClientsError.{ClientsError as ClientsErrorValue};
+ghost use Rattle.bsc_clients.specs.declared.served_at.ServedAt.{ServedAt as ServedAtValue};
+ghost use Rattle.bsc_sockets.specs.declared.error.SocketsError.{SocketsError as SocketsErrorValue};
+ghost use Rattle.bsc_attending.specs.Wanted.{WantedValue, wanted_value};
+ghost use Rattle.bsc_attending.specs.declared.network.Opened.{Opened as OpenedValue};
+ghost use Rattle.bsc_attending.specs.declared.network.Reachable.{Reachable as ReachableValue};
 
 use crate::Wanted;
 use bsc_clients::{ClientsError, ServedAt};
@@ -77,11 +83,27 @@ pub trait Network {
     /// not.
     ghost traces: { Bool → Self.Trace → Type 0 };
 
+    /// What it means that it makes connections: the machine before, those that are asked for, the
+    /// result, and the machine after.
+    ghost connects: { Self → WantedValue
+        → Result (OpenedValue Self.Reader Self.Writer Self.Waiter) SocketsErrorValue → Self
+        → Type 0 };
+
+    /// What it means that it lets programs reach a station: the machine before, the place, whether
+    /// what happens is traced, the result, and the machine after.
+    ghost serves: { Self → ServedAtValue → Bool
+        → Result (ReachableValue Self.Programs) ClientsErrorValue → Self → Type 0 };
+
+    /// What it means that each flush of standard output syncs it from now on: the machine before
+    /// and after.
+    ghost syncs: { Self → Self → Type 0 };
+
     /// Makes the connections that a station asks for.
     fn open(
         &mut self,
         wanted: &Wanted<'_>,
-    ) -> Result<Opened<Self::Reader, Self::Writer, Self::Waiter>, SocketsError>;
+    ) -> Result<Opened<Self::Reader, Self::Writer, Self::Waiter>, SocketsError>
+        ensures connected { connects self.old (wanted_value wanted.now) result self.new };
 
     /// Lets programs that feed a station reach it here. At an address of the network, it is told
     /// on standard error which one that is, if `trace` in a line of the trace.
@@ -89,7 +111,8 @@ pub trait Network {
         &mut self,
         at: ServedAt<'_>,
         trace: bool,
-    ) -> Result<Reachable<Self::Programs>, ClientsError>;
+    ) -> Result<Reachable<Self::Programs>, ClientsError>
+        ensures served { serves self.old at.entry trace result self.new };
 
     /// Returns a clock that starts now. Progress is shown of this work, or none; and only if
     /// standard error is a terminal.
@@ -105,7 +128,8 @@ pub trait Network {
 
     /// From now on each flush of standard output also syncs it, if it is a regular file. The flush
     /// fails if that does.
-    fn sync_output(&mut self);
+    fn sync_output(&mut self)
+        ensures synced { syncs self.old self.new };
 }
 
 /// The stores of a machine.

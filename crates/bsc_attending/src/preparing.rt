@@ -55,7 +55,8 @@ pub(crate) fn prepare<R: Read, F: Files>(
     ensures unprepared { IfErr result (IsUnprepared (words_value words.now) role peers.terminals
         (R.remaining input.old)) }
     ensures suits { IfOk result (λ ready. SuitsOwn ready.own ready.prepared) }
-    ensures kept { IfOk result (λ ready. IsSome (store_path (words_value words.now)) → IsSome ready.own) }
+    ensures kept { IfOk result (λ ready.
+        IsSome (store_path (words_value words.now)) → IsSome ready.own) }
     ensures ready { IfOk result (λ ready. IsReady (words_value words.now) role
         (R.remaining input.old) (R.remaining input.new) ready.prepared ready.own) }
 {

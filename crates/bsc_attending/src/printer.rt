@@ -2,12 +2,12 @@
 //! them. A station that runs never waits for its reader: what is not printed yet is kept. Once it
 //! has ended, the rest is printed.
 
-ghost use Rattle.std.specs.Prelude.{◌≡◌, None, IfErr, IfOk, slice_index};
-ghost use Rattle.bsc_attending.specs.Errors.{IsCutShort};
+ghost use Rattle.std.specs.Prelude.{◌≡◌, None, IfOk, slice_index};
 ghost use Rattle.bsc_attending.specs.Printer.{Follows, Turn, WritesSome, followed_of};
 ghost use Rattle.bsc_attending.specs.Printer.{has_unprinted, outcome_after};
 
-use crate::{AttendingError, Readiness};
+use crate::Readiness;
+use crate::cut_short::CutShort;
 use bsc_keeping::Prints;
 use bsc_report::{RecordLines, print_some};
 use bsc_station::Party;
@@ -164,14 +164,13 @@ impl<'a, W: Write, D: Write + Drop, R: Readiness + Drop> Printer<'a, W, D, R> {
     }
 
     /// Returns what became of the records: the fault, if they cannot be printed any more.
-    pub(crate) fn outcome(&self) -> Result<(), AttendingError>
-        ensures outcome { result ≡ outcome_after self.now.fault }
-        ensures cut { IfErr result IsCutShort }
+    pub(crate) fn outcome(&self) -> Result<(), CutShort>
+        ensures { result ≡ outcome_after self.now.fault }
     {
         match self.fault {
             None => Ok(()),
-            Some(PrintError::Output) => Err(AttendingError::Unprinted),
-            Some(PrintError::Memory) => Err(AttendingError::Memory),
+            Some(PrintError::Output) => Err(CutShort::Unprinted),
+            Some(PrintError::Memory) => Err(CutShort::Memory),
         }
     }
 }

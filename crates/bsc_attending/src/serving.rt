@@ -1,15 +1,15 @@
 //! What programs need to reach a station, and what tells that they do.
 
-ghost use Rattle.std.specs.Prelude.{◌≡◌, IfErr, IfOk, is_some, option_map};
-ghost use Rattle.bsc_attending.specs.Errors.{IsCutShort};
+ghost use Rattle.std.specs.Prelude.{◌≡◌, IfOk, is_some, option_map};
+ghost use Rattle.bsc_attending.specs.Opening.{Reaches};
 ghost use Rattle.bsc_attending.specs.Serving.{IsPlace, called_or};
 ghost use Rattle.bsc_options.specs.Serves.{serves_value};
 
-use crate::{AttendingError, Network, Reachable};
-use bsc_clients::ServedAt;
+use crate::{Network, Reachable};
+use bsc_clients::{ClientsError, ServedAt};
 use bsc_options::Serves;
 use bsc_serving::{Programs, Serving};
-use std::alloc::Global;
+use std::alloc::{AllocError, Global};
 use std::os::fd::RawFd;
 
 /// Returns the place of the sockets for the place that options or words ask for.
@@ -28,10 +28,11 @@ pub(crate) fn reachable<H: Network>(
     serves: Option<Serves<'_>>,
     trace: bool,
     machine: &mut H,
-) -> Result<Option<Reachable<H::Programs>>, AttendingError>
+) -> Result<Option<Reachable<H::Programs>>, ClientsError>
     ensures served { IfOk result (λ reachable.
         is_some reachable ≡ is_some (option_map (λ s. serves_value s) serves.entry)) }
-    ensures cut { IfErr result IsCutShort }
+    ensures reaches { Reaches H.Network.serves trace (option_map (λ s. serves_value s) serves.entry)
+        machine.old result machine.new }
 {
     match serves {
         Some(serves) => Ok(Some(machine.serve(served_at(serves), trace)?)),
@@ -57,9 +58,10 @@ pub(crate) fn called_by<P: Drop>(
 pub(crate) fn serving_of<P: Programs + Drop>(
     alloc: Global,
     reachable: Option<Reachable<P>>,
-) -> Result<Option<Serving<P>>, AttendingError>
+) -> Result<Option<Serving<P>>, AllocError>
     ensures served { IfOk result (λ serving. is_some serving ≡ is_some reachable) }
-    ensures cut { IfErr result IsCutShort }
+    ensures programs { IfOk result (λ serving.
+        option_map (λ s. s.programs) serving ≡ option_map (λ r. r.programs) reachable) }
 {
     match reachable {
         Some(Reachable { programs, .. }) => Ok(Some(Serving::new(alloc, programs)?)),

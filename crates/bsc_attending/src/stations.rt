@@ -1,12 +1,13 @@
 //! One station of a line: prepares it, makes its connections, and attends it until it ends.
 
-ghost use Rattle.std.specs.Prelude.{◌≡◌, Bool, IfErr, IfOk, IsErr, IsErrAnd, IsNone, IsSome};
+ghost use Rattle.std.specs.Prelude.{◌≡◌, Bool, IfErr, IfOk, IsErr, IsNone, IsSome};
 ghost use Rattle.std.specs.Prelude.{false, is_some, true};
 ghost use Rattle.bsc_options.specs.Words.{words_value};
 ghost use Rattle.bsc_options.specs.Settings.{place_value, settings_value};
 ghost use Rattle.bsc_attending.specs.Ending.{IsLeftBy, IsSameKind, channels_of};
-ghost use Rattle.bsc_attending.specs.Errors.{IsCutShort, IsEarly, IsLate, IsStoreError, IsUnbegun};
+ghost use Rattle.bsc_attending.specs.Errors.{IsEarly, IsLate, IsStoreError, IsUnbegun};
 ghost use Rattle.bsc_attending.specs.Forgetting.{forgets_printed_in};
+ghost use Rattle.bsc_attending.specs.Opening.{Opens, SyncsIf};
 ghost use Rattle.bsc_attending.specs.Progress.{progress_in, work_in};
 ghost use Rattle.bsc_attending.specs.Outcomes.{Finishes, IsAnswer, IsReported};
 ghost use Rattle.bsc_attending.specs.Runs.{BeginsIf, HasBegun, IsKeptRun, IsNotBegun};
@@ -17,15 +18,15 @@ ghost use Rattle.bsc_trust.specs.Trust.{new_trust};
 
 use crate::attending::{Ending, Left, Watching, attend_control, attend_terminal};
 use crate::concluding::{conclude, report};
-use crate::connections::connections_at;
+use crate::cut_short::CutShort;
 use crate::keeping::{begin, print_rest, printed_before, with_fault};
 use crate::live::Live;
 use crate::preparing::{Prepared, Ready, prepare};
 use crate::printer::Printer;
 use crate::running::Running;
-use crate::serving::{called_by, reachable, serving_of};
+use crate::serving::{called_by, reachable};
 use crate::wanted::{listens, traces, wanted_by_control, wanted_by_terminal};
-use crate::{AttendingError, Network, Opened, Readiness, Stores, Wanted};
+use crate::{AttendingError, Network, Readiness, Stores, Wanted};
 use bsc_connections::{Framing, Gaps, SocketRecords};
 use bsc_control::Control;
 use bsc_keeping::{Keeper, Keeps, Own, Printed, Stored};
@@ -36,7 +37,7 @@ use bsc_station::{LineTerminal, Party};
 use bsc_text::progress::Work;
 use bsc_text::{Files, Form};
 use bsc_trust::Trust;
-use std::alloc::Global;
+use std::alloc::{AllocError, Global};
 use std::io::{Read, Write};
 use std::os::fd::RawFd;
 
@@ -114,7 +115,8 @@ fn begin_station<R: Read, H: Files + Stores>(
 ) -> Result<Begun<H::Store>, AttendingError>
     ensures begun { IfOk result (λ begun. HasBegun H.Store.Store (words_value words.now)
         options.now.settings.role (forgets_printed_in (settings_value options.now.settings))
-        (is_some (store_path (words_value words.now))) (R.remaining input.old) begun.prepared begun.keeper) }
+        (is_some (store_path (words_value words.now))) (R.remaining input.old) begun.prepared
+        begun.keeper) }
     ensures refused { IfErr result (IsNotBegun (words_value words.now) options.now.settings.role
         options.now.admission.peers.terminals (R.remaining input.old)) }
     ensures unbegun { IfErr result IsUnbegun }
@@ -140,8 +142,8 @@ fn keeper_for<H: Stores>(
     requires { SuitsOwn own prepared.old }
     ensures kind { IsSameKind prepared.old prepared.new }
     ensures error { IfErr result IsStoreError }
-    ensures begins { IfOk result (BeginsIf H.Store.Store forgets (is_some (store_path (words_value words.now))) own
-        prepared.old prepared.new) }
+    ensures begins { IfOk result (BeginsIf H.Store.Store forgets
+        (is_some (store_path (words_value words.now))) own prepared.old prepared.new) }
 {
     match (words.text("store"), own) {
         (Some(path), Some(own)) => {
@@ -158,23 +160,22 @@ fn finish<W: Write>(
     alloc: Global,
     reported: Option<Form>,
     prepared: &Prepared,
-    attended: Result<Left, AttendingError>,
+    attended: Result<Left, CutShort>,
     out: &mut W,
 ) -> Result<(), AttendingError>
-    requires cut { IfErr attended IsCutShort }
     ensures late { IfErr result IsLate }
     ensures finishes { Finishes reported prepared.now attended result
         (W.contents out.old) (W.contents out.new) }
 {
     match attended {
         Ok(left) => conclude(alloc, reported, prepared, left, out),
-        Err(AttendingError::Unprinted) => {
+        Err(CutShort::Unprinted) => {
             // The output has failed before; if it does not accept the report either, nothing is
             // lost by it.
             let _ = report(alloc, reported, prepared, out);
             Err(AttendingError::Unprinted)
         }
-        Err(error) => Err(error),
+        Err(cut) => Err(AttendingError::from(cut)),
     }
 }
 
@@ -200,8 +201,11 @@ fn open<F: Selected + Drop, H: Network>(
     prepared: &Prepared,
     told: Option<RawFd>,
     machine: &mut H,
-) -> Result<Live<H::Reader, H::Writer, F, H::Waiter, H::Programs>, AttendingError>
-    ensures cut { IfErr result IsCutShort }
+) -> Result<Live<H::Reader, H::Writer, F, H::Waiter, H::Programs>, CutShort>
+    ensures opens { Opens H.Network.serves H.Network.connects H.Network.syncs
+        (settings_value options.now.settings)
+        (wants (settings_value options.now.settings) options.now.admission.allowed prepared.now)
+        told machine.old result machine.new }
     ensures fed { IfOk result (λ live.
         is_some live.programs ≡ is_some (settings_value options.now.settings).serves) }
 {
@@ -211,22 +215,19 @@ fn open<F: Selected + Drop, H: Network>(
         serves: called_by(&reachable, told),
         ..wanted_by(options, prepared)
     };
-    let Opened {
-        waiter,
-        connections,
-        places,
-    } = machine.open(&wanted)?;
-    let programs = serving_of(alloc, reachable)?;
-    let connections = connections_at(alloc, connections, places)?;
-    if settings.sync {
+    let opened = machine.open(&wanted)?;
+    let live = Live::over(alloc, opened, reachable, forgets_printed(settings))?;
+    sync_if(settings.sync, machine);
+    Ok(live)
+}
+
+/// From now on each flush of standard output also syncs it, if `is_asked` says so.
+fn sync_if<H: Network>(is_asked: bool, machine: &mut H)
+    ensures { SyncsIf H.Network.syncs is_asked machine.old machine.new }
+{
+    if is_asked {
         machine.sync_output();
     }
-    Ok(Live {
-        connections,
-        waiter,
-        programs,
-        forgets_printed: forgets_printed(settings),
-    })
 }
 
 /// Makes the connections of a station, with the framing that its options select, and attends it
@@ -242,9 +243,8 @@ fn attend_over<
     told: Option<RawFd>,
     kept: &mut Q,
     machine: &mut H,
-) -> Result<Left, AttendingError>
+) -> Result<Left, CutShort>
     requires { F.is_raw ≡ options.now.settings.raw }
-    ensures cut { IfErr result IsCutShort }
     ensures left { IfOk result (λ left. IsLeftBy prepared.old left × IsLeftBy prepared.new left) }
     ensures ran { ⟦<Prepared as Running>⟧.ran_live _ ⟦<Q as Keeps<Control<Global>>>⟧
         ⟦<Q as Keeps<LineTerminal<Global>>>⟧
@@ -284,12 +284,11 @@ fn run_printed<H: Network, W: Write>(
     prepared: &mut Prepared,
     machine: &mut H,
     out: &mut W,
-) -> Result<Left, AttendingError>
-    ensures cut { IfErr result IsCutShort }
+) -> Result<Left, CutShort>
     ensures left { IfOk result (λ left. IsLeftBy prepared.old left × IsLeftBy prepared.new left) }
     ensures printed { ⟦<Prepared as Running>⟧.runs_printed _ W.contents
         (is_some (settings_value options.now.settings).serves) prepared.old
-        (IsErrAnd result IsCutShort) prepared.new }
+        (IsErr result) prepared.new }
 {
     let lines = options.settings.printing.records;
     let mut printed = printed_for(alloc, prepared, lines, out)?;
@@ -311,12 +310,11 @@ fn run_kept<H: Network, K: Store + Drop, W: Write>(
     keeper: Keeper<K>,
     machine: &mut H,
     out: &mut W,
-) -> Result<Left, AttendingError>
-    ensures cut { IfErr result IsCutShort }
+) -> Result<Left, CutShort>
     ensures left { IfOk result (λ left. IsLeftBy prepared.old left × IsLeftBy prepared.new left) }
     ensures kept { ⟦<Prepared as Running>⟧.runs_kept _ K.Store
         (is_some (settings_value options.now.settings).serves) prepared.old keeper
-        (IsErrAnd result IsCutShort) prepared.new }
+        (IsErr result) prepared.new }
 {
     let counts = printed_before(alloc, &keeper, channels_of(prepared))?;
     let lines = options.settings.printing.records;
@@ -335,22 +333,20 @@ fn run_kept<H: Network, K: Store + Drop, W: Write>(
             print_rest(prepared, &mut stored)?;
             Ok(left)
         }
-        Err(error) => Err(with_fault(&stored.keeper, error)),
+        Err(cut) => Err(with_fault(&stored.keeper, cut)),
     }
 }
 
-/// Returns what prints the records of a station without a store. Fails with `Memory`.
+/// Returns what prints the records of a station without a store. Fails if an allocation does.
 fn printed_for<'a, W: Write>(
     alloc: Global,
     prepared: &Prepared,
     lines: RecordLines,
     out: &'a mut W,
-) -> Result<Printed<'a, W>, AttendingError>
-    ensures { IfErr result (λ error. error ≡ AttendingError.Memory) }
-{
+) -> Result<Printed<'a, W>, AllocError> {
     match prepared {
-        Prepared::Control { control } => Ok(Printed::new(alloc, control, lines, out)?),
-        Prepared::Terminal { terminal } => Ok(Printed::new(alloc, terminal, lines, out)?),
+        Prepared::Control { control } => Printed::new(alloc, control, lines, out),
+        Prepared::Terminal { terminal } => Printed::new(alloc, terminal, lines, out),
     }
 }
 

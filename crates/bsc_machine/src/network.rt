@@ -117,6 +117,12 @@ impl<'a, R: AllocGlobal + Clock + Eprint + Filing<File = File> + Net> Network fo
 
     ghost traces = { λ is_traced errors. errors.may_fail ≡ is_traced };
 
+    ghost connects = { λ _ _ _ _. Unit {0} };
+
+    ghost serves = { λ _ _ _ _ _. Unit {0} };
+
+    ghost syncs = { λ _ _. Unit {0} };
+
     fn open(
         &mut self,
         wanted: &Wanted<'_>,

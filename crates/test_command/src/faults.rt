@@ -4,9 +4,8 @@ use bsc_attending::AttendingError;
 use bsc_carrier::loopback::LoopbackError;
 use bsc_chart::{ChartError, TraceError};
 use bsc_command::{Fault, fail, status};
-use bsc_connections::LiveError;
 use bsc_run::RunningError;
-use bsc_sockets::SocketsError;
+use bsc_spool::StoreFault;
 use bsc_text::{TextError, Unreadable};
 use bsc_trace::naming::NamingError;
 use std::alloc::Global;
@@ -74,16 +73,15 @@ fn faults_of_runs_and_stations_are_told_in_a_line(rt: HostRuntime) -> Result<(),
     let faults = [
         running(RunningError::from(TextError::CannotRead { path, why })),
         running(RunningError::from(LoopbackError::Memory)),
-        attending(AttendingError::from(SocketsError::Memory)),
-        attending(AttendingError::from(LiveError::Memory)),
+        attending(AttendingError::Memory),
     ];
     let lines = "bscline: cannot read line.toml: not in a directory
 bscline: out of memory
 bscline: out of memory
-bscline: out of memory
 ";
     assert!(rt; are_told(rt.alloc(), &faults, 1, lines));
-    let unkept = [attending(AttendingError::from(LiveError::Unkept))];
+    let error = StoreFault::Unreachable;
+    let unkept = [attending(AttendingError::Unkept { error })];
     let line = "bscline: what happened could not be kept: the store cannot be read or written\n";
     assert!(rt; are_told(rt.alloc(), &unkept, 7, line));
     Ok(())

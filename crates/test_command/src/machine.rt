@@ -340,6 +340,12 @@ impl<'a> Network for Machine<'a> {
 
     ghost traces = { λ _ _. Unit {0} };
 
+    ghost connects = { λ _ _ _ _. Unit {0} };
+
+    ghost serves = { λ _ _ _ _ _. Unit {0} };
+
+    ghost syncs = { λ _ _. Unit {0} };
+
     fn open(
         &mut self,
         wanted: &Wanted<'_>,

@@ -1,5 +1,5 @@
 -- Shows that what a station answers and prints comes after its options were read and it was prepared.
-use Rattle.std.proofs.Common.{rules, ◌≡◌, ap, Bool, true, false, Ok, Err, IfErr, IsErrAnd, inl, inr}
+use Rattle.std.proofs.Common.{rules, ◌≡◌, ap, Bool, true, false, Ok, Err, IsErr, IsErrAnd, inl, inr}
 use Rattle.std.proofs.Common.{is_some, subst, sym, ◌∙◌, Option, Some, None, IsNone, refl}
 use Rattle.std.specs.Prelude.{IsSomeAnd}
 use Rattle.bsc_options.specs.Admission.{IsAdmission}
@@ -80,12 +80,11 @@ returns-clause-answers g c =
       | in-Some w ↦
           run_is contents form filled ended w.run_kept-attended.new.prepared c.match-keeper.attended
           w.run_kept-attended.result result c.match-keeper.out new w.prepared-is w.attended-is
-          w.run_kept-attended.ensures.cut w.run_kept-attended.ensures.left c.finish.ensures.finishes
+          w.run_kept-attended.ensures.left c.finish.ensures.finishes
       | in-None w ↦
           run_is contents form filled ended w.run_printed-attended.new.prepared
           c.match-keeper.attended w.run_printed-attended.result result c.match-keeper.out new
-          w.prepared-is w.attended-is w.run_printed-attended.ensures.cut
-          w.run_printed-attended.ensures.left c.finish.ensures.finishes
+          w.prepared-is w.attended-is w.run_printed-attended.ensures.left c.finish.ensures.finishes
     ] in
     let run = ran_filled contents form b.begun filled ended result new b.kind ran in
     let admission = c.in_ok-admission.admission in
@@ -117,12 +116,11 @@ returns-clause-reported g c =
       | in-Some w ↦
           run_is contents form filled ended w.run_kept-attended.new.prepared c.match-keeper.attended
           w.run_kept-attended.result result c.match-keeper.out new w.prepared-is w.attended-is
-          w.run_kept-attended.ensures.cut w.run_kept-attended.ensures.left c.finish.ensures.finishes
+          w.run_kept-attended.ensures.left c.finish.ensures.finishes
       | in-None w ↦
           run_is contents form filled ended w.run_printed-attended.new.prepared
           c.match-keeper.attended w.run_printed-attended.result result c.match-keeper.out new
-          w.prepared-is w.attended-is w.run_printed-attended.ensures.cut
-          w.run_printed-attended.ensures.left c.finish.ensures.finishes
+          w.prepared-is w.attended-is w.run_printed-attended.ensures.left c.finish.ensures.finishes
     ] in
     let run = ran_filled contents form b.begun filled ended result new b.kind ran in
     reported_by w input settings read contents new result
@@ -145,12 +143,11 @@ returns-clause-kept g c stored =
       | in-Some w ↦
           run_is contents form filled ended w.run_kept-attended.new.prepared c.match-keeper.attended
           w.run_kept-attended.result result c.match-keeper.out new w.prepared-is w.attended-is
-          w.run_kept-attended.ensures.cut w.run_kept-attended.ensures.left c.finish.ensures.finishes
+          w.run_kept-attended.ensures.left c.finish.ensures.finishes
       | in-None w ↦
           run_is contents form filled ended w.run_printed-attended.new.prepared
           c.match-keeper.attended w.run_printed-attended.result result c.match-keeper.out new
-          w.prepared-is w.attended-is w.run_printed-attended.ensures.cut
-          w.run_printed-attended.ensures.left c.finish.ensures.finishes
+          w.prepared-is w.attended-is w.run_printed-attended.ensures.left c.finish.ensures.finishes
     ] in
     elim c.match-keeper.branch [
       | in-Some w ↦
@@ -165,11 +162,11 @@ returns-clause-kept g c stored =
             begins = some_of _ c.in_ok-begun.begun.keeper w.in-Some.keeper w.in-Some.is (b.kept stored);
             ended = ended;
             ran =
-                kept_ended _ _ w.in-Some.keeper (IsErrAnd w.run_kept-attended.result IsCutShort)
+                kept_ended _ _ w.in-Some.keeper (IsErr w.run_kept-attended.result)
                 (IsErrAnd result IsCutShort)
-                (λ cut. cut_is form ended c.match-keeper.attended result
+                (λ so. cut_is form ended c.match-keeper.attended result
                 (contents c.match-keeper.out) (contents new) c.finish.ensures.finishes
-                (subst (λ r. IsErrAnd r IsCutShort) (sym w.attended-is) cut))
+                (subst (λ r. IsErr r) (sym w.attended-is) so))
                 filled w.run_kept-attended.new.prepared ended w.prepared-is
                 w.run_kept-attended.ensures.kept;
             ends = ran;
@@ -194,12 +191,11 @@ returns-clause-printed g c unstored =
       | in-Some w ↦
           run_is contents form filled ended w.run_kept-attended.new.prepared c.match-keeper.attended
           w.run_kept-attended.result result c.match-keeper.out new w.prepared-is w.attended-is
-          w.run_kept-attended.ensures.cut w.run_kept-attended.ensures.left c.finish.ensures.finishes
+          w.run_kept-attended.ensures.left c.finish.ensures.finishes
       | in-None w ↦
           run_is contents form filled ended w.run_printed-attended.new.prepared
           c.match-keeper.attended w.run_printed-attended.result result c.match-keeper.out new
-          w.prepared-is w.attended-is w.run_printed-attended.ensures.cut
-          w.run_printed-attended.ensures.left c.finish.ensures.finishes
+          w.prepared-is w.attended-is w.run_printed-attended.ensures.left c.finish.ensures.finishes
     ] in
     let run = ran_filled contents form b.begun filled ended result new b.kind ran in
     let (same, none) = b.unkept unstored in
@@ -216,11 +212,11 @@ returns-clause-printed g c unstored =
             prepared = b.prepared;
             ended = ended;
             ran =
-                printed_ended _ _ (IsErrAnd w.run_printed-attended.result IsCutShort)
+                printed_ended _ _ (IsErr w.run_printed-attended.result)
                 (IsErrAnd result IsCutShort)
-                (λ cut. cut_is form ended c.match-keeper.attended result
+                (λ so. cut_is form ended c.match-keeper.attended result
                 (contents c.match-keeper.out) (contents new) c.finish.ensures.finishes
-                (subst (λ r. IsErrAnd r IsCutShort) (sym w.attended-is) cut))
+                (subst (λ r. IsErr r) (sym w.attended-is) so))
                 filled b.begun w.run_printed-attended.new.prepared ended same w.prepared-is
                 w.run_printed-attended.ensures.printed;
             ends = run;
