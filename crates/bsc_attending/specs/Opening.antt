@@ -42,8 +42,8 @@ module _ {N P : Type 0}
   Reaches (Some asked) old result new = IsServed asked old result new
 
 -- A station runs with the connections and the waiter that a machine has made, and vacant places
--- after the connections, with the programs that can reach it, and forgets what it has printed if the
--- flag says so.
+-- after the connections, with the programs that can reach it, and forgets what it has printed if
+-- the flag says so.
 pub record IsLiveOver {R W F T P Z : Type 0} (opened : Opened R W T)
     (reachable : Option (Reachable P)) (forgets : Bool) (live : Live R W F T P Z) : Type 0 where
   pub waiter : live.waiter ≡ opened.waiter
@@ -67,8 +67,8 @@ module _ {N R W F T P Z : Type 0}
     (connects : N → WantedValue → Result (Opened R W T) SocketsError → N → Type 0)
     (syncs : N → N → Type 0) (settings : SettingsValue) (wanted : WantedValue) (told : Option ℤ)
   where
-    -- The connections are made, and the station runs with them, or memory runs out; or they could not
-    -- be made, as the error says.
+    -- The connections are made, and the station runs with them, or memory runs out; or they could
+    -- not be made, as the error says.
     abbrev pub RunsOver : Option (Reachable P) → Result (Opened R W T) SocketsError → N
         → Result (Live R W F T P Z) CutShort → N → Type 0
     RunsOver reachable (Ok opened) after result new =
@@ -78,8 +78,8 @@ module _ {N R W F T P Z : Type 0}
     RunsOver reachable (Err error) after result new =
         (result ≡ Err (sockets_cut error)) × (new ≡ after)
 
-    -- The machine is asked for the connections, and once for all; the descriptor that ends a wait is
-    -- that of the programs.
+    -- The machine is asked for the connections, once for all; the descriptor that ends a wait is
+    -- that of the programs, if any can reach the station.
     pub record ConnectsFor (reachable : Option (Reachable P)) (mid : N)
         (result : Result (Live R W F T P Z) CutShort) (new : N) : Type 0 where
       pub answer : Result (Opened R W T) SocketsError
@@ -95,8 +95,10 @@ module _ {N R W F T P Z : Type 0}
     ConnectsIf (Err error) mid result new = (result ≡ Err (clients_cut error)) × (new ≡ mid)
 
     -- Programs can reach the station before it has connections, if it serves them.
-    pub record Opens (old : N) (result : Result (Live R W F T P Z) CutShort) (new : N) : Type 0 where
+    pub record Opens (old : N) (result : Result (Live R W F T P Z) CutShort) (new : N)
+        : Type 0 where
       pub answer : Result (Option (Reachable P)) ClientsError
       pub mid : N
-      pub reaches : Reaches serves (is_traced settings.printing.trace) settings.serves old answer mid
+      pub reaches : Reaches serves (is_traced settings.printing.trace) settings.serves old answer
+          mid
       pub connected : ConnectsIf answer mid result new

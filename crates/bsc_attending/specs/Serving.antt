@@ -12,7 +12,8 @@ IsPlace (at_path path) (served.Path text) = text.now ≡ path
 IsPlace asked place = ⊥
 
 -- The descriptor that ends a wait of a station, beside those of its connections: that of its
--- programs, if there is one, or else this one.
+-- programs, if there is one, or else this one, which is that of standard output if the station has
+-- a store. With programs nothing ends a wait when standard output takes more.
 abbrev pub called_or : Option ℤ → Option ℤ → Option ℤ
 called_or (Some programs) told = Some programs
 called_or None told = told

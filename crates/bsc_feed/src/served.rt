@@ -15,7 +15,8 @@ use bsc_monitor::Presence;
 use bsc_station::Party;
 
 /// A station that is fed while it runs. Terminals are counted from 0 among those that the station
-/// knows. After a fault nothing of the station has changed that a client could see.
+/// knows. After a fault nothing of the station has changed that a program could see; after
+/// `NotKept` the station has to end.
 pub trait Served: Party {
     /// The records that were offered on each channel on which the station sends, in order.
     ghost offered: { Self → ℕ → WayValue → List (List ℕ) };
@@ -80,12 +81,12 @@ pub trait Served: Party {
         ensures { urges self.old result self.new };
 
     /// Has a control station call the terminal with this number again, or call it no more. Fails
-    /// with `NoSuchTerminal` if the station calls none.
+    /// with `NoSuchTerminal` if the station does not call a terminal with this number.
     fn set_polled(&mut self, terminal: usize, polled: bool) -> Result<(), Fault>
         ensures { polls self.old terminal polled result self.new };
 
     /// Returns what a control station knows of whether the terminal with this number is there;
-    /// `None` if the station calls none.
+    /// `None` if the station does not call a terminal with this number.
     fn presence(&self, terminal: usize) -> Option<Presence>
         ensures { result ≡ shows self.now terminal };
 

@@ -2,10 +2,10 @@
 //! before anything is sent, and a new station is made again from the store.
 //!
 //! The monitor of a station is told what happened after the station has acted, and before its
-//! answer is sent. `Keeping` wraps a monitor: it has kept what the step has changed, and tells the
-//! inner monitor after that. If it is not kept, it refuses the step, and nothing is sent. What
-//! keeps is a store (`Stored`), or, for a station without one, standard output, to which the
-//! records that arrive are printed (`Printed`).
+//! answer is sent. `Keeping` wraps a monitor: it tells the inner monitor, which reads the clock,
+//! and then has kept what the step has changed. If it is not kept, it refuses the step, and nothing
+//! is sent. What keeps is a store (`Stored`), or, for a station without one, standard output, to
+//! which the records that arrive are printed (`Printed`).
 #![tactic(auto)]
 
 mod changes;

@@ -60,7 +60,7 @@ pub fn begun_again()
 /// something is sent, and at each moment between the steps, all is kept that is to be kept. So it
 /// is also if programs feed the terminal: they offer records, release doubts, start or stop
 /// accepting selections, and ask for the line. The store is any that keeps what it is given, and it
-/// had all at the beginning. [`attend_kept`](bsc_keeping::attend_kept) is part of such a run, and
+/// had all at the beginning. [`step_kept`](bsc_keeping::step_kept) is part of such a run, and
 /// the program runs so each station whose records are kept.
 pub fn terminal_outlives_crashes<A: Allocator, K: Store + Drop>()
     ensures { (terminal : TerminalValue) → HasDistinctAddresses terminal → (is_fed : Bool)
