@@ -4,10 +4,11 @@
 ghost use Rattle.std.specs.Prelude.{◌<◌};
 ghost use Rattle.bsc_line_model.specs.Line.{IsChannel, terminal_count};
 
+use bsc_bid::Speaker;
 use bsc_block::RecordError;
 use bsc_control::Way;
 use bsc_frame::{Wire, encode};
-use bsc_line::{Line, LineError, Speaker, Transmission};
+use bsc_line::{Line, LineError, Transmission};
 use std::alloc::Global;
 use std::io;
 use std::io::Write;
@@ -60,7 +61,7 @@ impl Digest {
 fn speaker_code(speaker: Speaker) -> usize {
     match speaker {
         Speaker::Control => 1,
-        Speaker::Terminal(number) => number.wrapping_add(2),
+        Speaker::Terminal { number } => number.wrapping_add(2),
     }
 }
 

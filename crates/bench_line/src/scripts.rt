@@ -5,10 +5,10 @@ ghost use Rattle.std.specs.Prelude.{◌<◌};
 use crate::report;
 use crate::report::Digest;
 use anyhow::bail;
-use bsc_bid::{Setup, Terminal};
+use bsc_bid::{Setup, Speaker, Terminal};
 use bsc_control::{SetupError, Way};
 use bsc_frame::{Address, Wire, encode};
-use bsc_line::{Line, LineError, Speaker};
+use bsc_line::{Line, LineError};
 use std::alloc::{AllocError, Global};
 use std::io::Write;
 use std::mem;
@@ -195,7 +195,7 @@ impl Script {
         let party = if self.random.one_in(3) {
             Speaker::Control
         } else {
-            Speaker::Terminal(terminal)
+            Speaker::Terminal { number: terminal }
         };
         self.line.restart(party)
     }

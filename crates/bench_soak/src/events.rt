@@ -1,9 +1,10 @@
 //! Random events of a line, which are made without access to the line.
 
 use crate::spoiling::{Spoiling, any_spoiling, change};
+use bsc_bid::Speaker;
 use bsc_control::Way;
 use bsc_frame::Message;
-use bsc_line::{Event, Speaker, Transmission};
+use bsc_line::{Event, Transmission};
 use std::alloc::{AllocError, Global};
 use std::mem;
 use test_fixtures::Random;
@@ -190,7 +191,9 @@ impl Events {
         let party = if self.random.one_in(3) {
             Speaker::Control
         } else {
-            Speaker::Terminal(self.terminal())
+            Speaker::Terminal {
+                number: self.terminal(),
+            }
         };
         Event::Restart { party }
     }

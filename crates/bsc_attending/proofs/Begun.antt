@@ -5,7 +5,7 @@ use Rattle.std.specs.Prelude.{IsSomeAnd}
 use Rattle.bsc_keeping.specs.declared.keeper.Keeper.{Keeper}
 use Rattle.bsc_keeping.specs.declared.own.Own.{Own}
 use Rattle.bsc_options.specs.Words.{WordsValue}
-use Rattle.bsc_options.specs.declared.settings.Role.{Role}
+use Rattle.bsc_bid.specs.declared.speaker.Speaker.{Speaker}
 use Rattle.bsc_spool.specs.declared.ends.Receiving.{Receiving}
 use Rattle.bsc_spool.specs.declared.ends.Sending.{Sending}
 use Rattle.bsc_spool.specs.declared.store.Store as store_of
@@ -32,11 +32,11 @@ module _ {K : Type 0} (store : store_of.Ghosts K) (forgets : Bool) (begun now : 
       begins)
 
   -- it was prepared, and then filled if it is to be kept
-  pub has_begun : (w : WordsValue) (role : Role) (input after : Option (List ℕ)) (is_kept : Bool)
-      (own : Option Own) → IsReady w role input after begun own → (is_kept ≡ true → IsSome own)
+  pub has_begun : (w : WordsValue) (speaker : Speaker) (input after : Option (List ℕ)) (is_kept : Bool)
+      (own : Option Own) → IsReady w speaker input after begun own → (is_kept ≡ true → IsSome own)
       → IsSameKind begun now → BeginsIf store forgets is_kept own begun now keeper
-      → HasBegun store w role forgets is_kept input now keeper
-  has_begun w role input after true (Some own) ready has kind begins =
+      → HasBegun store w speaker forgets is_kept input now keeper
+  has_begun w speaker input after true (Some own) ready has kind begins =
       record {
         after = after;
         begun = begun;
@@ -46,9 +46,9 @@ module _ {K : Type 0} (store : store_of.Ghosts K) (forgets : Bool) (begun now : 
             begins;
         unkept = λ is. let clash : true ≡ false = is in absurd cc;
       }
-  has_begun w role input after true None ready has kind begins =
+  has_begun w speaker input after true None ready has kind begins =
       let clash : false ≡ true = has refl in absurd cc
-  has_begun w role input after false own ready has kind begins =
+  has_begun w speaker input after false own ready has kind begins =
       record {
         after = after;
         begun = begun;

@@ -1,34 +1,39 @@
 -- A run of a station goes on.
 use Rattle.std.proofs.Common.{◌≡◌, ℕ, zero, suc, Bool, true, false, List, Option, None, Some, sym}
 use Rattle.std.proofs.Common.{subst, Result, Ok, Err, refl}
+use Rattle.bsc_bid.specs.declared.station.Station as station_of
 use Rattle.bsc_connections.specs.declared.awaited.LiveError.{LiveError}
+use Rattle.bsc_keeping.specs.FedRuns.{RunsFed}
+use Rattle.bsc_keeping.specs.declared.keeps.Keeps as keeps_of
+use Rattle.bsc_station.specs.declared.line_station.LineStation as line_of
 use Rattle.bsc_keeping.specs.LiveRuns.{Course, State, begins, course_of, forgot_arrived, forgot_sent}
 use Rattle.bsc_keeping.specs.LiveRuns.{goes, is_fine, kept_again, not_offered, offered, polled}
 use Rattle.bsc_keeping.specs.LiveRuns.{printed, released, set, stepped, stopped, told_to_end}
 use Rattle.bsc_monitor.specs.Polls.{Settles}
 use Rattle.bsc_attending.specs.Forgetting.{ForgetsEach, ForgetsIf, ForgetsIfSo, ForgetsUnneeded}
-use Rattle.bsc_attending.specs.Live.{LiveParts, RunsLive, SettlesAndSteps, state}
+use Rattle.bsc_attending.specs.Live.{SettlesAndSteps, state}
 
 -- a step that does not fail is fine
 pub fine_step : (goes_on : Bool) → is_fine (course_of (Ok goes_on)) ≡ true
 fine_step true = refl
 fine_step false = refl
 
-module _ {S Q : Type 0} (parts : LiveParts S Q) (is_fed : Bool) where
+module _ {S Q Z : Type 0} (known : station_of.Ghosts S) (line : line_of.Ghosts S Z)
+    (keeping : keeps_of.Ghosts Q S) (is_fed : Bool) where
   abbrev Goes : Course → State S Q → State S Q → Type 0
-  Goes = RunsLive parts is_fed
+  Goes = RunsFed known line keeping is_fed
 
   module _ (course : Course) (fine : is_fine course ≡ true) (first : State S Q) (kept : Q) where
     abbrev Reached : S → Type 0
     Reached station = Goes course first (state station kept)
 
     on_if : (count : Option ℕ) (number : ℕ) (old new : S) → Reached old
-        → ForgetsIf parts.forgets_arrived count number old new → Reached new
+        → ForgetsIf line.forgets_arrived count number old new → Reached new
     on_if None number old new so_far same = subst Reached (sym same) so_far
     on_if (Some count) number old new so_far forgets = forgot_arrived fine so_far forgets
 
     on_each : (counts : ℕ → Option ℕ) (channels : ℕ) (old new : S) → Reached old
-        → ForgetsEach parts.forgets_arrived counts channels old new → Reached new
+        → ForgetsEach line.forgets_arrived counts channels old new → Reached new
     on_each counts zero old new so_far same = subst Reached (sym same) so_far
     on_each counts (suc channels) old new so_far (mid, before, last) =
         on_if (counts channels) channels mid new (on_each counts channels old mid so_far before) last
@@ -36,7 +41,7 @@ module _ {S Q : Type 0} (parts : LiveParts S Q) (is_fed : Bool) where
     -- it has forgotten what it does not need any more
     once_forgotten : (receives : S → ℕ) (counts : ℕ → Option ℕ) (is_asked : Bool) (old new : S)
         → Reached old
-        → ForgetsUnneeded parts.forgets_sent parts.forgets_arrived receives counts is_asked old new
+        → ForgetsUnneeded line.forgets_sent line.forgets_arrived receives counts is_asked old new
         → Reached new
     once_forgotten receives counts false old new so_far forgets = forgot_sent fine so_far forgets
     once_forgotten receives counts true old new so_far (mid, sent, each) =
@@ -45,7 +50,7 @@ module _ {S Q : Type 0} (parts : LiveParts S Q) (is_fed : Bool) where
     -- it has forgotten in this step, or not
     pub once_at_times : (receives : S → ℕ) (counts : ℕ → Option ℕ) (in_this is_asked : Bool)
         (old new : S) → Reached old
-        → ForgetsIfSo parts.forgets_sent parts.forgets_arrived receives counts in_this is_asked old
+        → ForgetsIfSo line.forgets_sent line.forgets_arrived receives counts in_this is_asked old
         new
         → Reached new
     once_at_times receives counts true is_asked old new so_far forgets =
@@ -55,7 +60,7 @@ module _ {S Q : Type 0} (parts : LiveParts S Q) (is_fed : Bool) where
 
     -- the terminals are polled that are to be
     pub once_settled : (wanted : ℕ → Bool) (count : ℕ) (old new : S) → Reached old
-        → Settles parts.polls wanted count old new → Reached new
+        → Settles line.polls wanted count old new → Reached new
     once_settled wanted zero old new so_far same = subst Reached (sym same) so_far
     once_settled wanted (suc t) old new so_far (mid, before, last) =
         polled fine (once_settled wanted t old mid so_far before) last
@@ -85,7 +90,7 @@ module _ {S Q : Type 0} (parts : LiveParts S Q) (is_fed : Bool) where
   -- the terminals are polled that are to be, and the station takes a step
   pub once_stepped : (first : State S Q) (wanted : ℕ → Bool) (count : ℕ) (station : S) (kept : Q)
       (result : Result Bool LiveError) (new : State S Q) → Goes goes first (state station kept)
-      → SettlesAndSteps parts.station parts.keeps parts.polls wanted count (state station kept)
+      → SettlesAndSteps known keeping.keeps line.polls wanted count (state station kept)
       result new
       → Goes (course_of result) first new
   once_stepped first wanted count station kept result new so_far steps =
@@ -96,8 +101,8 @@ module _ {S Q : Type 0} (parts : LiveParts S Q) (is_fed : Bool) where
   -- after a step records are printed, and at times what is not needed is forgotten
   pub once_tidied : (first : State S Q) (goes_on : Bool) (station : S) (kept : Q) (more : Q)
       (receives : S → ℕ) (counts : ℕ → Option ℕ) (in_this is_asked : Bool) (new : S)
-      → Goes (course_of (Ok goes_on)) first (state station kept) → parts.prints kept station more
-      → ForgetsIfSo parts.forgets_sent parts.forgets_arrived receives counts in_this is_asked
+      → Goes (course_of (Ok goes_on)) first (state station kept) → keeping.prints kept station more
+      → ForgetsIfSo line.forgets_sent line.forgets_arrived receives counts in_this is_asked
       station new
       → Goes (course_of (Ok goes_on)) first (state new more)
   once_tidied first goes_on station kept more receives counts in_this is_asked new so_far prints
@@ -113,8 +118,8 @@ module _ {S Q : Type 0} (parts : LiveParts S Q) (is_fed : Bool) where
   after_told (Err error) run = stopped run
 
 -- whether programs can feed the station is the same
-pub as_fed : {S Q : Type 0} (parts : LiveParts S Q) (a b : Bool) {course : Course}
-    {first new : State S Q} → a ≡ b → RunsLive parts a course first new
-    → RunsLive parts b course first new
-as_fed parts a b {course = course} {first = first} {new = new} same run =
-    subst (λ is_fed. RunsLive parts is_fed course first new) same run
+pub as_fed : {S Q Z : Type 0} (known : station_of.Ghosts S) (line : line_of.Ghosts S Z)
+    (keeping : keeps_of.Ghosts Q S) (a b : Bool) {course : Course} {first new : State S Q} → a ≡ b
+    → RunsFed known line keeping a course first new → RunsFed known line keeping b course first new
+as_fed known line keeping a b {course = course} {first = first} {new = new} same run =
+    subst (λ is_fed. RunsFed known line keeping is_fed course first new) same run

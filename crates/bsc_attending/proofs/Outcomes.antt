@@ -7,8 +7,8 @@ use Rattle.bsc_carrier.specs.declared.error.CarrierError.{CarrierError}
 use Rattle.bsc_config.specs.Settings.{ConfigValue}
 use Rattle.bsc_station.specs.declared.standing.Standing.{Standing}
 use Rattle.bsc_options.specs.Settings.{SettingsValue, settings_in}
-use Rattle.bsc_options.specs.declared.settings.Role.{Role}
-use Rattle.bsc_options.specs.declared.settings.Role.TheVariants as role
+use Rattle.bsc_bid.specs.declared.speaker.Speaker.{Speaker}
+use Rattle.bsc_bid.specs.declared.speaker.Speaker.TheVariants as speaker
 use Rattle.bsc_text.specs.declared.form.Form.{Form}
 use Rattle.bsc_trust.specs.declared.distrust.Distrust.{Distrust}
 use Rattle.bsc_attending.specs.Ending.{HasRun, IsLeftBy, IsSameKind, result_of}
@@ -40,7 +40,7 @@ pub unended_if_cut : (e : AttendingError) → IsCutShort e → IsUnended e
 unended_if_cut e (why, is) = subst (λ error. IsUnended error) (sym is) (cut_unended why)
 
 -- any station may be cut short
-cut_result : (r : Role) (why : CutShort) → IsResultOf r (Err (cut_short_error why))
+cut_result : (r : Speaker) (why : CutShort) → IsResultOf r (Err (cut_short_error why))
 cut_result r (cut.Connections error) = tt
 cut_result r (cut.Programs error) = tt
 cut_result r cut.Output = tt
@@ -48,17 +48,17 @@ cut_result r cut.Unprinted = tt
 cut_result r (cut.Unkept error) = tt
 cut_result r cut.Memory = tt
 
-cut_fits : (r : Role) (e : AttendingError) → IsCutShort e → IsResultOf r (Err e)
+cut_fits : (r : Speaker) (e : AttendingError) → IsCutShort e → IsResultOf r (Err e)
 cut_fits r e (why, is) = subst (λ error. IsResultOf r (Err error)) (sym is) (cut_result r why)
 
 -- any station may have a store that is refused
-store_fits : (r : Role) (e : AttendingError) → IsStoreError e → IsResultOf r (Err e)
+store_fits : (r : Speaker) (e : AttendingError) → IsStoreError e → IsResultOf r (Err e)
 store_fits r (attending.Store error) p = tt
 store_fits r attending.Memory p = tt
 store_fits r error p = absurd p
 
 -- any station may end in any state of its channels
-outcome_fits : (r : Role) (doubt waiting : Bool)
+outcome_fits : (r : Speaker) (doubt waiting : Bool)
     → IsResultOf r (if doubt then Err attending.InDoubt
     else (if waiting then Err attending.Undelivered else Ok tt))
 outcome_fits r true waiting = tt
@@ -67,38 +67,38 @@ outcome_fits r false false = tt
 
 -- a control station may also not trust its line
 control_fits : (why : Option Distrust) (doubt waiting : Bool)
-    → IsResultOf role.Control (if is_some why then Err attending.NotTrusted
+    → IsResultOf speaker.Control (if is_some why then Err attending.NotTrusted
     else (if doubt then Err attending.InDoubt
     else (if waiting then Err attending.Undelivered else Ok tt)))
 control_fits (Some why) doubt waiting = tt
-control_fits None doubt waiting = outcome_fits role.Control doubt waiting
+control_fits None doubt waiting = outcome_fits speaker.Control doubt waiting
 
 -- a terminal may also have lost its connection by a fault
 terminal_fits : (n : ℕ) (closed : Option CarrierError) (doubt waiting : Bool)
-    → IsResultOf (role.Terminal n) (if doubt then Err attending.InDoubt
+    → IsResultOf (speaker.Terminal n) (if doubt then Err attending.InDoubt
     else (if waiting then Err attending.Undelivered else closed_outcome closed))
 terminal_fits n closed true waiting = tt
 terminal_fits n closed false true = tt
 terminal_fits n (Some error) false false = tt
 terminal_fits n None false false = tt
 
--- the result of what a station left is one of its role
+-- the result of what a station left is one of that station
 left_fits : (config : ConfigValue) (offers : List (List ℕ)) (input after : Option (List ℕ))
-    (r : Role) (begun : Prepared) (left : Left) (standing : Standing)
+    (r : Speaker) (begun : Prepared) (left : Left) (standing : Standing)
     → IsStationOf config r offers input after begun → IsLeftBy begun left
     → IsResultOf r (result_of left standing)
-left_fits config offers input after role.Control (prepared.Control c) (Control trust) s p q =
+left_fits config offers input after speaker.Control (prepared.Control c) (Control trust) s p q =
     control_fits trust.distrust s.doubt s.waiting
-left_fits config offers input after role.Control (prepared.Control c) (Terminal closed) s p q =
+left_fits config offers input after speaker.Control (prepared.Control c) (Terminal closed) s p q =
     absurd q
-left_fits config offers input after role.Control (prepared.Terminal l) left s p q = absurd p
-left_fits config offers input after (role.Terminal n) (prepared.Control c) left s p q = absurd p
-left_fits config offers input after (role.Terminal n) (prepared.Terminal l) (Control trust) s p q =
+left_fits config offers input after speaker.Control (prepared.Terminal l) left s p q = absurd p
+left_fits config offers input after (speaker.Terminal n) (prepared.Control c) left s p q = absurd p
+left_fits config offers input after (speaker.Terminal n) (prepared.Terminal l) (Control trust) s p q =
     absurd q
-left_fits config offers input after (role.Terminal n) (prepared.Terminal l) (Terminal closed) s p q =
+left_fits config offers input after (speaker.Terminal n) (prepared.Terminal l) (Terminal closed) s p q =
     terminal_fits n closed s.doubt s.waiting
 
-module _ (w : WordsValue) (r : Role) (input after : Option (List ℕ)) (begun : Prepared)
+module _ (w : WordsValue) (r : Speaker) (input after : Option (List ℕ)) (begun : Prepared)
     (prepared : IsPrepared w r input after begun)
     {W : Type 0} (contents : W → Option (List ℕ)) (form : Option Form) (ended : Prepared)
     (new : W) where
@@ -207,7 +207,7 @@ cut_is form ended (Err why) result old new is so =
     subst (λ r. IsErrAnd r IsCutShort) (sym is) (why, refl)
 
 -- what a station answers that could not begin
-pub answer_unbegun : (w : WordsValue) (r : Role) (peers : ℕ) (input : Option (List ℕ))
+pub answer_unbegun : (w : WordsValue) (r : Speaker) (peers : ℕ) (input : Option (List ℕ))
     (error : AttendingError) → IsNotBegun w r peers input error
     → IsAnswerFor w r peers input (Err error)
 answer_unbegun w r peers input error (inl refused) = inl refused
@@ -217,7 +217,7 @@ answer_unbegun w r peers input error (inr (begun, refused)) = inr (begun, store_
 pub reported_by : (w : WordsValue) (input : Option (List ℕ)) (settings : SettingsValue)
     (read : settings_in w ≡ Ok settings) {W : Type 0} (contents : W → Option (List ℕ)) (new : W)
     (result : Result (Unit {0}) AttendingError)
-    → IsReportedFor contents w settings.role settings.reported input result new
+    → IsReportedFor contents w settings.speaker settings.reported input result new
     → IsReported contents w input result new
 reported_by w input settings read contents new result (inl unended) = inl unended
 reported_by w input settings read contents new result (inr report) =

@@ -12,15 +12,13 @@ use Rattle.bsc_control.specs.Peer.{no_peer}
 use Rattle.bsc_text.specs.InputTexts.{IsReadError, IsTextAt}
 use Rattle.bsc_keeping.specs.Own.{receiving_of, sending_of}
 use Rattle.bsc_keeping.specs.declared.own.Own.{Own}
-use Rattle.bsc_keeping.specs.declared.own_text.Owner.{Owner}
-use Rattle.bsc_keeping.specs.declared.own_text.Owner.TheVariants as owner
 use Rattle.bsc_station.specs.LineTerminal.{LineTerminalValue}
 use Rattle.bsc_options.specs.Admission.{IsAdmission}
 use Rattle.bsc_options.specs.Settings.{SettingsValue, settings_in}
 use Rattle.bsc_options.specs.declared.error.OptionError.{OptionError}
 use Rattle.bsc_options.specs.declared.error.OptionError.TheVariants as option
-use Rattle.bsc_options.specs.declared.settings.Role.{Role}
-use Rattle.bsc_options.specs.declared.settings.Role.TheVariants as role
+use Rattle.bsc_bid.specs.declared.speaker.Speaker.{Speaker}
+use Rattle.bsc_bid.specs.declared.speaker.Speaker.TheVariants as speaker
 use Rattle.bsc_tributary.specs.Kept.{IsNewTerminal}
 use Rattle.bsc_attending.specs.Offering.{AddsAllLines, AddsNoLines, OffersAllLines, OffersNoLines}
 use Rattle.bsc_attending.specs.declared.error.AttendingError.{AttendingError}
@@ -70,18 +68,13 @@ pub record IsTerminalOf (config : ConfigValue) (number : ℕ) (offers : List (Li
   pub offered : AddsAllLines offers (input, fresh) (after, terminal)
 
 -- The station that the options select, with its records.
-abbrev pub IsStationOf : ConfigValue → Role → List (List ℕ) → Option (List ℕ) → Option (List ℕ)
+abbrev pub IsStationOf : ConfigValue → Speaker → List (List ℕ) → Option (List ℕ) → Option (List ℕ)
     → Prepared → Type 0
-IsStationOf config role.Control offers input after (prepared.Control control) =
+IsStationOf config speaker.Control offers input after (prepared.Control control) =
     IsControlOf config offers input after control
-IsStationOf config (role.Terminal number) offers input after (prepared.Terminal terminal) =
+IsStationOf config (speaker.Terminal number) offers input after (prepared.Terminal terminal) =
     IsTerminalOf config number offers input after terminal
-IsStationOf config role offers input after prepared = ⊥
-
--- The station as its store knows it.
-abbrev pub owner_of : Role → Owner
-owner_of role.Control = owner.Control
-owner_of (role.Terminal number) = owner.Terminal number
+IsStationOf config speaker offers input after prepared = ⊥
 
 -- The full length of a record is that of the terminal, if the station is one.
 abbrev pub Suits : ℕ → Prepared → Type 0
@@ -129,11 +122,11 @@ HasNoTerminal config number offers input error =
     IsTerminalRefused config number offers input error
 
 -- What an error says of the station that the options select.
-abbrev pub HasNoStation : ConfigValue → Role → ℕ → List (List ℕ) → Option (List ℕ)
+abbrev pub HasNoStation : ConfigValue → Speaker → ℕ → List (List ℕ) → Option (List ℕ)
     → AttendingError → Type 0
-HasNoStation config role.Control peers offers input error =
+HasNoStation config speaker.Control peers offers input error =
     HasNoControl config peers offers input error
-HasNoStation config (role.Terminal number) peers offers input error =
+HasNoStation config (speaker.Terminal number) peers offers input error =
     HasNoTerminal config number offers input error
 
 -- The configuration was read, and `middle` was left of standard input. Nothing of it is read unless
@@ -144,42 +137,42 @@ pub record ReadsConfig (path : List ℕ) (input middle : Option (List ℕ))
   pub unasked : path ≢ codes "-" → middle ≡ input
 
 -- The configuration of the words was read, and the station was prepared with its records.
-pub record IsPrepared (w : WordsValue) (role : Role) (input after : Option (List ℕ))
+pub record IsPrepared (w : WordsValue) (speaker : Speaker) (input after : Option (List ℕ))
     (prepared : Prepared) : Type 0 where
   pub config : ConfigValue
   pub middle : Option (List ℕ)
   pub reads : ReadsConfig (config_path w) input middle config
-  pub station : IsStationOf config role (offers_in w) middle after prepared
+  pub station : IsStationOf config speaker (offers_in w) middle after prepared
 
 -- The same, and if its records are to be kept, what is known of it has the channels of the
 -- configuration.
-pub record IsReady (w : WordsValue) (role : Role) (input after : Option (List ℕ))
+pub record IsReady (w : WordsValue) (speaker : Speaker) (input after : Option (List ℕ))
     (begun : Prepared) (own : Option Own) : Type 0 where
-  pub prepared : IsPrepared w role input after begun
+  pub prepared : IsPrepared w speaker input after begun
   pub sending : IfSome own (λ it.
-      it.sending.items ≡ sending_of prepared.config.terminals (owner_of role))
+      it.sending.items ≡ sending_of prepared.config.terminals speaker)
   pub receiving : IfSome own (λ it.
-      it.receiving.items ≡ receiving_of prepared.config.terminals (owner_of role))
+      it.receiving.items ≡ receiving_of prepared.config.terminals speaker)
 
 -- The configuration was read, and then the station was refused, with this error.
-pub record IsStationRefused (w : WordsValue) (role : Role) (peers : ℕ) (input : Option (List ℕ))
-    (error : AttendingError) : Type 0 where
+pub record IsStationRefused (w : WordsValue) (speaker : Speaker) (peers : ℕ)
+    (input : Option (List ℕ)) (error : AttendingError) : Type 0 where
   pub config : ConfigValue
   pub middle : Option (List ℕ)
   pub reads : ReadsConfig (config_path w) input middle config
-  pub refused : HasNoStation config role peers (offers_in w) middle error
+  pub refused : HasNoStation config speaker peers (offers_in w) middle error
 
 -- The configuration or the station is refused, with this error.
-abbrev pub IsUnprepared : WordsValue → Role → ℕ → Option (List ℕ) → AttendingError → Type 0
-IsUnprepared w role peers input error =
-    HasNoConfig (config_path w) input error ⊎ IsStationRefused w role peers input error
+abbrev pub IsUnprepared : WordsValue → Speaker → ℕ → Option (List ℕ) → AttendingError → Type 0
+IsUnprepared w speaker peers input error =
+    HasNoConfig (config_path w) input error ⊎ IsStationRefused w speaker peers input error
 
 -- The station that the options select was prepared with its records: what comes before its
 -- connections was done.
-pub record IsBegun (w : WordsValue) (role : Role) (input : Option (List ℕ)) : Type 0 where
+pub record IsBegun (w : WordsValue) (speaker : Speaker) (input : Option (List ℕ)) : Type 0 where
   pub after : Option (List ℕ)
   pub begun : Prepared
-  pub prepared : IsPrepared w role input after begun
+  pub prepared : IsPrepared w speaker input after begun
 
 -- The options are refused for this reason: their settings, or after them the peers.
 abbrev pub IsRefusedBy : WordsValue → OptionError → Type 0

@@ -3,13 +3,13 @@ use Rattle.std.specs.Prelude.{Bool, Option, None, Some, if◌then◌else◌}
 use Rattle.bsc_report.specs.declared.tracing.Tracing.{Tracing}
 use Rattle.bsc_report.specs.declared.tracing.Tracing.TheVariants.{Off}
 use Rattle.bsc_options.specs.Settings.{SettingsValue}
-use Rattle.bsc_options.specs.declared.settings.Role.{Role}
-use Rattle.bsc_options.specs.declared.settings.Role.TheVariants.{Control, Terminal}
+use Rattle.bsc_bid.specs.declared.speaker.Speaker.{Speaker}
+use Rattle.bsc_bid.specs.declared.speaker.Speaker.TheVariants.{Control, Terminal}
 use Rattle.bsc_text.specs.declared.progress.counts.Work.{Work}
 use Rattle.bsc_text.specs.declared.progress.counts.Work.TheVariants.{Events, Rounds}
 
 -- What is counted at a station.
-abbrev pub work_in : Role → Work
+abbrev pub work_in : Speaker → Work
 work_in Control = Rounds
 work_in (Terminal number) = Events
 
@@ -19,4 +19,4 @@ shown_if Off quiet work = if quiet then None else Some work
 shown_if _ quiet work = None
 
 abbrev pub progress_in : SettingsValue → Option Work
-progress_in s = shown_if s.printing.trace s.quiet (work_in s.role)
+progress_in s = shown_if s.printing.trace s.quiet (work_in s.speaker)

@@ -17,11 +17,11 @@ use Rattle.bsc_keeping.specs.Runs.{Moment}
 use Rattle.bsc_keeping.specs.declared.keeper.Keeper.{Keeper}
 use Rattle.bsc_keeping.specs.declared.own.Own.{Own}
 use Rattle.bsc_options.specs.Settings.{SettingsValue, settings_in}
-use Rattle.bsc_options.specs.declared.settings.Role.{Role}
+use Rattle.bsc_bid.specs.declared.speaker.Speaker.{Speaker}
 use Rattle.bsc_attending.specs.Ending.{HasRun, IsSameKind}
 use Rattle.bsc_attending.specs.Errors.{IsCutShort, IsStoreError, IsUnbegun}
 use Rattle.bsc_attending.specs.Live.{RanLive}
-use Rattle.bsc_attending.specs.Preparing.{IsBegun, IsPrepared, IsUnprepared, owner_of}
+use Rattle.bsc_attending.specs.Preparing.{IsBegun, IsPrepared, IsUnprepared}
 use Rattle.bsc_attending.specs.Forgetting.{forgets_printed_in}
 use Rattle.bsc_attending.specs.declared.error.AttendingError.{AttendingError}
 use Rattle.bsc_attending.specs.declared.preparing.Prepared.{Prepared}
@@ -88,23 +88,23 @@ BeginsIf store forgets_printed false own old new keeper = (new ≡ old) × (keep
 
 -- A station was prepared as the words ask for it, and, if its records are to be kept, as the flag
 -- says, filled with what its store has.
-pub record HasBegun {K : Type 0} (store : store_of.Ghosts K) (w : WordsValue) (role : Role)
+pub record HasBegun {K : Type 0} (store : store_of.Ghosts K) (w : WordsValue) (speaker : Speaker)
     (forgets_printed is_kept : Bool) (input : Option (List ℕ)) (now : Prepared)
     (keeper : Option (Keeper K)) : Type 0 where
   pub after : Option (List ℕ)
   pub begun : Prepared
-  pub prepared : IsPrepared w role input after begun
+  pub prepared : IsPrepared w speaker input after begun
   pub kind : IsSameKind begun now
   pub kept : is_kept ≡ true → IsSomeAnd keeper
       (BeginsFrom store forgets_printed
-      (sending_of prepared.config.terminals (owner_of role))
-      (receiving_of prepared.config.terminals (owner_of role)) begun now)
+      (sending_of prepared.config.terminals speaker)
+      (receiving_of prepared.config.terminals speaker) begun now)
   pub unkept : is_kept ≡ false → (now ≡ begun) × (keeper ≡ None)
 
 -- It could not be prepared, or its store is refused, with this error.
-abbrev pub IsNotBegun : WordsValue → Role → ℕ → Option (List ℕ) → AttendingError → Type 0
-IsNotBegun w role peers input error =
-    IsUnprepared w role peers input error ⊎ (IsBegun w role input × IsStoreError error)
+abbrev pub IsNotBegun : WordsValue → Speaker → ℕ → Option (List ℕ) → AttendingError → Type 0
+IsNotBegun w speaker peers input error =
+    IsUnprepared w speaker peers input error ⊎ (IsBegun w speaker input × IsStoreError error)
 
 -- A station whose records are to be kept was prepared as the words ask for it, with the settings
 -- that they have, began with what its store has, and ran while it was kept, until it was cut short
@@ -118,12 +118,12 @@ pub record RunsStored {K W : Type 0} (store : store_of.Ghosts K)
   pub read : settings_in w ≡ Ok settings
   pub after : Option (List ℕ)
   pub begun : Prepared
-  pub prepared : IsPrepared w settings.role input after begun
+  pub prepared : IsPrepared w settings.speaker input after begun
   pub filled : Prepared
   pub keeper : Keeper K
   pub begins : BeginsFrom store (forgets_printed_in settings)
-      (sending_of prepared.config.terminals (owner_of settings.role))
-      (receiving_of prepared.config.terminals (owner_of settings.role)) begun filled keeper
+      (sending_of prepared.config.terminals settings.speaker)
+      (receiving_of prepared.config.terminals settings.speaker) begun filled keeper
   pub ended : Prepared
   pub ran : runs (is_some settings.serves) filled keeper (IsErrAnd result IsCutShort) ended
   pub ends : HasRun contents settings.reported filled ended result new
@@ -168,7 +168,7 @@ pub record RunsUnkept {W : Type 0} (runs : Bool → Prepared → Type 0 → Prep
   pub read : settings_in w ≡ Ok settings
   pub after : Option (List ℕ)
   pub begun : Prepared
-  pub prepared : IsPrepared w settings.role input after begun
+  pub prepared : IsPrepared w settings.speaker input after begun
   pub ended : Prepared
   pub ran : runs (is_some settings.serves) begun (IsErrAnd result IsCutShort) ended
   pub ends : HasRun contents settings.reported begun ended result new

@@ -2,7 +2,9 @@
 //! and its answer need.
 
 ghost use Rattle.std.specs.Prelude.{IsErr, is_some};
-ghost use Rattle.bsc_attending.specs.Live.{RanLive, RunsLive, live_parts};
+ghost use Rattle.bsc_attending.specs.Live.{RanLive};
+ghost use Rattle.bsc_keeping.specs.FedRuns.{RunsFed};
+ghost use Rattle.bsc_serving.specs.Stations.{control_line, terminal_line};
 
 use crate::live::Live;
 use bsc_bid::Station;
@@ -10,10 +12,10 @@ use bsc_carrier::CarrierError;
 use bsc_connections::{Framing, LiveError, Waiter};
 use bsc_control::Control;
 use bsc_keeping::Keeps;
-use bsc_monitor::{AbsenceLimits, ControlWatch, Ended, Limits, Polls, TerminalWatch, Watch};
+use bsc_monitor::{AbsenceLimits, ControlWatch, Ended, Limits, TerminalWatch, Watch};
 use bsc_report::Tracing;
-use bsc_serving::{Feeds, Programs};
-use bsc_station::{Forgets, LineTerminal};
+use bsc_serving::Programs;
+use bsc_station::{LineStation, LineTerminal};
 use bsc_text::progress::{Meter, Timer};
 use bsc_trust::Trust;
 use std::alloc::Global;
@@ -73,13 +75,9 @@ pub(crate) fn attend_control<
     kept: &mut Q,
     watching: Watching<'_, C, D>,
 ) -> Result<Trust, LiveError>
-    ensures ran { RanLive (RunsLive (live_parts ⟦<Control<Global> as Station>⟧ Q.keeps
-        Q.keeps_offer Q.prints
-        ⟦<Control<Global> as Forgets>⟧.forgets_sent ⟦<Control<Global> as Forgets>⟧.forgets_arrived
-        ⟦<Control<Global> as Polls>⟧.polls
-        ⟦<Control<Global> as Feeds>⟧.offers ⟦<Control<Global> as Feeds>⟧.releases
-        ⟦<Control<Global> as Feeds>⟧.readies ⟦<Control<Global> as Feeds>⟧.urges)
-        (is_some live.old.programs)) control.old control.new kept.old kept.new (IsErr result) }
+    ensures ran { RanLive (RunsFed ⟦<Control<Global> as Station>⟧ (control_line {Z = Unit {0}})
+        Q.Keeps (is_some live.old.programs)) control.old control.new kept.old kept.new
+        (IsErr result) }
 {
     let Watching {
         tracing,
@@ -121,14 +119,9 @@ pub(crate) fn attend_terminal<
     kept: &mut Q,
     watching: Watching<'_, C, D>,
 ) -> Result<Option<CarrierError>, LiveError>
-    ensures ran { RanLive (RunsLive (live_parts ⟦<LineTerminal<Global> as Station>⟧ Q.keeps
-        Q.keeps_offer Q.prints
-        ⟦<LineTerminal<Global> as Forgets>⟧.forgets_sent
-        ⟦<LineTerminal<Global> as Forgets>⟧.forgets_arrived
-        ⟦<LineTerminal<Global> as Polls>⟧.polls
-        ⟦<LineTerminal<Global> as Feeds>⟧.offers ⟦<LineTerminal<Global> as Feeds>⟧.releases
-        ⟦<LineTerminal<Global> as Feeds>⟧.readies ⟦<LineTerminal<Global> as Feeds>⟧.urges)
-        (is_some live.old.programs)) terminal.old terminal.new kept.old kept.new (IsErr result) }
+    ensures ran { RanLive (RunsFed ⟦<LineTerminal<Global> as Station>⟧
+        (terminal_line {Z = Unit {0}}) Q.Keeps (is_some live.old.programs)) terminal.old
+        terminal.new kept.old kept.new (IsErr result) }
 {
     let Watching {
         tracing,

@@ -5,14 +5,14 @@ ghost use Rattle.bsc_attending.specs.Forgetting.{ForgetsAtTimes, ForgetsEach, Fo
 ghost use Rattle.bsc_attending.specs.Forgetting.{ForgetsUnneeded};
 
 use bsc_keeping::Keeps;
-use bsc_station::Forgets;
+use bsc_station::LineStation;
 
 /// After this many steps a station forgets what it does not need any more.
 const STEPS: u64 = 1_024;
 
 /// Forgets of the channel with this number the records that arrived and were printed, if they are
 /// many.
-fn forget_printed_on<S: Forgets, Q: Keeps<S>>(station: &mut S, kept: &Q, number: usize)
+fn forget_printed_on<S: LineStation, Q: Keeps<S>>(station: &mut S, kept: &Q, number: usize)
     ensures { ForgetsIf S.forgets_arrived (Q.printed kept.now number) number station.old
         station.new }
 {
@@ -22,7 +22,7 @@ fn forget_printed_on<S: Forgets, Q: Keeps<S>>(station: &mut S, kept: &Q, number:
 }
 
 /// Forgets of each channel on which the station receives the records that arrived and were printed.
-fn forget_printed<S: Forgets, Q: Keeps<S>>(station: &mut S, kept: &Q)
+fn forget_printed<S: LineStation, Q: Keeps<S>>(station: &mut S, kept: &Q)
     ensures { ForgetsEach S.forgets_arrived (Q.printed kept.now) (S.receives station.old)
         station.old station.new }
 {
@@ -33,7 +33,7 @@ fn forget_printed<S: Forgets, Q: Keeps<S>>(station: &mut S, kept: &Q)
 
 /// Forgets what a station does not need any more: the records that are known to have arrived, and,
 /// if so asked, those that arrived and were printed.
-fn forget_unneeded<S: Forgets, Q: Keeps<S>>(station: &mut S, kept: &Q, printed: bool)
+fn forget_unneeded<S: LineStation, Q: Keeps<S>>(station: &mut S, kept: &Q, printed: bool)
     ensures { ForgetsUnneeded S.forgets_sent S.forgets_arrived S.receives (Q.printed kept.now)
         printed station.old station.new }
 {
@@ -44,7 +44,7 @@ fn forget_unneeded<S: Forgets, Q: Keeps<S>>(station: &mut S, kept: &Q, printed: 
 }
 
 /// Does so once in 1,024 steps, of which this is the number.
-pub(crate) fn forget_at_times<S: Forgets, Q: Keeps<S>>(
+pub(crate) fn forget_at_times<S: LineStation, Q: Keeps<S>>(
     station: &mut S,
     kept: &Q,
     printed: bool,

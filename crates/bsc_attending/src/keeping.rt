@@ -14,9 +14,9 @@ use crate::printer::Printer;
 use crate::running::Running;
 use crate::{AttendingError, Readiness, Stores};
 use bsc_connections::LiveError;
-use bsc_keeping::{Keeper, Own, Sends, Stored, begin_control, begin_terminal};
+use bsc_keeping::{Keeper, Own, Stored, begin_control, begin_terminal};
 use bsc_spool::{Store, StoreFault};
-use bsc_station::Party;
+use bsc_station::LineStation;
 use std::alloc::{AllocError, Global};
 use std::io::Write;
 
@@ -90,7 +90,7 @@ pub(crate) fn printed_before<K: Store + Drop>(
 
 /// Prints all records that arrived at a station and are not printed yet, and keeps how many were.
 /// It waits for standard output. `Unprinted` says that this does not accept them.
-fn print_all<S: Party + Sends, K: Store + Drop, W: Write, D: Write + Drop, R: Readiness + Drop>(
+fn print_all<S: LineStation, K: Store + Drop, W: Write, D: Write + Drop, R: Readiness + Drop>(
     station: &S,
     stored: &mut Stored<K, Printer<'_, W, D, R>>,
 ) -> Result<(), CutShort>

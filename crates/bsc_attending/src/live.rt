@@ -3,9 +3,9 @@
 ghost use Rattle.std.specs.Prelude.{◌≡◌, ◌&&◌, IfOk, OnOk, is_some, length, not, true};
 ghost use Rattle.bsc_attending.specs.Ending.{JoinsFirst};
 ghost use Rattle.bsc_attending.specs.Framings.{NamesAddress};
-ghost use Rattle.bsc_attending.specs.Live.{RunsLive, SettlesAndSteps, TellsStopped};
-ghost use Rattle.bsc_attending.specs.Live.{live_parts, state};
+ghost use Rattle.bsc_attending.specs.Live.{SettlesAndSteps, TellsStopped, state};
 ghost use Rattle.bsc_attending.specs.Opening.{IsLiveOver};
+ghost use Rattle.bsc_keeping.specs.FedRuns.{RunsFed};
 ghost use Rattle.bsc_keeping.specs.LiveRuns.{course_of, ended, unless_failed};
 
 use crate::connections::connections_at;
@@ -15,9 +15,9 @@ use crate::{Opened, Reachable};
 use bsc_bid::Station;
 use bsc_connections::{Connection, Framing, LiveError, Monitor, Note, Waiter, attend};
 use bsc_keeping::{Keeping, Keeps, step_kept};
-use bsc_monitor::{Polls, Presences, settle};
-use bsc_serving::{Feeds, Programs, Serving};
-use bsc_station::Forgets;
+use bsc_monitor::{Presences, settle};
+use bsc_serving::{Programs, Serving};
+use bsc_station::LineStation;
 use bsc_trust::Trust;
 use std::alloc::{AllocError, Global};
 use std::io::{Read, Write};
@@ -77,14 +77,14 @@ impl<
     /// answer goes out. After it the records that are kept are printed as standard output takes
     /// them, what is not needed any more is forgotten at times, and programs are served for a short
     /// while. At the end all that has changed is kept once more.
-    pub(crate) fn attend<
-        S: Station + Feeds + Forgets + Polls,
-        M: Monitor<S> + Presences,
-        Q: Keeps<S>,
-    >(&mut self, station: &mut S, watch: &mut M, kept: &mut Q) -> Result<(), LiveError>
-        ensures { RunsLive (live_parts S.Station Q.keeps Q.keeps_offer Q.prints S.forgets_sent
-            S.forgets_arrived S.polls S.offers S.releases S.readies S.urges)
-            (is_some self.old.programs) (unless_failed result ended) (state station.old kept.old)
+    pub(crate) fn attend<S: LineStation, M: Monitor<S> + Presences, Q: Keeps<S>>(
+        &mut self,
+        station: &mut S,
+        watch: &mut M,
+        kept: &mut Q,
+    ) -> Result<(), LiveError>
+        ensures { RunsFed S.Station S.LineStation.own Q.Keeps (is_some self.old.programs)
+            (unless_failed result ended) (state station.old kept.old)
             (state station.new kept.new) }
     {
         let mut is_told = false;
@@ -101,7 +101,7 @@ impl<
 
     /// Has the terminals polled that the monitor wants, and then waits for the next event and
     /// handles it. Returns false if the monitor has ended the station.
-    fn step<S: Station + Polls, M: Monitor<S> + Presences, Q: Keeps<S>>(
+    fn step<S: LineStation, M: Monitor<S> + Presences, Q: Keeps<S>>(
         &mut self,
         station: &mut S,
         watch: &mut M,
@@ -125,16 +125,15 @@ impl<
 
     /// Serves the programs that can reach the station, and tells its monitor that it was asked to
     /// end, once; `is_told` says whether it was told. Returns false if the monitor has ended it.
-    fn serve<S: Station + Feeds + Forgets + Polls, M: Monitor<S> + Presences, Q: Keeps<S>>(
+    fn serve<S: LineStation, M: Monitor<S> + Presences, Q: Keeps<S>>(
         &mut self,
         station: &mut S,
         watch: &mut M,
         kept: &mut Q,
         is_told: &mut bool,
     ) -> Result<bool, LiveError>
-        ensures ran { RunsLive (live_parts S.Station Q.keeps Q.keeps_offer Q.prints S.forgets_sent
-            S.forgets_arrived S.polls S.offers S.releases S.readies S.urges)
-            (is_some self.old.programs) (course_of result) (state station.old kept.old)
+        ensures ran { RunsFed S.Station S.LineStation.own Q.Keeps (is_some self.old.programs)
+            (course_of result) (state station.old kept.old)
             (state station.new kept.new) }
         ensures programs { is_some self.new.programs ≡ is_some self.old.programs }
         ensures forgets { self.new.forgets_printed ≡ self.old.forgets_printed }

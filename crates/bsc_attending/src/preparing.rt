@@ -8,16 +8,17 @@ ghost use Rattle.bsc_attending.specs.Errors.{IsPreparingError};
 ghost use Rattle.bsc_attending.specs.Preparing.{HasConfig, HasNoConfig, HasNoControl};
 ghost use Rattle.bsc_attending.specs.Preparing.{HasNoStation, HasNoTerminal, IsPrepared, IsReady};
 ghost use Rattle.bsc_attending.specs.Preparing.{IsStationOf, IsUnprepared, Suits, SuitsOwn};
-ghost use Rattle.bsc_attending.specs.Preparing.{offers_in, owner_of, store_path};
+ghost use Rattle.bsc_attending.specs.Preparing.{offers_in, store_path};
 ghost use Rattle.bsc_keeping.specs.Own.{receiving_of, sending_of};
 ghost use Rattle.bsc_keeping.specs.OwnText.{own_text_of};
 
 use crate::AttendingError;
 use crate::offering::{offer_all_at_terminal, offer_all_for_terminals};
+use bsc_bid::Speaker;
 use bsc_config::{Config, read_config};
 use bsc_control::Control;
-use bsc_keeping::{Own, Owner};
-use bsc_options::{GivenPeers, OptionError, Role, Words};
+use bsc_keeping::Own;
+use bsc_options::{GivenPeers, OptionError, Words};
 use bsc_station::{LineTerminal, new_control, new_terminal};
 use bsc_text::{Files, read_text};
 use std::alloc::Global;
@@ -44,25 +45,25 @@ pub(crate) struct Ready {
 pub(crate) fn prepare<R: Read, F: Files>(
     alloc: Global,
     words: &Words,
-    role: Role,
+    speaker: Speaker,
     peers: GivenPeers,
     input: &mut R,
     files: &mut F,
 ) -> Result<Ready, AttendingError>
     ensures error { IfErr result IsPreparingError }
-    ensures prepared { IfOk result (λ ready. IsPrepared (words_value words.now) role
+    ensures prepared { IfOk result (λ ready. IsPrepared (words_value words.now) speaker
         (R.remaining input.old) (R.remaining input.new) ready.prepared) }
-    ensures unprepared { IfErr result (IsUnprepared (words_value words.now) role peers.terminals
+    ensures unprepared { IfErr result (IsUnprepared (words_value words.now) speaker peers.terminals
         (R.remaining input.old)) }
     ensures suits { IfOk result (λ ready. SuitsOwn ready.own ready.prepared) }
     ensures kept { IfOk result (λ ready.
         IsSome (store_path (words_value words.now)) → IsSome ready.own) }
-    ensures ready { IfOk result (λ ready. IsReady (words_value words.now) role
+    ensures ready { IfOk result (λ ready. IsReady (words_value words.now) speaker
         (R.remaining input.old) (R.remaining input.new) ready.prepared ready.own) }
 {
     let config = config_at(alloc, words.required("CONFIG"), input, files)?;
-    let own = own_of(alloc, words, role, &config)?;
-    let prepared = station_of(alloc, words, role, peers, &config, input, files)?;
+    let own = own_of(alloc, words, speaker, &config)?;
+    let prepared = station_of(alloc, words, speaker, peers, &config, input, files)?;
     Ok(Ready { prepared, own })
 }
 
@@ -70,27 +71,23 @@ pub(crate) fn prepare<R: Read, F: Files>(
 fn own_of(
     alloc: Global,
     words: &Words,
-    role: Role,
+    speaker: Speaker,
     config: &Config,
 ) -> Result<Option<Own>, AttendingError>
     ensures text { IfOk result (λ own. IfSome own (λ o.
-        string_bytes o.text ≡ own_text_of config.now (owner_of role))) }
+        string_bytes o.text ≡ own_text_of config.now speaker)) }
     ensures full { IfOk result (λ own. IfSome own (λ o. o.full ≡ config.now.setup.format.full)) }
     ensures sending { IfOk result (λ own. IfSome own (λ o.
-        o.sending.items ≡ sending_of config.now.terminals (owner_of role))) }
+        o.sending.items ≡ sending_of config.now.terminals speaker)) }
     ensures receiving { IfOk result (λ own. IfSome own (λ o.
-        o.receiving.items ≡ receiving_of config.now.terminals (owner_of role))) }
+        o.receiving.items ≡ receiving_of config.now.terminals speaker)) }
     ensures kept { IfOk result (λ own. IsSome (store_path (words_value words.now)) → IsSome own) }
     ensures error { IfErr result (λ error. error ≡ AttendingError.Memory) }
 {
     if words.text("store").is_none() {
         return Ok(None);
     }
-    let owner = match role {
-        Role::Control => Owner::Control,
-        Role::Terminal { number } => Owner::Terminal { number },
-    };
-    match Own::of(alloc, config, owner) {
+    match Own::of(alloc, config, speaker) {
         Ok(own) => Ok(Some(own)),
         Err(_) => Err(AttendingError::Memory),
     }
@@ -100,23 +97,23 @@ fn own_of(
 fn station_of<R: Read, F: Files>(
     alloc: Global,
     words: &Words,
-    role: Role,
+    speaker: Speaker,
     peers: GivenPeers,
     config: &Config,
     input: &mut R,
     files: &mut F,
 ) -> Result<Prepared, AttendingError>
     ensures error { IfErr result IsPreparingError }
-    ensures station { IfOk result (IsStationOf config.now role
+    ensures station { IfOk result (IsStationOf config.now speaker
         (offers_in (words_value words.now)) (R.remaining input.old)
         (R.remaining input.new)) }
-    ensures refused { IfErr result (HasNoStation config.now role peers.terminals
+    ensures refused { IfErr result (HasNoStation config.now speaker peers.terminals
         (offers_in (words_value words.now)) (R.remaining input.old)) }
     ensures suits { IfOk result (Suits config.now.setup.format.full) }
 {
-    match role {
-        Role::Control => control_station(alloc, words, config, peers, input, files),
-        Role::Terminal { number } => terminal(alloc, words, config, number, input, files),
+    match speaker {
+        Speaker::Control => control_station(alloc, words, config, peers, input, files),
+        Speaker::Terminal { number } => terminal(alloc, words, config, number, input, files),
     }
 }
 
@@ -147,7 +144,7 @@ fn control_station<R: Read, F: Files>(
     files: &mut F,
 ) -> Result<Prepared, AttendingError>
     ensures error { IfErr result IsPreparingError }
-    ensures station { IfOk result (IsStationOf config.now Role.Control
+    ensures station { IfOk result (IsStationOf config.now Speaker.Control
         (offers_in (words_value words.now)) (R.remaining input.old)
         (R.remaining input.new)) }
     ensures suits { IfOk result (Suits config.now.setup.format.full) }
@@ -175,7 +172,7 @@ fn terminal<R: Read, F: Files>(
     files: &mut F,
 ) -> Result<Prepared, AttendingError>
     ensures error { IfErr result IsPreparingError }
-    ensures station { IfOk result (IsStationOf config.now (Role.Terminal number)
+    ensures station { IfOk result (IsStationOf config.now (Speaker.Terminal number)
         (offers_in (words_value words.now)) (R.remaining input.old)
         (R.remaining input.new)) }
     ensures suits { IfOk result (Suits config.now.setup.format.full) }

@@ -11,10 +11,7 @@ ghost use Rattle.bsc_station.specs.LineTerminal.{LineTerminalValue};
 use crate::preparing::Prepared;
 use bsc_bid::Station;
 use bsc_control::Control;
-use bsc_keeping::Sends;
-use bsc_monitor::Polls;
-use bsc_serving::Feeds;
-use bsc_station::{Forgets, LineTerminal, Party};
+use bsc_station::{LineStation, LineTerminal, Party};
 use std::alloc::Global;
 
 /// A station that can run.
@@ -41,61 +38,28 @@ pub(crate) trait Running {
 }
 
 impl Running for Prepared {
-    ghost use Rattle.bsc_attending.specs.Live.{PreparedRanLive, RunsLive, live_parts};
+    ghost use Rattle.bsc_attending.specs.Live.{PreparedRanLive};
     ghost use Rattle.bsc_attending.specs.Printer.{PreparedAllPrinted};
     ghost use Rattle.bsc_attending.specs.Runs.{PreparedRunsKept, PreparedRunsPrinted};
-    ghost use Rattle.bsc_keeping.specs.Printed.{KeepsPrinted, OffersUnkept, PrintsNoMore};
-    ghost use Rattle.bsc_keeping.specs.Runs.{KeptRun, if_fed};
-    ghost use Rattle.bsc_serving.specs.Turns.{for_programs};
+    ghost use Rattle.bsc_keeping.specs.FedRuns.{RunsFed, RunsKeptFed, RunsPrintedFed};
+    ghost use Rattle.bsc_serving.specs.Stations.{control_line, terminal_line};
 
     ghost ran_live = { λ Q control terminal is_fed. PreparedRanLive
-        (RunsLive (live_parts ⟦<Control<Global> as Station>⟧ control.keeps control.keeps_offer
-        control.prints
-        ⟦<Control<Global> as Forgets>⟧.forgets_sent ⟦<Control<Global> as Forgets>⟧.forgets_arrived
-        ⟦<Control<Global> as Polls>⟧.polls
-        ⟦<Control<Global> as Feeds>⟧.offers ⟦<Control<Global> as Feeds>⟧.releases
-        ⟦<Control<Global> as Feeds>⟧.readies ⟦<Control<Global> as Feeds>⟧.urges) is_fed)
-        (RunsLive (live_parts ⟦<LineTerminal<Global> as Station>⟧ terminal.keeps
-        terminal.keeps_offer terminal.prints
-        ⟦<LineTerminal<Global> as Forgets>⟧.forgets_sent
-        ⟦<LineTerminal<Global> as Forgets>⟧.forgets_arrived
-        ⟦<LineTerminal<Global> as Polls>⟧.polls
-        ⟦<LineTerminal<Global> as Feeds>⟧.offers ⟦<LineTerminal<Global> as Feeds>⟧.releases
-        ⟦<LineTerminal<Global> as Feeds>⟧.readies ⟦<LineTerminal<Global> as Feeds>⟧.urges)
+        (RunsFed ⟦<Control<Global> as Station>⟧ (control_line {Z = Unit {0}}) control is_fed)
+        (RunsFed ⟦<LineTerminal<Global> as Station>⟧ (terminal_line {Z = Unit {0}}) terminal
         is_fed) };
 
     ghost runs_kept = { λ K store is_fed. PreparedRunsKept
-        (KeptRun ⟦<Control<Global> as Station>⟧ ⟦<Control<Global> as Party>⟧
-        ⟦<Control<Global> as Sends>⟧.kept_at store
-        ⟦<Control<Global> as Forgets>⟧.forgets_sent ⟦<Control<Global> as Forgets>⟧.forgets_arrived
-        ⟦<Control<Global> as Polls>⟧.polls
-        (if_fed is_fed (for_programs ⟦<Control<Global> as Feeds>⟧.offers
-        ⟦<Control<Global> as Feeds>⟧.releases ⟦<Control<Global> as Feeds>⟧.readies
-        ⟦<Control<Global> as Feeds>⟧.urges)))
-        (KeptRun ⟦<LineTerminal<Global> as Station>⟧ ⟦<LineTerminal<Global> as Party>⟧
-        ⟦<LineTerminal<Global> as Sends>⟧.kept_at store
-        ⟦<LineTerminal<Global> as Forgets>⟧.forgets_sent
-        ⟦<LineTerminal<Global> as Forgets>⟧.forgets_arrived
-        ⟦<LineTerminal<Global> as Polls>⟧.polls
-        (if_fed is_fed (for_programs ⟦<LineTerminal<Global> as Feeds>⟧.offers
-        ⟦<LineTerminal<Global> as Feeds>⟧.releases ⟦<LineTerminal<Global> as Feeds>⟧.readies
-        ⟦<LineTerminal<Global> as Feeds>⟧.urges))) };
+        (RunsKeptFed ⟦<Control<Global> as Station>⟧ ⟦<Control<Global> as Party>⟧ control_line store
+        is_fed)
+        (RunsKeptFed ⟦<LineTerminal<Global> as Station>⟧ ⟦<LineTerminal<Global> as Party>⟧
+        terminal_line store is_fed) };
 
     ghost runs_printed = { λ W contents is_fed. PreparedRunsPrinted
-        (RunsLive (live_parts ⟦<Control<Global> as Station>⟧
-        (KeepsPrinted ⟦<Control<Global> as Party>⟧ contents) OffersUnkept PrintsNoMore
-        ⟦<Control<Global> as Forgets>⟧.forgets_sent ⟦<Control<Global> as Forgets>⟧.forgets_arrived
-        ⟦<Control<Global> as Polls>⟧.polls
-        ⟦<Control<Global> as Feeds>⟧.offers ⟦<Control<Global> as Feeds>⟧.releases
-        ⟦<Control<Global> as Feeds>⟧.readies ⟦<Control<Global> as Feeds>⟧.urges) is_fed)
-        (RunsLive (live_parts ⟦<LineTerminal<Global> as Station>⟧
-        (KeepsPrinted ⟦<LineTerminal<Global> as Party>⟧ contents) OffersUnkept PrintsNoMore
-        ⟦<LineTerminal<Global> as Forgets>⟧.forgets_sent
-        ⟦<LineTerminal<Global> as Forgets>⟧.forgets_arrived
-        ⟦<LineTerminal<Global> as Polls>⟧.polls
-        ⟦<LineTerminal<Global> as Feeds>⟧.offers ⟦<LineTerminal<Global> as Feeds>⟧.releases
-        ⟦<LineTerminal<Global> as Feeds>⟧.readies ⟦<LineTerminal<Global> as Feeds>⟧.urges)
-        is_fed) };
+        (RunsPrintedFed ⟦<Control<Global> as Station>⟧ ⟦<Control<Global> as Party>⟧ control_line
+        contents is_fed)
+        (RunsPrintedFed ⟦<LineTerminal<Global> as Station>⟧ ⟦<LineTerminal<Global> as Party>⟧
+        terminal_line contents is_fed) };
 
     ghost are_all_printed = { PreparedAllPrinted ⟦<Control<Global> as Party>⟧
         ⟦<LineTerminal<Global> as Party>⟧ };

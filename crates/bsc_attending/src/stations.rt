@@ -27,10 +27,11 @@ use crate::running::Running;
 use crate::serving::{called_by, reachable};
 use crate::wanted::{listens, traces, wanted_by_control, wanted_by_terminal};
 use crate::{AttendingError, Network, Readiness, Stores, Wanted};
+use bsc_bid::Speaker;
 use bsc_connections::{Framing, Gaps, SocketRecords};
 use bsc_control::Control;
 use bsc_keeping::{Keeper, Keeps, Own, Printed, Stored};
-use bsc_options::{Admission, Role, StationSettings, Words, read_admission, read_settings};
+use bsc_options::{Admission, StationSettings, Words, read_admission, read_settings};
 use bsc_report::{RecordLines, Tracing};
 use bsc_spool::Store;
 use bsc_station::{LineTerminal, Party};
@@ -114,15 +115,15 @@ fn begin_station<R: Read, H: Files + Stores>(
     machine: &mut H,
 ) -> Result<Begun<H::Store>, AttendingError>
     ensures begun { IfOk result (λ begun. HasBegun H.Store.Store (words_value words.now)
-        options.now.settings.role (forgets_printed_in (settings_value options.now.settings))
+        options.now.settings.speaker (forgets_printed_in (settings_value options.now.settings))
         (is_some (store_path (words_value words.now))) (R.remaining input.old) begun.prepared
         begun.keeper) }
-    ensures refused { IfErr result (IsNotBegun (words_value words.now) options.now.settings.role
+    ensures refused { IfErr result (IsNotBegun (words_value words.now) options.now.settings.speaker
         options.now.admission.peers.terminals (R.remaining input.old)) }
     ensures unbegun { IfErr result IsUnbegun }
 {
-    let (role, peers) = (options.settings.role, options.admission.peers);
-    let ready = prepare(alloc, words, role, peers, input, machine)?;
+    let (speaker, peers) = (options.settings.speaker, options.admission.peers);
+    let ready = prepare(alloc, words, speaker, peers, input, machine)?;
     let Ready { mut prepared, own } = ready;
     let forgets = forgets_printed(&options.settings);
     let keeper = keeper_for(alloc, words, own, forgets, &mut prepared, machine)?;
@@ -374,18 +375,18 @@ fn progress_of(settings: &StationSettings<'_>) -> Option<Work>
     ensures { result ≡ progress_in (settings_value settings.now) }
 {
     match settings.printing.trace {
-        Tracing::Off if !settings.quiet => Some(work_of(settings.role)),
+        Tracing::Off if !settings.quiet => Some(work_of(settings.speaker)),
         _ => None,
     }
 }
 
 /// Returns what is counted at a station.
-fn work_of(role: Role) -> Work
-    ensures { result ≡ work_in role }
+fn work_of(speaker: Speaker) -> Work
+    ensures { result ≡ work_in speaker }
 {
-    match role {
-        Role::Control => Work::Rounds,
-        Role::Terminal { .. } => Work::Events,
+    match speaker {
+        Speaker::Control => Work::Rounds,
+        Speaker::Terminal { .. } => Work::Events,
     }
 }
 

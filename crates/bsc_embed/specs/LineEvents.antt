@@ -5,7 +5,7 @@ use Rattle.bsc_bid.specs.declared.way.Way.TheVariants.{FromTerminal, ToTerminal}
 use Rattle.bsc_line_model.specs.declared.error.LineError.{LineError}
 use Rattle.bsc_line_model.specs.declared.event.Event.{Event}
 use Rattle.bsc_line_model.specs.declared.event.Event.TheVariants as event
-use Rattle.bsc_line_model.specs.declared.transmission.Speaker.TheVariants.{Control, Terminal}
+use Rattle.bsc_bid.specs.declared.speaker.Speaker.TheVariants.{Control, Terminal}
 use Rattle.bsc_line_model.specs.Line.{LineValue}
 use Rattle.bsc_line_model.specs.Runs.{Does}
 use Rattle.bsc_line_model.specs.StepLaws.{StepsAs}

@@ -7,10 +7,12 @@ use Rattle.bsc_block.specs.declared.record.RecordError.{RecordError}
 use Rattle.bsc_bid.specs.declared.way.Way.{Way}
 use Rattle.bsc_station.specs.Ends.{End, sending, receiving}
 use Rattle.bsc_monitor.specs.declared.attendance.Presence.{Presence}
+use Rattle.bsc_station.specs.Offering.{OffersBy}
 use Rattle.bsc_station.specs.declared.party.Party as party_of
 use Rattle.bsc_feed.specs.declared.fault.Fault.{Fault}
 use Rattle.bsc_feed.specs.declared.fault.Fault.TheVariants.{LineTooLong, NoSuchChannel, NotSending}
 use Rattle.bsc_feed.specs.declared.fault.Fault.TheVariants.{OutOfMemory}
+use Rattle.bsc_feed.specs.declared.served.Served as served_of
 use Rattle.bsc_feed.specs.declared.told.Told.{Told}
 use Rattle.bsc_feed.specs.declared.told.Told.TheVariants.{Kept, Done, Refused}
 use Rattle.bsc_feed.specs.Commands.{Asked, asked_in, offer, status, release, ready, urgent, poll}
@@ -78,6 +80,12 @@ serving offers full releases readies urges polls shows stops = record {
   shows = shows;
   stops = stops;
 }
+
+-- The same of a station that is served.
+abbrev pub serving_of : {S Z : Type 0} → served_of.Ghosts S Z → Serving S
+serving_of served =
+    serving (OffersBy served.offered served.is_kept served.offers) served.full served.releases
+    served.readies served.urges served.polls served.shows served.stops
 
 module _ {S : Type 0} (offers : Offering S) (full : S → ℕ) where
   -- A record of these codes is offered at the place of a channel on which the station sends: the

@@ -5,7 +5,7 @@ use Rattle.std.specs.Option.{option_and_then}
 use Rattle.std.specs.Str.{bytes_eq}
 use Rattle.bsc_text.specs.Hexadecimal.{octets_of}
 use Rattle.bsc_text.specs.Words.{after_word, first_word}
-use Rattle.bsc_feed.specs.declared.channel.Channel.{Channel}
+use Rattle.bsc_bid.specs.declared.channel.ChannelName.{ChannelName}
 use Rattle.bsc_feed.specs.declared.command.Command.{Command}
 use Rattle.bsc_feed.specs.declared.command.Command.TheVariants as asks
 use Rattle.bsc_feed.specs.declared.fault.Fault.{Fault}
@@ -21,11 +21,11 @@ use Rattle.bsc_feed.specs.Numbers.{count_of}
 -- What a client asks for.
 pub data Asked : Type 0 where
   -- a record with these codes is offered on a channel
-  offer : Channel → List ℕ → Asked
+  offer : ChannelName → List ℕ → Asked
   -- the state of each channel is told
   status : Asked
   -- the doubt of a channel is ended, of which the other end has this many records
-  release : Channel → ℕ → Asked
+  release : ChannelName → ℕ → Asked
   -- the station starts or stops accepting selections
   ready : Bool → Asked
   -- the station asks for the line
@@ -33,7 +33,7 @@ pub data Asked : Type 0 where
   -- the terminal with this number is called again, or no more
   poll : ℕ → Bool → Asked
   -- what happens on a channel is told from now on, from this number on if there is one
-  follow : Channel → Option ℕ → Asked
+  follow : ChannelName → Option ℕ → Asked
   -- the station ends
   stop : Asked
 
@@ -72,7 +72,7 @@ abbrev pub offer_in : List ℕ → Option Asked
 offer_in text = option_map (λ c. offer c.channel (unwrap_or c.rest [])) (channel_at text)
 
 -- The record of these codes is offered, if the text was hexadecimal.
-abbrev pub offer_octets : Channel → Option (List ℕ) → Result Asked Fault
+abbrev pub offer_octets : ChannelName → Option (List ℕ) → Result Asked Fault
 offer_octets channel None = Err NotHexadecimal
 offer_octets channel (Some octets) = Ok (offer channel octets)
 

@@ -4,7 +4,6 @@ pub mod Channels
 pub mod Faults
 pub mod Commands
 pub mod Places
-pub mod Offering
 pub mod News
 pub mod Following
 pub mod States

@@ -8,7 +8,7 @@ use Rattle.bsc_bid.specs.declared.way.Way.TheVariants.{FromTerminal, ToTerminal}
 use Rattle.bsc_station.specs.Ends.{End}
 use Rattle.bsc_station.specs.declared.party.Party as party_of
 use Rattle.bsc_text.specs.Channels.{channel_name}
-use Rattle.bsc_feed.specs.declared.channel.Channel.{Channel}
+use Rattle.bsc_bid.specs.declared.channel.ChannelName.{ChannelName}
 use Rattle.bsc_feed.specs.declared.limits.TheConstants.{MAX_PLACES, PLACES}
 
 -- The terminal of a place.
@@ -53,13 +53,13 @@ module _ {P M : Type 0} (party : party_of.Ghosts P M) (station : P) where
       (party.numbers station (terminal_at place)) (way_at place)
 
   -- The channel at this place is the one with this name.
-  pub record IsNamed (channel : Channel) (place : ℕ) : Type 0 where
+  pub record IsNamed (channel : ChannelName) (place : ℕ) : Type 0 where
     pub within : place < MAX_PLACES
     pub there : is_there place ≡ true
     pub terminal : party.numbers station (terminal_at place) ≡ channel.terminal
     pub way : way_at place ≡ channel.way
 
   -- The place of the channel with this name, or that there is none.
-  abbrev pub IsFound : Channel → Option ℕ → Type 0
+  abbrev pub IsFound : ChannelName → Option ℕ → Type 0
   IsFound channel (Some place) = IsNamed channel place
   IsFound channel None = (place : ℕ) → IsNamed channel place → ⊥

@@ -2,15 +2,16 @@
 
 ghost use Rattle.std.specs.Prelude.{◌≡◌, ℕ, Option, option_map, true, unwrap_or};
 ghost use Rattle.bsc_feed.specs.Answering.{Answers, Does, FollowsIf, Offers, OffersAt, Releases};
-ghost use Rattle.bsc_feed.specs.Answering.{ReleasesAt, counted, done_or, kept_or, serving};
+ghost use Rattle.bsc_feed.specs.Answering.{ReleasesAt, counted, done_or, kept_or, serving_of};
 ghost use Rattle.bsc_feed.specs.Commands.{asked_by};
-ghost use Rattle.bsc_feed.specs.Offering.{OffersBy, is_sending};
+ghost use Rattle.bsc_station.specs.Offering.{OffersBy, is_sending};
 ghost use Rattle.bsc_feed.specs.Places.{IsFound, end_at as at_place, is_there};
 
 use crate::follows::Follows;
 use crate::places::{end_at, find, terminal_at, way_at};
 use crate::told::Told;
-use crate::{Channel, Command, Fault, Served, read_command};
+use crate::{Command, Fault, Served, read_command};
+use bsc_bid::ChannelName;
 use bsc_block::Record;
 use bsc_station::{ChannelEnd, Party};
 use std::alloc::Allocator;
@@ -24,8 +25,7 @@ pub(crate) fn answer<A: Allocator + Copy, S: Served>(
     station: &mut S,
 ) -> Option<Told>
     ensures { Answers S.Party
-        (serving (OffersBy S.offered S.is_kept S.offers) S.full S.releases S.readies S.urges S.polls
-        S.shows S.stops)
+        (serving_of S.Served.own)
         (option_map (λ l. l.now) line.entry)
         follows.old station.old result follows.new station.new }
 {
@@ -45,8 +45,7 @@ fn answer_line<A: Allocator + Copy, S: Served>(
     station: &mut S,
 ) -> Option<Told>
     ensures { Answers S.Party
-        (serving (OffersBy S.offered S.is_kept S.offers) S.full S.releases S.readies S.urges S.polls
-        S.shows S.stops)
+        (serving_of S.Served.own)
         (Some line.now)
         follows.old station.old result follows.new station.new }
 {
@@ -63,8 +62,7 @@ fn obey<A: Allocator, S: Served>(
     follows: &mut Follows,
     station: &mut S,
 ) -> Option<Told>
-    ensures { Does S.Party (serving (OffersBy S.offered S.is_kept S.offers) S.full S.releases
-        S.readies S.urges S.polls S.shows S.stops)
+    ensures { Does S.Party (serving_of S.Served.own)
         (asked_by command.entry)
         follows.old station.old result follows.new station.new }
 {
@@ -97,7 +95,7 @@ fn done(outcome: Result<(), Fault>) -> Told
 }
 
 /// Offers a record of these codes on the channel with this name.
-fn offer<S: Served>(channel: Channel, codes: &[u8], station: &mut S) -> Told
+fn offer<S: Served>(channel: ChannelName, codes: &[u8], station: &mut S) -> Told
     ensures { (found : Option ℕ) × IsFound S.Party station.old channel found
         × Offers S.Party (OffersBy S.offered S.is_kept S.offers) S.full found codes.now station.old
         result station.new }
@@ -150,7 +148,7 @@ fn kept(outcome: Result<usize, Fault>) -> Told
 }
 
 /// Ends the doubt of the channel with this name, of which the other end has this many records.
-fn release<S: Served>(channel: Channel, count: u32, station: &mut S) -> Told
+fn release<S: Served>(channel: ChannelName, count: u32, station: &mut S) -> Told
     ensures { (found : Option ℕ) × IsFound S.Party station.old channel found
         × Releases S.Party S.releases found count station.old result station.new }
 {
@@ -177,7 +175,12 @@ fn release_at<S: Served>(place: usize, count: usize, station: &mut S) -> Told
 }
 
 /// Follows the channel with this name, from a number on or from now on.
-fn follow<P: Party>(channel: Channel, from: Option<u32>, follows: &mut Follows, station: &P) -> Told
+fn follow<P: Party>(
+    channel: ChannelName,
+    from: Option<u32>,
+    follows: &mut Follows,
+    station: &P,
+) -> Told
     ensures { (found : Option ℕ) × IsFound P.Party station.now channel found
         × FollowsIf P.Party found from station.now follows.old result follows.new }
 {

@@ -4,33 +4,25 @@ ghost use Rattle.std.specs.Prelude.{◌≡◌, option_map};
 ghost use Rattle.bsc_feed.specs.Channels.{channel_at, channel_in, split_value, to_in};
 ghost use Rattle.bsc_feed.specs.Channels.{select_in as select};
 
-use bsc_bid::Way;
+use bsc_bid::{ChannelName, Way};
 use bsc_text::{select_number, spells, split_at_first, split_word, terminal_number};
-
-/// A channel, by its name: a terminal, by its number on the line, and the direction. Whether the
-/// line has it is not said.
-#[derive(Clone, Copy, Debug, PartialEq, Eq)]
-pub struct Channel {
-    pub terminal: usize,
-    pub way: Way,
-}
 
 /// A channel that is named at the front of a text, and the text after the space that follows its
 /// name; `None` if there is no space.
 #[derive(Clone, Copy)]
 pub(crate) struct Split<'a> {
-    pub channel: Channel,
+    pub channel: ChannelName,
     pub rest: Option<&'a [u8]>,
 }
 
 /// Reads `T` or `T.S`, the terminal and the selection address of a channel to it.
-fn read_to(place: &[u8]) -> Option<Channel>
+fn read_to(place: &[u8]) -> Option<ChannelName>
     ensures { result ≡ to_in place.now }
 {
     let (terminal, select) = split_at_first(place, b'.');
     let terminal = terminal_number(terminal)?;
     let select = read_select(select)?;
-    Some(Channel {
+    Some(ChannelName {
         terminal,
         way: Way::ToTerminal(select),
     })
@@ -47,12 +39,12 @@ fn read_select(digit: Option<&[u8]>) -> Option<usize>
 }
 
 /// Reads the name of a channel, whose two words are given.
-fn read_channel(direction: &[u8], place: &[u8]) -> Option<Channel>
+fn read_channel(direction: &[u8], place: &[u8]) -> Option<ChannelName>
     ensures { result ≡ channel_in direction.now place.now }
 {
     if spells(direction, "from") {
         let terminal = terminal_number(place)?;
-        Some(Channel {
+        Some(ChannelName {
             terminal,
             way: Way::FromTerminal,
         })

@@ -1,8 +1,7 @@
 //! A client of a station.
 
 ghost use Rattle.std.specs.Prelude.{◌≡◌, Option, option_map};
-ghost use Rattle.bsc_feed.specs.Answering.{serving};
-ghost use Rattle.bsc_feed.specs.Offering.{OffersBy};
+ghost use Rattle.bsc_feed.specs.Answering.{serving_of};
 ghost use Rattle.bsc_feed.specs.Clients.{IsNew, Nexts, TakesOctets, TellsState};
 ghost use Rattle.bsc_feed.specs.Clients.{is_answered as answered};
 ghost use Rattle.bsc_feed.specs.Texts.{IsWritten};
@@ -85,8 +84,7 @@ impl Client {
         out: &mut W,
     ) -> Result<bool, PrintError>
         ensures { (told : Option ToldValue)
-            × Nexts S.Party (serving (OffersBy S.offered S.is_kept S.offers) S.full S.releases
-            S.readies S.urges S.polls S.shows S.stops) self.old station.old told self.new
+            × Nexts S.Party (serving_of S.Served.own) self.old station.old told self.new
             station.new
             × IsWritten S.Party S.shows station.new told result (W.contents out.old)
             (W.contents out.new) }
@@ -103,8 +101,7 @@ impl Client {
     /// Takes the next step that has something to tell, and returns it: an answer, or what happened
     /// on a channel that is followed.
     fn next<A: Allocator + Copy, S: Served>(&mut self, alloc: A, station: &mut S) -> Option<Told>
-        ensures { Nexts S.Party (serving (OffersBy S.offered S.is_kept S.offers) S.full S.releases
-            S.readies S.urges S.polls S.shows S.stops) self.old station.old result self.new
+        ensures { Nexts S.Party (serving_of S.Served.own) self.old station.old result self.new
             station.new }
     {
         if let Some(place) = self.telling {

@@ -2,8 +2,7 @@
 
 ghost use Rattle.std.specs.Prelude.{◌≡◌, ℕ, List, [], map};
 ghost use Rattle.std.specs.List.{concat};
-ghost use Rattle.bsc_feed.specs.Answering.{serving};
-ghost use Rattle.bsc_feed.specs.Offering.{OffersBy};
+ghost use Rattle.bsc_feed.specs.Answering.{serving_of};
 ghost use Rattle.bsc_feed.specs.Sessions.{ChangesByLines, ObeysEachLine, TellsEachOnce};
 ghost use Rattle.bsc_feed.specs.Lines.{AreLines, Divides, LinesValue, kept_of, line_of};
 
@@ -34,15 +33,12 @@ pub fn lines()
 pub fn sessions<S: Served>()
     // The lines that were obeyed, and the one that waits for its answer, are all lines of the
     // client that are not skipped, each once and in order; a half line is not one of them.
-    ensures lines { ObeysEachLine S.Party (serving (OffersBy S.offered S.is_kept S.offers) S.full
-        S.releases S.readies S.urges S.polls S.shows S.stops) }
+    ensures lines { ObeysEachLine S.Party (serving_of S.Served.own) }
 
     // Where no line waits, the station is as it was, whatever is told.
-    ensures quiet { ChangesByLines S.Party (serving (OffersBy S.offered S.is_kept S.offers) S.full
-        S.releases S.readies S.urges S.polls S.shows S.stops) }
+    ensures quiet { ChangesByLines S.Party (serving_of S.Served.own) }
 
     // What is told of a followed channel are its records from the number asked for, in order, each
     // once, those that had arrived and those that arrive.
-    ensures arrivals { TellsEachOnce S.Party (serving (OffersBy S.offered S.is_kept S.offers) S.full
-        S.releases S.readies S.urges S.polls S.shows S.stops) }
+    ensures arrivals { TellsEachOnce S.Party (serving_of S.Served.own) }
 {}

@@ -43,7 +43,6 @@ mod states;
 mod text;
 mod told;
 
-pub use channel::Channel;
 pub use client::Client;
 pub use client_lines::ClientLines;
 pub use command::Command;

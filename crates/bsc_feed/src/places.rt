@@ -8,10 +8,9 @@ ghost use Rattle.bsc_feed.specs.Places.{is_there, IsNamed, terminal_at as termin
 ghost use Rattle.bsc_feed.specs.Places.{place_of as place};
 ghost use Rattle.bsc_station.specs.EndValues.{end_of};
 
-use crate::Channel;
 use crate::limits::PLACES;
-use bsc_bid::Way;
 use bsc_bid::limits::{MAX_SELECTS, MAX_TERMINALS};
+use bsc_bid::{ChannelName, Way};
 use bsc_station::{ChannelEnd, Party};
 
 /// Returns the terminal of the channel at a place, counted from 0 among those of the station.
@@ -77,7 +76,7 @@ pub(crate) fn end_at<P: Party>(station: &P, place: usize) -> Option<ChannelEnd<'
 }
 
 /// Returns the place of the channel with this name, or `None` if the station has no such channel.
-pub(crate) fn find<P: Party>(station: &P, channel: Channel) -> Option<usize>
+pub(crate) fn find<P: Party>(station: &P, channel: ChannelName) -> Option<usize>
     ensures { IsFound P.Party station.now channel result }
 {
     let way = channel.way;

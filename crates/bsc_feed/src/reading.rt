@@ -11,7 +11,8 @@ ghost use Rattle.bsc_feed.specs.Channels.{channel_at};
 use crate::channel::{Split, split_channel};
 use crate::keyword::{Keyword, read_keyword};
 use crate::number::count_of;
-use crate::{Channel, Command, Fault};
+use crate::{Command, Fault};
+use bsc_bid::ChannelName;
 use bsc_text::{read_octets, spells, split_word};
 use std::alloc::Allocator;
 
@@ -112,7 +113,7 @@ fn read_offer_hex<'a, A: Allocator + Copy>(
 /// Returns the offer of the codes in hexadecimal text.
 fn read_octets_of<'a, A: Allocator + Copy>(
     alloc: A,
-    channel: Channel,
+    channel: ChannelName,
     digits: &[u8],
 ) -> Result<Command<'a, A>, Fault>
     ensures { IsRead (offer_octets channel (octets_of digits.now)) result }

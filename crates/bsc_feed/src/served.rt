@@ -4,7 +4,7 @@ ghost use Rattle.std.specs.Prelude.{◌≡◌, ◌<◌, ◌≤◌, ℕ, Bool, Li
 ghost use Rattle.bsc_block.specs.Format.{IsFormat};
 ghost use Rattle.bsc_bid.specs.declared.way.Way.{Way as WayValue};
 ghost use Rattle.bsc_feed.specs.declared.fault.Fault.{Fault as FaultValue};
-ghost use Rattle.bsc_feed.specs.Offering.{IsSending, OffersBy};
+ghost use Rattle.bsc_station.specs.Offering.{IsSending, OffersBy};
 ghost use Rattle.bsc_station.specs.Ends.{IsWay};
 ghost use Rattle.bsc_monitor.specs.declared.attendance.Presence.{Presence as PresenceValue};
 

@@ -16,7 +16,7 @@ use Rattle.bsc_spool.specs.Spool.{ForgetsRecords, SpoolValue}
 use Rattle.bsc_keeping.proofs.OffersKept.{all_of_same, same_at, same_where}
 use Rattle.bsc_keeping.specs.AllKept.{HasAll}
 use Rattle.bsc_keeping.specs.Changes.{records_of}
-use Rattle.bsc_keeping.specs.Ends.{kept_at_control}
+use Rattle.bsc_station.specs.Feeding.{kept_at_control}
 use Rattle.bsc_keeping.specs.declared.keeper.Keeper.{Keeper}
 
 -- Two lists of one length, if there is such a channel.

@@ -15,8 +15,8 @@ use Rattle.bsc_spool.specs.declared.store.Store as store_of
 use Rattle.bsc_station.specs.declared.party.Party as party_of
 use Rattle.bsc_keeping.specs.AllKept.{HasAll, HasArrived}
 use Rattle.bsc_keeping.specs.Changes.{known_now, records_of, sending_now}
-use Rattle.bsc_keeping.specs.Ends.{kept_at_control}
-use Rattle.bsc_keeping.specs.OffersKept.{control_with}
+use Rattle.bsc_station.specs.Feeding.{kept_at_control}
+use Rattle.bsc_station.specs.Feeding.{control_with}
 use Rattle.bsc_keeping.specs.declared.keeper.Keeper.{Keeper}
 
 -- An element is replaced by one that f cannot tell from it: f of each place is as it was.

@@ -1,4 +1,3 @@
-pub mod Ends
 pub mod Changes
 pub mod Keeping
 pub mod Offers
@@ -15,3 +14,4 @@ pub mod Filled
 pub mod OwnText
 pub mod Own
 pub mod ForgottenKept
+pub mod FedRuns

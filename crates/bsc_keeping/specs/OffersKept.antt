@@ -1,25 +1,11 @@
 -- What is kept has all that is to be kept of a station also once a record was offered to it.
-use Rattle.std.specs.Prelude.{ℕ, List, [], ◌∷◌, ◌++◌, Option, Ok}
+use Rattle.std.specs.Prelude.{ℕ, List, Option, Ok}
 use Rattle.bsc_bid.specs.declared.kept.KeptSender.{KeptSender}
-use Rattle.bsc_control.specs.Control.{ControlValue, peer_at, with_peer}
-use Rattle.bsc_control.specs.Peer.{offered_to}
 use Rattle.bsc_spool.specs.declared.store.Store as store_of
 use Rattle.bsc_keeping.specs.AllKept.{HasAll}
 use Rattle.bsc_keeping.specs.Offers.{KeepsOffer}
 use Rattle.bsc_keeping.specs.declared.keeper.Keeper.{Keeper}
-use Rattle.bsc_station.specs.LineTerminal.{LineTerminalValue, with_own_queue}
 use Rattle.bsc_station.specs.declared.party.Party as party_of
-
--- A terminal with one more record to send.
-abbrev pub terminal_with : LineTerminalValue → ℕ → ℕ → List ℕ → LineTerminalValue
-terminal_with l terminal select chars =
-    let queue = l.tributary.queue in
-    with_own_queue l (record queue { offered = queue.offered ++ chars ∷ [] })
-
--- A control station with one more record for this selection address of this terminal.
-abbrev pub control_with : ControlValue → ℕ → ℕ → List ℕ → ControlValue
-control_with c terminal select chars =
-    with_peer c terminal (offered_to (peer_at c terminal) select chars)
 
 -- What is known of a station with memory of type Z, what it says of the channels on which it sends,
 -- what is known of its store, how many records of each channel its inner monitor has printed, and

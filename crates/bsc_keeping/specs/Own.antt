@@ -6,8 +6,8 @@ use Rattle.bsc_spool.specs.declared.channel.Channel.{Channel}
 use Rattle.bsc_spool.specs.declared.channel.Channel.TheVariants.{From, To}
 use Rattle.bsc_spool.specs.declared.ends.Sending.{Sending}
 use Rattle.bsc_spool.specs.declared.ends.Receiving.{Receiving}
-use Rattle.bsc_keeping.specs.declared.own_text.Owner.{Owner}
-use Rattle.bsc_keeping.specs.declared.own_text.Owner.TheVariants.{Control, Terminal}
+use Rattle.bsc_bid.specs.declared.speaker.Speaker.{Speaker}
+use Rattle.bsc_bid.specs.declared.speaker.Speaker.TheVariants.{Control, Terminal}
 
 -- The end of a channel on which a station sends, and of one on which it receives.
 abbrev pub sending_end : Channel → ℕ → ℕ → Sending
@@ -62,12 +62,12 @@ receives_at (Some t) = spools_of t
 
 -- The channels on which a station sends, in order: the control station to each selection address of
 -- each terminal, a terminal on its one channel.
-abbrev pub sending_of : List TerminalValue → Owner → List Sending
+abbrev pub sending_of : List TerminalValue → Speaker → List Sending
 sending_of ts Control = each_of (selections_at ts) (length ts)
 sending_of ts (Terminal number) = sends_from (slice_get ts number)
 
 -- The channels on which it receives: the control station from each terminal, a terminal at each of
 -- its selection addresses.
-abbrev pub receiving_of : List TerminalValue → Owner → List Receiving
+abbrev pub receiving_of : List TerminalValue → Speaker → List Receiving
 receiving_of ts Control = each_of (polled_at ts) (length ts)
 receiving_of ts (Terminal number) = receives_at (slice_get ts number)

@@ -5,10 +5,10 @@ use Rattle.std.specs.Fmt.{decimal}
 use Rattle.bsc_bid.specs.Terminal.{TerminalValue}
 use Rattle.bsc_config.specs.Settings.{ConfigValue}
 use Rattle.bsc_text.specs.Names.{chars_shown}
-use Rattle.bsc_keeping.specs.declared.own_text.Owner.{Owner}
-use Rattle.bsc_keeping.specs.declared.own_text.Owner.TheVariants.{Control, Terminal}
+use Rattle.bsc_bid.specs.declared.speaker.Speaker.{Speaker}
+use Rattle.bsc_bid.specs.declared.speaker.Speaker.TheVariants.{Control, Terminal}
 
-abbrev pub owner_line : Owner → List ℕ
+abbrev pub owner_line : Speaker → List ℕ
 owner_line Control = codes "control station\n"
 owner_line (Terminal number) = codes "terminal " ++ decimal number ++ codes "\n"
 
@@ -24,6 +24,6 @@ terminal_line t =
     ++ flat_map select_shown t.selects ++ codes "\n"
 
 -- Which station it is, the full length of a record, and the addresses of all terminals.
-abbrev pub own_text_of : ConfigValue → Owner → List ℕ
+abbrev pub own_text_of : ConfigValue → Speaker → List ℕ
 own_text_of line owner =
     owner_line owner ++ full_line line.setup.format.full ++ flat_map terminal_line line.terminals

@@ -7,11 +7,11 @@ ghost use Rattle.bsc_keeping.specs.Changes.{in_doubt_of, known_changes, printed_
 ghost use Rattle.bsc_keeping.specs.Changes.{arrived_changes, sending_changes, receiving_changes};
 ghost use Rattle.bsc_keeping.specs.Changes.{changes_of, number_kept};
 
-use crate::{Prints, Sends};
+use crate::Prints;
 use bsc_bid::KeptSender;
 use bsc_block::{Record, Records};
 use bsc_spool::{Change, Channel, Receiving, Sending, StoreFault};
-use bsc_station::Party;
+use bsc_station::{LineStation, Party};
 use std::alloc::{Allocator, Global};
 
 /// Returns a number as a store keeps it. Fails with `Refused` if it is 2^32 or more.
@@ -135,7 +135,7 @@ fn add_received<P: Party, V: Prints>(
 }
 
 /// Adds what has changed of the channels on which the station sends.
-fn add_all_known<P: Sends>(
+fn add_all_known<P: LineStation>(
     station: &P,
     ends: &[Sending],
     step: &mut Vec<Change>,
@@ -167,7 +167,7 @@ fn add_all_received<P: Party, V: Prints>(
 
 /// Returns all that the station has changed since what is kept, in order. Fails with `Refused` if a
 /// number is 2^32 or more, and with `OutOfMemory`.
-pub(crate) fn changes_since<P: Party + Sends, V: Prints>(
+pub(crate) fn changes_since<P: LineStation, V: Prints>(
     alloc: Global,
     station: &P,
     printer: &V,

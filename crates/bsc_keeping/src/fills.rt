@@ -7,7 +7,7 @@ use bsc_bid::KeptSender;
 use bsc_block::Record;
 use bsc_control::Control;
 use bsc_spool::StoreFault;
-use bsc_station::{Forgets, LineTerminal, Party};
+use bsc_station::{LineStation, LineTerminal, Party};
 use std::alloc::Allocator;
 
 /// A new station that is made again: it takes the records that are kept, and recalls what is kept

@@ -6,13 +6,13 @@ ghost use Rattle.bsc_keeping.specs.Changes.{printed_of, records_of};
 ghost use Rattle.bsc_keeping.specs.Keeping.{Commits, KeepsStep, step_of};
 ghost use Rattle.bsc_keeping.specs.Offers.{KeepsOffer};
 
+use crate::Prints;
 use crate::changes::{changes_since, in_doubt};
 use crate::offering::offer_to;
-use crate::{Prints, Sends};
 use bsc_bid::KeptSender;
 use bsc_block::Record;
 use bsc_spool::{Change, Receiving, Sending, Store, StoreFault};
-use bsc_station::Party;
+use bsc_station::{LineStation, Party};
 use std::alloc::Global;
 
 /// The store of a station, and how much of each of its channels is kept there.
@@ -102,7 +102,7 @@ impl<K: Store + Drop> Keeper<K> {
     /// Keeps all that the station has changed since what is kept, at once, and how many records
     /// were printed. Commits nothing if nothing has changed. The faults are those of the store,
     /// `Refused` for a number of 2^32 or more, and `OutOfMemory`.
-    pub fn keep<P: Party + Sends, V: Prints>(
+    pub fn keep<P: LineStation, V: Prints>(
         &mut self,
         station: &P,
         printer: &V,
@@ -118,7 +118,7 @@ impl<K: Store + Drop> Keeper<K> {
     }
 
     /// Does the same, and does not record the fault.
-    fn keep_step<P: Party + Sends, V: Prints>(
+    fn keep_step<P: LineStation, V: Prints>(
         &mut self,
         station: &P,
         printer: &V,
@@ -160,7 +160,7 @@ fn know(end: &mut Sending, kept: Option<KeptSender>)
 }
 
 /// Sets what is kept of each channel on which the station sends.
-fn advance_sending<P: Sends>(station: &P, ends: &mut Vec<Sending>)
+fn advance_sending<P: LineStation>(station: &P, ends: &mut Vec<Sending>)
     ensures { ends.new.items ≡ sending_now P.kept_at station.now ends.old.items }
 {
     'ends: for end in ends.iter_mut() {

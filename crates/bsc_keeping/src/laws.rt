@@ -4,17 +4,18 @@
 ghost use Rattle.bsc_connections.specs.Parts.{session_parts};
 ghost use Rattle.bsc_keeping.specs.AllKept.{HasAllThroughout, KeepsEachChange};
 ghost use Rattle.bsc_keeping.specs.ForgottenKept.{HasAllOnceForgotten};
-ghost use Rattle.bsc_keeping.specs.OffersKept.{HasAllOnceOffered, control_with, terminal_with};
+ghost use Rattle.bsc_keeping.specs.OffersKept.{HasAllOnceOffered};
+ghost use Rattle.bsc_station.specs.Feeding.{control_with, terminal_with};
 ghost use Rattle.bsc_keeping.specs.Printed.{output_of};
 ghost use Rattle.bsc_keeping.specs.Runs.{EachStepIsKept};
 ghost use Rattle.bsc_keeping.specs.Sessions.{KeepsBeforeSending, PrintsBeforeSending};
 
-use crate::{Keeping, Printed, Prints, Sends, Stored};
+use crate::{Keeping, Printed, Prints, Stored};
 use bsc_bid::Station;
 use bsc_connections::{Framing, Monitor, Waiter};
 use bsc_control::Control;
 use bsc_spool::Store;
-use bsc_station::{Forgets, LineTerminal, Party};
+use bsc_station::{LineStation, LineTerminal, Party};
 use std::alloc::Allocator;
 use std::io::{Read, Write};
 
@@ -26,7 +27,7 @@ use std::io::{Read, Write};
 /// that is to be kept of the station, if it had it at the beginning. In each step the station stays
 /// as it is, hears a transmission or acts on a silence, and no more.
 pub fn kept_before_sent<
-    S: Station + Party + Sends,
+    S: LineStation,
     R: Read + Drop,
     W: Write + Drop,
     F: Framing + Drop,
@@ -92,9 +93,9 @@ pub fn printed_before_sent<
 /// records between two sessions, and the law of its sessions holds of the next one.
 pub fn kept_before_offered<A: Allocator, M: Prints, K: Store + Drop>()
     ensures terminal { HasAllOnceOffered ⟦<LineTerminal<A> as Party>⟧
-        ⟦<LineTerminal<A> as Sends>⟧.kept_at K.Store M.printed terminal_with }
-    ensures control { HasAllOnceOffered ⟦<Control<A> as Party>⟧ ⟦<Control<A> as Sends>⟧.kept_at
-        K.Store M.printed control_with }
+        ⟦<LineTerminal<A> as LineStation>⟧.kept_at K.Store M.printed terminal_with }
+    ensures control { HasAllOnceOffered ⟦<Control<A> as Party>⟧
+        ⟦<Control<A> as LineStation>⟧.kept_at K.Store M.printed control_with }
 {}
 
 /// If a store has all that is to be kept of a station, it still has it once the station has
@@ -102,10 +103,11 @@ pub fn kept_before_offered<A: Allocator, M: Prints, K: Store + Drop>()
 /// forget records between two sessions, too.
 pub fn kept_though_forgotten<A: Allocator, M: Prints, K: Store + Drop>()
     ensures terminal { HasAllOnceForgotten ⟦<LineTerminal<A> as Party>⟧
-        ⟦<LineTerminal<A> as Sends>⟧.kept_at K.Store M.printed
-        ⟦<LineTerminal<A> as Forgets>⟧.forgets_sent
-        ⟦<LineTerminal<A> as Forgets>⟧.forgets_arrived }
-    ensures control { HasAllOnceForgotten ⟦<Control<A> as Party>⟧ ⟦<Control<A> as Sends>⟧.kept_at
-        K.Store M.printed ⟦<Control<A> as Forgets>⟧.forgets_sent
-        ⟦<Control<A> as Forgets>⟧.forgets_arrived }
+        ⟦<LineTerminal<A> as LineStation>⟧.kept_at K.Store M.printed
+        ⟦<LineTerminal<A> as LineStation>⟧.forgets_sent
+        ⟦<LineTerminal<A> as LineStation>⟧.forgets_arrived }
+    ensures control { HasAllOnceForgotten ⟦<Control<A> as Party>⟧
+        ⟦<Control<A> as LineStation>⟧.kept_at K.Store M.printed
+        ⟦<Control<A> as LineStation>⟧.forgets_sent
+        ⟦<Control<A> as LineStation>⟧.forgets_arrived }
 {}

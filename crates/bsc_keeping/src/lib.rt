@@ -9,7 +9,6 @@
 #![tactic(auto)]
 
 mod changes;
-mod ends;
 mod filling;
 mod fills;
 mod keeper;
@@ -20,16 +19,16 @@ mod offering;
 mod own;
 mod own_text;
 mod printed;
+mod prints;
 mod stepping;
 mod stored;
 
-pub use ends::{Prints, Sends};
 pub use filling::{begin_control, begin_terminal};
 pub use keeper::Keeper;
 pub use keeping::Keeping;
 pub use keeps::Keeps;
 pub use own::Own;
-pub use own_text::Owner;
 pub use printed::Printed;
+pub use prints::Prints;
 pub use stepping::step_kept;
 pub use stored::Stored;

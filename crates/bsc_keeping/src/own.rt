@@ -6,9 +6,8 @@ ghost use Rattle.bsc_keeping.specs.Own.{selection_of, selections_at, selections_
 ghost use Rattle.bsc_keeping.specs.Own.{sending_of, sends_from, spool_of, spools_of, each_of};
 ghost use Rattle.bsc_keeping.specs.OwnText.{own_text_of};
 
-use crate::Owner;
 use crate::own_text::own_text;
-use bsc_bid::Terminal;
+use bsc_bid::{Speaker, Terminal};
 use bsc_config::Config;
 use bsc_spool::{Channel, Receiving, Sending};
 use std::alloc::{AllocError, Global};
@@ -26,7 +25,7 @@ pub struct Own {
 impl Own {
     /// Returns what is to be known of a station of this line. It has no channels if the line has no
     /// such terminal. Fails only if an allocation fails.
-    pub fn of(alloc: Global, config: &Config, owner: Owner) -> Result<Own, AllocError>
+    pub fn of(alloc: Global, config: &Config, owner: Speaker) -> Result<Own, AllocError>
         ensures text { IfOk result (λ own. string_bytes own.text ≡ own_text_of config.now owner) }
         ensures full { IfOk result (λ own. own.full ≡ config.now.setup.format.full) }
         ensures sending { IfOk result (λ own.
@@ -57,7 +56,7 @@ impl Own {
 fn channels(
     alloc: Global,
     config: &Config,
-    owner: Owner,
+    owner: Speaker,
 ) -> Result<(Vec<Sending>, Vec<Receiving>), AllocError>
     ensures sending { IfOk result (λ ends. ends.0.items ≡ sending_of config.now.terminals owner) }
     ensures receiving { IfOk result (λ ends.
@@ -65,8 +64,8 @@ fn channels(
 {
     let terminals = config.terminal_list();
     match owner {
-        Owner::Control => channels_of_control(alloc, terminals),
-        Owner::Terminal { number } => match terminals.get(number) {
+        Speaker::Control => channels_of_control(alloc, terminals),
+        Speaker::Terminal { number } => match terminals.get(number) {
             Some(terminal) => channels_of_terminal(alloc, terminal),
             None => Ok((Vec::new(alloc), Vec::new(alloc))),
         },

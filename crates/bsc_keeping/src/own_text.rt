@@ -6,30 +6,20 @@ ghost use Rattle.std.specs.List.{flat_map};
 ghost use Rattle.bsc_keeping.specs.OwnText.{owner_line, full_line, select_shown, terminal_line};
 ghost use Rattle.bsc_keeping.specs.OwnText.{own_text_of};
 
-use bsc_bid::Terminal;
+use bsc_bid::{Speaker, Terminal};
 use bsc_config::Config;
 use bsc_text::{Form, PrintError, put, write_in_form};
 use std::alloc::{AllocError, Global};
 use std::io::Write;
 
-/// The station to which a store belongs.
-#[derive(Clone, Copy, Debug, PartialEq, Eq)]
-pub enum Owner {
-    /// The control station.
-    Control,
-
-    /// The terminal with this number, counted from 0.
-    Terminal { number: usize },
-}
-
 /// Writes which station it is.
-fn write_owner<W: Write>(owner: Owner, out: &mut W) -> Result<(), PrintError>
+fn write_owner<W: Write>(owner: Speaker, out: &mut W) -> Result<(), PrintError>
     ensures { OnOk result
         (Appends (W.contents out.old) (W.contents out.new) (owner_line owner)) }
 {
     match owner {
-        Owner::Control => put(b"control station\n", out),
-        Owner::Terminal { number } => Ok(write!(out, "terminal {number}\n")?),
+        Speaker::Control => put(b"control station\n", out),
+        Speaker::Terminal { number } => Ok(write!(out, "terminal {number}\n")?),
     }
 }
 
@@ -104,7 +94,7 @@ fn write_terminals<W: Write>(
 fn write_own_text<W: Write>(
     alloc: Global,
     config: &Config,
-    owner: Owner,
+    owner: Speaker,
     out: &mut W,
 ) -> Result<(), PrintError>
     ensures { OnOk result (Appends (W.contents out.old) (W.contents out.new)
@@ -119,7 +109,7 @@ fn write_own_text<W: Write>(
 /// Returns the text by which a store belongs to a station of this line: which station it is, the
 /// full length of a record, and the addresses of all terminals, a line each. The other settings may
 /// change from run to run. Fails only if an allocation fails.
-pub(crate) fn own_text(alloc: Global, config: &Config, owner: Owner) -> Result<String, AllocError>
+pub(crate) fn own_text(alloc: Global, config: &Config, owner: Speaker) -> Result<String, AllocError>
     ensures { IfOk result (λ text. string_bytes text ≡ own_text_of config.now owner) }
 {
     let mut octets = Vec::new(alloc);

@@ -4,12 +4,12 @@ ghost use Rattle.std.specs.Prelude.{◌≡◌};
 ghost use Rattle.bsc_bid.specs.Ways.{select_of};
 ghost use Rattle.bsc_keeping.specs.Stored.{live_kept};
 
-use crate::{Keeper, Keeps, Prints, Sends};
+use crate::{Keeper, Keeps, Prints};
 use bsc_bid::Way;
 use bsc_block::Record;
 use bsc_connections::LiveError;
 use bsc_spool::{Store, StoreFault};
-use bsc_station::Party;
+use bsc_station::{LineStation, Party};
 
 /// The store of a station, with what prints the records that arrive once they are kept.
 #[derive(Drop)]
@@ -41,7 +41,7 @@ fn live(kept: Result<(), StoreFault>) -> Result<(), LiveError>
     }
 }
 
-impl<S: Party + Sends, K: Store + Drop, V: Prints + Drop> Keeps<S> for Stored<K, V> {
+impl<S: LineStation, K: Store + Drop, V: Prints + Drop> Keeps<S> for Stored<K, V> {
     ghost use Rattle.bsc_keeping.specs.Stored.{HasKept, KeepsOfferStored, KeepsStored};
     ghost use Rattle.bsc_keeping.specs.Stored.{PrintsStored};
 

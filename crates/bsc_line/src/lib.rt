@@ -25,5 +25,5 @@ mod transmission_buffer;
 mod trust;
 mod within_limits;
 
-pub use bsc_line_model::{Event, LineError, Speaker, Stopped, Transmission};
+pub use bsc_line_model::{Event, LineError, Stopped, Transmission};
 pub use line::Line;

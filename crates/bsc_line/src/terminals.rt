@@ -14,11 +14,11 @@ ghost use Rattle.bsc_line.specs.Hearings.{hearing_of};
 
 use crate::hearing::{Hearings, hearing, item_at};
 use crate::transmission_buffer::TransmissionBuffer;
-use bsc_bid::{Setup, Station, Terminal};
+use bsc_bid::{Setup, Speaker, Station, Terminal};
 use bsc_block::Record;
 use bsc_control::SetupError;
 use bsc_frame::{Heard, MessageBuffer, TextBuffer};
-use bsc_line_model::{LineError, Speaker};
+use bsc_line_model::LineError;
 use bsc_tributary::Tributary;
 use std::alloc::Allocator;
 
@@ -46,7 +46,7 @@ fn hear_apart<A: Allocator>(
         (sent_by (Speaker.Terminal place) (answer terminal.old heard.now terminal.new)) }
 {
     match first.speaker() {
-        None => first.answer(Speaker::Terminal(place), terminal, heard),
+        None => first.answer(Speaker::Terminal { number: place }, terminal, heard),
         Some(_) => hear_unkept(terminal, heard),
     }
 }

@@ -5,9 +5,9 @@ ghost use Rattle.bsc_frame.specs.declared.message.Message.{Message as MessageVal
 ghost use Rattle.bsc_line_model.specs.Restarts.{pending_without};
 ghost use Rattle.bsc_line_model.specs.Transmission.{sent_by, speaker_of};
 
-use bsc_bid::Station;
+use bsc_bid::{Speaker, Station};
 use bsc_frame::{Heard, MessageBuffer};
-use bsc_line_model::{Speaker, Transmission};
+use bsc_line_model::Transmission;
 use std::marker::Model;
 
 /// A transmission, or none, with room for a text.

@@ -15,7 +15,7 @@ use Rattle.bsc_tributary.specs.declared.mode.Mode.TheVariants.{Control, Sending}
 use Rattle.bsc_tributary.specs.Tributary.{TributaryValue, mode_after, message_of_act}
 use Rattle.bsc_control.specs.declared.task.Replied.{Replied}
 use Rattle.bsc_control.specs.Peer.{PeerValue}
-use Rattle.bsc_line_model.specs.declared.transmission.Speaker.TheVariants as sp
+use Rattle.bsc_bid.specs.declared.speaker.Speaker.TheVariants as sp
 use Rattle.bsc_line_model.specs.Transmission.{sent_by}
 use Rattle.bsc_line_model.specs.Together.{HasNoBid, RestsDown, IsInBidUp, AllInControlMode}
 use Rattle.bsc_line_model.specs.Together.{IsPolledWith}

@@ -14,7 +14,7 @@ use Rattle.bsc_bid.specs.declared.way.Way.{Way}
 use Rattle.bsc_control.specs.Peer.{OutboundValue, outbound_at}
 use Rattle.bsc_control.specs.Control.{ControlValue, terminals, peer, current}
 use Rattle.bsc_control.specs.Table.{select_address}
-use Rattle.bsc_line_model.specs.declared.transmission.Speaker.TheVariants as sp
+use Rattle.bsc_bid.specs.declared.speaker.Speaker.TheVariants as sp
 use Rattle.bsc_line_model.specs.Line.{terminal_in}
 use Rattle.bsc_line_model.specs.Terminals.{EachHears, EachKeeps, first_answer}
 use Rattle.bsc_line_model.specs.Trust.{EachOf, IsHeardFairly, IsAddressedAfter, is_call}

@@ -31,7 +31,7 @@ use Rattle.bsc_control.specs.Kept.{IsSelected, SuitsTask, AfterHearing}
 use Rattle.bsc_control.specs.Table.{Hears, next_call_step, bid_step, selecting_step, polling_step}
 use Rattle.bsc_control.specs.Table.{task_step, receive_step, is_interrupted, replied_after}
 use Rattle.bsc_control.specs.Table.{rooms_after}
-use Rattle.bsc_line_model.specs.declared.transmission.Speaker.TheVariants as sp
+use Rattle.bsc_bid.specs.declared.speaker.Speaker.TheVariants as sp
 use Rattle.bsc_line_model.specs.declared.transmission.Transmission.{Transmission}
 use Rattle.bsc_line_model.specs.Transmission.{sent_by}
 use Rattle.bsc_line_model.specs.Line.{terminal_in}

@@ -15,7 +15,7 @@ use Rattle.bsc_control.specs.CallOrder.{Call, After, next_call}
 use Rattle.bsc_control.specs.Table.{poll_call_step, selection_call_step, make_call_step}
 use Rattle.bsc_control.specs.Table.{select_address, next_call_step}
 use Rattle.bsc_control.proofs.Calls.{HasPlaces, by_next_call, next_call_within_peers}
-use Rattle.bsc_line_model.specs.declared.transmission.Speaker.TheVariants as sp
+use Rattle.bsc_bid.specs.declared.speaker.Speaker.TheVariants as sp
 use Rattle.bsc_line_model.specs.Transmission.{sent_by}
 use Rattle.bsc_line_model.specs.Line.{terminal_in}
 use Rattle.bsc_line_model.specs.Together.{HasNoBid, NoBids, NoOtherBids, IsSelecting, IsPolling}

@@ -11,8 +11,8 @@ use Rattle.bsc_tributary.proofs.Addresses.{none_passes_without_position}
 use Rattle.bsc_bid.specs.declared.way.Way.{Way}
 use Rattle.bsc_control.specs.Control.{ControlValue, terminals as addresses_of}
 use Rattle.bsc_control.specs.Kept.{IsControl, Keeps as ControlKeeps}
-use Rattle.bsc_line_model.specs.declared.transmission.Speaker.{Speaker}
-use Rattle.bsc_line_model.specs.declared.transmission.Speaker.TheVariants.{Control, Terminal}
+use Rattle.bsc_bid.specs.declared.speaker.Speaker.{Speaker}
+use Rattle.bsc_bid.specs.declared.speaker.Speaker.TheVariants.{Control, Terminal}
 use Rattle.bsc_line_model.specs.declared.transmission.Transmission.{Transmission}
 use Rattle.bsc_line_model.specs.Line.{line_of, no_terminal, terminal_in}
 use Rattle.bsc_line_model.specs.Terminals.{EachHears, EachKeeps, line_owner}

@@ -7,7 +7,7 @@ use Rattle.bsc_tributary.specs.Kept.{IsTributary, KeepsSetupAndMode}
 use Rattle.bsc_bid.specs.declared.way.Way.TheVariants.{ToTerminal}
 use Rattle.bsc_control.specs.Control.{ControlValue, peer_at}
 use Rattle.bsc_control.specs.Peer.{PeerValue}
-use Rattle.bsc_line_model.specs.declared.transmission.Speaker.{Speaker}
+use Rattle.bsc_bid.specs.declared.speaker.Speaker.{Speaker}
 use Rattle.bsc_line_model.specs.declared.transmission.Transmission.{Transmission}
 use Rattle.bsc_line_model.specs.BidLaws.{BidLaws}
 use Rattle.bsc_line_model.specs.Line.{LineValue, terminal_at, terminal_count, no_terminal}

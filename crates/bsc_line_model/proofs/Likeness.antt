@@ -25,8 +25,8 @@ use Rattle.bsc_control.specs.Peer.{PeerValue, OutboundValue, no_peer, no_outboun
 use Rattle.bsc_control.specs.Peer.{with_outbound, offered, offered_to, outbound_released}
 use Rattle.bsc_control.specs.Control.{ControlValue, peer_at, current, with_peer}
 use Rattle.bsc_control.specs.Table.{select_address}
-use Rattle.bsc_line_model.specs.declared.transmission.Speaker.{Speaker}
-use Rattle.bsc_line_model.specs.declared.transmission.Speaker.TheVariants as sp
+use Rattle.bsc_bid.specs.declared.speaker.Speaker.{Speaker}
+use Rattle.bsc_bid.specs.declared.speaker.Speaker.TheVariants as sp
 use Rattle.bsc_line_model.specs.declared.transmission.Transmission.{Transmission}
 use Rattle.bsc_line_model.specs.Line.{terminal_in, no_terminal}
 use Rattle.bsc_line_model.specs.Together.{Rests, HasNoBid, NoBids, NoOtherBids, RestsUp, RestsDown}

@@ -14,8 +14,8 @@ use Rattle.bsc_control.specs.Control.{ControlValue, peer_at}
 use Rattle.bsc_control.specs.Control.{restarted as restarted_control}
 use Rattle.bsc_control.specs.Kept.{IsControl}
 use Rattle.bsc_line_model.specs.Kept.{IsMember}
-use Rattle.bsc_line_model.specs.declared.transmission.Speaker.{Speaker}
-use Rattle.bsc_line_model.specs.declared.transmission.Speaker.TheVariants as sp
+use Rattle.bsc_bid.specs.declared.speaker.Speaker.{Speaker}
+use Rattle.bsc_bid.specs.declared.speaker.Speaker.TheVariants as sp
 use Rattle.bsc_line_model.specs.declared.transmission.Transmission.{Transmission}
 use Rattle.bsc_line_model.specs.Transmission.{speaker_of}
 use Rattle.bsc_line_model.specs.Line.{terminal_in}

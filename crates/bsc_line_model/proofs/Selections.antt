@@ -25,7 +25,7 @@ use Rattle.bsc_control.specs.Peer.{outbound_at}
 use Rattle.bsc_control.specs.Control.{ControlValue, peer, current}
 use Rattle.bsc_control.specs.CallOrder.{way_from}
 use Rattle.bsc_control.specs.Table.{Hears, select_address}
-use Rattle.bsc_line_model.specs.declared.transmission.Speaker.TheVariants as sp
+use Rattle.bsc_bid.specs.declared.speaker.Speaker.TheVariants as sp
 use Rattle.bsc_line_model.specs.declared.error.Stopped.{Stopped}
 use Rattle.bsc_line_model.specs.Transmission.{sent_by}
 use Rattle.bsc_line_model.specs.Line.{LineValue, terminal_at, terminal_in}

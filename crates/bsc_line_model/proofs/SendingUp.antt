@@ -29,7 +29,7 @@ use Rattle.bsc_control.specs.Peer.{with_outbound, outbound_after}
 use Rattle.bsc_control.specs.Control.{ControlValue, ControlStep, peer_at, peer, current}
 use Rattle.bsc_control.specs.CallOrder.{After, Selection}
 use Rattle.bsc_control.specs.Table.{act_step, bid_step, after_bid, after_step}
-use Rattle.bsc_line_model.specs.declared.transmission.Speaker.TheVariants as sp
+use Rattle.bsc_bid.specs.declared.speaker.Speaker.TheVariants as sp
 use Rattle.bsc_line_model.specs.declared.transmission.Transmission.{Transmission}
 use Rattle.bsc_line_model.specs.Transmission.{sent_by}
 use Rattle.bsc_line_model.specs.Line.{terminal_in}

@@ -24,7 +24,7 @@ use Rattle.bsc_control.specs.Control.{ControlValue, ControlStep, peer_at, peer, 
 use Rattle.bsc_control.specs.CallOrder.{Start, Selection, Poll}
 use Rattle.bsc_control.specs.Table.{ActsOnSilence as ControlActs, silence_in, next_call_step}
 use Rattle.bsc_control.specs.Table.{poll_call_step, repeated}
-use Rattle.bsc_line_model.specs.declared.transmission.Speaker.TheVariants as sp
+use Rattle.bsc_bid.specs.declared.speaker.Speaker.TheVariants as sp
 use Rattle.bsc_line_model.specs.Transmission.{sent_by}
 use Rattle.bsc_line_model.specs.Line.{terminal_in, no_terminal}
 use Rattle.bsc_line_model.specs.Kept.{IsTuned, AreTuned, AreStations}

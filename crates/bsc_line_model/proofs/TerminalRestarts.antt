@@ -18,8 +18,8 @@ use Rattle.bsc_bid.specs.declared.way.Way.{Way}
 use Rattle.bsc_bid.specs.declared.way.Way.TheVariants.{FromTerminal, ToTerminal}
 use Rattle.bsc_control.specs.Peer.{PeerValue, OutboundValue, outbound_at}
 use Rattle.bsc_control.specs.Control.{ControlValue, peer_at, peer, current}
-use Rattle.bsc_line_model.specs.declared.transmission.Speaker.{Speaker}
-use Rattle.bsc_line_model.specs.declared.transmission.Speaker.TheVariants as sp
+use Rattle.bsc_bid.specs.declared.speaker.Speaker.{Speaker}
+use Rattle.bsc_bid.specs.declared.speaker.Speaker.TheVariants as sp
 use Rattle.bsc_line_model.specs.declared.transmission.Transmission.{Transmission}
 use Rattle.bsc_line_model.specs.Line.{terminal_in, no_terminal}
 use Rattle.bsc_line_model.specs.Restarts.{pending_without}

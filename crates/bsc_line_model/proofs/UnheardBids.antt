@@ -23,7 +23,7 @@ use Rattle.bsc_control.specs.CallOrder.{After, Selection}
 use Rattle.bsc_control.specs.Kept.{SuitsTask, IsInBid}
 use Rattle.bsc_control.specs.Table.{act_step, bid_step, after_step}
 use Rattle.bsc_control.proofs.Calls.{HasPlaces, places, current_within_peers}
-use Rattle.bsc_line_model.specs.declared.transmission.Speaker.TheVariants as sp
+use Rattle.bsc_bid.specs.declared.speaker.Speaker.TheVariants as sp
 use Rattle.bsc_line_model.specs.declared.transmission.Transmission.{Transmission}
 use Rattle.bsc_line_model.specs.Transmission.{sent_by}
 use Rattle.bsc_line_model.specs.Line.{terminal_in}

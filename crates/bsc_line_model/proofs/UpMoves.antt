@@ -29,7 +29,7 @@ use Rattle.bsc_control.specs.Peer.{PeerValue, OutboundValue, no_peer, outbound_a
 use Rattle.bsc_control.specs.Control.{ControlValue, ControlStep, peer_at, peer, current}
 use Rattle.bsc_control.specs.Kept.{outbound_of, Stores}
 use Rattle.bsc_control.specs.Table.{Hears, task_step, receive_step, rooms_after}
-use Rattle.bsc_line_model.specs.declared.transmission.Speaker.TheVariants as sp
+use Rattle.bsc_bid.specs.declared.speaker.Speaker.TheVariants as sp
 use Rattle.bsc_line_model.specs.declared.transmission.Transmission.{Transmission}
 use Rattle.bsc_line_model.specs.Line.{LineValue, terminal_in, terminal_at, terminal_count}
 use Rattle.bsc_line_model.specs.Line.{channel_of}

@@ -13,7 +13,7 @@ use Rattle.bsc_bid.specs.Addresses.{address_for}
 use Rattle.bsc_control.specs.Peer.{PeerValue, OutboundValue, no_outbound, outbound_at}
 use Rattle.bsc_control.specs.Control.{peer_at, peer, current, terminals}
 use Rattle.bsc_control.specs.Table.{select_address}
-use Rattle.bsc_line_model.specs.declared.transmission.Speaker.TheVariants as sp
+use Rattle.bsc_bid.specs.declared.speaker.Speaker.TheVariants as sp
 use Rattle.bsc_line_model.specs.Line.{LineValue, terminal_at}
 use Rattle.bsc_line_model.specs.Rounds.{block_count, poll_length, visit_length}
 use Rattle.bsc_line_model.specs.Rounds.{HasMadeCall, outbound_length}

@@ -10,8 +10,8 @@ use Rattle.bsc_control.specs.Control.{terminals as addresses_of}
 use Rattle.bsc_control.specs.Kept.{AfterHearing as ControlKeepsHearing}
 use Rattle.bsc_control.specs.Kept.{AfterSilence as ControlKeepsSilence}
 use Rattle.bsc_control.specs.Table.{Hears as ControlHears, ActsOnSilence as ControlActs}
-use Rattle.bsc_line_model.specs.declared.transmission.Speaker.{Speaker}
-use Rattle.bsc_line_model.specs.declared.transmission.Speaker.TheVariants.{Control, Terminal}
+use Rattle.bsc_bid.specs.declared.speaker.Speaker.{Speaker}
+use Rattle.bsc_bid.specs.declared.speaker.Speaker.TheVariants.{Control, Terminal}
 use Rattle.bsc_line_model.specs.Transmission.{sent_by}
 use Rattle.bsc_line_model.specs.Line.{LineValue, terminal_at, terminal_count, with_terminal}
 use Rattle.bsc_line_model.specs.Terminals.{EachHears, EachKeeps, first_answer}

@@ -13,7 +13,7 @@ use Rattle.bsc_control.specs.declared.task.Task.{Task}
 use Rattle.bsc_control.specs.declared.task.Task.TheVariants.{AtRest, Polling}
 use Rattle.bsc_control.specs.Peer.{no_peer, no_outbound}
 use Rattle.bsc_control.specs.Control.{ControlValue}
-use Rattle.bsc_line_model.specs.declared.transmission.Speaker.TheVariants.{Control}
+use Rattle.bsc_bid.specs.declared.speaker.Speaker.TheVariants.{Control}
 use Rattle.bsc_line_model.specs.declared.transmission.Transmission.{Transmission}
 use Rattle.bsc_line_model.specs.Line.{LineValue, line_of, no_terminal}
 use Rattle.bsc_line_model.specs.ChannelSteps.{Lands, MovesOne}

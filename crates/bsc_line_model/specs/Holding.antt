@@ -6,7 +6,7 @@ use Rattle.bsc_tributary.specs.Tributary.{holds}
 use Rattle.bsc_line_model.specs.declared.error.Stopped.{Stopped}
 use Rattle.bsc_line_model.specs.declared.event.Event.{Event}
 use Rattle.bsc_line_model.specs.declared.event.Event.TheVariants.{Restart}
-use Rattle.bsc_line_model.specs.declared.transmission.Speaker.TheVariants.{Control}
+use Rattle.bsc_bid.specs.declared.speaker.Speaker.TheVariants.{Control}
 use Rattle.bsc_line_model.specs.Line.{LineValue, terminal_at, terminal_count}
 use Rattle.bsc_line_model.specs.Runs.{Runs}
 use Rattle.bsc_line_model.specs.Kept.{IsLine, IsNewLine}

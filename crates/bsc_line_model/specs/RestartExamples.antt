@@ -21,7 +21,7 @@ use Rattle.bsc_bid.specs.declared.way.Way.TheVariants.{FromTerminal}
 use Rattle.bsc_control.specs.declared.task.Replied.TheVariants.{Nothing}
 use Rattle.bsc_control.specs.declared.task.Task.TheVariants.{AtRest, Polling}
 use Rattle.bsc_control.specs.Peer.{no_outbound}
-use Rattle.bsc_line_model.specs.declared.transmission.Speaker.TheVariants.{Control, Terminal}
+use Rattle.bsc_bid.specs.declared.speaker.Speaker.TheVariants.{Control, Terminal}
 use Rattle.bsc_line_model.specs.declared.transmission.Transmission.{Transmission}
 use Rattle.bsc_line_model.specs.Line.{LineValue, terminal_at, with_terminal, with_control}
 use Rattle.bsc_line_model.specs.Restarts.{Restarts}

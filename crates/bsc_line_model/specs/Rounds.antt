@@ -17,7 +17,7 @@ use Rattle.bsc_control.specs.Peer.{OutboundValue}
 use Rattle.bsc_control.specs.Control.{ControlValue, peer_at, terminals, current}
 use Rattle.bsc_control.specs.CallOrder.{Call, first_call, place_after, is_polled, polled_place}
 use Rattle.bsc_control.specs.Kept.{IsTaskOf}
-use Rattle.bsc_line_model.specs.declared.transmission.Speaker.TheVariants.{Control}
+use Rattle.bsc_bid.specs.declared.speaker.Speaker.TheVariants.{Control}
 use Rattle.bsc_line_model.specs.declared.event.Event.{Event}
 use Rattle.bsc_line_model.specs.declared.event.Event.TheVariants.{CarrySent}
 use Rattle.bsc_line_model.specs.declared.error.Stopped.{Stopped}

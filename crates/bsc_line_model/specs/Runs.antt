@@ -5,7 +5,7 @@ use Rattle.std.specs.Borrow.{Bor}
 use Rattle.bsc_frame.specs.declared.message.Heard.{Heard}
 use Rattle.bsc_frame.specs.declared.message.Heard.TheVariants.{Whole}
 use Rattle.bsc_line_model.specs.declared.transmission.Transmission.{Transmission}
-use Rattle.bsc_line_model.specs.declared.transmission.Speaker.TheVariants.{Control}
+use Rattle.bsc_bid.specs.declared.speaker.Speaker.TheVariants.{Control}
 use Rattle.bsc_line_model.specs.declared.error.LineError.{LineError}
 use Rattle.bsc_line_model.specs.declared.error.LineError.TheVariants.{NothingSent, NotControl}
 use Rattle.bsc_line_model.specs.declared.error.LineError.TheVariants.{WrongCount, Pending}

@@ -12,8 +12,8 @@ use Rattle.bsc_control.specs.Control.{ControlValue, peer_at, with_peer}
 use Rattle.bsc_control.specs.Control.{restarted as restarted_control}
 use Rattle.bsc_control.specs.Peer.{offered_to, with_outbound, outbound_released}
 use Rattle.bsc_control.specs.Kept.{IsControl, outbound_of}
-use Rattle.bsc_line_model.specs.declared.transmission.Speaker.{Speaker}
-use Rattle.bsc_line_model.specs.declared.transmission.Speaker.TheVariants.{Control, Terminal}
+use Rattle.bsc_bid.specs.declared.speaker.Speaker.{Speaker}
+use Rattle.bsc_bid.specs.declared.speaker.Speaker.TheVariants.{Control, Terminal}
 use Rattle.bsc_line_model.specs.declared.transmission.Transmission.{Transmission}
 use Rattle.bsc_line_model.specs.Line.{LineValue, terminal_at, terminal_count, with_terminal}
 use Rattle.bsc_line_model.specs.Line.{with_control}

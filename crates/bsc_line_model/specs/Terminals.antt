@@ -4,7 +4,7 @@ use Rattle.bsc_frame.specs.declared.message.Message.{Message}
 use Rattle.bsc_frame.specs.declared.message.Heard.{Heard}
 use Rattle.bsc_tributary.specs.Tributary.{TributaryValue, Hears, hear_step, rooms_after, holds}
 use Rattle.bsc_tributary.specs.Kept.{AfterHearing}
-use Rattle.bsc_line_model.specs.declared.transmission.Speaker.TheVariants.{Terminal}
+use Rattle.bsc_bid.specs.declared.speaker.Speaker.TheVariants.{Terminal}
 use Rattle.bsc_line_model.specs.declared.transmission.Transmission.{Transmission}
 use Rattle.bsc_line_model.specs.Transmission.{sent_by}
 use Rattle.bsc_line_model.specs.Line.{terminal_in}

@@ -1,7 +1,7 @@
 -- The pending transmission.
 use Rattle.std.specs.Prelude.{Option, None, Some}
 use Rattle.bsc_frame.specs.declared.message.Message.{Message}
-use Rattle.bsc_line_model.specs.declared.transmission.Speaker.{Speaker}
+use Rattle.bsc_bid.specs.declared.speaker.Speaker.{Speaker}
 use Rattle.bsc_line_model.specs.declared.transmission.Transmission.{Transmission}
 
 -- the transmission by this station of the message, if there is one

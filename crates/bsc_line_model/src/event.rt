@@ -1,6 +1,6 @@
 //! The events of a line.
 
-use crate::transmission::Speaker;
+use bsc_bid::Speaker;
 use bsc_control::Way;
 
 /// One event of a line: one call of a method of it. Terminals are counted from 0, and so are the

@@ -1,7 +1,7 @@
 //! The definitions of a line: what can happen on it, what each event does to it, and what holds of
 //! every line.
 //!
-//! This crate has the types of a line that callers use (who transmits, the events, and why one is
+//! This crate has the types of a line that callers use (a transmission, the events, and why one is
 //! refused), and in `specs/` the definitions that the contracts of `bsc_line` cite. The laws are
 //! about the definitions only: that every event keeps the invariant of a line, what it does to each
 //! channel, and the main promise.
@@ -20,4 +20,4 @@ mod transmission;
 
 pub use error::{LineError, Stopped};
 pub use event::Event;
-pub use transmission::{Speaker, Transmission};
+pub use transmission::Transmission;

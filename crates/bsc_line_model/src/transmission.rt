@@ -3,17 +3,8 @@
 ghost use Rattle.std.specs.Prelude.{◌≡◌};
 ghost use Rattle.bsc_line_model.specs.Transmission.{sent_by};
 
+use bsc_bid::Speaker;
 use bsc_frame::Message;
-
-/// The sender of a transmission (GA27-3004, centralised multipoint operation).
-#[derive(Clone, Copy, Debug, PartialEq, Eq)]
-pub enum Speaker {
-    /// The control station, which all terminals hear.
-    Control,
-
-    /// The terminal of this number, counted from 0, which only the control station hears.
-    Terminal(usize),
-}
 
 /// A transmission that nobody has heard yet. Its message may borrow the units of a text.
 #[derive(Drop)]

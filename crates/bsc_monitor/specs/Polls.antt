@@ -1,13 +1,5 @@
 -- The poll list of a station is changed while the station is attended.
-use Rattle.std.specs.Prelude.{◌≡◌, ℕ, zero, suc, ◌<◌, Bool, true, false, not, ◌&&◌, length}
-use Rattle.bsc_control.specs.Control.{ControlValue, peer_at, with_peer}
-
--- A terminal of the control station is polled from now on, or is not. Its records and doubts, and
--- what is under way, stay.
-pub record PollsTerminal (c : ControlValue) (t : ℕ) (polled : Bool) (new : ControlValue)
-    : Type 0 where
-  pub terminal : t < length c.peers
-  pub state : new ≡ with_peer c t (record (peer_at c t) { polled = polled })
+use Rattle.std.specs.Prelude.{◌≡◌, ℕ, zero, suc, Bool, true, false, not, ◌&&◌}
 
 -- Whether a terminal that is wanted, as the flag says, is polled, or one that is not wanted is not.
 abbrev pub is_as_wanted : Bool → Bool → Bool

@@ -2,13 +2,13 @@
 use Rattle.std.specs.Prelude.{◌≡◌, ℕ, nat_lt, Bool, true, false, List, [], ◌++◌, Option, None}
 use Rattle.std.specs.Prelude.{Some}
 use Rattle.std.specs.Io.KnownBytes.{Appends}
+use Rattle.bsc_bid.specs.declared.speaker.Speaker.{Speaker}
+use Rattle.bsc_bid.specs.declared.speaker.Speaker.TheVariants.{Control, Terminal}
 use Rattle.bsc_connections.specs.Histories.{Happening}
 use Rattle.bsc_control.specs.Control.{ControlValue}
 use Rattle.bsc_control.specs.declared.task.Task.{Task}
 use Rattle.bsc_control.specs.declared.task.Task.TheVariants.{Polling}
 use Rattle.bsc_text.specs.Traces.{time_shown}
-use Rattle.bsc_text.specs.declared.trace.Who.{Who}
-use Rattle.bsc_text.specs.declared.trace.Who.TheVariants.{Control, Terminal}
 use Rattle.bsc_trust.specs.declared.distrust.Distrust.{Distrust}
 use Rattle.bsc_monitor.specs.Answering.{unanswered}
 use Rattle.bsc_report.specs.Holding.{CallLine, TracesNext, held_for, held_shown}
@@ -41,7 +41,7 @@ trace_of contents w =
 
 -- The line for an event of this station at this time is printed, if there is one: without a trace
 -- only for a peer that joins, leaves or is refused, and for something that was withheld.
-abbrev pub ShowsIn : Tracing → Calls → Who → ℕ → Happening → Trace → Trace → Type 0
+abbrev pub ShowsIn : Tracing → Calls → Speaker → ℕ → Happening → Trace → Trace → Type 0
 ShowsIn Off calls me time happening old new =
     ShowsChange happening old.contents new.contents × (new.held ≡ old.held)
 ShowsIn Exchanges calls me time happening old new =
@@ -50,7 +50,7 @@ ShowsIn Exchanges calls me time happening old new =
 ShowsIn All calls me time happening old new =
     IsTraced happening time me old.contents new.contents × (new.held ≡ old.held)
 
-pub record ShowsEvent (calls : Calls) (me : Who) (time : ℕ) (happening : Happening)
+pub record ShowsEvent (calls : Calls) (me : Speaker) (time : ℕ) (happening : Happening)
     (old new : Trace) : Type 0 where
   pub tracing : new.tracing ≡ old.tracing
   pub line : ShowsIn old.tracing calls me time happening old new

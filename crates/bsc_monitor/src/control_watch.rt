@@ -16,11 +16,11 @@ use crate::progress::Progress;
 use crate::trusting::{Trusting, called_by};
 use crate::watch::{Watch, live};
 use crate::{AbsenceLimits, Limits, Presence, Presences};
+use bsc_bid::Speaker;
 use bsc_connections::{Decoded, LiveError, Monitor, Note, Pace};
 use bsc_control::{Control, Task};
 use bsc_report::{Calls, Seen, TerminalsTold, unanswered};
 use bsc_station::Party;
-use bsc_text::Who;
 use bsc_text::progress::{Meter, Timer};
 use bsc_trust::Trust;
 use std::alloc::Allocator;
@@ -173,7 +173,7 @@ impl<'a, A: Allocator + Copy, T: Timer + Meter + Drop, D: Write, B: Allocator> M
     fn note(&mut self, station: &Control<B>, note: Note<'_>) -> Result<bool, LiveError> {
         let seen = Seen {
             time: self.watch.milliseconds(),
-            me: Who::Control,
+            me: Speaker::Control,
             calls: calls_of(station),
         };
         live(self.watch.tell(seen, &note))?;

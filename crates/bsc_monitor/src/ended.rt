@@ -6,12 +6,11 @@ ghost use Rattle.bsc_monitor.specs.LastCall.{ended_of, refuses};
 
 use crate::trusting::Trusting;
 use crate::watch::{Watch, live};
-use bsc_bid::Station;
 use bsc_bid::limits::MAX_TRIES;
+use bsc_bid::{Speaker, Station};
 use bsc_connections::{Decoded, LiveError, Monitor, Note, Pace};
 use bsc_frame::{Heard, Message, MessageBuffer, Reply};
 use bsc_report::{Calls, Seen};
-use bsc_text::Who;
 use bsc_text::progress::{Meter, Timer};
 use bsc_trust::Trust;
 use std::alloc::Allocator;
@@ -156,7 +155,7 @@ impl<'a, A: Allocator + Copy, T: Timer + Meter + Drop, D: Write> Monitor<Ended>
     fn note(&mut self, station: &Ended, note: Note<'_>) -> Result<bool, LiveError> {
         let seen = Seen {
             time: self.watch.milliseconds(),
-            me: Who::Control,
+            me: Speaker::Control,
             calls: Calls::Neither,
         };
         live(self.watch.tell(seen, &note))?;

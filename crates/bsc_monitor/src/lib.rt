@@ -27,7 +27,7 @@ mod watch;
 pub use attendance::{AbsenceLimits, Presence};
 pub use control_watch::ControlWatch;
 pub use ended::{Ended, LastWatch};
-pub use polls::{Polls, is_settled, settle};
+pub use polls::{is_settled, settle};
 pub use presences::Presences;
 pub use rounds::Limits;
 pub use terminal_watch::TerminalWatch;

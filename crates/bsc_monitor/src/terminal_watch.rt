@@ -3,11 +3,11 @@
 ghost use Rattle.std.specs.Prelude.{◌≡◌, None, false};
 
 use crate::watch::{Watch, live};
+use bsc_bid::Speaker;
 use bsc_carrier::CarrierError;
 use bsc_connections::{Decoded, LiveError, Monitor, Note, Pace};
 use bsc_report::{Calls, Seen};
 use bsc_station::{LineTerminal, Party};
-use bsc_text::Who;
 use bsc_text::progress::{Meter, Timer};
 use std::alloc::Allocator;
 use std::io::Write;
@@ -96,7 +96,9 @@ impl<'a, A: Allocator + Copy, T: Timer + Meter + Drop, D: Write, B: Allocator> M
     fn note(&mut self, station: &LineTerminal<B>, note: Note<'_>) -> Result<bool, LiveError> {
         let seen = Seen {
             time: self.watch.milliseconds(),
-            me: Who::Terminal(station.line_number()),
+            me: Speaker::Terminal {
+                number: station.line_number(),
+            },
             calls: Calls::Heard,
         };
         live(self.watch.tell(seen, &note))?;

@@ -15,8 +15,8 @@ use Rattle.bsc_report.specs.declared.tracing.Tracing.{Tracing}
 use Rattle.bsc_report.specs.declared.tracing.Tracing.TheVariants.{Off, Exchanges, All}
 use Rattle.bsc_options.specs.declared.error.OptionError.{OptionError}
 use Rattle.bsc_options.specs.declared.error.OptionError.TheVariants as error
-use Rattle.bsc_options.specs.declared.settings.Role.{Role}
-use Rattle.bsc_options.specs.declared.settings.Role.TheVariants.{Control, Terminal}
+use Rattle.bsc_bid.specs.declared.speaker.Speaker.{Speaker}
+use Rattle.bsc_bid.specs.declared.speaker.Speaker.TheVariants.{Control, Terminal}
 use Rattle.bsc_options.specs.declared.settings.Place.{Place}
 use Rattle.bsc_options.specs.declared.settings.Place.TheVariants.{Listen, Connect}
 use Rattle.bsc_options.specs.declared.settings.Times.{Times}
@@ -27,16 +27,16 @@ use Rattle.bsc_options.specs.Readings.{◌>>=◌}
 use Rattle.bsc_options.specs.Serves.{ServesValue, is_address, serves_in, serves_value}
 
 -- The station with this number, if it is one.
-abbrev pub terminal_of : Option ℕ → Result Role Refusal
+abbrev pub terminal_of : Option ℕ → Result Speaker Refusal
 terminal_of None = Err (plain error.TerminalNumber)
 terminal_of (Some number) = Ok (Terminal number)
 
 -- The station that is run: exactly one of the control station and a terminal.
-abbrev pub role_in : Bool → Option (List ℕ) → Result Role Refusal
-role_in true None = Ok Control
-role_in true (Some text) = Err (plain error.Station)
-role_in false None = Err (plain error.Station)
-role_in false (Some text) = terminal_of (number_within 0 255 text)
+abbrev pub speaker_in : Bool → Option (List ℕ) → Result Speaker Refusal
+speaker_in true None = Ok Control
+speaker_in true (Some text) = Err (plain error.Station)
+speaker_in false None = Err (plain error.Station)
+speaker_in false (Some text) = terminal_of (number_within 0 255 text)
 
 -- The place of the connections: peers connect at this address, or a peer listens there.
 pub data PlaceValue : Type 0 where
@@ -61,8 +61,8 @@ unless broken why = if broken then Err why else Ok tt
 -- What the table does not say of how options fit the station and one another: a control station
 -- that connects reaches all terminals by one connection, only programs that come over a network are
 -- of other machines, and standard input is used once.
-abbrev pub fits_together : WordsValue → Role → Result (Unit {0}) Refusal
-fits_together w role = do
+abbrev pub fits_together : WordsValue → Speaker → Result (Unit {0}) Refusal
+fits_together w speaker = do
   connect ← unless
       ((is_given (codes "control") w && not (is_given (codes "shared") w))
       && is_given (codes "connect") w)
@@ -70,7 +70,7 @@ fits_together w role = do
   anyone ← unless
       (is_given (codes "serve-anyone") w && not (is_address (text_at (codes "serve") w)))
       (plain error.ServeAnyoneNeedsServe)
-  unless (repeats_input w role) (plain error.RepeatedInput)
+  unless (repeats_input w speaker) (plain error.RepeatedInput)
 
 -- Three times a time, up to the largest value of 64 bits.
 abbrev pub three_times : ℕ → ℕ
@@ -179,7 +179,7 @@ begin_with_in w = number_in (codes "begin-with") (codes "a number, 0 to 64") 0 6
 
 -- The settings of a station.
 pub record SettingsValue : Type 0 where
-  pub role : Role
+  pub speaker : Speaker
   pub place : PlaceValue
   pub serves : Option ServesValue
   pub shared : Bool
@@ -197,7 +197,7 @@ pub record SettingsValue : Type 0 where
 
 abbrev pub settings_value : StationSettings → SettingsValue
 settings_value s = record {
-  role = s.role;
+  speaker = s.speaker;
   place = place_value s.place;
   serves = option_map serves_value s.serves;
   shared = s.shared;
@@ -221,16 +221,16 @@ reported_in w = if is_given (codes "report-records") w then Some (form_in w) els
 -- The settings in the options, or the first reason for refusing them.
 abbrev pub settings_in : WordsValue → Result SettingsValue Refusal
 settings_in w = do
-  role ← role_in (is_given (codes "control") w) (text_at (codes "terminal") w)
+  speaker ← speaker_in (is_given (codes "control") w) (text_at (codes "terminal") w)
   place ← place_in (text_at (codes "listen") w) (text_at (codes "connect") w)
   table ← fits_station w
-  fits ← fits_together w role
+  fits ← fits_together w speaker
   begin_with ← begin_with_in w
   times ← times_in w
   limits ← limits_in w begin_with
   absence ← absence_in w
   Ok (record {
-    role = role;
+    speaker = speaker;
     place = place;
     serves = serves_in (text_at (codes "serve") w) (is_given (codes "serve-anyone") w);
     shared = is_given (codes "shared") w;

@@ -5,7 +5,7 @@ use Rattle.std.specs.Str.{bytes_eq}
 use Rattle.bsc_options.specs.StoreWords.{AskedStore}
 use Rattle.bsc_options.specs.Errors.{Refusal, plain}
 use Rattle.bsc_options.specs.declared.error.OptionError.TheVariants as error
-use Rattle.bsc_options.specs.declared.settings.Role.{Role}
+use Rattle.bsc_bid.specs.declared.speaker.Speaker.{Speaker}
 use Rattle.bsc_options.specs.declared.store_works.Task.{Task}
 use Rattle.bsc_options.specs.declared.store_works.Task.TheVariants as task
 use Rattle.bsc_options.specs.declared.store_works.StoreWork.{StoreWork}
@@ -13,7 +13,7 @@ use Rattle.bsc_options.specs.declared.store_works.StoreWork.TheVariants as work
 use Rattle.bsc_options.specs.Numbers.{number_within}
 use Rattle.bsc_options.specs.Offers.{channel_in}
 use Rattle.bsc_options.specs.Readings.{◌>>=◌}
-use Rattle.bsc_options.specs.Settings.{role_in, unless}
+use Rattle.bsc_options.specs.Settings.{speaker_in, unless}
 
 -- A work with its words.
 pub data TaskValue : Type 0 where
@@ -82,7 +82,7 @@ fits_task w other = do
 -- What is to be done, with a channel by the number of its terminal and that of the selection
 -- address of the terminal.
 pub data WorkValue : Type 0 where
-  init : List ℕ → Role → WorkValue
+  init : List ℕ → Speaker → WorkValue
   offer : ℕ × ℕ → List ℕ → WorkValue
   arrived : ℕ × ℕ → ℕ → Bool → WorkValue
   status : WorkValue
@@ -90,7 +90,7 @@ pub data WorkValue : Type 0 where
   reconcile : List ℕ → WorkValue
 
 abbrev pub work_value : StoreWork → WorkValue
-work_value (work.Init config role) = init config.now role
+work_value (work.Init config speaker) = init config.now speaker
 work_value (work.Offer channel path) = offer (channel.terminal, channel.select) path.now
 work_value (work.Arrived channel first text) =
     arrived (channel.terminal, channel.select) first text
@@ -114,8 +114,8 @@ first_in (Some text) = ok_or (number_within 0 (2 ^ 32 - 1) text) (plain error.Fr
 -- Each work with the values of its words.
 abbrev pub init_of : AskedStore → List ℕ → Result WorkValue Refusal
 init_of w config = do
-  role ← role_in w.control w.terminal
-  Ok (init config role)
+  speaker ← speaker_in w.control w.terminal
+  Ok (init config speaker)
 
 abbrev pub offer_of : List ℕ → List ℕ → Result WorkValue Refusal
 offer_of channel path = do

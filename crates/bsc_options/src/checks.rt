@@ -12,7 +12,8 @@ use crate::entry::Entry;
 use crate::inputs::repeats_input;
 use crate::serves::is_at_address;
 use crate::tables::STATION;
-use crate::{OptionError, Role, Words};
+use crate::{OptionError, Words};
+use bsc_bid::Speaker;
 
 /// Returns an error if a rule is broken.
 pub(crate) fn unless(is_broken: bool, why: OptionError) -> Result<(), OptionError>
@@ -83,13 +84,13 @@ pub(crate) fn check_station(words: &Words) -> Result<(), OptionError>
 }
 
 /// Checks what a table does not say of how the options fit the station and one another.
-pub(crate) fn check_together(words: &Words, role: Role) -> Result<(), OptionError>
-    ensures { GivesIt result (fits_together (words_value words.now) role) }
+pub(crate) fn check_together(words: &Words, speaker: Speaker) -> Result<(), OptionError>
+    ensures { GivesIt result (fits_together (words_value words.now) speaker) }
 {
     let is_unshared = words.is_given("control") && !words.is_given("shared");
     let is_broken = is_unshared && words.is_given("connect");
     unless(is_broken, OptionError::ConnectNeedsShared)?;
     let is_broken = words.is_given("serve-anyone") && !is_at_address(words.text("serve"));
     unless(is_broken, OptionError::ServeAnyoneNeedsServe)?;
-    unless(repeats_input(words, role), OptionError::RepeatedInput)
+    unless(repeats_input(words, speaker), OptionError::RepeatedInput)
 }

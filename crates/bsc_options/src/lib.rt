@@ -26,7 +26,7 @@ pub use error::OptionError;
 pub use numbers::number_within;
 pub use offers::{Offer, offer_of};
 pub use serves::{Serves, read_serves};
-pub use settings::{Place, Role, StationSettings, Times, read_settings};
+pub use settings::{Place, StationSettings, Times, read_settings};
 pub use store_works::{StoreChannel, StoreWork, read_store_work};
 pub use tables::{CHART, FEED, LINE_COMMANDS, NAME, RUN, STATION, STATION_COMMANDS, STORE};
 pub use words::{Given, Words};

@@ -5,7 +5,7 @@ ghost use Rattle.bsc_options.specs.Entries.{absent_in, number_by};
 ghost use Rattle.bsc_options.specs.Readings.{Gives, GivesIt};
 ghost use Rattle.bsc_options.specs.Settings.{absence_in, absent_idle_rounds, absent_pause};
 ghost use Rattle.bsc_options.specs.Settings.{form_in, limits_in, place_in, place_value};
-ghost use Rattle.bsc_options.specs.Settings.{printing_in, reported_in, role_in, rounds_in};
+ghost use Rattle.bsc_options.specs.Settings.{printing_in, reported_in, rounds_in, speaker_in};
 ghost use Rattle.bsc_options.specs.Settings.{settings_in, settings_value, times_in, tracing_in};
 ghost use Rattle.bsc_options.specs.Words.{words_value};
 
@@ -18,19 +18,10 @@ use crate::tables::station::{
     ROUNDS, TIME_OUT,
 };
 use crate::{OptionError, Serves, Words};
+use bsc_bid::Speaker;
 use bsc_monitor::{AbsenceLimits, Limits};
 use bsc_report::{Printing, RecordLines, Tracing};
 use bsc_text::Form;
-
-/// The station of a line that is run.
-#[derive(Clone, Copy)]
-pub enum Role {
-    /// The control station.
-    Control,
-
-    /// The terminal with this number, counted from 0.
-    Terminal { number: usize },
-}
 
 /// The place of the connections of a station.
 #[derive(Clone, Copy)]
@@ -65,7 +56,7 @@ pub struct Times {
 #[derive(Clone, Copy)]
 pub struct StationSettings<'a> {
     /// Which station it is.
-    pub role: Role,
+    pub speaker: Speaker,
 
     /// The place of its connections.
     pub place: Place<'a>,
@@ -112,13 +103,13 @@ pub struct StationSettings<'a> {
 }
 
 /// Returns the station that is run.
-pub(crate) fn role_of(control: bool, terminal: Option<&str>) -> Result<Role, OptionError>
-    ensures { GivesIt result (role_in control (option_map (λ text. text.now) terminal.entry)) }
+pub(crate) fn speaker_of(control: bool, terminal: Option<&str>) -> Result<Speaker, OptionError>
+    ensures { GivesIt result (speaker_in control (option_map (λ text. text.now) terminal.entry)) }
 {
     match terminal {
-        None if control => Ok(Role::Control),
+        None if control => Ok(Speaker::Control),
         Some(text) if !control => match octet_in(text) {
-            Some(number) => Ok(Role::Terminal { number }),
+            Some(number) => Ok(Speaker::Terminal { number }),
             None => Err(OptionError::TerminalNumber),
         },
         _ => Err(OptionError::Station),
@@ -303,16 +294,16 @@ fn reported_of(words: &Words) -> Option<Form>
 pub fn read_settings(words: &Words) -> Result<StationSettings<'_>, OptionError>
     ensures { Gives settings_value result (settings_in (words_value words.now)) }
 {
-    let role = role_of(words.is_given("control"), words.text("terminal"))?;
+    let speaker = speaker_of(words.is_given("control"), words.text("terminal"))?;
     let place = place_of(words.text("listen"), words.text("connect"))?;
     check_station(words)?;
-    check_together(words, role)?;
+    check_together(words, speaker)?;
     let begin_with = number(words, &BEGIN_WITH)?;
     let times = read_times(words)?;
     let limits = read_limits(words, begin_with)?;
     let absence = read_absence(words)?;
     Ok(StationSettings {
-        role,
+        speaker,
         place,
         serves: serves_of(words.text("serve"), words.is_given("serve-anyone")),
         shared: words.is_given("shared"),

@@ -11,8 +11,9 @@ ghost use Rattle.bsc_options.specs.StoreWorks.{release_of, work_in, work_value};
 use crate::checks::unless;
 use crate::numbers::count_of;
 use crate::offers::channel_of;
-use crate::settings::role_of;
-use crate::{OptionError, Role, Words};
+use crate::settings::speaker_of;
+use crate::{OptionError, Words};
+use bsc_bid::Speaker;
 
 /// A channel at a station: its terminal, and the selection address of that terminal, counted from
 /// 0. A channel from a terminal has the address 0.
@@ -28,7 +29,7 @@ pub enum StoreWork<'a> {
     /// Make it for this station of the line with this configuration; `-` is standard input.
     Init {
         config: &'a str,
-        role: Role,
+        speaker: Speaker,
     },
 
     /// Offer the lines of the text at this path on a channel; `-` is standard input.
@@ -218,8 +219,8 @@ pub fn read_store_work(words: &Words) -> Result<StoreWork<'_>, OptionError>
 fn init<'a>(words: &Words, config: &'a str) -> Result<StoreWork<'a>, OptionError>
     ensures { Gives work_value result (init_of (store_given words.now) config.entry.now) }
 {
-    let role = role_of(words.is_given("control"), words.text("terminal"))?;
-    Ok(StoreWork::Init { config, role })
+    let speaker = speaker_of(words.is_given("control"), words.text("terminal"))?;
+    Ok(StoreWork::Init { config, speaker })
 }
 
 /// Returns the work `offer`.

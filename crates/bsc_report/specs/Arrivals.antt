@@ -2,7 +2,7 @@
 use Rattle.std.specs.Prelude.{◌≡◌, ℕ, ◌<◌, List, length, max, slice_index}
 use Rattle.bsc_bid.specs.declared.way.Way.{Way}
 use Rattle.bsc_text.specs.Channels.{channel_name}
-use Rattle.bsc_report.specs.declared.arrivals.Channel.{Channel}
+use Rattle.bsc_report.specs.declared.arrivals.ShownName.{ShownName}
 use Rattle.bsc_report.specs.Printed.{arrival_lines, records_at}
 use Rattle.bsc_report.specs.declared.record_lines.RecordLines.{RecordLines}
 use Rattle.bsc_station.specs.declared.party.Party as party_of
@@ -14,10 +14,13 @@ module _ {P M : Type 0} (party : party_of.Ghosts P M) (station : P) where
   abbrev pub arrived_on : ℕ → List (List ℕ)
   arrived_on n = records_at (party.ends station (party.terminal_of n) (party.way_of n))
 
-  -- The parts of the name of the channel of this terminal in this direction.
-  abbrev pub channel_at : ℕ → Way → Channel
+  -- The name of the channel of this terminal in this direction.
+  abbrev pub channel_at : ℕ → Way → ShownName
   channel_at t way =
-      record { addresses = party.selects station t; number = party.numbers station t; way = way }
+      record {
+        addresses = party.selects station t;
+        name = record { terminal = party.numbers station t; way = way };
+      }
 
   -- The lines for the records of a channel after those that were printed before.
   abbrev pub channel_arrivals : RecordLines → ℕ → ℕ → List ℕ

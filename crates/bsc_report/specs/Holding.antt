@@ -11,8 +11,9 @@ use Rattle.bsc_frame.specs.Reading.{heard}
 use Rattle.bsc_text.specs.Traces.{transmission_line}
 use Rattle.bsc_text.specs.declared.trace.Fate.{Fate}
 use Rattle.bsc_text.specs.declared.trace.Fate.TheVariants as fate
-use Rattle.bsc_text.specs.declared.trace.Who.{Who}
-use Rattle.bsc_text.specs.declared.trace.Who.TheVariants.{Control}
+use Rattle.bsc_bid.specs.declared.speaker.Speaker.{Speaker}
+use Rattle.bsc_bid.specs.declared.speaker.Speaker.TheVariants.{Control}
+use Rattle.bsc_text.specs.declared.trace.Who.TheVariants.{Station}
 use Rattle.bsc_report.specs.Traces.{IsTraced}
 use Rattle.bsc_report.specs.declared.held.Calls.{Calls}
 use Rattle.bsc_report.specs.declared.held.Calls.TheVariants as calls
@@ -29,7 +30,8 @@ call_line_of time fate octets = record { time = time; fate = fate; octets = octe
 -- The text of the line that is held back, if there is one.
 abbrev pub held_shown : Option CallLine → List ℕ
 held_shown None = []
-held_shown (Some l) = transmission_line l.time Control l.fate None (heard l.octets) l.octets
+held_shown (Some l) =
+    transmission_line l.time (Station Control) l.fate None (heard l.octets) l.octets
 
 abbrev pub is_call : Heard → Bool
 is_call (Whole (Call a)) = true
@@ -95,14 +97,15 @@ has_no_line held c time happening =
     lacks_line (is_some held) (is_poll_end happening) (is_some (held_for c time happening))
 
 -- The line for this was written, or none.
-abbrev pub IsTracedUnless : Bool → Happening → ℕ → Who → Option (List ℕ) → Option (List ℕ) → Type 0
+abbrev pub IsTracedUnless : Bool → Happening → ℕ → Speaker → Option (List ℕ) → Option (List ℕ)
+    → Type 0
 IsTracedUnless true happening time me old new = new ≡ old
 IsTracedUnless false happening time me old new = IsTraced happening time me old new
 
 -- In a trace of exchanges: the line that is held back is printed or dropped, and after it the line
 -- for this is printed, unless it has none yet.
 pub record TracesNext (held : Option CallLine) (calls : Calls) (happening : Happening) (time : ℕ)
-    (me : Who) (old new : Option (List ℕ)) : Type 0 where
+    (me : Speaker) (old new : Option (List ℕ)) : Type 0 where
   pub between : Option (List ℕ)
   pub held_line : Appends old between (released (drops_held calls time happening) held)
   pub own_line : IsTracedUnless (has_no_line held calls time happening)

@@ -10,6 +10,8 @@ use Rattle.bsc_connections.specs.Histories.{WasStopped, WasWithheld, HasJoined, 
 use Rattle.bsc_connections.specs.Histories.{WasRefused}
 use Rattle.bsc_connections.specs.declared.monitor.Refusal.{Refusal}
 use Rattle.bsc_connections.specs.declared.monitor.Refusal.TheVariants as refusal
+use Rattle.bsc_bid.specs.declared.speaker.Speaker.{Speaker}
+use Rattle.bsc_bid.specs.declared.speaker.Speaker.TheVariants.{Control, Terminal}
 use Rattle.bsc_carrier.specs.declared.error.CarrierError.{CarrierError}
 use Rattle.bsc_carrier.specs.declared.error.CarrierError.TheVariants as carrier
 use Rattle.bsc_carrier.specs.declared.fault.DeviceFault.{DeviceFault}
@@ -19,14 +21,14 @@ use Rattle.bsc_text.specs.Traces.{silence_line, time_shown, told_line, transmiss
 use Rattle.bsc_text.specs.Traces.{who_shown}
 use Rattle.bsc_text.specs.declared.trace.Fate.TheVariants as fate
 use Rattle.bsc_text.specs.declared.trace.Who.{Who}
-use Rattle.bsc_text.specs.declared.trace.Who.TheVariants.{Control, Connection}
+use Rattle.bsc_text.specs.declared.trace.Who.TheVariants.{Station, Connection}
 use Rattle.bsc_trust.specs.Reasons.{reason_text}
 use Rattle.bsc_trust.specs.declared.distrust.Distrust.{Distrust}
 
 -- The sender of what the first station heard on the connection at this place.
-abbrev pub heard_from : Who → ℕ → Who
+abbrev pub heard_from : Speaker → ℕ → Who
 heard_from Control place = Connection place
-heard_from _ place = Control
+heard_from (Terminal number) place = Station Control
 
 -- The line for a station that is asked to end.
 abbrev pub stopped_line : ℕ → List ℕ
@@ -108,7 +110,7 @@ ShowsChange happening old new = new ≡ old
 
 -- The line for what happened to this station was written, with the time. That a program has to be
 -- served is nothing of the line, and has none.
-abbrev pub IsTraced : Happening → ℕ → Who → Option (List ℕ) → Option (List ℕ) → Type 0
+abbrev pub IsTraced : Happening → ℕ → Speaker → Option (List ℕ) → Option (List ℕ) → Type 0
 IsTraced (WasHeard place octets) time me old new =
     Appends old new
     (transmission_line time (heard_from me place) fate.Heard None (heard octets) octets)
@@ -116,9 +118,9 @@ IsTraced (WasIgnored place octets) time me old new =
     Appends old new
     (transmission_line time (heard_from me place) fate.Ignored None (heard octets) octets)
 IsTraced (WasSent octets) time me old new =
-    Appends old new (transmission_line time me fate.Sent None (heard octets) octets)
+    Appends old new (transmission_line time (Station me) fate.Sent None (heard octets) octets)
 IsTraced (WasWithheld octets) time me old new =
-    Appends old new (transmission_line time me fate.Withheld None (heard octets) octets)
+    Appends old new (transmission_line time (Station me) fate.Withheld None (heard octets) octets)
 IsTraced WasSilent time me old new = Appends old new (silence_line time)
 IsTraced WasStopped time me old new = Appends old new (stopped_line time)
 IsTraced (HasJoined place peer replaces) time me old new =

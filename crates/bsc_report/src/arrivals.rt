@@ -9,6 +9,7 @@ ghost use Rattle.bsc_report.specs.Arrivals.{arrivals_of};
 ghost use Rattle.bsc_report.specs.Arrivals.{channel_arrivals, channel_at, counted};
 
 use crate::RecordLines;
+use bsc_bid::ChannelName;
 use bsc_block::Records;
 use bsc_control::Way;
 use bsc_station::{Party, Received};
@@ -16,23 +17,24 @@ use bsc_text::{PrintError, put, write_channel_name, write_in_form};
 use std::alloc::Allocator;
 use std::io::Write;
 
-/// The parts of the name of a channel.
+/// The name of a channel of a terminal that has this many selection addresses.
 #[derive(Clone, Copy)]
-pub(crate) struct Channel {
+pub(crate) struct ShownName {
     addresses: usize,
-    number: usize,
-    way: Way,
+    name: ChannelName,
 }
 
-/// Returns the parts of the name of a channel on which this station receives.
-pub(crate) fn channel_of<P: Party>(station: &P, terminal: usize, way: Way) -> Channel
+/// Returns the name of a channel on which this station receives.
+pub(crate) fn channel_of<P: Party>(station: &P, terminal: usize, way: Way) -> ShownName
     requires { terminal < P.count station.now }
     ensures { result ≡ channel_at P.Party station.now terminal way }
 {
-    Channel {
+    ShownName {
         addresses: station.addresses(terminal),
-        number: station.number(terminal),
-        way,
+        name: ChannelName {
+            terminal: station.number(terminal),
+            way,
+        },
     }
 }
 
@@ -96,7 +98,7 @@ fn print_channel<A: Allocator + Copy, P: Party, W: Write>(
 pub(crate) fn print_records<A: Allocator + Copy, B: Allocator, W: Write>(
     alloc: A,
     lines: RecordLines,
-    channel: Channel,
+    channel: ShownName,
     records: &Records<B>,
     from: usize,
     to: usize,
@@ -105,7 +107,8 @@ pub(crate) fn print_records<A: Allocator + Copy, B: Allocator, W: Write>(
     requires ordered { from ≤ to }
     requires within { to ≤ length records.now.items }
     ensures { OnOk result (Appends (W.contents out.old) (W.contents out.new)
-        (lines_from lines (channel_name channel.addresses channel.number channel.way) from
+        (lines_from lines
+        (channel_name channel.addresses channel.name.terminal channel.name.way) from
         (take (to - from) (drop from records.now.items)))) }
 {
     'records: for place in from..to {
@@ -118,16 +121,17 @@ pub(crate) fn print_records<A: Allocator + Copy, B: Allocator, W: Write>(
 fn print_record<A: Allocator, W: Write>(
     alloc: A,
     lines: RecordLines,
-    channel: Channel,
+    channel: ShownName,
     place: usize,
     chars: &[u8],
     out: &mut W,
 ) -> Result<(), PrintError>
     ensures { OnOk result (Appends (W.contents out.old) (W.contents out.new)
-        (arrival_line lines (channel_name channel.addresses channel.number channel.way) place
-        chars.now)) }
+        (arrival_line lines
+        (channel_name channel.addresses channel.name.terminal channel.name.way) place chars.now)) }
 {
-    write_channel_name(channel.addresses, channel.number, channel.way, out)?;
+    let name = channel.name;
+    write_channel_name(channel.addresses, name.terminal, name.way, out)?;
     write_number(lines.numbers, place, out)?;
     put(b": ", out)?;
     write_in_form(alloc, lines.form, chars, out)?;

@@ -11,6 +11,7 @@ ghost use Rattle.bsc_report.specs.Holding.{is_eot, is_poll_end, released};
 
 use crate::trace::{write_note, write_transmission};
 use arrayvec::ArrayVec;
+use bsc_bid::Speaker;
 use bsc_connections::{Decoded, Note};
 use bsc_frame::limits::MAX_SENT;
 use bsc_frame::{Heard, Message, TextBuffer};
@@ -60,7 +61,7 @@ pub struct Seen {
     pub time: u64,
 
     /// The station to which it happened.
-    pub me: Who,
+    pub me: Speaker,
 
     /// Which calls of it may begin an idle poll.
     pub calls: Calls,
@@ -162,7 +163,8 @@ pub fn write_held<A: Allocator, W: Write>(
         Some(call) => {
             let mut buffer = TextBuffer::new();
             let call_sent = &Decoded::new(call.octets.as_slice(), &mut buffer);
-            write_transmission(alloc, call.time, Who::Control, call.fate, call_sent, out)
+            let who = Who::Station(Speaker::Control);
+            write_transmission(alloc, call.time, who, call.fate, call_sent, out)
         }
         None => Ok(()),
     }

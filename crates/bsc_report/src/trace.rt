@@ -14,6 +14,7 @@ ghost use Rattle.bsc_report.specs.Traces.{heard_from as sender_heard};
 ghost use Rattle.bsc_report.specs.Traces.{origin_shown, peer_shown, refusal_shown, refused_line};
 ghost use Rattle.bsc_report.specs.Traces.{stopped_line, withheld_line};
 
+use bsc_bid::Speaker;
 use bsc_carrier::{CarrierError, DeviceFault};
 use bsc_connections::{Decoded, Note, Refusal};
 use bsc_frame::laws::{one_reading, reading};
@@ -63,7 +64,7 @@ fn write_content<A: Allocator, W: Write>(
 pub fn write_note<A: Allocator, W: Write>(
     alloc: A,
     time: u64,
-    me: Who,
+    me: Speaker,
     note: &Note<'_>,
     out: &mut W,
 ) -> Result<(), PrintError>
@@ -86,10 +87,17 @@ pub fn write_note<A: Allocator, W: Write>(
             write_transmission(alloc, time, who, Fate::Ignored, transmission, out)
         }
         Note::Sent { transmission } => {
-            write_transmission(alloc, time, me, Fate::Sent, transmission, out)
+            write_transmission(alloc, time, Who::Station(me), Fate::Sent, transmission, out)
         }
         Note::Withheld { transmission } => {
-            write_transmission(alloc, time, me, Fate::Withheld, transmission, out)
+            write_transmission(
+                alloc,
+                time,
+                Who::Station(me),
+                Fate::Withheld,
+                transmission,
+                out,
+            )
         }
         Note::Silence => write_silence(time, out),
         Note::Stopped => write_stopped(time, out),
@@ -152,12 +160,12 @@ fn write_timed_closed<W: Write>(
 }
 
 /// Returns the sender of a transmission that the station `me` heard on a connection.
-pub(crate) fn heard_from(me: Who, connection: usize) -> Who
+pub(crate) fn heard_from(me: Speaker, connection: usize) -> Who
     ensures { result ≡ sender_heard me connection }
 {
     match me {
-        Who::Control => Who::Connection(connection),
-        Who::Terminal(_) | Who::Connection(_) => Who::Control,
+        Speaker::Control => Who::Connection(connection),
+        Speaker::Terminal { .. } => Who::Station(Speaker::Control),
     }
 }
 

@@ -27,14 +27,14 @@ use Rattle.bsc_spool.specs.declared.channel.Channel.TheVariants.{From}
 use Rattle.bsc_spool.specs.declared.ends.Receiving.{Receiving}
 use Rattle.bsc_spool.specs.declared.ends.Sending.{Sending}
 use Rattle.bsc_keeping.specs.Changes.{in_doubt_of}
-use Rattle.bsc_keeping.specs.Ends.{kept_at_control}
+use Rattle.bsc_station.specs.Feeding.{kept_at_control}
 use Rattle.bsc_keeping.specs.Filled.{KeepsFrom, forgotten_of, receiving_from, sending_from}
 use Rattle.bsc_keeping.specs.Own.{channel_to, each_of, polled_at, receiving_of, receives_at}
 use Rattle.bsc_keeping.specs.Own.{selection_of, selections_at, sending_of, sends_from, spool_of}
 use Rattle.bsc_keeping.specs.Own.{terminal_at}
 use Rattle.bsc_keeping.specs.declared.keeper.Keeper.{Keeper}
-use Rattle.bsc_keeping.specs.declared.own_text.Owner.{Owner}
-use Rattle.bsc_keeping.specs.declared.own_text.Owner.TheVariants.{Control, Terminal}
+use Rattle.bsc_bid.specs.declared.speaker.Speaker.{Speaker}
+use Rattle.bsc_bid.specs.declared.speaker.Speaker.TheVariants.{Control, Terminal}
 use Rattle.bsc_restarts.specs.AfterCrash.{ControlBeginsAfterCrash, TerminalBeginsAfterCrash}
 use Rattle.bsc_restarts.specs.AfterCrash.{arrived_at_control, arrived_at_terminal, kept_at_terminal}
 use Rattle.bsc_restarts.specs.AfterCrash.{waiting_at_control, waiting_at_terminal}
@@ -73,14 +73,14 @@ bare_receives : (t : Option TerminalValue) → IsBareReceiving (receives_at t)
 bare_receives None = refl
 bare_receives (Some t) = bare_each_receiving (spool_of t) (λ i. refl) (length t.selects)
 
-bare_sending_of : (ts : List TerminalValue) (owner : Owner) → IsBareSending (sending_of ts owner)
+bare_sending_of : (ts : List TerminalValue) (owner : Speaker) → IsBareSending (sending_of ts owner)
 bare_sending_of ts Control =
     bare_each_sending (selections_at ts)
     (λ t. bare_each_sending (selection_of (terminal_at ts t) t) (λ s. refl)
     (length (terminal_at ts t).selects)) (length ts)
 bare_sending_of ts (Terminal number) = bare_sends (slice_get ts number)
 
-bare_receiving_of : (ts : List TerminalValue) (owner : Owner)
+bare_receiving_of : (ts : List TerminalValue) (owner : Speaker)
     → IsBareReceiving (receiving_of ts owner)
 bare_receiving_of ts Control = bare_each_receiving (polled_at ts) (λ t. refl) (length ts)
 bare_receiving_of ts (Terminal number) = bare_receives (slice_get ts number)
@@ -107,7 +107,7 @@ knows_received has [] = tt
 knows_received has (end ∷ ends) = (refl, knows_received has ends)
 
 pub known_once_begun : {K : Type 0} (has : Channel → Contents) (ts : List TerminalValue)
-    (owner : Owner) (keeper : Keeper K)
+    (owner : Speaker) (keeper : Keeper K)
     → KeepsFrom has (sending_of ts owner) (receiving_of ts owner) keeper
     → Knows has (sending_of ts owner) (receiving_of ts owner) keeper
 known_once_begun has ts owner keeper keeps =

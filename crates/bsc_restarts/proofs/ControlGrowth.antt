@@ -40,7 +40,7 @@ use Rattle.bsc_control.specs.Table.{way_call_step}
 use Rattle.bsc_control.specs.Stored.{kept_of_side}
 use Rattle.bsc_control.proofs.Calls.{by_next_call}
 use Rattle.bsc_control.proofs.PeerLists.{value_kept_by_set}
-use Rattle.bsc_keeping.specs.Ends.{kept_at_control}
+use Rattle.bsc_station.specs.Feeding.{kept_at_control}
 use Rattle.bsc_restarts.proofs.Ends.{ReceivedGrows, SentGrows, SentGrowsIf, grown_where, grows_not}
 use Rattle.bsc_restarts.proofs.Growing.{KnowsMore, begin_knows, grows_if_knows, knows_as_many}
 use Rattle.bsc_restarts.proofs.Growing.{none_known, reply_knows, silence_knows, were_waiting}

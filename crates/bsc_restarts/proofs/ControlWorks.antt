@@ -19,11 +19,11 @@ use Rattle.bsc_control.proofs.Restarting.{outbound_of_restarted, peer_at_restart
 use Rattle.bsc_spool.specs.Contents.{Contents}
 use Rattle.bsc_spool.specs.declared.change.Change.TheVariants.{Known, Offered}
 use Rattle.bsc_spool.specs.declared.channel.Channel.{Channel}
-use Rattle.bsc_keeping.specs.Ends.{kept_at_control}
+use Rattle.bsc_station.specs.Feeding.{kept_at_control}
 use Rattle.bsc_keeping.specs.Offers.{channel_to}
-use Rattle.bsc_keeping.specs.OffersKept.{control_with}
+use Rattle.bsc_station.specs.Feeding.{control_with}
 use Rattle.bsc_keeping.specs.Own.{receiving_of, sending_of}
-use Rattle.bsc_keeping.specs.declared.own_text.Owner.TheVariants.{Control}
+use Rattle.bsc_bid.specs.declared.speaker.Speaker.TheVariants.{Control}
 use Rattle.bsc_restarts.specs.AfterCrash.{arrived_at_control, waiting_at_control}
 use Rattle.bsc_restarts.specs.Between.{IsControlOf}
 use Rattle.bsc_restarts.specs.Crashes.{KeepsOne}

@@ -21,7 +21,7 @@ use Rattle.bsc_keeping.specs.Filled.{forgotten_of, offered_each, recalled_each, 
 use Rattle.bsc_keeping.specs.Filled.{sent_again}
 use Rattle.bsc_keeping.specs.Filling.{offered_at, recalled_at}
 use Rattle.bsc_keeping.specs.Own.{channel_to, sending_of, terminal_at}
-use Rattle.bsc_keeping.specs.declared.own_text.Owner.TheVariants.{Control}
+use Rattle.bsc_bid.specs.declared.speaker.Speaker.TheVariants.{Control}
 use Rattle.bsc_spool.specs.Queue.{queue_of, waiting, with_forgotten}
 use Rattle.bsc_spool.specs.Spool.{SpoolValue}
 use Rattle.bsc_restarts.specs.BegunAgain.{ControlBeginsAgain, HasSent, HasSides}

@@ -13,7 +13,7 @@ use Rattle.bsc_spool.specs.declared.ends.Sending.{Sending}
 use Rattle.bsc_keeping.specs.Own.{each_of, polled_at, receiving_of, selection_of, selections_at}
 use Rattle.bsc_keeping.specs.Own.{selections_of, sending_of, sends_from, spool_of, spools_of}
 use Rattle.bsc_keeping.specs.Own.{terminal_at}
-use Rattle.bsc_keeping.specs.declared.own_text.Owner.TheVariants.{Control}
+use Rattle.bsc_bid.specs.declared.speaker.Speaker.TheVariants.{Control}
 use Rattle.bsc_restarts.specs.Crashes.{AllDiffer}
 use Rattle.bsc_restarts.specs.Kept.{ChannelsDiffer, receiving_channels, sending_channels}
 use Rattle.bsc_restarts.proofs.Lists.{all_both, all_parts}

@@ -25,8 +25,8 @@ use Rattle.bsc_spool.specs.declared.ends.Sending.{Sending}
 use Rattle.bsc_station.specs.Forgetting.{ForgetsArrivedFor, ForgetsArrivedFrom, ForgetsOwn}
 use Rattle.bsc_station.specs.Forgetting.{ForgetsSent, further, nothing}
 use Rattle.bsc_station.specs.LineTerminal.{LineTerminalValue}
-use Rattle.bsc_monitor.specs.Polls.{PollsTerminal}
-use Rattle.bsc_keeping.specs.Ends.{kept_at_control}
+use Rattle.bsc_station.specs.Polling.{PollsTerminal}
+use Rattle.bsc_station.specs.Feeding.{kept_at_control}
 use Rattle.bsc_restarts.specs.AfterCrash.{arrived_at_control, arrived_at_terminal, kept_at_terminal}
 use Rattle.bsc_restarts.specs.AfterCrash.{waiting_at_control, waiting_at_terminal}
 use Rattle.bsc_restarts.specs.Between.{OutlivesForgetting}

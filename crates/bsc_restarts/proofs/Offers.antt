@@ -27,13 +27,13 @@ use Rattle.bsc_spool.specs.declared.ends.Sending.{Sending}
 use Rattle.bsc_spool.specs.declared.fault.StoreFault.{StoreFault}
 use Rattle.bsc_spool.specs.declared.store.Store as store_of
 use Rattle.bsc_station.specs.LineTerminal.{LineTerminalValue}
-use Rattle.bsc_keeping.specs.Ends.{kept_at_control}
+use Rattle.bsc_station.specs.Feeding.{kept_at_control}
 use Rattle.bsc_keeping.specs.Offers.{KeepsOffer, OffersIf, channel_of, channel_to, is_end_to}
-use Rattle.bsc_keeping.specs.OffersKept.{control_with, terminal_with}
+use Rattle.bsc_station.specs.Feeding.{control_with, terminal_with}
 use Rattle.bsc_keeping.specs.Own.{each_of, receiving_of, selection_of, selections_at, sending_of}
 use Rattle.bsc_keeping.specs.Own.{sends_from, spools_of, terminal_at}
 use Rattle.bsc_keeping.specs.declared.keeper.Keeper.{Keeper}
-use Rattle.bsc_keeping.specs.declared.own_text.Owner.TheVariants.{Control}
+use Rattle.bsc_bid.specs.declared.speaker.Speaker.TheVariants.{Control}
 use Rattle.bsc_restarts.specs.AfterCrash.{arrived_at_control, arrived_at_terminal, kept_at_terminal}
 use Rattle.bsc_restarts.specs.AfterCrash.{waiting_at_control, waiting_at_terminal}
 use Rattle.bsc_restarts.specs.Between.{IsControlOf, LeavesOffer, OutlivesOffers}

@@ -13,7 +13,6 @@ use Rattle.bsc_bid.specs.declared.sender.ReleaseError.TheVariants.{CountMismatch
 use Rattle.bsc_bid.specs.Addresses.{AreDistinct}
 use Rattle.bsc_bid.specs.Ways.{select_of}
 use Rattle.bsc_bid.specs.declared.way.Way.{Way}
-use Rattle.bsc_feed.specs.declared.fault.Fault.{Fault}
 use Rattle.bsc_control.specs.Control.{ControlValue, peer_at}
 use Rattle.bsc_control.specs.Kept.{IsControl, outbound_of}
 use Rattle.bsc_control.specs.Peer.{PeerValue, no_peer, outbound_released, with_outbound}
@@ -24,14 +23,14 @@ use Rattle.bsc_spool.specs.declared.channel.Channel.{Channel}
 use Rattle.bsc_spool.specs.declared.fault.StoreFault.{StoreFault}
 use Rattle.bsc_spool.specs.declared.store.Store as store_of
 use Rattle.bsc_station.specs.LineTerminal.{LineTerminalValue}
-use Rattle.bsc_keeping.specs.Ends.{kept_at_control}
+use Rattle.bsc_station.specs.Feeding.{kept_at_control}
 use Rattle.bsc_keeping.specs.Offers.{KeepsOffer}
 use Rattle.bsc_keeping.specs.Own.{receiving_of, sending_of, sends_from, spools_of}
 use Rattle.bsc_keeping.specs.declared.keeper.Keeper.{Keeper}
-use Rattle.bsc_keeping.specs.declared.own_text.Owner.TheVariants.{Control}
-use Rattle.bsc_serving.specs.Feeding.{IsNoTerminal, IsOfferedAt, IsOfferedTo}
-use Rattle.bsc_serving.specs.Feeding.{ReadiesTerminal, ReleasesControl, ReleasesTerminal}
-use Rattle.bsc_serving.specs.Feeding.{UrgesTerminal}
+use Rattle.bsc_bid.specs.declared.speaker.Speaker.TheVariants.{Control}
+use Rattle.bsc_station.specs.Feeding.{IsNoTerminal, IsOfferedAt, IsOfferedTo}
+use Rattle.bsc_station.specs.Feeding.{ReadiesTerminal, ReleasesControl, ReleasesTerminal}
+use Rattle.bsc_station.specs.Feeding.{UrgesTerminal}
 use Rattle.bsc_restarts.specs.AfterCrash.{arrived_at_control, arrived_at_terminal, kept_at_terminal}
 use Rattle.bsc_restarts.specs.AfterCrash.{waiting_at_control, waiting_at_terminal}
 use Rattle.bsc_restarts.specs.Between.{LeavesOffer}
@@ -116,18 +115,18 @@ terminal_releases old new count releases =
 -- or that accepts selections or asks for the line
 pub terminal_sets : (has : Channel → Contents) (terminal : TerminalValue)
     (old new : LineTerminalValue)
-    → ((ready : Bool) × (result : Result (Unit {0}) Fault) × ReadiesTerminal old ready result new)
-    ⊎ ((result : Result (Unit {0}) Fault) × UrgesTerminal old result new)
+    → ((ready : Bool) × (is_terminal : Bool) × ReadiesTerminal old ready is_terminal new)
+    ⊎ ((is_terminal : Bool) × UrgesTerminal old is_terminal new)
     → HasStation kept_at_terminal waiting_at_terminal arrived_at_terminal has
     (sends_from (Some terminal)) (spools_of terminal) old
     → HasStation kept_at_terminal waiting_at_terminal arrived_at_terminal has
     (sends_from (Some terminal)) (spools_of terminal) new
-terminal_sets has terminal old new (inl (ready, result, readies)) all =
+terminal_sets has terminal old new (inl (ready, is_terminal, readies)) all =
     subst
     (HasStation kept_at_terminal waiting_at_terminal arrived_at_terminal has
     (sends_from (Some terminal)) (spools_of terminal))
     (sym readies.state) (record { sent = all.sent; received = all.received })
-terminal_sets has terminal old new (inr (result, urges)) all =
+terminal_sets has terminal old new (inr (is_terminal, urges)) all =
     subst
     (HasStation kept_at_terminal waiting_at_terminal arrived_at_terminal has
     (sends_from (Some terminal)) (spools_of terminal))
@@ -192,18 +191,18 @@ control_releases old new t way count releases =
 
 -- or that is asked for what only a terminal does
 pub control_sets : (has : Channel → Contents) (ts : List TerminalValue) (old new : ControlValue)
-    → ((ready : Bool) × (result : Result (Unit {0}) Fault) × IsNoTerminal old result new)
-    ⊎ ((result : Result (Unit {0}) Fault) × IsNoTerminal old result new)
+    → ((ready : Bool) × (is_terminal : Bool) × IsNoTerminal old is_terminal new)
+    ⊎ ((is_terminal : Bool) × IsNoTerminal old is_terminal new)
     → HasStation kept_at_control waiting_at_control arrived_at_control has (sending_of ts Control)
     (receiving_of ts Control) old
     → HasStation kept_at_control waiting_at_control arrived_at_control has (sending_of ts Control)
     (receiving_of ts Control) new
-control_sets has ts old new (inl (ready, result, none)) all =
+control_sets has ts old new (inl (ready, is_terminal, none)) all =
     subst
     (HasStation kept_at_control waiting_at_control arrived_at_control has (sending_of ts Control)
     (receiving_of ts Control))
     (sym none.same) all
-control_sets has ts old new (inr (result, none)) all =
+control_sets has ts old new (inr (is_terminal, none)) all =
     subst
     (HasStation kept_at_control waiting_at_control arrived_at_control has (sending_of ts Control)
     (receiving_of ts Control))

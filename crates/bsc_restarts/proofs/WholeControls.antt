@@ -23,11 +23,11 @@ use Rattle.bsc_control.specs.declared.task.Task.TheVariants.{AtRest, Polling, Se
 use Rattle.bsc_spool.specs.Contents.{Contents, records_from}
 use Rattle.bsc_spool.specs.declared.channel.Channel.{Channel}
 use Rattle.bsc_spool.specs.declared.channel.Channel.TheVariants.{From}
-use Rattle.bsc_keeping.specs.Ends.{kept_at_control}
+use Rattle.bsc_station.specs.Feeding.{kept_at_control}
 use Rattle.bsc_keeping.specs.Filled.{IsControlFilledFrom}
 use Rattle.bsc_keeping.specs.Own.{channel_to, polled_at, receiving_of, selection_of, selections_at}
 use Rattle.bsc_keeping.specs.Own.{sending_of, terminal_at}
-use Rattle.bsc_keeping.specs.declared.own_text.Owner.TheVariants.{Control}
+use Rattle.bsc_bid.specs.declared.speaker.Speaker.TheVariants.{Control}
 use Rattle.bsc_restarts.specs.AfterCrash.{ControlBeginsAfterCrash, LeavesControl}
 use Rattle.bsc_restarts.specs.AfterCrash.{arrived_at_control, waiting_at_control}
 use Rattle.bsc_restarts.specs.BegunAgain.{ControlBeginsAgain, HasControl, HasReceived, HasSent}

@@ -27,7 +27,7 @@ use Rattle.bsc_spool.specs.declared.ends.Receiving.{Receiving}
 use Rattle.bsc_spool.specs.declared.ends.Sending.{Sending}
 use Rattle.bsc_station.specs.LineTerminal.{LineTerminalValue}
 use Rattle.bsc_keeping.specs.Offers.{channel_to}
-use Rattle.bsc_keeping.specs.OffersKept.{terminal_with}
+use Rattle.bsc_station.specs.Feeding.{terminal_with}
 use Rattle.bsc_keeping.specs.Own.{sends_from, spools_of}
 use Rattle.bsc_restarts.specs.AfterCrash.{arrived_at_terminal, kept_at_terminal}
 use Rattle.bsc_restarts.specs.AfterCrash.{waiting_at_terminal}

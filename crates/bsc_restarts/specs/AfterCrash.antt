@@ -15,11 +15,11 @@ use Rattle.bsc_spool.specs.Contents.{Contents, records_from}
 use Rattle.bsc_spool.specs.declared.channel.Channel.{Channel}
 use Rattle.bsc_spool.specs.declared.channel.Channel.TheVariants.{From}
 use Rattle.bsc_station.specs.LineTerminal.{LineTerminalValue}
-use Rattle.bsc_keeping.specs.Ends.{kept_at_control}
+use Rattle.bsc_station.specs.Feeding.{kept_at_control}
 use Rattle.bsc_keeping.specs.Filled.{IsControlFilledFrom, IsTerminalFilledFrom}
 use Rattle.bsc_keeping.specs.Own.{channel_to, receiving_of, sending_of, sends_from, spools_of}
 use Rattle.bsc_keeping.specs.Own.{terminal_at}
-use Rattle.bsc_keeping.specs.declared.own_text.Owner.TheVariants.{Control}
+use Rattle.bsc_bid.specs.declared.speaker.Speaker.TheVariants.{Control}
 use Rattle.bsc_restarts.specs.BegunAgain.{HasSides, IsControlBegunAgain, IsTerminalBegunAgain}
 use Rattle.bsc_restarts.specs.BegunAgain.{SidesFit}
 use Rattle.bsc_restarts.specs.Kept.{HasStation}

@@ -9,12 +9,12 @@ use Rattle.bsc_control.specs.Stored.{apart_from_records}
 use Rattle.bsc_spool.specs.Contents.{Contents}
 use Rattle.bsc_spool.specs.declared.channel.Channel.{Channel}
 use Rattle.bsc_station.specs.LineTerminal.{LineTerminalValue}
-use Rattle.bsc_keeping.specs.Ends.{kept_at_control}
+use Rattle.bsc_station.specs.Feeding.{kept_at_control}
 use Rattle.bsc_keeping.specs.Filled.{IsControlFilledFrom, IsTerminalFilledFrom, KeepsFrom}
 use Rattle.bsc_keeping.specs.Own.{receiving_of, sending_of, sends_from, spools_of}
 use Rattle.bsc_keeping.specs.declared.keeper.Keeper.{Keeper}
-use Rattle.bsc_keeping.specs.declared.own_text.Owner.{Owner}
-use Rattle.bsc_keeping.specs.declared.own_text.Owner.TheVariants.{Control}
+use Rattle.bsc_bid.specs.declared.speaker.Speaker.{Speaker}
+use Rattle.bsc_bid.specs.declared.speaker.Speaker.TheVariants.{Control}
 use Rattle.bsc_restarts.specs.AfterCrash.{LeavesControl, LeavesTerminal, arrived_at_control}
 use Rattle.bsc_restarts.specs.AfterCrash.{arrived_at_terminal, kept_at_terminal, waiting_at_control}
 use Rattle.bsc_restarts.specs.AfterCrash.{waiting_at_terminal}
@@ -55,6 +55,6 @@ ControlKeptOnceBegun =
 -- What keeps its records knows how much of each channel the store has.
 abbrev pub KnownOnceBegun : Type 0 → Type 0
 KnownOnceBegun K =
-    (has : Channel → Contents) (ts : List TerminalValue) (owner : Owner) (keeper : Keeper K)
+    (has : Channel → Contents) (ts : List TerminalValue) (owner : Speaker) (keeper : Keeper K)
     → KeepsFrom has (sending_of ts owner) (receiving_of ts owner) keeper
     → Knows has (sending_of ts owner) (receiving_of ts owner) keeper

@@ -15,7 +15,7 @@ use Rattle.bsc_keeping.specs.Filled.{IsControlFilledFrom, IsTerminalFilledFrom, 
 use Rattle.bsc_keeping.specs.Filled.{recalled_of}
 use Rattle.bsc_keeping.specs.Own.{channel_to, receiving_of, sending_of, sends_from, spools_of}
 use Rattle.bsc_keeping.specs.Own.{terminal_at}
-use Rattle.bsc_keeping.specs.declared.own_text.Owner.TheVariants.{Control}
+use Rattle.bsc_bid.specs.declared.speaker.Speaker.TheVariants.{Control}
 use Rattle.bsc_station.specs.LineTerminal.{LineTerminalValue}
 use Rattle.bsc_spool.specs.Queue.{waiting, with_forgotten}
 use Rattle.bsc_tributary.specs.Kept.{IsNewTerminal, IsTributary}

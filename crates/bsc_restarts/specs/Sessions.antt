@@ -10,10 +10,12 @@ use Rattle.bsc_spool.specs.declared.fault.StoreFault.{StoreFault}
 use Rattle.bsc_spool.specs.declared.store.Store as store_of
 use Rattle.bsc_bid.specs.Ways.{select_of}
 use Rattle.bsc_bid.specs.declared.way.Way.{Way}
+use Rattle.bsc_station.specs.declared.line_station.LineStation as line_of
 use Rattle.bsc_station.specs.declared.party.Party as party_of
+use Rattle.bsc_keeping.specs.FedRuns.{for_programs}
 use Rattle.bsc_keeping.specs.Keeping.{KeepsStep}
 use Rattle.bsc_keeping.specs.Offers.{KeepsOffer}
-use Rattle.bsc_keeping.specs.Runs.{ForPrograms, KeptRun, KeptStep, Moment}
+use Rattle.bsc_keeping.specs.Runs.{ForPrograms, KeptRun, KeptStep, Moment, if_fed}
 use Rattle.bsc_keeping.specs.declared.keeper.Keeper.{Keeper}
 use Rattle.bsc_restarts.specs.Crashes.{CrashLeaves, KeepsGiven}
 use Rattle.bsc_restarts.specs.Kept.{HasStation, Knows}
@@ -78,3 +80,10 @@ module _ {S K : Type 0} (kept_at : S → ℕ → ℕ → Option KeptSender)
         → does.releases old.station terminal way count new
         → KeepsStep party kept_at store printed new result old.keeper keeper
         → CrashLeavesEither has old.station new old.keeper keeper
+
+  -- So it is of a station that programs can feed, if the flag says so.
+  abbrev pub OutlivesFed : {Z : Type 0} → station_of.Ghosts S → party_of.Ghosts S Z
+      → line_of.Ghosts S Z → Bool → Type 0
+  OutlivesFed station party line is_fed =
+      OutlivesCrashes station party line.forgets_sent line.forgets_arrived line.polls
+      (if_fed is_fed (for_programs line))

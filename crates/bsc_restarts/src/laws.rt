@@ -9,12 +9,11 @@ ghost use Rattle.bsc_control.specs.Control.{restarted};
 ghost use Rattle.bsc_spool.specs.Contents.{Contents, GivesBack};
 ghost use Rattle.bsc_spool.specs.declared.channel.Channel.{Channel as ChannelValue};
 ghost use Rattle.bsc_station.specs.LineTerminal.{LineTerminalValue};
-ghost use Rattle.bsc_keeping.specs.Ends.{kept_at_control};
-ghost use Rattle.bsc_keeping.specs.OffersKept.{control_with, terminal_with};
-ghost use Rattle.bsc_keeping.specs.Runs.{if_fed};
+ghost use Rattle.bsc_station.specs.Feeding.{kept_at_control};
+ghost use Rattle.bsc_station.specs.Feeding.{control_with, terminal_with};
 ghost use Rattle.bsc_keeping.specs.Own.{receiving_of, sending_of, sends_from, spools_of};
-ghost use Rattle.bsc_keeping.specs.declared.own_text.Owner.TheVariants.{Control as ControlOwner};
-ghost use Rattle.bsc_serving.specs.Turns.{for_programs};
+ghost use Rattle.bsc_bid.specs.declared.speaker.Speaker.TheVariants.{Control as ControlSpeaker};
+ghost use Rattle.bsc_serving.specs.Stations.{control_line, terminal_line};
 ghost use Rattle.bsc_restarts.specs.AfterCrash.{ControlBeginsAfterCrash, TerminalBeginsAfterCrash};
 ghost use Rattle.bsc_restarts.specs.AfterCrash.{arrived_at_control, arrived_at_terminal};
 ghost use Rattle.bsc_restarts.specs.AfterCrash.{kept_at_terminal, waiting_at_control};
@@ -26,7 +25,7 @@ ghost use Rattle.bsc_restarts.specs.Between.{IsControlOf, OutlivesForgetting, Ou
 ghost use Rattle.bsc_restarts.specs.Between.{OutlivesOffers};
 ghost use Rattle.bsc_restarts.specs.Crashes.{CrashLeaves, KeepsGiven};
 ghost use Rattle.bsc_restarts.specs.Ideal.{ideal_store, what_it_has};
-ghost use Rattle.bsc_restarts.specs.Sessions.{OutlivesCrashes};
+ghost use Rattle.bsc_restarts.specs.Sessions.{OutlivesFed};
 ghost use Rattle.bsc_restarts.specs.StoreWorks.{ControlReleases, FollowsWorks, TerminalReleases};
 ghost use Rattle.bsc_restarts.specs.StoreWorks.{control_released, terminal_released};
 ghost use Rattle.bsc_restarts.specs.StoreWorks.{terminal_restarted};
@@ -35,10 +34,8 @@ use bsc_bid::Station;
 use bsc_bid::laws::recalls;
 use bsc_control::Control;
 use bsc_control::laws::made_again;
-use bsc_monitor::Polls;
-use bsc_serving::Feeds;
 use bsc_spool::Store;
-use bsc_station::{Forgets, LineTerminal, Party};
+use bsc_station::{LineStation, LineTerminal, Party};
 use std::alloc::Allocator;
 
 /// A new station that is filled from a store that has all that is to be kept of a station is that
@@ -64,26 +61,17 @@ pub fn begun_again()
 /// the program runs so each station whose records are kept.
 pub fn terminal_outlives_crashes<A: Allocator, K: Store + Drop>()
     ensures { (terminal : TerminalValue) → HasDistinctAddresses terminal → (is_fed : Bool)
-        → OutlivesCrashes kept_at_terminal waiting_at_terminal arrived_at_terminal K.Store
+        → OutlivesFed kept_at_terminal waiting_at_terminal arrived_at_terminal K.Store
         (sends_from (Some terminal)) (spools_of terminal)
-        ⟦<LineTerminal<A> as Station>⟧ ⟦<LineTerminal<A> as Party>⟧
-        ⟦<LineTerminal<A> as Forgets>⟧.forgets_sent
-        ⟦<LineTerminal<A> as Forgets>⟧.forgets_arrived ⟦<LineTerminal<A> as Polls>⟧.polls
-        (if_fed is_fed (for_programs ⟦<LineTerminal<A> as Feeds>⟧.offers
-        ⟦<LineTerminal<A> as Feeds>⟧.releases ⟦<LineTerminal<A> as Feeds>⟧.readies
-        ⟦<LineTerminal<A> as Feeds>⟧.urges)) }
+        ⟦<LineTerminal<A> as Station>⟧ ⟦<LineTerminal<A> as Party>⟧ terminal_line is_fed }
 {}
 
 /// The same of a control station.
 pub fn control_outlives_crashes<A: Allocator, K: Store + Drop>()
     ensures { (terminals : List TerminalValue) → AreDistinct terminals → (is_fed : Bool)
-        → OutlivesCrashes kept_at_control waiting_at_control arrived_at_control K.Store
-        (sending_of terminals ControlOwner) (receiving_of terminals ControlOwner)
-        ⟦<Control<A> as Station>⟧ ⟦<Control<A> as Party>⟧ ⟦<Control<A> as Forgets>⟧.forgets_sent
-        ⟦<Control<A> as Forgets>⟧.forgets_arrived ⟦<Control<A> as Polls>⟧.polls
-        (if_fed is_fed (for_programs ⟦<Control<A> as Feeds>⟧.offers
-        ⟦<Control<A> as Feeds>⟧.releases ⟦<Control<A> as Feeds>⟧.readies
-        ⟦<Control<A> as Feeds>⟧.urges)) }
+        → OutlivesFed kept_at_control waiting_at_control arrived_at_control K.Store
+        (sending_of terminals ControlSpeaker) (receiving_of terminals ControlSpeaker)
+        ⟦<Control<A> as Station>⟧ ⟦<Control<A> as Party>⟧ control_line is_fed }
 {}
 
 /// A station that begins again from what a crash left is the one of which it was left, after a
@@ -112,8 +100,9 @@ pub fn kept_once_begun<K: Store + Drop>()
 /// At the end, while all that the station has changed is kept once more, a crash leaves no less.
 pub fn kept_between_sessions<A: Allocator, K: Store + Drop>()
     ensures terminal_forgets { OutlivesForgetting kept_at_terminal waiting_at_terminal
-        arrived_at_terminal ⟦<LineTerminal<A> as Forgets>⟧.forgets_sent
-        ⟦<LineTerminal<A> as Forgets>⟧.forgets_arrived ⟦<LineTerminal<A> as Polls>⟧.polls }
+        arrived_at_terminal ⟦<LineTerminal<A> as LineStation>⟧.forgets_sent
+        ⟦<LineTerminal<A> as LineStation>⟧.forgets_arrived
+        ⟦<LineTerminal<A> as LineStation>⟧.polls }
     ensures terminal_keeps { OutlivesKeeping kept_at_terminal waiting_at_terminal
         arrived_at_terminal ⟦<LineTerminal<A> as Party>⟧ K.Store }
     ensures terminal_offers { (terminal : TerminalValue) → HasDistinctAddresses terminal
@@ -121,13 +110,13 @@ pub fn kept_between_sessions<A: Allocator, K: Store + Drop>()
         (sends_from (Some terminal)) (spools_of terminal)
         (λ (l : LineTerminalValue). IsTributary l.tributary) terminal_with }
     ensures control_forgets { OutlivesForgetting kept_at_control waiting_at_control
-        arrived_at_control ⟦<Control<A> as Forgets>⟧.forgets_sent
-        ⟦<Control<A> as Forgets>⟧.forgets_arrived ⟦<Control<A> as Polls>⟧.polls }
+        arrived_at_control ⟦<Control<A> as LineStation>⟧.forgets_sent
+        ⟦<Control<A> as LineStation>⟧.forgets_arrived ⟦<Control<A> as LineStation>⟧.polls }
     ensures control_keeps { OutlivesKeeping kept_at_control waiting_at_control arrived_at_control
         ⟦<Control<A> as Party>⟧ K.Store }
     ensures control_offers { (terminals : List TerminalValue) → AreDistinct terminals
         → OutlivesOffers kept_at_control waiting_at_control arrived_at_control K.Store
-        (sending_of terminals ControlOwner) (receiving_of terminals ControlOwner)
+        (sending_of terminals ControlSpeaker) (receiving_of terminals ControlSpeaker)
         (IsControlOf terminals) control_with }
 {}
 
@@ -143,7 +132,7 @@ pub fn works_followed()
         terminal_released terminal_with }
     ensures control { (terminals : List TerminalValue) → AreDistinct terminals
         → FollowsWorks kept_at_control waiting_at_control arrived_at_control
-        (sending_of terminals ControlOwner) (receiving_of terminals ControlOwner)
+        (sending_of terminals ControlSpeaker) (receiving_of terminals ControlSpeaker)
         (IsControlOf terminals) restarted ControlReleases control_released control_with }
 {}
 

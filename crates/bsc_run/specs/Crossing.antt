@@ -4,8 +4,8 @@ use Rattle.std.specs.Prelude.{◌≡◌, ◌<◌, ℕ, List, [], ◌∷◌, ◌+
 use Rattle.std.specs.List.{AllZip}
 use Rattle.bsc_carrier.specs.Record.{IsCarried}
 use Rattle.bsc_carrier.specs.Cable.{CableValue, Takes, Gives, ChangesAt}
-use Rattle.bsc_line_model.specs.declared.transmission.Speaker.{Speaker}
-use Rattle.bsc_line_model.specs.declared.transmission.Speaker.TheVariants.{Control, Terminal}
+use Rattle.bsc_bid.specs.declared.speaker.Speaker.{Speaker}
+use Rattle.bsc_bid.specs.declared.speaker.Speaker.TheVariants.{Control, Terminal}
 
 -- The number of connections of a cable.
 abbrev pub connection_count : {S : Type 0} → CableValue S → ℕ

@@ -9,29 +9,21 @@ use Rattle.bsc_text.specs.Names.{name_line}
 use Rattle.bsc_text.specs.declared.form.Form.TheVariants.{Hexadecimal}
 use Rattle.bsc_text.specs.Channels.{channel_name, doubt_shown, record_line, each_below}
 use Rattle.bsc_text.specs.Traces.{who_shown}
-use Rattle.bsc_text.specs.declared.trace.Who.{Who}
-use Rattle.bsc_text.specs.declared.trace.Who.TheVariants as who
+use Rattle.bsc_text.specs.declared.trace.Who.TheVariants.{Station}
 use Rattle.bsc_bid.specs.Channel.{Channel}
 use Rattle.bsc_bid.specs.Sender.{is_in_doubt}
 use Rattle.bsc_bid.specs.declared.way.Way.{Way}
 use Rattle.bsc_bid.specs.declared.way.Way.TheVariants.{FromTerminal, ToTerminal}
-use Rattle.bsc_line_model.specs.declared.transmission.Speaker.{Speaker}
-use Rattle.bsc_line_model.specs.declared.transmission.Speaker.TheVariants.{Control, Terminal}
 use Rattle.bsc_line_model.specs.declared.transmission.Transmission.{Transmission}
 use Rattle.bsc_line_model.specs.Line.{LineValue, terminal_count, channel_of, phase_of}
 use Rattle.bsc_line_model.specs.Offers.{select_count}
-
--- The sender of a transmission, as a trace names it.
-abbrev pub who_of : Speaker → Who
-who_of Control = who.Control
-who_of (Terminal t) = who.Terminal t
 
 -- The line for the pending transmission: its sender and the name of its message, or that none is
 -- pending.
 abbrev pub pending_line : Option Transmission → List ℕ
 pending_line None = codes "quiet\n"
 pending_line (Some sent) =
-    who_shown (who_of sent.speaker) ++ codes " " ++ name_line (Whole sent.message)
+    who_shown (Station sent.speaker) ++ codes " " ++ name_line (Whole sent.message)
 
 -- The numbers of records that are offered, known and spooled on a channel.
 abbrev pub counts_shown : Channel → List ℕ

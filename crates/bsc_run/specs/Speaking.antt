@@ -1,8 +1,8 @@
 -- The sender of the pending transmission has a connection of the cable.
 use Rattle.std.specs.Prelude.{◌≡◌, ◌<◌, Option, None, Some}
 use Rattle.bsc_carrier.specs.Cable.{CableValue}
-use Rattle.bsc_line_model.specs.declared.transmission.Speaker.{Speaker}
-use Rattle.bsc_line_model.specs.declared.transmission.Speaker.TheVariants.{Control, Terminal}
+use Rattle.bsc_bid.specs.declared.speaker.Speaker.{Speaker}
+use Rattle.bsc_bid.specs.declared.speaker.Speaker.TheVariants.{Control, Terminal}
 use Rattle.bsc_line_model.specs.declared.transmission.Transmission.{Transmission}
 use Rattle.bsc_line_model.specs.Line.{LineValue, terminal_count}
 use Rattle.bsc_line_model.specs.Kept.{IsLine}

@@ -15,6 +15,7 @@ use Rattle.bsc_text.specs.Channels.{each_below}
 use Rattle.bsc_text.specs.Traces.{silence_shown, told_line, transmission_line}
 use Rattle.bsc_text.specs.declared.trace.Fate.{Fate}
 use Rattle.bsc_text.specs.declared.trace.Fate.TheVariants as fate
+use Rattle.bsc_text.specs.declared.trace.Who.TheVariants.{Station}
 use Rattle.bsc_bid.specs.declared.way.Way.{Way}
 use Rattle.bsc_bid.specs.declared.way.Way.TheVariants.{FromTerminal, ToTerminal}
 use Rattle.bsc_line_model.specs.declared.transmission.Transmission.{Transmission}
@@ -25,7 +26,6 @@ use Rattle.bsc_line_model.specs.Line.{LineValue}
 use Rattle.bsc_config.specs.Events.{Event as Asked, offer_at, offer_for, carry, lose, heard}
 use Rattle.bsc_config.specs.Events.{heard_each, silence, ready, polled, urgent_at, urgent_for}
 use Rattle.bsc_config.specs.Events.{release}
-use Rattle.bsc_run.specs.Printed.{who_of}
 
 -- Whether a message was heard that is another than the one that was sent. Two messages are the same
 -- if the same octets are sent for them.
@@ -40,13 +40,13 @@ fate_if turned = if turned then fate.Turned else fate.Heard
 -- The line for a transmission that was heard as these octets.
 abbrev pub heard_line : ℕ → Transmission → Option ℕ → List ℕ → List ℕ
 heard_line n sent hearer octets =
-    transmission_line n (who_of sent.speaker)
+    transmission_line n (Station sent.speaker)
     (fate_if (is_turned sent.message (heard_of octets))) hearer (heard_of octets) octets
 
 -- The line for a transmission that was lost.
 abbrev pub lost_line : ℕ → Transmission → Option ℕ → List ℕ
 lost_line n sent hearer =
-    transmission_line n (who_of sent.speaker) fate.Lost hearer (Whole sent.message)
+    transmission_line n (Station sent.speaker) fate.Lost hearer (Whole sent.message)
     (wire sent.message)
 
 -- The line for what terminal t heard.

@@ -25,11 +25,12 @@ use crate::crossing::{cross, cross_each, slices};
 use crate::error::StepError;
 use crate::marks::trace_mark;
 use crate::trace::{trace_heard, trace_items, trace_lost};
+use bsc_bid::Speaker;
 use bsc_carrier::{Cable, Octets};
 use bsc_config::script::{Action, HeardOctets};
 use bsc_frame::laws::{one_reading, reading};
 use bsc_frame::{Wire, encode};
-use bsc_line::{Line, LineError, Speaker};
+use bsc_line::{Line, LineError};
 use std::alloc::Allocator;
 use std::io::{Read, Write};
 
@@ -324,7 +325,7 @@ fn check_items<B: Allocator>(line: &Line<B>, count: usize) -> Result<(), LineErr
         return Err(LineError::NothingSent);
     };
     match sent.speaker {
-        Speaker::Terminal(_) => Err(LineError::NotControl),
+        Speaker::Terminal { .. } => Err(LineError::NotControl),
         Speaker::Control => {
             if count == line.terminals() {
                 Ok(())

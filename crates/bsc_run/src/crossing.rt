@@ -10,9 +10,9 @@ ghost use Rattle.bsc_run.specs.Crossing.{connection_count, HasConnection, Crosse
 ghost use Rattle.bsc_run.specs.Crossing.{ItemsCross, streams_of};
 
 use crate::error::StepError;
+use bsc_bid::Speaker;
 use bsc_carrier::{Cable, CarrierError, Octets};
 use bsc_config::script::HeardOctets;
-use bsc_line::Speaker;
 use std::alloc::{AllocError, Allocator};
 use std::io::{Read, Write};
 
@@ -34,7 +34,7 @@ pub(crate) fn cross<S: Read + Write + Drop, A: Allocator>(
 {
     match speaker {
         Speaker::Control => cable.down(octets, heard),
-        Speaker::Terminal(terminal) => cable.up(terminal, octets, heard),
+        Speaker::Terminal { number } => cable.up(number, octets, heard),
     }
 }
 

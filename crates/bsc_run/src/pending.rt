@@ -3,22 +3,12 @@
 ghost use Rattle.std.specs.Prelude.{◌≡◌, Some, OnOk, IfErr};
 ghost use Rattle.std.specs.Io.KnownBytes.{Appends};
 ghost use Rattle.bsc_text.specs.Fronts.{Extends};
-ghost use Rattle.bsc_run.specs.Printed.{pending_line, who_of};
+ghost use Rattle.bsc_run.specs.Printed.{pending_line};
 
-use bsc_line::{Line, Speaker, Transmission};
+use bsc_line::{Line, Transmission};
 use bsc_text::{PrintError, Who, put, write_name, write_who};
 use std::alloc::Allocator;
 use std::io::Write;
-
-/// Returns the sender of a transmission, as a trace names it.
-pub(crate) fn who_of(speaker: Speaker) -> Who
-    ensures { result ≡ who_of speaker }
-{
-    match speaker {
-        Speaker::Control => Who::Control,
-        Speaker::Terminal(terminal) => Who::Terminal(terminal),
-    }
-}
 
 /// Writes the line for a transmission.
 fn write_sent<W: Write>(sent: &Transmission<'_>, out: &mut W) -> Result<(), PrintError>
@@ -27,7 +17,7 @@ fn write_sent<W: Write>(sent: &Transmission<'_>, out: &mut W) -> Result<(), Prin
     ensures stays { Extends (W.contents out.old) (W.contents out.new) }
     ensures err { IfErr result (λ error. error ≡ PrintError.Output) }
 {
-    write_who(who_of(sent.speaker), out)?;
+    write_who(Who::Station(sent.speaker), out)?;
     put(b" ", out)?;
     write_name(&sent.message, out)?;
     put(b"\n", out)

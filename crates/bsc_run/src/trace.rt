@@ -9,11 +9,10 @@ ghost use Rattle.bsc_text.specs.Traces.{octets_shown};
 ghost use Rattle.bsc_run.specs.Traces.{fate_if, heard_line, if_sent, if_traced};
 ghost use Rattle.bsc_run.specs.Traces.{is_turned as is_other, item_line, item_lines, lost_line};
 
-use crate::pending::who_of;
 use bsc_frame::laws::{one_reading, reading};
 use bsc_frame::{Heard, Message, TextBuffer, Wire, decode, encode};
 use bsc_line::{Line, Transmission};
-use bsc_text::{Fate, PrintError, write_heard_name, write_name, write_octets, write_start};
+use bsc_text::{Fate, PrintError, Who, write_heard_name, write_name, write_octets, write_start};
 use std::alloc::Allocator;
 use std::io::Write;
 
@@ -62,7 +61,7 @@ fn write_heard<A: Allocator, W: Write>(
     let mut buffer = TextBuffer::new();
     let heard = decode(octets, &mut buffer);
     let fate = fate_if(is_turned(&sent.message, &heard));
-    write_start(number, who_of(sent.speaker), fate, hearer, out)?;
+    write_start(number, Who::Station(sent.speaker), fate, hearer, out)?;
     write_heard_name(&heard, out)?;
     write_octets(alloc, octets, out)
 }
@@ -92,7 +91,7 @@ fn write_lost<A: Allocator, W: Write>(
     ensures { OnOk result (Appends (W.contents out.old) (W.contents out.new)
         (lost_line number sent.now hearer)) }
 {
-    write_start(number, who_of(sent.speaker), Fate::Lost, hearer, out)?;
+    write_start(number, Who::Station(sent.speaker), Fate::Lost, hearer, out)?;
     write_name(&sent.message, out)?;
     write_wire(alloc, &sent.message, out)
 }

@@ -1,8 +1,6 @@
-pub mod Offered
 pub mod Kept
 pub mod Steps
 pub mod Asked
 pub mod Changes
 pub mod SameFed
 pub mod Turns
-mod Refused

@@ -1,17 +1,14 @@
 -- Programs ask the same station all the time, and the same keeps its records and watches it.
-use Rattle.std.proofs.Common.{◌≡◌, ◌∙◌, ℕ, Bool, true, List, Option, None, Some, Result}
+use Rattle.std.proofs.Common.{◌≡◌, ◌∙◌, ℕ, Bool, true, Option, None, Some, Result}
 use Rattle.std.proofs.Common.{Ok, Err, ap, refl}
-use Rattle.bsc_bid.specs.declared.way.Way.{Way}
+use Rattle.bsc_bid.specs.declared.sender.ReleaseError.{ReleaseError}
 use Rattle.bsc_feed.specs.declared.fault.Fault.{Fault}
-use Rattle.bsc_feed.specs.Answering.{Serving, serving}
-use Rattle.bsc_feed.specs.Offering.{OffersBy}
-use Rattle.bsc_connections.specs.declared.awaited.LiveError.{LiveError}
-use Rattle.bsc_spool.specs.declared.fault.StoreFault.{StoreFault}
+use Rattle.bsc_feed.specs.Answering.{Serving}
 use Rattle.bsc_monitor.specs.declared.attendance.Presence.{Presence}
+use Rattle.bsc_station.specs.declared.line_station.LineStation as line_of
 use Rattle.bsc_station.specs.declared.party.Party as party_of
-use Rattle.bsc_serving.specs.Feds.{ChangesStation, HasKeptNumber, IsSameFed, KeepsAndOffers}
-use Rattle.bsc_serving.specs.Feds.{KeepsIfDone}
-use Rattle.bsc_serving.specs.Feds.{PollsBy, PollsIfKnown, ReleasesAndKeeps}
+use Rattle.bsc_keeping.specs.declared.keeps.Keeps as keeps_of
+use Rattle.bsc_serving.specs.Feds.{IsSameFed, KeepsIfDone, PollsIfKnown, serving_fed}
 use Rattle.bsc_serving.specs.Serves.{IsAsked, asked, unasked}
 use Rattle.bsc_serving.specs.declared.fed.Fed.{Fed}
 use Rattle.bsc_serving.proofs.Changes.{goes_by_step}
@@ -50,32 +47,17 @@ of_fed {S} {Q} {V} a b same =
       watch = ap (λ w. w.ghost_name) same.watch;
     }
 
-module _ {S Q V M : Type 0} (party : party_of.Ghosts (Fed S Q V) M)
-    (offered : S → ℕ → Way → List (List ℕ)) (has_kept : Q → ℕ → Way → List ℕ → Type 0)
-    (offers : S → ℕ → Way → List ℕ → Result ℕ Fault → S → Type 0)
-    (keeps_offer : Q → ℕ → Way → List ℕ → Result (List ℕ) StoreFault → Q → Type 0)
-    (full : Fed S Q V → ℕ)
-    (releases : S → ℕ → Way → ℕ → Result (Unit {0}) Fault → S → Type 0)
-    (keeps : Q → S → Result (Unit {0}) LiveError → Q → Type 0)
-    (readies : S → Bool → Result (Unit {0}) Fault → S → Type 0)
-    (urges : S → Result (Unit {0}) Fault → S → Type 0) (shows : V → ℕ → Option Presence)
+module _ {S Q V M Z : Type 0} (party : party_of.Ghosts (Fed S Q V) M) (line : line_of.Ghosts S Z)
+    (keeping : keeps_of.Ghosts Q S) (shows : V → ℕ → Option Presence)
     (obeys : V → ℕ → Bool → V → Type 0) where
-  -- what a station that is fed does for programs
-  abbrev pub serves : Serving (Fed S Q V)
-  serves =
-      serving (OffersBy (λ (f : Fed S Q V). offered f.station.now) (HasKeptNumber offered has_kept)
-      (KeepsAndOffers offers keeps_offer)) full (ReleasesAndKeeps releases keeps)
-      (λ (f : Fed S Q V) ready result.
-      ChangesStation (λ old new. readies old ready result new) f)
-      (λ (f : Fed S Q V) result. ChangesStation (λ old new. urges old result new) f)
-      (PollsBy shows obeys) (λ (f : Fed S Q V) terminal. shows f.watch.now terminal)
-      (λ (f : Fed S Q V) new. new ≡ record f { stopped = true })
+  abbrev serves : Serving (Fed S Q V)
+  serves = serving_fed line keeping shows obeys
 
-  once_done : (answer : Result (Unit {0}) Fault) (old : Fed S Q V) (result : Result (Unit {0}) Fault)
-      (new : Fed S Q V) → KeepsIfDone releases keeps answer old result new
-      → SameNames old new
+  once_done : (answer : Result (Unit {0}) ReleaseError) (old : Fed S Q V)
+      (result : Result (Unit {0}) Fault) (new : Fed S Q V)
+      → KeepsIfDone line.releases keeping.keeps answer old result new → SameNames old new
   once_done (Ok done) old result new kept = of_fed old new kept.same
-  once_done (Err fault) old result new kept = if_same old new kept.1
+  once_done (Err error) old result new kept = if_same old new kept.1
 
   once_polled : (known : Option Presence) (old : Fed S Q V) (t : ℕ) (polled : Bool)
       (result : Result (Unit {0}) Fault) (new : Fed S Q V)

@@ -1,6 +1,8 @@
 -- A turn of programs is part of the run of the station.
 use Rattle.std.proofs.Common.{◌≡◌, ◌∙◌, ℕ, Bool, true, false, List, Option, Some, None, Result, Ok}
 use Rattle.std.proofs.Common.{Err, OnErr, ap, refl, sym, subst, inl, inr}
+use Rattle.std.specs.declared.alloc.AllocError.{AllocError}
+use Rattle.bsc_bid.specs.declared.sender.ReleaseError.{ReleaseError}
 use Rattle.bsc_bid.specs.declared.station.Station as station_of
 use Rattle.bsc_bid.specs.declared.way.Way.{Way}
 use Rattle.bsc_connections.specs.declared.awaited.LiveError.{LiveError}
@@ -11,30 +13,23 @@ use Rattle.bsc_feed.specs.Answering.{Serving}
 use Rattle.bsc_feed.specs.Clients.{Nexts}
 use Rattle.bsc_feed.specs.Texts.{Telling}
 use Rattle.bsc_spool.specs.declared.fault.StoreFault.{StoreFault}
-use Rattle.bsc_keeping.specs.LiveRuns as live
+use Rattle.bsc_keeping.specs.FedRuns.{RunsFed, for_programs}
 use Rattle.bsc_keeping.specs.LiveRuns.{Course, State, failed, goes, not_offered, offered, released}
 use Rattle.bsc_keeping.specs.LiveRuns.{set, unless_failed}
 use Rattle.bsc_monitor.specs.declared.attendance.Presence.{Presence}
+use Rattle.bsc_keeping.specs.declared.keeps.Keeps as keeps_of
+use Rattle.bsc_station.specs.declared.line_station.LineStation as line_of
 use Rattle.bsc_station.specs.declared.party.Party as party_of
 use Rattle.bsc_serving.specs.Feds.{AnswersKept, KeepsIfDone, OffersIfKept, PollsIfKnown}
+use Rattle.bsc_serving.specs.Feds.{failure_after, serving_fed}
 use Rattle.bsc_serving.specs.Serves.{IsAsked, ServesPrograms, asked, served_as, unasked}
-use Rattle.bsc_serving.specs.Turns.{for_programs}
 use Rattle.bsc_serving.specs.declared.fed.Fed.{Fed}
 use Rattle.bsc_serving.proofs.Changes.{goes_by_step}
-use Rattle.bsc_serving.proofs.SameFed.{serves}
 
-module _ {S Q V M : Type 0} (station : station_of.Ghosts S)
-    (keeps : Q → S → Result (Unit {0}) LiveError → Q → Type 0)
-    (keeps_offer : Q → ℕ → Way → List ℕ → Result (List ℕ) StoreFault → Q → Type 0)
-    (has_kept : Q → ℕ → Way → List ℕ → Type 0) (prints : Q → S → Q → Type 0)
-    (forgets_sent : S → S → Type 0) (forgets_arrived : S → ℕ → ℕ → S → Type 0)
-    (polls : S → ℕ → Bool → S → Type 0) (offered_on : S → ℕ → Way → List (List ℕ))
-    (offers : S → ℕ → Way → List ℕ → Result ℕ Fault → S → Type 0)
-    (releases : S → ℕ → Way → ℕ → Result (Unit {0}) Fault → S → Type 0)
-    (readies : S → Bool → Result (Unit {0}) Fault → S → Type 0)
-    (urges : S → Result (Unit {0}) Fault → S → Type 0) (shows : V → ℕ → Option Presence)
+module _ {S Q V M Z : Type 0} (station : station_of.Ghosts S) (line : line_of.Ghosts S Z)
+    (keeping : keeps_of.Ghosts Q S) (shows : V → ℕ → Option Presence)
     (obeys : V → ℕ → Bool → V → Type 0) (fed_party : party_of.Ghosts (Fed S Q V) M)
-    (full : Fed S Q V → ℕ) (first : State S Q) where
+    (first : State S Q) where
   abbrev FedOne : Type 0
   FedOne = Fed S Q V
 
@@ -42,9 +37,7 @@ module _ {S Q V M : Type 0} (station : station_of.Ghosts S)
   at s q = record { station = s; kept = q }
 
   abbrev Run : Course → State S Q → Type 0
-  Run course now =
-      live.Run station keeps keeps_offer prints forgets_sent forgets_arrived polls
-      (for_programs offers releases readies urges) course first now
+  Run course now = RunsFed station line keeping true course first now
 
   -- whether the station has to end
   abbrev course_after : Option LiveError → Course
@@ -79,53 +72,64 @@ module _ {S Q V M : Type 0} (station : station_of.Ghosts S)
   as_it_was old new failure is same run =
       as_left new (Some failure) is (subst (λ s. Run failed (at s new.keeps.now)) (sym same) run)
 
+  -- a record that was kept is offered, or there is no memory for it
+  by_answer_to_offer : (answer : Result ℕ AllocError) (old : FedOne) (t : ℕ) (way : Way)
+      (chars : List ℕ) (new : FedOne) → old.failure ≡ None
+      → Run goes (at old.station.now old.keeps.now)
+      → keeping.keeps_offer old.keeps.now t way chars (Ok chars) new.keeps.now
+      → line.offers old.station.now t way chars answer new.station.now
+      → OnErr answer (new.station.now ≡ old.station.now)
+      → new.failure ≡ failure_after answer old.failure → Runs new
+  by_answer_to_offer (Ok number) old t way chars new fine run kept offering unchanged failure =
+      as_left new None (failure ∙ fine) (offered run kept (number, offering))
+  by_answer_to_offer (Err error) old t way chars new fine run kept offering unchanged failure =
+      as_it_was old new Memory failure unchanged (not_offered way run tt kept)
+
   by_offer : (given : Result (List ℕ) StoreFault) (result : Result ℕ Fault) (old : FedOne) (t : ℕ)
       (way : Way) (chars : List ℕ) (new : FedOne) → old.failure ≡ None
       → Run goes (at old.station.now old.keeps.now)
-      → keeps_offer old.keeps.now t way chars given new.keeps.now
-      → OffersIfKept offers keeps_offer given old t way chars result new → Runs new
-  by_offer (Ok it) (Ok number) old t way chars new fine run kept (same, offering, unchanged, failure) =
-      as_left new None (failure ∙ fine)
-      (offered run
-      (subst (λ g. keeps_offer old.keeps.now t way chars (Ok g) new.keeps.now) same kept)
-      (number, offering))
-  by_offer (Ok it) (Err fault) old t way chars new fine run kept (same, offering, unchanged, failure) =
-      as_it_was old new Memory failure unchanged (not_offered way run tt kept)
+      → keeping.keeps_offer old.keeps.now t way chars given new.keeps.now
+      → OffersIfKept line.offers keeping.keeps_offer given old t way chars result new → Runs new
+  by_offer (Ok it) result old t way chars new fine run kept
+      (same, (answer, offering, unchanged, is, failure)) =
+      by_answer_to_offer answer old t way chars new fine run
+      (subst (λ g. keeping.keeps_offer old.keeps.now t way chars (Ok g) new.keeps.now) same kept)
+      offering unchanged failure
   by_offer (Err fault) result old t way chars new fine run kept (answer, unchanged, failure) =
       as_it_was old new Unkept failure unchanged (not_offered way run tt kept)
 
   by_release : (kept : Result (Unit {0}) LiveError) (old between : FedOne) (t : ℕ) (way : Way)
       (count : ℕ) (result : Result (Unit {0}) Fault) (new : FedOne) → old.failure ≡ None
       → Run goes (at old.station.now old.keeps.now)
-      → releases old.station.now t way count (Ok tt) between.station.now
+      → line.releases old.station.now t way count (Ok tt) between.station.now
       → between.failure ≡ old.failure → between.keeps.now ≡ old.keeps.now
-      → keeps between.keeps.now between.station.now kept new.keeps.now
+      → keeping.keeps between.keeps.now between.station.now kept new.keeps.now
       → AnswersKept kept between.failure result new.failure
       → new.station.now ≡ between.station.now → Runs new
-  by_release (Ok done) old between t way count result new fine run releasing failure same keeping
+  by_release (Ok done) old between t way count result new fine run releasing failure same kept_so
       (answer, after) unchanged =
       as_left new None (after ∙ failure ∙ fine)
       (subst (λ s. Run goes (at s new.keeps.now)) (sym unchanged)
       (released (Ok done) run releasing
-      (subst (λ q. keeps q between.station.now (Ok done) new.keeps.now) same keeping)))
-  by_release (Err error) old between t way count result new fine run releasing failure same keeping
+      (subst (λ q. keeping.keeps q between.station.now (Ok done) new.keeps.now) same kept_so)))
+  by_release (Err error) old between t way count result new fine run releasing failure same kept_so
       (answer, after) unchanged =
       as_left new (Some error) after
       (subst (λ s. Run failed (at s new.keeps.now)) (sym unchanged)
       (released (Err error) run releasing
-      (subst (λ q. keeps q between.station.now (Err error) new.keeps.now) same keeping)))
+      (subst (λ q. keeping.keeps q between.station.now (Err error) new.keeps.now) same kept_so)))
 
   -- a release that the station has done, and one that it has refused
-  by_answer : (answer : Result (Unit {0}) Fault) (old between : FedOne) (t : ℕ) (way : Way)
+  by_answer : (answer : Result (Unit {0}) ReleaseError) (old between : FedOne) (t : ℕ) (way : Way)
       (count : ℕ) (result : Result (Unit {0}) Fault) (new : FedOne)
-      → releases old.station.now t way count answer between.station.now
+      → line.releases old.station.now t way count answer between.station.now
       → OnErr answer (between.station.now ≡ old.station.now)
       → between.failure ≡ old.failure → between.keeps.now ≡ old.keeps.now
-      → KeepsIfDone releases keeps answer between result new → Goes old new
+      → KeepsIfDone line.releases keeping.keeps answer between result new → Goes old new
   by_answer (Ok done) old between t way count result new releasing refused failure same kept fine run =
       by_release kept.kept old between t way count result new fine (so_far old fine run) releasing
       failure same kept.keeping kept.answers kept.unchanged
-  by_answer (Err fault) old between t way count result new releasing refused failure same (answer, is)
+  by_answer (Err error) old between t way count result new releasing refused failure same (answer, is)
       fine run =
       as_left new None (ap (λ (f : FedOne). f.failure) is ∙ failure ∙ fine)
       (subst (λ q. Run goes (at new.station.now q)) (sym (ap (λ (f : FedOne). f.keeps.now) is ∙ same))
@@ -133,7 +137,7 @@ module _ {S Q V M : Type 0} (station : station_of.Ghosts S)
       (sym (ap (λ (f : FedOne). f.station.now) is ∙ refused)) (so_far old fine run)))
 
   by_change : (old new : FedOne) → new.keeps.now ≡ old.keeps.now → new.failure ≡ old.failure
-      → (for_programs offers releases readies urges).sets old.station.now new.station.now
+      → (for_programs line).sets old.station.now new.station.now
       → Goes old new
   by_change old new same failure sets fine run =
       as_left new None (failure ∙ fine)
@@ -151,9 +155,7 @@ module _ {S Q V M : Type 0} (station : station_of.Ghosts S)
 
   -- what a station that is fed does for programs
   abbrev does : Serving FedOne
-  does =
-      serves fed_party offered_on has_kept offers keeps_offer full releases keeps readies urges shows
-      obeys
+  does = serving_fed line keeping shows obeys
 
   abbrev pub Asks : FedOne → FedOne → Type 0
   Asks = IsAsked fed_party does (λ (f : FedOne). f.failure)
@@ -169,9 +171,9 @@ module _ {S Q V M : Type 0} (station : station_of.Ghosts S)
       by_answer releasing.answer a releasing.between t way count result b releasing.released
       releasing.refused releasing.keeps_rest.1 releasing.keeps_rest.0 releasing.keeping)
       (λ a takes result b changing.
-      by_change a b changing.keeps changing.failure (inl (takes, result, changing.changed)))
+      by_change a b changing.keeps changing.failure (inl (takes, changing.is_terminal, changing.asked)))
       (λ a result b changing.
-      by_change a b changing.keeps changing.failure (inr (result, changing.changed)))
+      by_change a b changing.keeps changing.failure (inr (changing.is_terminal, changing.asked)))
       (λ a t polled result b polls. by_poll (shows a.watch.now t) a t polled result b polls)
       (λ a b is fine run. subst Runs (sym is) run)
       client old told next new nexts

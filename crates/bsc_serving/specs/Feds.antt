@@ -1,13 +1,21 @@
 -- What a station does for programs, and what keeps its records.
-use Rattle.std.specs.Prelude.{◌≡◌, ℕ, Bool, List, Option, None, Some, Result, Ok, Err, OnErr}
-use Rattle.std.specs.Prelude.{slice_get}
+use Rattle.std.specs.Prelude.{◌≡◌, ℕ, Bool, true, false, List, Option, None, Some, Result, Ok}
+use Rattle.std.specs.Prelude.{Err, OnErr, slice_get}
+use Rattle.std.specs.declared.alloc.AllocError.{AllocError}
+use Rattle.bsc_bid.specs.declared.sender.ReleaseError.{ReleaseError}
 use Rattle.bsc_connections.specs.declared.awaited.LiveError.{LiveError}
 use Rattle.bsc_connections.specs.declared.awaited.LiveError.TheVariants.{Memory, Unkept}
 use Rattle.bsc_bid.specs.declared.way.Way.{Way}
 use Rattle.bsc_feed.specs.declared.fault.Fault.{Fault}
-use Rattle.bsc_feed.specs.declared.fault.Fault.TheVariants.{NoSuchTerminal, NotKept}
+use Rattle.bsc_feed.specs.Answering.{Serving, serving}
+use Rattle.bsc_feed.specs.Faults.{release_fault}
+use Rattle.bsc_feed.specs.declared.fault.Fault.TheVariants.{NoSuchTerminal, NotATerminal, NotKept}
+use Rattle.bsc_feed.specs.declared.fault.Fault.TheVariants.{OutOfMemory}
 use Rattle.bsc_spool.specs.declared.fault.StoreFault.{StoreFault}
 use Rattle.bsc_monitor.specs.declared.attendance.Presence.{Presence}
+use Rattle.bsc_keeping.specs.declared.keeps.Keeps as keeps_of
+use Rattle.bsc_station.specs.Offering.{OffersBy}
+use Rattle.bsc_station.specs.declared.line_station.LineStation as line_of
 use Rattle.bsc_serving.specs.declared.fed.Fed.{Fed}
 
 module _ {S Q V : Type 0} (offered : S → ℕ → Way → List (List ℕ))
@@ -26,19 +34,29 @@ pub record IsSameFed {S Q V : Type 0} (old new : Fed S Q V) : Type 0 where
   pub stopped : new.stopped ≡ old.stopped
 
 -- Why a station has to end that has this answer to an offer, once the record is kept.
-abbrev pub failure_after : Result ℕ Fault → Option LiveError → Option LiveError
+abbrev pub failure_after : Result ℕ AllocError → Option LiveError → Option LiveError
 failure_after (Ok number) before = before
-failure_after (Err fault) before = Some Memory
+failure_after (Err error) before = Some Memory
 
-module _ {S Q V : Type 0} (offers : S → ℕ → Way → List ℕ → Result ℕ Fault → S → Type 0)
+-- The answers to an offer, and to what is asked of a terminal only.
+abbrev pub if_offered : Result ℕ AllocError → Result ℕ Fault
+if_offered (Ok number) = Ok number
+if_offered (Err error) = Err OutOfMemory
+
+abbrev pub if_terminal : Bool → Result (Unit {0}) Fault
+if_terminal true = Ok tt
+if_terminal false = Err NotATerminal
+
+module _ {S Q V : Type 0} (offers : S → ℕ → Way → List ℕ → Result ℕ AllocError → S → Type 0)
     (keeps_offer : Q → ℕ → Way → List ℕ → Result (List ℕ) StoreFault → Q → Type 0) where
   -- The station offers a record if it was kept; else it offers nothing, and has to end.
   abbrev pub OffersIfKept : Result (List ℕ) StoreFault → Fed S Q V → ℕ → Way → List ℕ
       → Result ℕ Fault → Fed S Q V → Type 0
   OffersIfKept (Ok given) old t way chars result new =
-      (given ≡ chars) × offers old.station.now t way chars result new.station.now
-      × OnErr result (new.station.now ≡ old.station.now)
-      × (new.failure ≡ failure_after result old.failure)
+      (given ≡ chars)
+      × ((answer : Result ℕ AllocError) × offers old.station.now t way chars answer new.station.now
+      × OnErr answer (new.station.now ≡ old.station.now)
+      × (result ≡ if_offered answer) × (new.failure ≡ failure_after answer old.failure))
   OffersIfKept (Err fault) old t way chars result new =
       (result ≡ Err NotKept) × (new.station.now ≡ old.station.now)
       × (new.failure ≡ Some Unkept)
@@ -70,18 +88,18 @@ module _ {S Q V : Type 0}
     pub same : IsSameFed old new
 
 module _ {S Q V : Type 0}
-    (releases : S → ℕ → Way → ℕ → Result (Unit {0}) Fault → S → Type 0)
+    (releases : S → ℕ → Way → ℕ → Result (Unit {0}) ReleaseError → S → Type 0)
     (keeps : Q → S → Result (Unit {0}) LiveError → Q → Type 0) where
   -- What becomes of the records of a station that has this answer to a release.
-  abbrev pub KeepsIfDone : Result (Unit {0}) Fault → Fed S Q V → Result (Unit {0}) Fault → Fed S Q V
-      → Type 0
+  abbrev pub KeepsIfDone : Result (Unit {0}) ReleaseError → Fed S Q V → Result (Unit {0}) Fault
+      → Fed S Q V → Type 0
   KeepsIfDone (Ok done) old result new = KeepsRelease keeps old result new
-  KeepsIfDone (Err fault) old result new = (result ≡ Err fault) × (new ≡ old)
+  KeepsIfDone (Err error) old result new = (result ≡ Err (release_fault error)) × (new ≡ old)
 
   -- The station releases, and what it has changed is kept.
   pub record ReleasesAndKeeps (old : Fed S Q V) (t : ℕ) (way : Way) (count : ℕ)
       (result : Result (Unit {0}) Fault) (new : Fed S Q V) : Type 0 where
-    pub answer : Result (Unit {0}) Fault
+    pub answer : Result (Unit {0}) ReleaseError
     pub between : Fed S Q V
     pub released : releases old.station.now t way count answer between.station.now
     pub refused : OnErr answer (between.station.now ≡ old.station.now)
@@ -113,10 +131,28 @@ abbrev pub PollsBy : {S Q V : Type 0} → (V → ℕ → Option Presence) → (V
 PollsBy shows obeys old t polled result new =
     PollsIfKnown obeys (shows old.watch.now t) old t polled result new
 
--- The station changes so, and nothing else does.
-pub record ChangesStation {S Q V : Type 0} (changes : S → S → Type 0) (old new : Fed S Q V)
-    : Type 0 where
-  pub changed : changes old.station.now new.station.now
+-- The station is asked for what only a terminal does, and nothing else changes. `asks` says what it
+-- means that it does so, or is no terminal.
+pub record AsksTerminal {S Q V : Type 0} (asks : S → Bool → S → Type 0) (old : Fed S Q V)
+    (result : Result (Unit {0}) Fault) (new : Fed S Q V) : Type 0 where
+  pub is_terminal : Bool
+  pub asked : asks old.station.now is_terminal new.station.now
+  pub answer : result ≡ if_terminal is_terminal
   pub keeps : new.keeps.now ≡ old.keeps.now
   pub failure : new.failure ≡ old.failure
   pub same : IsSameFed old new
+
+module _ {S Q V Z : Type 0} (line : line_of.Ghosts S Z) (keeping : keeps_of.Ghosts Q S)
+    (shows : V → ℕ → Option Presence) (obeys : V → ℕ → Bool → V → Type 0) where
+  -- What programs may ask of a station that they feed, and what that does.
+  abbrev pub serving_fed : Serving (Fed S Q V)
+  serving_fed =
+      serving (OffersBy (λ (f : Fed S Q V). line.offered f.station.now)
+      (HasKeptNumber line.offered keeping.has_kept)
+      (KeepsAndOffers line.offers keeping.keeps_offer))
+      (λ (f : Fed S Q V). line.full f.station.now)
+      (ReleasesAndKeeps line.releases keeping.keeps)
+      (λ (f : Fed S Q V) ready. AsksTerminal (λ old. line.readies old ready) f)
+      (AsksTerminal line.urges) (PollsBy shows obeys)
+      (λ (f : Fed S Q V) terminal. shows f.watch.now terminal)
+      (λ (f : Fed S Q V) new. new ≡ record f { stopped = true })

@@ -1,7 +1,6 @@
-pub mod Feeding
 pub mod Streams
 pub mod Feds
 pub mod Sessions
 pub mod Serves
 pub mod Places
-pub mod Turns
+pub mod Stations

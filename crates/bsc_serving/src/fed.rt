@@ -1,9 +1,8 @@
 //! A station that programs feed, what keeps its records, and what watches it.
 
 ghost use Rattle.std.specs.Prelude.{◌≡◌, None, false};
-ghost use Rattle.bsc_serving.specs.Feds.{KeepsRelease};
+ghost use Rattle.bsc_serving.specs.Feds.{KeepsRelease, if_terminal};
 
-use crate::Feeds;
 use crate::failing::Failing;
 use bsc_bid::Way;
 use bsc_block::{Format, Record};
@@ -11,7 +10,7 @@ use bsc_connections::LiveError;
 use bsc_feed::{Fault, Served};
 use bsc_keeping::Keeps;
 use bsc_monitor::{Presence, Presences};
-use bsc_station::{ChannelEnd, Party, Received};
+use bsc_station::{ChannelEnd, LineStation, Party, Received};
 
 /// A station that is fed, what keeps its records, and what watches it. What is offered is kept
 /// before the station offers it. Once there is a failure the station must not be asked for more: it
@@ -34,7 +33,7 @@ pub struct Fed<'a, S, Q, V> {
     failure: Option<LiveError>,
 }
 
-impl<'a, S: Feeds, Q: Keeps<S>, V: Presences> Fed<'a, S, Q, V> {
+impl<'a, S: LineStation, Q: Keeps<S>, V: Presences> Fed<'a, S, Q, V> {
     /// Returns the station that is fed, with what keeps its records and what watches it.
     pub fn new(station: &'a mut S, keeps: &'a mut Q, watch: &'a mut V) -> Fed<'a, S, Q, V>
         ensures station { result.station ≡ station.entry }
@@ -82,7 +81,18 @@ impl<'a, S: Feeds, Q: Keeps<S>, V: Presences> Fed<'a, S, Q, V> {
     }
 }
 
-impl<'a, S: Feeds, Q: Keeps<S>, V: Presences> Failing for Fed<'a, S, Q, V> {
+/// Returns the answer to what is asked of a terminal only, by whether the station is one.
+fn if_terminal(is_terminal: bool) -> Result<(), Fault>
+    ensures { result ≡ if_terminal is_terminal }
+{
+    if is_terminal {
+        Ok(())
+    } else {
+        Err(Fault::NotATerminal)
+    }
+}
+
+impl<'a, S: LineStation, Q: Keeps<S>, V: Presences> Failing for Fed<'a, S, Q, V> {
     ghost fails = { λ f. f.failure };
 
     ghost has_stopped = { λ f. f.stopped };
@@ -96,7 +106,7 @@ impl<'a, S: Feeds, Q: Keeps<S>, V: Presences> Failing for Fed<'a, S, Q, V> {
     }
 }
 
-impl<'a, S: Feeds, Q: Keeps<S>, V: Presences> Party for Fed<'a, S, Q, V> {
+impl<'a, S: LineStation, Q: Keeps<S>, V: Presences> Party for Fed<'a, S, Q, V> {
     type Memory = S::Memory;
 
     ghost count = { λ f. S.count f.station.now };
@@ -138,9 +148,9 @@ impl<'a, S: Feeds, Q: Keeps<S>, V: Presences> Party for Fed<'a, S, Q, V> {
     }
 }
 
-impl<'a, S: Feeds, Q: Keeps<S>, V: Presences> Served for Fed<'a, S, Q, V> {
+impl<'a, S: LineStation, Q: Keeps<S>, V: Presences> Served for Fed<'a, S, Q, V> {
     ghost use Rattle.std.specs.Prelude.{◌≡◌, true};
-    ghost use Rattle.bsc_serving.specs.Feds.{ChangesStation, HasKeptNumber, KeepsAndOffers};
+    ghost use Rattle.bsc_serving.specs.Feds.{AsksTerminal, HasKeptNumber, KeepsAndOffers};
     ghost use Rattle.bsc_serving.specs.Feds.{PollsBy, ReleasesAndKeeps};
 
     ghost offered = { λ f. S.offered f.station.now };
@@ -153,10 +163,9 @@ impl<'a, S: Feeds, Q: Keeps<S>, V: Presences> Served for Fed<'a, S, Q, V> {
 
     ghost releases = { ReleasesAndKeeps S.releases Q.keeps };
 
-    ghost readies = { λ f ready result.
-        ChangesStation (λ old new. S.readies old ready result new) f };
+    ghost readies = { λ f ready. AsksTerminal (λ old. S.readies old ready) f };
 
-    ghost urges = { λ f result. ChangesStation (λ old new. S.urges old result new) f };
+    ghost urges = { AsksTerminal S.urges };
 
     ghost polls = { PollsBy V.shows V.obeys };
 
@@ -173,26 +182,28 @@ impl<'a, S: Feeds, Q: Keeps<S>, V: Presences> Served for Fed<'a, S, Q, V> {
             self.failure = Some(LiveError::Unkept);
             return Err(Fault::NotKept);
         };
-        let offered = self.station.offer(terminal, way, new);
-        if offered.is_err() {
-            self.failure = Some(LiveError::Memory);
+        match self.station.offer(terminal, way, new) {
+            Ok(number) => Ok(number),
+            Err(_) => {
+                self.failure = Some(LiveError::Memory);
+                Err(Fault::OutOfMemory)
+            }
         }
-        offered
     }
 
     fn release(&mut self, terminal: usize, way: Way, count: usize) -> Result<(), Fault> {
         match self.station.release(terminal, way, count) {
             Ok(()) => self.keep_release(),
-            Err(fault) => Err(fault),
+            Err(error) => Err(Fault::of_release(error)),
         }
     }
 
     fn set_ready(&mut self, ready: bool) -> Result<(), Fault> {
-        self.station.set_ready(ready)
+        if_terminal(self.station.set_ready(ready))
     }
 
     fn set_urgent(&mut self) -> Result<(), Fault> {
-        self.station.set_urgent()
+        if_terminal(self.station.set_urgent())
     }
 
     fn set_polled(&mut self, terminal: usize, polled: bool) -> Result<(), Fault> {

@@ -1,7 +1,6 @@
 //! What holds of every session of a program, stated over the definitions that the contracts cite.
 
-ghost use Rattle.bsc_feed.specs.Answering.{serving};
-ghost use Rattle.bsc_feed.specs.Offering.{OffersBy};
+ghost use Rattle.bsc_feed.specs.Answering.{serving_of};
 ghost use Rattle.bsc_serving.specs.Sessions.{AreStepsOfClients};
 
 use bsc_feed::Served;
@@ -12,6 +11,5 @@ use std::io::{Read, Write};
 /// order, a half line is not, nothing but a line changes the station, and of a channel that it
 /// follows it is told each record once, in order.
 pub fn steps<S: Served, T: Read + Write>()
-    ensures { AreStepsOfClients S.Party (serving (OffersBy S.offered S.is_kept S.offers) S.full
-        S.releases S.readies S.urges S.polls S.shows S.stops) T.Read T.Write }
+    ensures { AreStepsOfClients S.Party (serving_of S.Served.own) T.Read T.Write }
 {}

@@ -16,7 +16,6 @@
 
 mod failing;
 mod fed;
-mod feeds;
 mod inbox;
 pub mod laws;
 mod outbox;
@@ -25,6 +24,5 @@ mod serving;
 mod session;
 
 pub use fed::Fed;
-pub use feeds::Feeds;
 pub use programs::{Called, MAX_PROGRAMS, Programs};
 pub use serving::Serving;

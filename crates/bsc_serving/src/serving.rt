@@ -1,23 +1,22 @@
 //! The programs of a station and their sessions.
 
-ghost use Rattle.std.specs.Prelude.{◌≡◌, IfOk, None, replicate};
-ghost use Rattle.bsc_feed.specs.Answering.{serving};
-ghost use Rattle.bsc_feed.specs.Offering.{OffersBy};
-ghost use Rattle.bsc_keeping.specs.LiveRuns.{Run, goes, unless_failed};
+ghost use Rattle.std.specs.Prelude.{◌≡◌, IfOk, None, replicate, true};
+ghost use Rattle.bsc_feed.specs.Answering.{serving_of};
+ghost use Rattle.bsc_keeping.specs.FedRuns.{RunsFed};
+ghost use Rattle.bsc_keeping.specs.LiveRuns.{goes, unless_failed};
+ghost use Rattle.bsc_serving.specs.Feds.{serving_fed};
 ghost use Rattle.bsc_serving.specs.Places.{place_after};
 ghost use Rattle.bsc_serving.specs.Serves.{IsAsked, IsServed, ServesPrograms, failure_of};
-ghost use Rattle.bsc_serving.specs.Turns.{for_programs};
 ghost use Rattle.bsc_serving.specs.declared.programs.TheConstants.{MAX_PROGRAMS};
 
 use crate::failing::Failing;
 use crate::session::{Session, Step};
-use crate::{Called, Fed, Feeds, MAX_PROGRAMS, Programs};
-use bsc_bid::Station;
+use crate::{Called, Fed, MAX_PROGRAMS, Programs};
 use bsc_connections::LiveError;
 use bsc_feed::Served;
 use bsc_keeping::Keeps;
-use bsc_monitor::{Polls, Presences};
-use bsc_station::{Forgets, Party};
+use bsc_monitor::Presences;
+use bsc_station::{LineStation, Party};
 use std::alloc::{AllocError, Global};
 use std::io::{Read, Write};
 
@@ -75,15 +74,13 @@ impl<P: Programs + Drop> Serving<P> {
     /// failed unless the turn does: with `Unkept` or `Memory` if what a program offered or released
     /// could not be kept, or not be offered after that. Its line is then not answered, and no
     /// program is served after it.
-    pub fn serve<S: Station + Feeds + Forgets + Polls, Q: Keeps<S>, V: Presences>(
+    pub fn serve<S: LineStation, Q: Keeps<S>, V: Presences>(
         &mut self,
         station: &mut S,
         keeps: &mut Q,
         watch: &mut V,
     ) -> Result<bool, LiveError>
-        ensures { Run S.Station Q.keeps Q.keeps_offer Q.prints S.forgets_sent S.forgets_arrived
-            S.polls (for_programs S.offers S.releases S.readies S.urges)
-            (unless_failed result goes)
+        ensures { RunsFed S.Station S.LineStation.own Q.Keeps true (unless_failed result goes)
             (record { station = station.old; kept = keeps.old })
             (record { station = station.new; kept = keeps.new }) }
     {
@@ -92,7 +89,7 @@ impl<P: Programs + Drop> Serving<P> {
 
     /// Does the same. The station, and what keeps its records, are as the last step of a program
     /// left them.
-    fn serve_all_places<'s, S: Feeds, Q: Keeps<S>, V: Presences>(
+    fn serve_all_places<'s, S: LineStation, Q: Keeps<S>, V: Presences>(
         &mut self,
         station: &'s mut S,
         keeps: &'s mut Q,
@@ -100,12 +97,7 @@ impl<P: Programs + Drop> Serving<P> {
     ) -> Result<bool, LiveError>
         ensures { ServesPrograms
             (IsAsked ⟦<Fed<'s, S, Q, V> as Party>⟧
-            (serving (OffersBy ⟦<Fed<'s, S, Q, V> as Served>⟧.offered
-            ⟦<Fed<'s, S, Q, V> as Served>⟧.is_kept ⟦<Fed<'s, S, Q, V> as Served>⟧.offers)
-            ⟦<Fed<'s, S, Q, V> as Served>⟧.full ⟦<Fed<'s, S, Q, V> as Served>⟧.releases
-            ⟦<Fed<'s, S, Q, V> as Served>⟧.readies ⟦<Fed<'s, S, Q, V> as Served>⟧.urges
-            ⟦<Fed<'s, S, Q, V> as Served>⟧.polls ⟦<Fed<'s, S, Q, V> as Served>⟧.shows
-            ⟦<Fed<'s, S, Q, V> as Served>⟧.stops) (λ f. f.failure))
+            (serving_fed S.LineStation.own Q.Keeps V.shows V.obeys) (λ f. f.failure))
             station.old keeps.old result station.new keeps.new }
     {
         self.programs.ask();
@@ -119,19 +111,14 @@ impl<P: Programs + Drop> Serving<P> {
     }
 
     /// Serves the programs at one place after another, of the same station all the time.
-    fn serve_fed<'s, S: Feeds, Q: Keeps<S>, V: Presences>(
+    fn serve_fed<'s, S: LineStation, Q: Keeps<S>, V: Presences>(
         &mut self,
         fed: &mut Fed<'s, S, Q, V>,
     ) -> Result<(), LiveError>
         requires { fed.old.failure ≡ None }
         ensures served { IsServed ⟦<Fed<'s, S, Q, V> as Party>⟧
-            (serving (OffersBy ⟦<Fed<'s, S, Q, V> as Served>⟧.offered
-            ⟦<Fed<'s, S, Q, V> as Served>⟧.is_kept ⟦<Fed<'s, S, Q, V> as Served>⟧.offers)
-            ⟦<Fed<'s, S, Q, V> as Served>⟧.full ⟦<Fed<'s, S, Q, V> as Served>⟧.releases
-            ⟦<Fed<'s, S, Q, V> as Served>⟧.readies ⟦<Fed<'s, S, Q, V> as Served>⟧.urges
-            ⟦<Fed<'s, S, Q, V> as Served>⟧.polls ⟦<Fed<'s, S, Q, V> as Served>⟧.shows
-            ⟦<Fed<'s, S, Q, V> as Served>⟧.stops) (λ f. f.failure) fed.old (failure_of result)
-            fed.new }
+            (serving_fed S.LineStation.own Q.Keeps V.shows V.obeys) (λ f. f.failure) fed.old
+            (failure_of result) fed.new }
         ensures same_station { fed.new.station.ghost_name ≡ fed.old.station.ghost_name }
         ensures same_keeps { fed.new.keeps.ghost_name ≡ fed.old.keeps.ghost_name }
         ensures same_watch { fed.new.watch.ghost_name ≡ fed.old.watch.ghost_name }
@@ -166,8 +153,7 @@ impl<P: Programs + Drop> Serving<P> {
     /// Serves the programs at one place after another, until all are served or the turn has ended.
     fn serve_all<F: Failing>(&mut self, fed: &mut F) -> Result<(), LiveError>
         requires { F.fails fed.old ≡ None }
-        ensures { IsServed F.Party (serving (OffersBy F.offered F.is_kept F.offers) F.full
-            F.releases F.readies F.urges F.polls F.shows F.stops) F.fails fed.old
+        ensures { IsServed F.Party (serving_of F.Served.own) F.fails fed.old
             (failure_of result) fed.new }
     {
         let mut left = MAX_STEPS;
@@ -240,8 +226,8 @@ fn serve_place<T: Read + Write + Drop, F: Failing>(
     left: &mut usize,
 ) -> Result<(), LiveError>
     requires { F.fails fed.old ≡ None }
-    ensures { IsServed F.Party (serving (OffersBy F.offered F.is_kept F.offers) F.full F.releases
-        F.readies F.urges F.polls F.shows F.stops) F.fails fed.old (failure_of result) fed.new }
+    ensures { IsServed F.Party (serving_of F.Served.own) F.fails fed.old (failure_of result)
+        fed.new }
 {
     let Some(at) = places.get_mut(place) else {
         return Ok(());
@@ -268,8 +254,8 @@ fn serve_session<T: Read + Write + Drop, F: Failing>(
     left: &mut usize,
 ) -> Result<Step, LiveError>
     requires { F.fails fed.old ≡ None }
-    ensures { IsServed F.Party (serving (OffersBy F.offered F.is_kept F.offers) F.full F.releases
-        F.readies F.urges F.polls F.shows F.stops) F.fails fed.old (failure_of result) fed.new }
+    ensures { IsServed F.Party (serving_of F.Served.own) F.fails fed.old (failure_of result)
+        fed.new }
 {
     'steps: for _ in 0..MAX_STEPS + MAX_WRITES {
         if *left == 0 && !session.has_to_tell() {

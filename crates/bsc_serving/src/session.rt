@@ -1,9 +1,8 @@
 //! The session of one program.
 
 ghost use Rattle.std.specs.Prelude.{◌≡◌, [], length, nat_eq, not, true};
-ghost use Rattle.bsc_feed.specs.Answering.{serving};
+ghost use Rattle.bsc_feed.specs.Answering.{serving_of};
 ghost use Rattle.bsc_feed.specs.Clients.{IsNew};
-ghost use Rattle.bsc_feed.specs.Offering.{OffersBy};
 ghost use Rattle.bsc_serving.specs.Sessions.{Reads, StepsOn, TakesOrReads, Writes};
 
 use crate::inbox::Inbox;
@@ -93,9 +92,8 @@ impl<T: Read + Write + Drop> Session<T> {
     /// Does the next thing of the session, which is one of these: writes what is left of what is
     /// told, tells the next line or obeys one, takes what the program has said, or reads.
     pub(crate) fn step<A: Allocator + Copy, S: Served>(&mut self, alloc: A, station: &mut S) -> Step
-        ensures { StepsOn S.Party (serving (OffersBy S.offered S.is_kept S.offers) S.full S.releases
-            S.readies S.urges S.polls S.shows S.stops) T.Read T.Write self.old station.old result
-            self.new station.new }
+        ensures { StepsOn S.Party (serving_of S.Served.own) T.Read T.Write self.old station.old
+            result self.new station.new }
     {
         if !self.outbox.is_empty() {
             return self.send();

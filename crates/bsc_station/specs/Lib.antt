@@ -4,3 +4,6 @@ pub mod Ends
 pub mod Forgetting
 pub mod LineTerminal
 pub mod Offers
+pub mod Offering
+pub mod Feeding
+pub mod Polling

@@ -8,7 +8,7 @@ use Rattle.bsc_spool.specs.declared.change.Change.TheVariants.{Offered}
 use Rattle.bsc_spool.specs.declared.store.Store as store_of
 use Rattle.bsc_options.specs.declared.store_works.StoreChannel.{StoreChannel}
 use Rattle.bsc_storing.specs.declared.kept_line.KeptLine.{KeptLine}
-use Rattle.bsc_storing.specs.declared.name.ChannelName.{ChannelName}
+use Rattle.bsc_bid.specs.declared.channel.ChannelName.{ChannelName}
 use Rattle.bsc_storing.specs.Names.{named_at, sending_name}
 use Rattle.bsc_storing.specs.Works.{OffersAll, told}
 

@@ -9,7 +9,7 @@ use Rattle.bsc_spool.specs.declared.channel.Channel.{Channel}
 use Rattle.bsc_spool.specs.declared.store.Progress.{Progress}
 use Rattle.bsc_spool.specs.declared.store.Store as store_of
 use Rattle.bsc_storing.specs.declared.kept_line.KeptLine.{KeptLine}
-use Rattle.bsc_storing.specs.declared.name.ChannelName.{ChannelName}
+use Rattle.bsc_bid.specs.declared.channel.ChannelName.{ChannelName}
 use Rattle.bsc_storing.specs.declared.reconciling.Verdict.{Verdict}
 use Rattle.bsc_storing.specs.declared.reconciling.Verdict.TheVariants.{Settled, Ends, Apart}
 use Rattle.bsc_storing.specs.declared.reconciling.Ended.{Ended}

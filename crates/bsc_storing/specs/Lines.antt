@@ -10,12 +10,12 @@ use Rattle.bsc_bid.specs.declared.limits.TheConstants.{MAX_SELECTS}
 use Rattle.bsc_spool.specs.declared.channel.Channel.{Channel}
 use Rattle.bsc_spool.specs.declared.store.Progress.{Progress}
 use Rattle.bsc_spool.specs.declared.store.Store as store_of
-use Rattle.bsc_options.specs.declared.settings.Role.{Role}
-use Rattle.bsc_options.specs.declared.settings.Role.TheVariants.{Control, Terminal}
+use Rattle.bsc_bid.specs.declared.speaker.Speaker.{Speaker}
+use Rattle.bsc_bid.specs.declared.speaker.Speaker.TheVariants.{Control, Terminal}
 use Rattle.bsc_text.specs.Forms.{in_form}
 use Rattle.bsc_text.specs.declared.form.Form.{Form}
 use Rattle.bsc_storing.specs.declared.kept_line.KeptLine.{KeptLine}
-use Rattle.bsc_storing.specs.declared.name.ChannelName.{ChannelName}
+use Rattle.bsc_bid.specs.declared.channel.ChannelName.{ChannelName}
 use Rattle.bsc_storing.specs.declared.reconciling.Ended.{Ended}
 use Rattle.bsc_storing.specs.declared.reconciling.Unfit.{Unfit}
 use Rattle.bsc_storing.specs.Names.{channel_at, name_at, name_shown, receives_on, sends_on}
@@ -112,7 +112,7 @@ unfit_at line its place =
     (record { name = record { terminal = 0; way = FromTerminal }; known = 0; arrived = 0 }))
 
 -- The line for a store that was made.
-abbrev pub made_shown : Role → List ℕ
+abbrev pub made_shown : Speaker → List ℕ
 made_shown Control = codes "control station: store made\n"
 made_shown (Terminal number) = codes "terminal " ++ decimal number ++ codes ": store made\n"
 

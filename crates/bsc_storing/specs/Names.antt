@@ -6,13 +6,12 @@ use Rattle.bsc_bid.specs.declared.way.Way.{Way}
 use Rattle.bsc_bid.specs.declared.way.Way.TheVariants.{FromTerminal, ToTerminal}
 use Rattle.bsc_spool.specs.declared.channel.Channel.{Channel}
 use Rattle.bsc_spool.specs.declared.channel.Channel.TheVariants.{From, To}
-use Rattle.bsc_options.specs.declared.settings.Role.{Role}
-use Rattle.bsc_options.specs.declared.settings.Role.TheVariants.{Control, Terminal}
+use Rattle.bsc_bid.specs.declared.speaker.Speaker.{Speaker}
+use Rattle.bsc_bid.specs.declared.speaker.Speaker.TheVariants.{Control, Terminal}
 use Rattle.bsc_options.specs.declared.store_works.StoreChannel.{StoreChannel}
 use Rattle.bsc_text.specs.Channels.{channel_name}
 use Rattle.bsc_storing.specs.declared.kept_line.KeptLine.{KeptLine}
-use Rattle.bsc_storing.specs.declared.name.ChannelName.{ChannelName}
-use Rattle.bsc_storing.specs.declared.name.ShownName.{ShownName}
+use Rattle.bsc_bid.specs.declared.channel.ChannelName.{ChannelName}
 
 -- The name of the channel to a selection address.
 abbrev pub to_terminal : StoreChannel → ChannelName
@@ -26,24 +25,24 @@ from_terminal c number =
 
 -- The name of the channel on which a station sends, by what a user calls it: the control station
 -- sends to the selection addresses, a terminal on its one channel.
-abbrev pub sending_name : Role → StoreChannel → Option ChannelName
+abbrev pub sending_name : Speaker → StoreChannel → Option ChannelName
 sending_name Control c = Some (to_terminal c)
 sending_name (Terminal number) c = from_terminal c number
 
 -- The name of the channel on which a station receives.
-abbrev pub receiving_name : Role → StoreChannel → Option ChannelName
+abbrev pub receiving_name : Speaker → StoreChannel → Option ChannelName
 receiving_name Control c = from_terminal c c.terminal
 receiving_name (Terminal number) c =
     if number == c.terminal then Some (to_terminal c) else None
 
 -- Whether the station sends on a channel, and whether it receives on it.
-abbrev pub sends_on : Role → ChannelName → Way → Bool
+abbrev pub sends_on : Speaker → ChannelName → Way → Bool
 sends_on Control name (ToTerminal select) = true
 sends_on Control name FromTerminal = false
 sends_on (Terminal number) name FromTerminal = number == name.terminal
 sends_on (Terminal number) name (ToTerminal select) = false
 
-abbrev pub receives_on : Role → ChannelName → Way → Bool
+abbrev pub receives_on : Speaker → ChannelName → Way → Bool
 receives_on Control name FromTerminal = true
 receives_on Control name (ToTerminal select) = false
 receives_on (Terminal number) name (ToTerminal select) = number == name.terminal
@@ -66,7 +65,7 @@ name_at t place =
     record { terminal = t; way = if place == 0 then FromTerminal else ToTerminal (place - 1) }
 
 -- Whether one station is the control station and the other a terminal.
-abbrev pub are_two_ends : Role → Role → Bool
+abbrev pub are_two_ends : Speaker → Speaker → Bool
 are_two_ends Control (Terminal number) = true
 are_two_ends (Terminal number) Control = true
 are_two_ends one other = false
@@ -80,11 +79,6 @@ named_at line (Some name) = option_map (λ c. (name, c)) (channel_at line name)
 abbrev pub addresses_of : Option TerminalValue → ℕ
 addresses_of None = 0
 addresses_of (Some t) = length t.selects
-
--- What is needed to print the name of a channel: how many addresses its terminal has.
-abbrev pub named : KeptLine → ChannelName → ShownName
-named line its =
-    record { name = its; addresses = addresses_of (slice_get line.terminals.items its.terminal) }
 
 -- The name of a channel in print.
 abbrev pub name_shown : KeptLine → ChannelName → List ℕ

@@ -11,16 +11,14 @@ use Rattle.bsc_spool.specs.declared.store.Found.{Found}
 use Rattle.bsc_spool.specs.declared.store.Progress.{Progress}
 use Rattle.bsc_spool.specs.declared.store.Store as store_of
 use Rattle.bsc_options.specs.declared.store_works.StoreChannel.{StoreChannel}
-use Rattle.bsc_options.specs.declared.settings.Role.{Role}
-use Rattle.bsc_options.specs.declared.settings.Role.TheVariants as role
-use Rattle.bsc_keeping.specs.declared.own_text.Owner.{Owner}
-use Rattle.bsc_keeping.specs.declared.own_text.Owner.TheVariants as owner
+use Rattle.bsc_bid.specs.declared.speaker.Speaker.{Speaker}
+use Rattle.bsc_bid.specs.declared.speaker.Speaker.TheVariants as speaker
 use Rattle.bsc_text.specs.declared.form.Form.{Form}
 use Rattle.bsc_text.specs.declared.form.Form.TheVariants.{Text, Hexadecimal}
 use Rattle.bsc_storing.specs.declared.error.StoringError.{StoringError}
 use Rattle.bsc_storing.specs.declared.error.StoringError.TheVariants as storing
 use Rattle.bsc_storing.specs.declared.kept_line.KeptLine.{KeptLine}
-use Rattle.bsc_storing.specs.declared.name.ChannelName.{ChannelName}
+use Rattle.bsc_bid.specs.declared.channel.ChannelName.{ChannelName}
 use Rattle.bsc_storing.specs.declared.work.Work.{Work}
 use Rattle.bsc_storing.specs.declared.work.Work.TheVariants as work
 use Rattle.bsc_storing.specs.Lines.{ShowsTerminals, arrived_line}
@@ -112,8 +110,8 @@ module _ {S : Type 0} (store : store_of.Ghosts S) where
 abbrev pub form_if : Bool → Form
 form_if text = if text then Text else Hexadecimal
 
--- The owner of the store of a station of a line with this many terminals, if it has the station.
-abbrev pub owner_in : ℕ → Role → Result Owner StoringError
-owner_in count role.Control = Ok owner.Control
-owner_in count (role.Terminal number) =
-    if nat_lt number count then Ok (owner.Terminal number) else Err storing.NoTerminal
+-- Whether a line with this many terminals has the station.
+abbrev pub station_in : ℕ → Speaker → Result (Unit {0}) StoringError
+station_in count speaker.Control = Ok tt
+station_in count (speaker.Terminal number) =
+    if nat_lt number count then Ok tt else Err storing.NoTerminal

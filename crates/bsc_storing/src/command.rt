@@ -3,14 +3,15 @@
 ghost use Rattle.std.specs.Prelude.{◌≡◌, OnOk, length};
 ghost use Rattle.std.specs.Io.KnownBytes.{Appends};
 ghost use Rattle.bsc_storing.specs.Lines.{made_shown};
-ghost use Rattle.bsc_storing.specs.Works.{form_if, owner_in};
+ghost use Rattle.bsc_storing.specs.Works.{form_if, station_in};
 
 use crate::error::{StoringError, of_store};
 use crate::stores::StoreFiles;
 use crate::work::{Work, do_work};
+use bsc_bid::Speaker;
 use bsc_config::{Config, read_config};
-use bsc_keeping::{Own, Owner};
-use bsc_options::{Role, StoreWork};
+use bsc_keeping::Own;
+use bsc_options::StoreWork;
 use bsc_text::{Files, Form, read_text};
 use std::alloc::Global;
 use std::io::{Read, Write};
@@ -26,7 +27,9 @@ pub fn store<R: Read, M: Files + StoreFiles, W: Write>(
     out: &mut W,
 ) -> Result<(), StoringError> {
     match work {
-        StoreWork::Init { config, role } => init(alloc, file, config, role, input, machine, out),
+        StoreWork::Init { config, speaker } => init(
+            alloc, file, config, speaker, input, machine, out,
+        ),
         StoreWork::Offer { channel, path } => {
             let text = read_text(alloc, path, input, machine)?;
             let text = text.as_slice();
@@ -69,16 +72,14 @@ fn form_of(text: bool) -> Form
     if text { Form::Text } else { Form::Hexadecimal }
 }
 
-/// Returns the owner of the store of this station. Fails if the line has no such station.
-fn owner_of(config: &Config, role: Role) -> Result<Owner, StoringError>
-    ensures { result ≡ owner_in (length config.now.terminals) role }
+/// Checks that the line has this station.
+fn check_station(config: &Config, speaker: Speaker) -> Result<(), StoringError>
+    ensures { result ≡ station_in (length config.now.terminals) speaker }
 {
-    match role {
-        Role::Control => Ok(Owner::Control),
-        Role::Terminal { number } if number < config.terminals() => {
-            Ok(Owner::Terminal { number })
-        }
-        Role::Terminal { .. } => Err(StoringError::NoTerminal),
+    match speaker {
+        Speaker::Control => Ok(()),
+        Speaker::Terminal { number } if number < config.terminals() => Ok(()),
+        Speaker::Terminal { .. } => Err(StoringError::NoTerminal),
     }
 }
 
@@ -87,27 +88,27 @@ fn init<R: Read, M: Files + StoreFiles, W: Write>(
     alloc: Global,
     file: &str,
     path: &str,
-    role: Role,
+    speaker: Speaker,
     input: &mut R,
     machine: &mut M,
     out: &mut W,
 ) -> Result<(), StoringError> {
     let text = read_text(alloc, path, input, machine)?;
     let config = read_config(alloc, &text)?;
-    let owner = owner_of(&config, role)?;
-    let own = Own::of(alloc, &config, owner)?;
+    check_station(&config, speaker)?;
+    let own = Own::of(alloc, &config, speaker)?;
     machine.make_kept(file, own.text()).map_err(of_store)?;
-    write_made(role, out)
+    write_made(speaker, out)
 }
 
 /// Says that a store was made.
-fn write_made<W: Write>(role: Role, out: &mut W) -> Result<(), StoringError>
+fn write_made<W: Write>(speaker: Speaker, out: &mut W) -> Result<(), StoringError>
     ensures { OnOk result
-        (Appends (W.contents out.old) (W.contents out.new) (made_shown role)) }
+        (Appends (W.contents out.old) (W.contents out.new) (made_shown speaker)) }
 {
-    let written = match role {
-        Role::Control => writeln!(out, "control station: store made"),
-        Role::Terminal { number } => writeln!(out, "terminal {number}: store made"),
+    let written = match speaker {
+        Speaker::Control => writeln!(out, "control station: store made"),
+        Speaker::Terminal { number } => writeln!(out, "terminal {number}: store made"),
     };
     match written {
         Ok(()) => Ok(()),

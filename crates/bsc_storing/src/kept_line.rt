@@ -1,15 +1,14 @@
 //! The line of a store: its stations, as the text of the store names them.
 
-ghost use Rattle.std.specs.Prelude.{◌≡◌};
-ghost use Rattle.bsc_storing.specs.Names.{channel_at, from_terminal as channel_from, named};
+ghost use Rattle.std.specs.Prelude.{◌≡◌, slice_get};
+ghost use Rattle.bsc_storing.specs.Names.{addresses_of, channel_at, from_terminal as channel_from};
 ghost use Rattle.bsc_storing.specs.Names.{receives_on, receiving_name, sending_name, sends_on};
 ghost use Rattle.bsc_storing.specs.Names.{to_terminal as channel_to};
 
-use crate::name::{ChannelName, ShownName};
 use bsc_bid::limits::MAX_SELECTS;
-use bsc_bid::{Terminal, Way};
+use bsc_bid::{ChannelName, Speaker, Terminal, Way};
 use bsc_frame::Address;
-use bsc_options::{Role, StoreChannel, number_within};
+use bsc_options::{StoreChannel, number_within};
 use bsc_spool::{Channel, StoreFault};
 use bsc_text::read_octets;
 use std::alloc::Global;
@@ -18,7 +17,7 @@ use std::alloc::Global;
 #[derive(Drop)]
 pub struct KeptLine {
     /// The station to which the store belongs.
-    pub station: Role,
+    pub station: Speaker,
 
     /// The full length of a record: 1 to 144.
     pub full: u8,
@@ -44,15 +43,14 @@ impl KeptLine {
         }
     }
 
-    /// Returns what is needed to print the name of a channel.
-    pub fn shown(&self, name: ChannelName) -> ShownName
-        ensures { result ≡ named self.now name }
+    /// Returns how many selection addresses the terminal with this number has; 0 if there is none.
+    pub(crate) fn addresses(&self, number: usize) -> usize
+        ensures { result ≡ addresses_of (slice_get self.now.terminals.items number) }
     {
-        let addresses = match self.terminals.get(name.terminal) {
+        match self.terminals.get(number) {
             Some(terminal) => terminal.selects(),
             None => 0,
-        };
-        ShownName { name, addresses }
+        }
     }
 
     /// Returns the name of a channel on which the station sends, if it is one: at the control
@@ -61,8 +59,8 @@ impl KeptLine {
         ensures { result ≡ sending_name self.now.station channel }
     {
         match self.station {
-            Role::Control => Some(to_terminal(channel)),
-            Role::Terminal { number } => from_terminal(channel, number),
+            Speaker::Control => Some(to_terminal(channel)),
+            Speaker::Terminal { number } => from_terminal(channel, number),
         }
     }
 
@@ -72,9 +70,11 @@ impl KeptLine {
         ensures { result ≡ receiving_name self.now.station channel }
     {
         match self.station {
-            Role::Control => from_terminal(channel, channel.terminal),
-            Role::Terminal { number } if number == channel.terminal => Some(to_terminal(channel)),
-            Role::Terminal { .. } => None,
+            Speaker::Control => from_terminal(channel, channel.terminal),
+            Speaker::Terminal { number } if number == channel.terminal => Some(to_terminal(
+                channel,
+            )),
+            Speaker::Terminal { .. } => None,
         }
     }
 
@@ -83,8 +83,8 @@ impl KeptLine {
         ensures { result ≡ sends_on self.now.station name name.way }
     {
         match (self.station, name.way) {
-            (Role::Control, Way::ToTerminal(_)) => true,
-            (Role::Terminal { number }, Way::FromTerminal) => number == name.terminal,
+            (Speaker::Control, Way::ToTerminal(_)) => true,
+            (Speaker::Terminal { number }, Way::FromTerminal) => number == name.terminal,
             _ => false,
         }
     }
@@ -94,8 +94,8 @@ impl KeptLine {
         ensures { result ≡ receives_on self.now.station name name.way }
     {
         match (self.station, name.way) {
-            (Role::Control, Way::FromTerminal) => true,
-            (Role::Terminal { number }, Way::ToTerminal(_)) => number == name.terminal,
+            (Speaker::Control, Way::FromTerminal) => true,
+            (Speaker::Terminal { number }, Way::ToTerminal(_)) => number == name.terminal,
             _ => false,
         }
     }
@@ -124,13 +124,13 @@ fn from_terminal(channel: StoreChannel, number: usize) -> Option<ChannelName>
 }
 
 /// Returns the station that a line of the text names.
-fn station_in(line: &str) -> Option<Role> {
+fn station_in(line: &str) -> Option<Speaker> {
     if line == "control station" {
-        return Some(Role::Control);
+        return Some(Speaker::Control);
     }
     let number = number_within(line.strip_prefix("terminal ")?, 0, 255)?;
     let number = usize::try_from(number).ok()?;
-    Some(Role::Terminal { number })
+    Some(Speaker::Terminal { number })
 }
 
 /// Returns the full length of a record that a line of the text names.
@@ -187,7 +187,7 @@ fn add_terminals(
 }
 
 /// Returns the station and the full length in the first two lines of a text, and the other lines.
-fn head_in(text: &str) -> Option<(Role, u8, &str)> {
+fn head_in(text: &str) -> Option<(Speaker, u8, &str)> {
     let (first, rest) = text.split_once('\n')?;
     let (second, rest) = rest.split_once('\n')?;
     Some((station_in(first)?, full_in(second)?, rest))

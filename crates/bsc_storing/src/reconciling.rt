@@ -11,12 +11,10 @@ ghost use Rattle.bsc_storing.specs.Releases.{compared as compared_as};
 
 use crate::error::{StoringError, exchanged, of_other, of_store};
 use crate::kept_line::KeptLine;
-use crate::name::ChannelName;
 use crate::releasing::release;
 use crate::status::{name_at, write_name};
-use bsc_bid::ReleaseError;
 use bsc_bid::limits::MAX_SELECTS;
-use bsc_options::Role;
+use bsc_bid::{ChannelName, ReleaseError, Speaker};
 use bsc_spool::{Change, Channel, Progress, Store, StoreFault};
 use std::alloc::Global;
 use std::io::Write;
@@ -301,11 +299,12 @@ fn write_unfit<W: Write>(line: &KeptLine, unfit: &[Unfit], out: &mut W) -> Resul
 }
 
 /// Tells whether one station is the control station and the other a terminal.
-pub(crate) fn are_two_ends(one: Role, other: Role) -> bool
+pub(crate) fn are_two_ends(one: Speaker, other: Speaker) -> bool
     ensures { result ≡ are_two_ends one other }
 {
     match (one, other) {
-        (Role::Control, Role::Terminal { .. }) | (Role::Terminal { .. }, Role::Control) => true,
+        (Speaker::Control, Speaker::Terminal { .. })
+        | (Speaker::Terminal { .. }, Speaker::Control) => true,
         _ => false,
     }
 }

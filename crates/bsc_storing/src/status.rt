@@ -7,9 +7,8 @@ ghost use Rattle.bsc_storing.specs.Names.{name_at, name_shown};
 
 use crate::error::{StoringError, of_store};
 use crate::kept_line::KeptLine;
-use crate::name::{ChannelName, ShownName};
-use bsc_bid::Way;
 use bsc_bid::limits::MAX_SELECTS;
+use bsc_bid::{ChannelName, Way};
 use bsc_spool::{Progress, Store};
 use bsc_text::write_channel_name;
 use std::io::Write;
@@ -23,7 +22,7 @@ pub(crate) fn write_name<W: Write>(
     ensures { OnOk result
         (Appends (W.contents out.old) (W.contents out.new) (name_shown line.now name)) }
 {
-    let ShownName { name, addresses } = line.shown(name);
+    let addresses = line.addresses(name.terminal);
     match write_channel_name(addresses, name.terminal, name.way, out) {
         Ok(()) => Ok(()),
         Err(_) => Err(StoringError::Output),

@@ -11,12 +11,12 @@ ghost use Rattle.bsc_storing.specs.Works.{Does, EndsDoubt, EndsOne, OffersAll, P
 use crate::arrived::write_arrived;
 use crate::error::{StoringError, of_other, of_store};
 use crate::kept_line::{KeptLine, read_line_text};
-use crate::name::ChannelName;
 use crate::offering::offer;
 use crate::reconciling::{Reconciled, are_two_ends, reconcile};
 use crate::releasing::release;
 use crate::status::{write_name, write_status};
 use crate::stores::{Opened, StoreFiles};
+use bsc_bid::ChannelName;
 use bsc_block::Record;
 use bsc_block::limits::MAX_FULL;
 use bsc_options::StoreChannel;

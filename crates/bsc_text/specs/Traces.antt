@@ -2,12 +2,13 @@
 -- time-out in which nothing was heard, and one for each other text that is told.
 use Rattle.std.specs.Prelude.{ℕ, List, [], ◌++◌, codes, Option, None, Some}
 use Rattle.std.specs.Fmt.{decimal}
+use Rattle.bsc_bid.specs.declared.speaker.Speaker.TheVariants.{Control, Terminal}
 use Rattle.bsc_frame.specs.declared.message.Heard.{Heard}
 use Rattle.bsc_text.specs.Names.{chars_shown, name_of}
 use Rattle.bsc_text.specs.declared.trace.Fate.{Fate}
 use Rattle.bsc_text.specs.declared.trace.Fate.TheVariants as fate
 use Rattle.bsc_text.specs.declared.trace.Who.{Who}
-use Rattle.bsc_text.specs.declared.trace.Who.TheVariants.{Control, Terminal, Connection}
+use Rattle.bsc_text.specs.declared.trace.Who.TheVariants.{Station, Connection}
 
 -- The time at the start of a line: the milliseconds since the start, or the number of the line of
 -- the script.
@@ -16,8 +17,8 @@ time_shown time = codes "+" ++ decimal time ++ codes " "
 
 -- The sender of a transmission.
 abbrev pub who_shown : Who → List ℕ
-who_shown Control = codes "control"
-who_shown (Terminal number) = codes "terminal " ++ decimal number
+who_shown (Station Control) = codes "control"
+who_shown (Station (Terminal number)) = codes "terminal " ++ decimal number
 who_shown (Connection place) = codes "connection " ++ decimal place
 
 -- What became of the transmission.

@@ -7,17 +7,15 @@ ghost use Rattle.bsc_text.specs.Traces.{fate_shown, hearer_shown, octets_shown, 
 ghost use Rattle.bsc_text.specs.Traces.{time_shown, who_shown};
 
 use crate::{PrintError, put, put_numbered, write_chars};
+use bsc_bid::Speaker;
 use std::alloc::Allocator;
 use std::io::Write;
 
 /// The sender of a transmission, as far as it is known.
 #[derive(Clone, Copy)]
 pub enum Who {
-    /// The control station.
-    Control,
-
-    /// The terminal with this number.
-    Terminal(usize),
+    /// This station.
+    Station(Speaker),
 
     /// A station reached by the connection with this index.
     Connection(usize),
@@ -63,8 +61,10 @@ pub fn write_who<W: Write>(who: Who, out: &mut W) -> Result<(), PrintError>
     ensures err { IfErr result (λ error. error ≡ PrintError.Output) }
 {
     match who {
-        Who::Control => put(b"control", out),
-        Who::Terminal(number) => put_numbered(b"terminal ", number as u64, out),
+        Who::Station(Speaker::Control) => put(b"control", out),
+        Who::Station(Speaker::Terminal { number }) => {
+            put_numbered(b"terminal ", number as u64, out)
+        }
         Who::Connection(place) => put_numbered(b"connection ", place as u64, out),
     }
 }

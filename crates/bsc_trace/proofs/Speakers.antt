@@ -3,6 +3,7 @@ use Rattle.std.proofs.Common.{◌≡◌, ◌<◌, ℕ, List, ◌∷◌, ◌++◌
 use Rattle.std.proofs.Common.{None, IfSome, option_and_then, option_map, refl, sym, ap, ◌∙◌}
 use Rattle.std.proofs.Common.{append_assoc, arith, bytes_eq}
 use Rattle.std.proofs.lemmas.Bool.{cond-false, cond-true}
+use Rattle.bsc_bid.specs.declared.speaker.Speaker.TheVariants.{Control, Terminal}
 use Rattle.bsc_frame.specs.Replies.{reply_name}
 use Rattle.bsc_frame.specs.declared.message.Heard.{Heard}
 use Rattle.bsc_frame.specs.declared.message.Heard.TheVariants.{Whole, Failed, Noise}
@@ -17,7 +18,7 @@ use Rattle.bsc_text.specs.Traces.{fate_shown, hearer_shown, who_shown}
 use Rattle.bsc_text.specs.declared.trace.Fate.{Fate as Printed}
 use Rattle.bsc_text.specs.declared.trace.Fate.TheVariants as printed
 use Rattle.bsc_text.specs.declared.trace.Who.{Who}
-use Rattle.bsc_text.specs.declared.trace.Who.TheVariants.{Control, Terminal, Connection}
+use Rattle.bsc_text.specs.declared.trace.Who.TheVariants.{Station, Connection}
 use Rattle.bsc_trace.specs.ReadBack.{IsColumn, IsStation, course_of, fate_of}
 use Rattle.bsc_text.specs.Words.{after_word, first_word}
 use Rattle.bsc_trace.specs.Speaking.{HeadValue, SpokenValue, from_column}
@@ -47,8 +48,8 @@ module _ (number : ℕ) (rest : List ℕ) (h : number < 100) where
 
 -- the sender, and the text after it
 abbrev pub course_from : Who → Course
-course_from Control = ToAll
-course_from (Terminal number) = From number
+course_from (Station Control) = ToAll
+course_from (Station (Terminal number)) = From number
 course_from (Connection place) = From place
 
 abbrev pub head_as : Course → List ℕ → HeadValue
@@ -56,9 +57,9 @@ head_as course rest = record { course = course; rest = rest }
 
 pub sender_is_read : (who : Who) (rest : List ℕ) → IsStation who
     → sender_in (who_shown who ++ 32 ∷ rest) ≡ Some (head_as (course_from who) rest)
-sender_is_read Control rest h =
+sender_is_read (Station Control) rest h =
     by_word (codes "control") rest (letters (codes "control") refl) sender_by
-sender_is_read (Terminal number) rest h =
+sender_is_read (Station (Terminal number)) rest h =
     by_word (codes "terminal") (decimal number ++ 32 ∷ rest) (letters (codes "terminal") refl)
     sender_by ∙ from_is_read number rest h
 sender_is_read (Connection place) rest h =
@@ -157,10 +158,11 @@ hearers_are_read : (who : Who) (hearer : Option ℕ) (fate : Fate) (heard : Hear
     (chars : List ℕ) → IfSome hearer IsColumn
     → IsSpoken (spoken_to (course_from who) fate
     (hearer_shown hearer ++ (name_of heard ++ 32 ∷ chars))) (course_of who hearer) fate chars
-hearers_are_read Control None fate heard chars h = (name_of heard, all_hear fate heard chars)
-hearers_are_read Control (Some terminal) fate heard chars h =
+hearers_are_read (Station Control) None fate heard chars h =
+    (name_of heard, all_hear fate heard chars)
+hearers_are_read (Station Control) (Some terminal) fate heard chars h =
     (name_of heard, one_hears fate terminal (name_of heard ++ 32 ∷ chars) h)
-hearers_are_read (Terminal number) hearer fate heard chars h = (
+hearers_are_read (Station (Terminal number)) hearer fate heard chars h = (
   hearer_shown hearer ++ name_of heard,
   ap (λ rest. Some (spoken_as (From number) fate rest))
       (sym (append_assoc (hearer_shown hearer) (name_of heard) (32 ∷ chars))),

@@ -3,9 +3,10 @@ use Rattle.std.proofs.Common.{◌≡◌, ℕ, ◌||◌, List, [], ◌∷◌, ◌
 use Rattle.std.proofs.Common.{sym, ap, ◌∙◌, subst, append_assoc, inl, inr, true≢false, bytes_eq}
 use Rattle.std.proofs.lemmas.Slice.Eq.{bytes_eq-Decides}
 use Rattle.std.specs.List.{AllByRecursion}
+use Rattle.bsc_bid.specs.declared.speaker.Speaker.TheVariants.{Control, Terminal}
 use Rattle.bsc_text.specs.Traces.{silence_shown, who_shown}
 use Rattle.bsc_text.specs.declared.trace.Who.{Who}
-use Rattle.bsc_text.specs.declared.trace.Who.TheVariants.{Control, Terminal, Connection}
+use Rattle.bsc_text.specs.declared.trace.Who.TheVariants.{Station, Connection}
 use Rattle.bsc_trace.specs.ReadBack.{BeginsAsTold, IsStation, first_words, is_one_of, words_after}
 use Rattle.bsc_text.specs.Words.{first_word}
 use Rattle.bsc_trace.specs.Speaking.{sender_by, spoken_of}
@@ -53,8 +54,8 @@ no_silence_by_first text e = by (bytes_eq text silence_shown) refl
 
 no_silence_by_station : (who : Who) (rest : List ℕ)
     → bytes_eq (who_shown who ++ rest) silence_shown ≡ false
-no_silence_by_station Control rest = refl
-no_silence_by_station (Terminal number) rest = refl
+no_silence_by_station (Station Control) rest = refl
+no_silence_by_station (Station (Terminal number)) rest = refl
 no_silence_by_station (Connection place) rest = refl
 
 by_first : (text : List ℕ) → is_one_of first_words (first_word text) ≡ true

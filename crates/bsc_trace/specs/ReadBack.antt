@@ -4,6 +4,7 @@ use Rattle.std.specs.Prelude.{Option, Some, None, IfSome}
 use Rattle.std.specs.Fmt.{decimal}
 use Rattle.std.specs.List.{list_any}
 use Rattle.std.specs.Str.{bytes_eq}
+use Rattle.bsc_bid.specs.declared.speaker.Speaker.TheVariants.{Control, Terminal}
 use Rattle.bsc_frame.specs.declared.message.Heard.{Heard}
 use Rattle.bsc_trace.specs.declared.ladder.row.Course.{Course}
 use Rattle.bsc_trace.specs.declared.ladder.row.Course.TheVariants.{ToAll, ToOne, From}
@@ -16,7 +17,7 @@ use Rattle.bsc_text.specs.Traces.{who_shown}
 use Rattle.bsc_text.specs.declared.trace.Fate.{Fate as Printed}
 use Rattle.bsc_text.specs.declared.trace.Fate.TheVariants as printed
 use Rattle.bsc_text.specs.declared.trace.Who.{Who}
-use Rattle.bsc_text.specs.declared.trace.Who.TheVariants.{Control, Terminal, Connection}
+use Rattle.bsc_text.specs.declared.trace.Who.TheVariants.{Station, Connection}
 use Rattle.bsc_trace.specs.Lines.{TraceValue, silence, told_at, transmission, value_of}
 use Rattle.bsc_trace.specs.Marks.{marked_of}
 use Rattle.bsc_text.specs.Words.{first_word}
@@ -36,16 +37,16 @@ abbrev pub IsColumn : ℕ → Type 0
 IsColumn number = number < 100
 
 abbrev pub IsStation : Who → Type 0
-IsStation Control = Unit {0}
-IsStation (Terminal number) = IsColumn number
+IsStation (Station Control) = Unit {0}
+IsStation (Station (Terminal number)) = IsColumn number
 IsStation (Connection place) = IsColumn place
 
 -- From where to where a transmission went, by its sender and by the terminal that heard, if the
 -- line is about one of them only.
 abbrev pub course_of : Who → Option ℕ → Course
-course_of Control None = ToAll
-course_of Control (Some terminal) = ToOne terminal
-course_of (Terminal number) hearer = From number
+course_of (Station Control) None = ToAll
+course_of (Station Control) (Some terminal) = ToOne terminal
+course_of (Station (Terminal number)) hearer = From number
 course_of (Connection place) hearer = From place
 
 -- What became of it.

@@ -1,8 +1,9 @@
 //! The exchanges in which each transmission is heard as something else, and their transmissions.
 
 use crate::fixtures::Watched;
+use bsc_bid::Speaker;
 use bsc_frame::Wire;
-use bsc_line::{Event, Speaker};
+use bsc_line::Event;
 use std::alloc::Global;
 use std::test::Fail;
 use test_watch::octets_of;

@@ -4,9 +4,10 @@
 
 use crate::exchanges::{Exchange, INTERRUPTED, POLLED, SELECTED, SELECTED_TWICE, transmissions};
 use crate::fixtures::Watched;
+use bsc_bid::Speaker;
+use bsc_bid::Speaker::{Control, Terminal};
 use bsc_control::Way;
-use bsc_line::Speaker::{Control, Terminal};
-use bsc_line::{Event, Speaker};
+use bsc_line::Event;
 use std::alloc::Global;
 use std::test::Fail;
 use test_watch::{Broken, look};
@@ -14,12 +15,17 @@ use test_watch::{Broken, look};
 /// The stations that begin again, in this order.
 const PARTIES: &[&[Speaker]] = &[
     &[Control],
-    &[Terminal(0)],
-    &[Terminal(1)],
-    &[Control, Terminal(0)],
-    &[Terminal(0), Control],
-    &[Terminal(0), Terminal(1)],
-    &[Control, Terminal(0), Terminal(1), Control],
+    &[Terminal { number: 0 }],
+    &[Terminal { number: 1 }],
+    &[Control, Terminal { number: 0 }],
+    &[Terminal { number: 0 }, Control],
+    &[Terminal { number: 0 }, Terminal { number: 1 }],
+    &[
+        Control,
+        Terminal { number: 0 },
+        Terminal { number: 1 },
+        Control,
+    ],
 ];
 
 /// Plays the exchange up to the transmission of this number, lets these stations begin again, and

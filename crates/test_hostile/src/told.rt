@@ -4,11 +4,11 @@
 
 use crate::exchanges::{HI_AT, POLLED};
 use crate::fixtures::Watched;
-use bsc_bid::Terminal;
+use bsc_bid::{Speaker, Terminal};
 use bsc_control::Way;
 use bsc_frame::Address;
 use bsc_line::Event::{CarrySent, Silence};
-use bsc_line::{Event, Line, LineError, Speaker};
+use bsc_line::{Event, Line, LineError};
 use std::alloc::Global;
 use std::test::Fail;
 use test_fixtures::lines::{two_terminals, two_terminals_by_three};
@@ -47,7 +47,7 @@ const AS_TEXT: Event<'static> = Event::Carry {
 
 /// Terminal 0 begins again, or the control station does.
 const RESTART_FIRST: Event<'static> = Event::Restart {
-    party: Speaker::Terminal(0),
+    party: Speaker::Terminal { number: 0 },
 };
 
 const RESTART_CONTROL: Event<'static> = Event::Restart {
@@ -149,7 +149,7 @@ fn go_on(line: &mut Line<Global>) -> Result<(), LineError> {
     };
     match speaker {
         Some(Speaker::Control) => line.carry_sent(),
-        Some(Speaker::Terminal(_)) => line.carry(None),
+        Some(Speaker::Terminal { .. }) => line.carry(None),
         None => line.silence(),
     }
 }

@@ -3,11 +3,11 @@
 
 use crate::channels::{is_put_off, offer};
 use crate::fixtures::{On, go_on, line_of, line_on, most_terminals};
-use bsc_bid::Setup;
+use bsc_bid::{Setup, Speaker};
 use bsc_control::Way;
 use bsc_control::Way::{FromTerminal, ToTerminal};
 use bsc_frame::{Message, Reply};
-use bsc_line::{Event, Line, LineError, Speaker};
+use bsc_line::{Event, Line, LineError};
 use std::alloc::{Allocator, Global};
 use std::test::Fail;
 use test_alloc::Refusing;

@@ -4,9 +4,10 @@ ghost use Rattle.std.specs.Prelude.{◌<◌};
 ghost use Rattle.bsc_line_model.specs.Line.{IsChannel, terminal_count};
 
 use crate::channels::are_sound;
+use bsc_bid::Speaker;
 use bsc_control::Way;
 use bsc_frame::{Wire, encode};
-use bsc_line::{Event, Line, Speaker, Transmission};
+use bsc_line::{Event, Line, Transmission};
 use std::alloc::Allocator;
 use std::test::Fail;
 use test_alloc::Refusing;
@@ -133,7 +134,7 @@ fn event_of(word: &str) -> Option<Event<'static>> {
             party: Speaker::Control,
         },
         "restart0" => Event::Restart {
-            party: Speaker::Terminal(0),
+            party: Speaker::Terminal { number: 0 },
         },
         _ => return None,
     };
@@ -162,7 +163,7 @@ fn write_pending<A: Allocator>(line: &Line<A>, log: &mut String) -> Result<(), F
     let name = name_of(&sent);
     match sent.speaker {
         Speaker::Control => write!(log, " {name}{mark}")?,
-        Speaker::Terminal(terminal) => write!(log, " {terminal}:{name}{mark}")?,
+        Speaker::Terminal { number } => write!(log, " {number}:{name}{mark}")?,
     }
     Ok(())
 }

@@ -3,7 +3,7 @@
 use crate::stations::{add, card, control_of, offer_for, terminal_of};
 use bsc_bid::KeptSender;
 use bsc_control::Control;
-use bsc_station::{Forgets, LineTerminal, Party};
+use bsc_station::{LineStation, LineTerminal, Party};
 use std::alloc::Global;
 use std::test::Fail;
 use test_fixtures::configurations::{THREE_ADDRESSES, TWO_TERMINALS};
@@ -38,7 +38,7 @@ fn add_to_terminal(terminal: &mut LineTerminal<Global>, count: usize) -> Option<
 
 /// Forgets these numbers of records that arrived on the first channel. Returns how many have
 /// arrived, and how many of them are forgotten.
-fn forgotten_of<S: Forgets>(station: &mut S, counts: &[usize]) -> Option<(usize, usize)> {
+fn forgotten_of<S: LineStation>(station: &mut S, counts: &[usize]) -> Option<(usize, usize)> {
     for count in counts {
         station.forget_first(0, *count);
         station.forget_first(9, *count);

@@ -4,17 +4,15 @@
 ghost use Rattle.std.specs.Prelude.{◌≡◌, ◌<◌, IfOk};
 
 use crate::fakes::{Event, tell_event};
-use bsc_bid::Station;
+use bsc_bid::{Speaker, Station};
 use bsc_block::Record;
 use bsc_config::{Config, read_config};
 use bsc_connections::{Decoded, LiveError, Monitor, Note, Pace};
 use bsc_control::Control;
 use bsc_frame::Wire;
-use bsc_keeping::{
-    Keeper, Keeping, Own, Owner, Prints, Sends, Stored, begin_control, begin_terminal,
-};
+use bsc_keeping::{Keeper, Keeping, Own, Prints, Stored, begin_control, begin_terminal};
 use bsc_spool::StoreFault;
-use bsc_station::{LineTerminal, Party, new_control, new_terminal};
+use bsc_station::{LineStation, LineTerminal, Party, new_control, new_terminal};
 use std::alloc::Global;
 use std::test::Fail;
 use test_fixtures::Memory;
@@ -82,7 +80,7 @@ struct Kept<S: Drop> {
     stored: Stored<Memory, Quiet>,
 }
 
-impl<S: Station + Party + Sends + Drop> Kept<S> {
+impl<S: LineStation + Drop> Kept<S> {
     /// Returns the station with its store, at which nothing has happened yet.
     fn new(station: S, keeper: Keeper<Memory>) -> Kept<S> {
         let stored = Stored {
@@ -139,7 +137,7 @@ fn control(
     config: &Config,
     store: Memory,
 ) -> Result<Box<Kept<Control<Global>>>, Fail> {
-    let own = Own::of(alloc, config, Owner::Control)?;
+    let own = Own::of(alloc, config, Speaker::Control)?;
     let mut control = new_control(alloc, config)?;
     let keeper = begin_control(alloc, &mut control, own, store, false)?;
     Ok(Box::new(alloc, Kept::new(control, keeper))?)
@@ -154,7 +152,7 @@ fn terminal(
     if config.terminals() == 0 {
         return Err(Fail::new("no terminal"));
     }
-    let own = Own::of(alloc, config, Owner::Terminal { number: 0 })?;
+    let own = Own::of(alloc, config, Speaker::Terminal { number: 0 })?;
     let mut terminal = new_terminal(alloc, config, 0);
     let keeper = begin_terminal(alloc, &mut terminal, own, store, false)?;
     Ok(Box::new(alloc, Kept::new(terminal, keeper))?)
@@ -186,10 +184,7 @@ fn line_of(alloc: Global, config: &Config, stores: (Memory, Memory)) -> Result<S
 }
 
 /// Keeps all records for a selection address of terminal 0. Each is given back.
-fn offer_all<S: Station + Party + Sends + Drop>(
-    station: &mut Kept<S>,
-    select: usize,
-) -> Result<(), Fail> {
+fn offer_all<S: LineStation + Drop>(station: &mut Kept<S>, select: usize) -> Result<(), Fail> {
     for number in 0..RECORDS {
         let given_back = station.offer(0, select, record(number)?)?;
         if given_back.chars() != record(number)?.chars() {

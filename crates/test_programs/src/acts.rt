@@ -26,9 +26,8 @@ use crate::world::{Program, Scripted, World};
 use bsc_bid::Station;
 use bsc_block::Record;
 use bsc_control::Control;
-use bsc_monitor::Polls;
-use bsc_serving::{Feeds, Serving};
-use bsc_station::Forgets;
+use bsc_serving::Serving;
+use bsc_station::LineStation;
 use std::alloc::Global;
 use std::test::Fail;
 use test_fixtures::on_heap;
@@ -107,7 +106,7 @@ fn holds(
 
 /// Serves the programs until one asks the station to end, at most this many times. Returns whether
 /// one does.
-pub(crate) fn is_stopped<S: Station + Feeds + Forgets + Polls>(
+pub(crate) fn is_stopped<S: LineStation>(
     serving: &mut Serving<Scripted<'_>>,
     station: &mut S,
     times: usize,

@@ -2,11 +2,12 @@
 
 use crate::stations::{Quiet, control, line};
 use crate::world::World;
+use bsc_bid::Speaker;
 use bsc_block::Record;
 use bsc_connections::LiveError;
 use bsc_control::Control;
 use bsc_frame::Address;
-use bsc_keeping::{Own, Owner, Stored, begin_control};
+use bsc_keeping::{Own, Stored, begin_control};
 use bsc_serving::Serving;
 use bsc_spool::{Change, Channel, Store};
 use std::alloc::Global;
@@ -20,7 +21,7 @@ fn begun(
     store: Memory,
 ) -> Result<Box<Stored<Memory, Quiet>>, Fail> {
     let config = line(alloc)?;
-    let own = Own::of(alloc, &config, Owner::Control)?;
+    let own = Own::of(alloc, &config, Speaker::Control)?;
     let keeper = begin_control(alloc, station, own, store, false)?;
     let printer = Quiet;
     Ok(Box::new(alloc, Stored { keeper, printer })?)

@@ -1,7 +1,7 @@
 //! Which stations take no part in what goes on.
 
+use bsc_bid::Speaker;
 use bsc_bid::limits::MAX_TERMINALS;
-use bsc_line::Speaker;
 
 /// The control station, and each terminal.
 const STATIONS: usize = MAX_TERMINALS + 1;
@@ -19,7 +19,7 @@ pub(crate) struct Aside {
 fn place_of(party: Speaker) -> usize {
     match party {
         Speaker::Control => 0,
-        Speaker::Terminal(terminal) => terminal.saturating_add(1),
+        Speaker::Terminal { number } => number.saturating_add(1),
     }
 }
 

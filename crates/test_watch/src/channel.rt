@@ -4,10 +4,11 @@ ghost use Rattle.std.specs.Prelude.{IsTrue};
 ghost use Rattle.bsc_line_model.specs.Line.{IsChannel};
 
 use crate::records::EMPTY;
+use bsc_bid::Speaker;
 use bsc_block::Records;
 use bsc_control::Way;
 use bsc_frame::Address;
-use bsc_line::{Line, Speaker};
+use bsc_line::Line;
 use std::alloc::Allocator;
 
 /// The numbers of records that were offered, that are known to have arrived, and that arrived; and
@@ -66,7 +67,7 @@ pub struct Shown<'a, A: Allocator> {
 /// The station at the sending end of a channel.
 pub(crate) fn sender_of(terminal: usize, way: Way) -> Speaker {
     match way {
-        Way::FromTerminal => Speaker::Terminal(terminal),
+        Way::FromTerminal => Speaker::Terminal { number: terminal },
         Way::ToTerminal(_) => Speaker::Control,
     }
 }

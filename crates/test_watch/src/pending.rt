@@ -4,9 +4,10 @@ use crate::broken::Broken;
 use crate::channel::{Channel, look};
 use crate::heard::{Kind, octets_of};
 use crate::records::carried;
+use bsc_bid::Speaker;
 use bsc_control::Way;
 use bsc_frame::{Address, Message, Text, Wire};
-use bsc_line::{Line, Speaker};
+use bsc_line::Line;
 use std::alloc::Allocator;
 
 /// A transmission that has not been heard yet.
@@ -30,7 +31,7 @@ pub(crate) fn speaker_of(sent: &Option<Sent>) -> Option<Speaker> {
 fn sends(speaker: Speaker, kind: Kind) -> bool {
     match speaker {
         Speaker::Control => kind != Kind::Eot,
-        Speaker::Terminal(_) => kind != Kind::Call,
+        Speaker::Terminal { .. } => kind != Kind::Call,
     }
 }
 
@@ -74,7 +75,7 @@ fn is_next<A: Allocator>(
     text: &Text<'_>,
 ) -> bool {
     match (speaker, addressed) {
-        (Speaker::Terminal(terminal), _) => carries_next(line, terminal, Way::FromTerminal, text),
+        (Speaker::Terminal { number }, _) => carries_next(line, number, Way::FromTerminal, text),
         (Speaker::Control, Some((_, Way::FromTerminal))) => false,
         (Speaker::Control, Some((terminal, way))) => carries_next(line, terminal, way, text),
         (Speaker::Control, None) => !line.trusted(),

@@ -1,10 +1,10 @@
 //! Which answers a line has to give to events.
 
 use crate::channel::{is_channel, look};
-use bsc_bid::Setup;
+use bsc_bid::{Setup, Speaker};
 use bsc_block::Record;
 use bsc_control::Way;
-use bsc_line::{Event, Line, LineError, Speaker};
+use bsc_line::{Event, Line, LineError};
 use std::alloc::Allocator;
 
 /// The answer that the line has to give to the event, given the station that sent what is pending.
@@ -38,7 +38,7 @@ pub(crate) fn due<A: Allocator>(
         | Event::UrgentAt { terminal }
         | Event::UrgentFor { terminal }
         | Event::Restart {
-            party: Speaker::Terminal(terminal),
+            party: Speaker::Terminal { number: terminal },
         } => exists(line, terminal, Way::FromTerminal),
         Event::Restart {
             party: Speaker::Control,
@@ -78,7 +78,7 @@ fn due_to_offer<A: Allocator>(
 fn due_to_each(terminals: usize, speaker: Option<Speaker>, items: usize) -> Result<(), LineError> {
     match speaker {
         None => Err(LineError::NothingSent),
-        Some(Speaker::Terminal(_)) => Err(LineError::NotControl),
+        Some(Speaker::Terminal { .. }) => Err(LineError::NotControl),
         Some(Speaker::Control) if items != terminals => Err(LineError::WrongCount),
         Some(Speaker::Control) => Ok(()),
     }

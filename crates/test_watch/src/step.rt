@@ -4,8 +4,9 @@ use crate::aside::Aside;
 use crate::broken::Broken;
 use crate::channel::{View, sender_of};
 use crate::heard::{Hearing, Kind, kind_at};
+use bsc_bid::Speaker;
 use bsc_control::Way;
-use bsc_line::{Event, Speaker};
+use bsc_line::Event;
 
 /// The effect of an event on channels.
 #[derive(Clone, Copy, PartialEq, Eq)]
@@ -50,7 +51,7 @@ pub(crate) fn effect_of(event: &Event<'_>, speaker: Option<Speaker>) -> Effect {
         Event::Silence => Effect::Silence,
         Event::Carry { .. } | Event::CarryEach { .. } | Event::CarrySent => match speaker {
             Some(Speaker::Control) => Effect::Down,
-            Some(Speaker::Terminal(_)) => Effect::Up,
+            Some(Speaker::Terminal { .. }) => Effect::Up,
             None => Effect::Nothing,
         },
         Event::Ready { .. } | Event::UrgentAt { .. } | Event::UrgentFor { .. } => Effect::Nothing,
@@ -104,7 +105,7 @@ pub(crate) fn allowed(
             doubt: !aside.has(sender),
             ..stays
         },
-        Effect::Down if !aside.has(Speaker::Terminal(terminal)) => {
+        Effect::Down if !aside.has(Speaker::Terminal { number: terminal }) => {
             let (heard, sends) = (kind_at(hearings, terminal), way == Way::FromTerminal);
             let doubt = sends && heard.takes_line();
             May {

@@ -15,10 +15,10 @@ use crate::taking::take;
 use crate::tally::Tally;
 use arrayvec::ArrayVec;
 use bsc_bid::limits::MAX_TERMINALS;
-use bsc_bid::{Setup, Terminal};
+use bsc_bid::{Setup, Speaker, Terminal};
 use bsc_control::Way;
 use bsc_frame::Reply;
-use bsc_line::{Event, Line, LineError, Speaker};
+use bsc_line::{Event, Line, LineError};
 use std::alloc::{AllocError, Allocator, Global};
 use test_alloc::Refusing;
 
@@ -156,7 +156,7 @@ impl LineWatch {
         };
         let station = match sent.speaker {
             Speaker::Control => 0,
-            Speaker::Terminal(terminal) => terminal,
+            Speaker::Terminal { number } => number,
         };
         match sent.kind {
             Kind::Reply(Reply::Wack) => true,
@@ -173,7 +173,7 @@ impl LineWatch {
         };
         let count = match sent.speaker {
             Speaker::Control => self.terminals,
-            Speaker::Terminal(_) => 1,
+            Speaker::Terminal { .. } => 1,
         };
         let octets = sent.octets.as_slice();
         let whole = Hearing {

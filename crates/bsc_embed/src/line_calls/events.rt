@@ -6,8 +6,9 @@ ghost use Rattle.bsc_embed.specs.LineEvents.{RestartsControl, RestartsTerminal, 
 ghost use Rattle.bsc_embed.specs.LineEvents.{SetsReady, SetsUrgentAt, SetsUrgentFor};
 
 use crate::interface::Fault;
+use bsc_bid::Speaker;
 use bsc_control::Way;
-use bsc_line::{Line, Speaker};
+use bsc_line::Line;
 use std::alloc::Global;
 
 /// Offers the record of these characters at a terminal, counted from 0, for the control station.
@@ -142,6 +143,6 @@ pub fn restart_control(line: &mut Line<Global>) -> Result<(), Fault>
 pub fn restart_terminal(line: &mut Line<Global>, terminal: usize) -> Result<(), Fault>
     ensures { RestartsTerminal terminal line.old line.new result }
 {
-    line.restart(Speaker::Terminal(terminal))?;
+    line.restart(Speaker::Terminal { number: terminal })?;
     Ok(())
 }

@@ -4,10 +4,11 @@ ghost use Rattle.std.specs.Prelude.{◌≡◌};
 ghost use Rattle.bsc_embed.specs.LineTransmissions.{PendingIs, TrustIs, speaker_number};
 
 use crate::interface::{Fault, put};
+use bsc_bid::Speaker;
 use bsc_frame::laws::one_reading;
 use bsc_frame::limits::MAX_SENT;
 use bsc_frame::{Wire, encode};
-use bsc_line::{Line, Speaker};
+use bsc_line::Line;
 use std::alloc::Global;
 
 /// The number that stands for the control station as the sender of a transmission. Terminals are
@@ -56,6 +57,6 @@ fn number_of(speaker: Speaker) -> usize
 {
     match speaker {
         Speaker::Control => CONTROL,
-        Speaker::Terminal(terminal) => terminal,
+        Speaker::Terminal { number } => number,
     }
 }

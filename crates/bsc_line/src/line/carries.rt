@@ -15,9 +15,10 @@ use crate::hearing::Hearings;
 use crate::line::Line;
 use crate::pending::whole;
 use crate::trust::{both, is_down_fair, is_up_fair};
+use bsc_bid::Speaker;
 use bsc_frame::{Heard, TextBuffer, decode, decode_short};
+use bsc_line_model::LineError;
 use bsc_line_model::laws::each_event;
-use bsc_line_model::{LineError, Speaker};
 use std::alloc::Allocator;
 
 impl<A: Allocator> Line<A> {
@@ -75,7 +76,7 @@ impl<A: Allocator> Line<A> {
         self.each_steps();
         match self.sent.speaker() {
             None => return Err(LineError::NothingSent),
-            Some(Speaker::Terminal(_)) => return Err(LineError::NotControl),
+            Some(Speaker::Terminal { .. }) => return Err(LineError::NotControl),
             Some(Speaker::Control) => {}
         }
         if items.len() != self.terminals.len() {
@@ -97,7 +98,7 @@ impl<A: Allocator> Line<A> {
         match self.sent.speaker() {
             None => return Err(LineError::NothingSent),
             Some(Speaker::Control) => self.carry_down_whole(),
-            Some(Speaker::Terminal(_)) => self.carry_up_whole(),
+            Some(Speaker::Terminal { .. }) => self.carry_up_whole(),
         }
         Ok(())
     }
@@ -110,7 +111,7 @@ impl<A: Allocator> Line<A> {
         match self.sent.speaker() {
             None => return Err(LineError::NothingSent),
             Some(Speaker::Control) => self.carry_down(&Hearings::Alike(heard)),
-            Some(Speaker::Terminal(_)) => self.carry_up(heard),
+            Some(Speaker::Terminal { .. }) => self.carry_up(heard),
         }
         Ok(())
     }

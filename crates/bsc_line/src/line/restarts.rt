@@ -1,7 +1,7 @@
 //! A station begins again.
 
 ghost use Rattle.std.specs.Prelude.{◌≡◌, ◌<◌};
-ghost use Rattle.bsc_line_model.specs.declared.transmission.Speaker.TheVariants.{Control, Terminal};
+ghost use Rattle.bsc_bid.specs.declared.speaker.Speaker.TheVariants.{Control, Terminal};
 ghost use Rattle.bsc_line_model.specs.Kept.{IsLine};
 ghost use Rattle.bsc_line_model.specs.Line.{terminal_count};
 ghost use Rattle.bsc_line_model.specs.Restarts.{restarted};
@@ -9,8 +9,9 @@ ghost use Rattle.bsc_line_model.specs.Runs.{Does};
 ghost use Rattle.bsc_line_model.specs.StepLaws.{StepsAs};
 
 use crate::line::Line;
+use bsc_bid::Speaker;
+use bsc_line_model::LineError;
 use bsc_line_model::laws::each_event;
-use bsc_line_model::{LineError, Speaker};
 use std::alloc::Allocator;
 
 impl<A: Allocator> Line<A> {
@@ -28,7 +29,7 @@ impl<A: Allocator> Line<A> {
         self.each_steps();
         match party {
             Speaker::Control => self.restart_control(),
-            Speaker::Terminal(terminal) => {
+            Speaker::Terminal { number: terminal } => {
                 if terminal >= self.terminals.len() {
                     return Err(LineError::NoSuchTerminal);
                 }
@@ -57,6 +58,6 @@ impl<A: Allocator> Line<A> {
         each_event();
         let station = &mut self.terminals[terminal];
         station.restart();
-        self.sent.lose(Speaker::Terminal(terminal));
+        self.sent.lose(Speaker::Terminal { number: terminal });
     }
 }

@@ -10,8 +10,9 @@ ghost use Rattle.bsc_line_model.specs.StepLaws.{StepsAs};
 
 use crate::line::Line;
 use crate::terminals::line_owner;
+use bsc_bid::Speaker;
+use bsc_line_model::LineError;
 use bsc_line_model::laws::each_event;
-use bsc_line_model::{LineError, Speaker};
 use std::alloc::Allocator;
 
 impl<A: Allocator> Line<A> {
@@ -46,7 +47,8 @@ impl<A: Allocator> Line<A> {
     {
         each_event();
         let station = &mut self.terminals[terminal];
-        self.sent.act(Speaker::Terminal(terminal), station);
+        self.sent
+            .act(Speaker::Terminal { number: terminal }, station);
     }
 
     /// Lets the control station act on a silence.

@@ -6,9 +6,10 @@ use crate::heard::{Kind, is_sent_as, kind_at};
 use crate::pending::{Sent, find, read_pending, speaker_of};
 use crate::step::Effect;
 use crate::watch::LineWatch;
+use bsc_bid::Speaker;
 use bsc_control::Way;
 use bsc_frame::{Heard, Message, TextBuffer, decode};
-use bsc_line::{Event, Line, Speaker};
+use bsc_line::{Event, Line};
 use std::alloc::Allocator;
 
 /// Whether the line still shows this as pending.
@@ -81,7 +82,8 @@ impl LineWatch {
     fn call_each(&mut self) {
         for (terminal, hearing) in self.hearings.as_slice().iter().enumerate() {
             if hearing.kind == Kind::Call {
-                self.aside.set(Speaker::Terminal(terminal), false);
+                self.aside
+                    .set(Speaker::Terminal { number: terminal }, false);
             }
         }
     }
@@ -161,13 +163,13 @@ impl LineWatch {
             // out of control mode.
             (Effect::Silence, None) => !self.poll_list.is_any_polled(),
             (Effect::Silence, Some(Speaker::Control)) => true,
-            (Effect::Silence, Some(Speaker::Terminal(terminal))) => {
+            (Effect::Silence, Some(Speaker::Terminal { number: terminal })) => {
                 !self.is_focused() || self.addressed == Some((terminal, Way::FromTerminal))
             }
             // The control station is answered by a terminal that heard more than noise; if all
             // terminals heard the call, the called terminal has to answer.
             (Effect::Down, None) => !self.was_called(),
-            (Effect::Down, Some(Speaker::Terminal(terminal))) => {
+            (Effect::Down, Some(Speaker::Terminal { number: terminal })) => {
                 let heard = kind_at(self.hearings.as_slice(), terminal);
                 heard != Kind::Noise && self.may_speak(terminal)
             }

@@ -4,5 +4,5 @@ use Rattle.bsc_attending.proofs.forgetting.forget_printed.Given as goal
 
 abbrev pub invariant-channels : goal.invariant-channels
 invariant-channels g l =
-    ForgetsEach g.S.Forgets.forgets_arrived (g.Q.Keeps.printed l.kept) l.number l.fn.station
+    ForgetsEach g.S.LineStation.forgets_arrived (g.Q.Keeps.printed l.kept) l.number l.fn.station
     l.station

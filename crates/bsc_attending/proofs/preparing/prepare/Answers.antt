@@ -15,12 +15,12 @@ returns-in_err-prepared-clause-unprepared g c =
     let is_error : c.from_residual-in_err-prepared.result ≡ Err error = search rules in
     let reads : ReadsConfig (config_path w) (left c.args.input.now) (left c.config_at.new.input) config =
     search rules in
-    let refused : HasNoStation config c.args.role c.args.peers.terminals (offers_in w)
+    let refused : HasNoStation config c.args.speaker c.args.peers.terminals (offers_in w)
     (left c.config_at.new.input) error = search rules in
     subst
-    (λ r. IfErr r (IsUnprepared w c.args.role c.args.peers.terminals (left c.args.input.now)))
+    (λ r. IfErr r (IsUnprepared w c.args.speaker c.args.peers.terminals (left c.args.input.now)))
     (sym is_error)
-    (is_unprepared w c.args.role c.args.peers.terminals (left c.args.input.now)
+    (is_unprepared w c.args.speaker c.args.peers.terminals (left c.args.input.now)
     (left c.config_at.new.input) config reads (Err error) refused)
 
 pub returns-clause-prepared : goal.returns-clause-prepared
@@ -31,9 +31,9 @@ returns-clause-prepared g c =
     let prepared = c.in_ok-prepared.prepared in
     let reads : ReadsConfig (config_path w) (left c.args.input.now) (left c.config_at.new.input) config =
     search rules in
-    let station : IsStationOf config c.args.role (offers_in w) (left c.config_at.new.input)
+    let station : IsStationOf config c.args.speaker (offers_in w) (left c.config_at.new.input)
     (left c.station_of.new.input) prepared = search rules in
-    is_prepared w c.args.role c.args.peers.terminals (left c.args.input.now)
+    is_prepared w c.args.speaker c.args.peers.terminals (left c.args.input.now)
     (left c.config_at.new.input) config reads (left c.station_of.new.input) (Ok prepared) station
 
 pub returns-clause-ready : goal.returns-clause-ready
@@ -43,7 +43,7 @@ returns-clause-ready g c =
     let config = c.in_ok-config.config in
     let reads : ReadsConfig (config_path w) (left c.args.input.now) (left c.config_at.new.input) config =
     search rules in
-    let station : IsStationOf config c.args.role (offers_in w) (left c.config_at.new.input)
+    let station : IsStationOf config c.args.speaker (offers_in w) (left c.config_at.new.input)
     (left c.station_of.new.input) c.in_ok-prepared.prepared = search rules in
     record {
       prepared = record {

@@ -27,12 +27,12 @@ returns-clause-begun g c =
     let left = g.R.Read.remaining in
     let w = words_value c.args.words.now in
     let is_kept = is_some (store_path (words_value c.args.words.now)) in
-    let role = c.args.options.now.settings.role in
+    let speaker = c.args.options.now.settings.speaker in
     subst
-    (λ forgets. HasBegun g.H.Store.Store w role forgets is_kept (left c.args.input.now)
+    (λ forgets. HasBegun g.H.Store.Store w speaker forgets is_kept (left c.args.input.now)
     c.keeper_for.new.prepared c.in_ok-keeper.keeper)
     c.forgets_printed-forgets.ensures
     (has_begun g.H.Store.Store c.forgets_printed-forgets.result c.in_ok-ready.ready.prepared
-    c.keeper_for.new.prepared c.in_ok-keeper.keeper w role (left c.args.input.now)
+    c.keeper_for.new.prepared c.in_ok-keeper.keeper w speaker (left c.args.input.now)
     (left c.prepare.new.input) is_kept c.in_ok-ready.ready.own c.in_ok-ready.ensures.ready
     c.in_ok-ready.ensures.kept c.keeper_for.ensures.kind c.in_ok-keeper.ensures.begins)

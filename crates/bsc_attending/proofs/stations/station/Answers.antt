@@ -32,14 +32,14 @@ returns-in_err-begun-clause-answers g c =
     let input = g.R.Read.remaining c.args.input.now in
     let error = c.in_err-begun.field-0.0 in
     let is_error : c.from_residual-in_err-begun.result ≡ Err error = search rules in
-    let refused : IsNotBegun w settings.role admission.peers.terminals input error = search rules in
+    let refused : IsNotBegun w settings.speaker admission.peers.terminals input error = search rules in
     subst (λ r. IsAnswer w input r) (sym is_error)
     (inr (record {
       settings = settings;
       read = read;
       admission = admission;
       admitted = admitted;
-      answer = answer_unbegun w settings.role admission.peers.terminals input error refused;
+      answer = answer_unbegun w settings.speaker admission.peers.terminals input error refused;
     }))
 
 pub returns-in_err-begun-clause-reported : goal.returns-in_err-begun-clause-reported
@@ -95,7 +95,7 @@ returns-clause-answers g c =
       admission = admission;
       admitted = admitted;
       answer =
-          answer_after w settings.role input b.after b.begun b.prepared contents form ended new
+          answer_after w settings.speaker input b.after b.begun b.prepared contents form ended new
           admission.peers.terminals result run;
     })
 
@@ -124,7 +124,7 @@ returns-clause-reported g c =
     ] in
     let run = ran_filled contents form b.begun filled ended result new b.kind ran in
     reported_by w input settings read contents new result
-    (report_after w settings.role input b.after b.begun b.prepared contents form ended new result run)
+    (report_after w settings.speaker input b.after b.begun b.prepared contents form ended new result run)
 
 pub returns-clause-kept : goal.returns-clause-kept
 returns-clause-kept g c stored =

@@ -8,4 +8,4 @@ abbrev pub invariant-ends : goal.invariant-ends
 invariant-ends g l =
     l.step.items
     ≡ l.initial.step.items
-    ++ flat_map (sending_changes g.P.Sends.kept_at l.station) (take l.end-index l.ends)
+    ++ flat_map (sending_changes g.P.LineStation.kept_at l.station) (take l.end-index l.ends)

@@ -7,7 +7,7 @@ use Rattle.bsc_keeping.proofs.keeper.advance_sending.Goals as goal
 
 pub ends-preserved : goal.ends-preserved
 ends-preserved g c =
-    let kept_at = g.P.Sends.kept_at in
+    let kept_at = g.P.LineStation.kept_at in
     let station = c.args.station.now in
     let before : Sending = get_or c.ends.end-items c.ends.end-index c.end-item.result in
     map_with_one_more

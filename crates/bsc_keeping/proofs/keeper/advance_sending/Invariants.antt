@@ -6,5 +6,5 @@ use Rattle.bsc_keeping.proofs.keeper.advance_sending.Given as goal
 abbrev pub invariant-ends : goal.invariant-ends
 invariant-ends g l =
     l.end-items
-    ≡ sending_now g.P.Sends.kept_at l.station (take l.end-index l.fn.ends.items)
+    ≡ sending_now g.P.LineStation.kept_at l.station (take l.end-index l.fn.ends.items)
     ++ drop l.end-index l.fn.ends.items

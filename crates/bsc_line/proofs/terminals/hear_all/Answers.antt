@@ -3,7 +3,7 @@ use Rattle.std.proofs.Common.{◌≡◌, length, sym, ◌∙◌, ap, subst, arit
 use Rattle.bsc_frame.specs.declared.message.Heard.{Heard}
 use Rattle.bsc_tributary.specs.Tributary.{TributaryValue}
 use Rattle.bsc_line_model.specs.declared.transmission.Transmission.{Transmission}
-use Rattle.bsc_line_model.specs.declared.transmission.Speaker.TheVariants.{Terminal}
+use Rattle.bsc_bid.specs.declared.speaker.Speaker.TheVariants.{Terminal}
 use Rattle.bsc_line_model.specs.Transmission.{sent_by}
 use Rattle.bsc_line.specs.Hearings.{hearing_of}
 use Rattle.bsc_line_model.specs.Terminals.{answer, or_first, first_answer, EachHears, EachKeeps}

@@ -3,7 +3,7 @@ use Rattle.std.proofs.Common.{Option, None, subst, ◌∙◌, ap}
 use Rattle.bsc_frame.specs.declared.message.Message.{Message}
 use Rattle.bsc_tributary.specs.Tributary.{TributaryValue}
 use Rattle.bsc_tributary.specs.Kept.{IsHearing}
-use Rattle.bsc_line_model.specs.declared.transmission.Speaker.TheVariants.{Terminal}
+use Rattle.bsc_bid.specs.declared.speaker.Speaker.TheVariants.{Terminal}
 use Rattle.bsc_line_model.specs.Transmission.{sent_by}
 use Rattle.bsc_line_model.specs.Terminals.{answer, or_first}
 use Rattle.bsc_line.proofs.EachHearing.{sent_is, first_answer_kept_by_quiet}

@@ -6,4 +6,4 @@ use Rattle.bsc_monitor.proofs.polls.is_settled.Given as goal
 abbrev pub invariant-terminals : goal.invariant-terminals
 invariant-terminals g l =
     l.settled
-    ≡ are_settled (g.S.Polls.is_called l.station) (g.M.Presences.wants l.watch) l.terminal
+    ≡ are_settled (g.S.LineStation.is_called l.station) (g.M.Presences.wants l.watch) l.terminal

@@ -5,5 +5,5 @@ use Rattle.bsc_monitor.proofs.polls.settle.Given as goal
 
 abbrev pub invariant-terminals : goal.invariant-terminals
 invariant-terminals g l =
-    Settles g.S.Polls.polls (g.M.Presences.wants l.watch) l.terminal l.fn.station l.station
+    Settles g.S.LineStation.polls (g.M.Presences.wants l.watch) l.terminal l.fn.station l.station
     × (g.S.Party.count l.station ≡ g.S.Party.count l.fn.station)

@@ -9,4 +9,4 @@ use Rattle.bsc_options.proofs.inputs.repeats_input.Given as goal
 abbrev pub invariant-offers : goal.invariant-offers
 invariant-offers l =
     one_if l.is_used ≡ uses_before (words_value l.words)
-    + count_by (names_input l.role) (take l.offer-index l.offer-items)
+    + count_by (names_input l.speaker) (take l.offer-index l.offer-items)

@@ -9,6 +9,6 @@ abbrev pub invariant-records : goal.invariant-records
 invariant-records g l = record {
   after : l.from ≤ l.place;
   printed : Appends (g.W.Write.contents l.initial.out) (g.W.Write.contents l.out)
-      (lines_from l.lines (channel_name l.channel.addresses l.channel.number l.channel.way) l.from
+      (lines_from l.lines (channel_name l.channel.addresses l.channel.name.terminal l.channel.name.way) l.from
       (take (l.place - l.from) (drop l.from l.records.items)));
 }

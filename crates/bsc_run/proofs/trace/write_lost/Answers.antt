@@ -5,6 +5,6 @@ use Rattle.bsc_run.proofs.trace.write_lost.Goals as goal
 
 pub returns : goal.returns
 returns g c =
-    let start = rw c.who_of.ensures at c.in_ok-write_start.ensures in
     two_on_ok _ _ _ _ _ c.write_wire.result
-    (Appends-trans _ _ _ _ _ start c.in_ok-write_name.ensures.ok) c.write_wire.ensures
+    (Appends-trans _ _ _ _ _ c.in_ok-write_start.ensures c.in_ok-write_name.ensures.ok)
+    c.write_wire.ensures

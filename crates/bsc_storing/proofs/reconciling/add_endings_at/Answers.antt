@@ -1,6 +1,6 @@
 -- Shows that the counts of the channel at one more place are compared.
 use Rattle.std.proofs.Common.{add-one, subst}
-use Rattle.bsc_storing.specs.declared.name.ChannelName.{ChannelName}
+use Rattle.bsc_bid.specs.declared.channel.ChannelName.{ChannelName}
 use Rattle.bsc_storing.specs.Endings.{AddsIfAny}
 use Rattle.bsc_storing.proofs.reconciling.add_endings_at.Goals as goal
 

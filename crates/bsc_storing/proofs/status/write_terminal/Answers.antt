@@ -1,6 +1,6 @@
 -- Shows that the line of the channel at one more place is printed.
 use Rattle.std.proofs.Common.{add-one, subst}
-use Rattle.bsc_storing.specs.declared.name.ChannelName.{ChannelName}
+use Rattle.bsc_bid.specs.declared.channel.ChannelName.{ChannelName}
 use Rattle.bsc_storing.specs.Lines.{ShowsChannel}
 use Rattle.bsc_storing.proofs.status.write_terminal.Goals as goal
 

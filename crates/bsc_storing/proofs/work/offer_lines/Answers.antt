@@ -2,7 +2,7 @@
 use Rattle.std.proofs.Common.{rules}
 use Rattle.std.specs.Str.Lines.{lines}
 use Rattle.bsc_spool.specs.declared.channel.Channel.{Channel}
-use Rattle.bsc_storing.specs.declared.name.ChannelName.{ChannelName}
+use Rattle.bsc_bid.specs.declared.channel.ChannelName.{ChannelName}
 use Rattle.bsc_storing.specs.declared.error.StoringError.TheVariants.{NoChannel}
 use Rattle.bsc_storing.proofs.OfferedLines.{named_is, offers_all}
 use Rattle.bsc_storing.proofs.work.offer_lines.Goals as goal

@@ -1,6 +1,6 @@
 -- `carry_each` does the event `CarryEach`.
 use Rattle.std.proofs.Common.{◌≡◌, Some, length, refl, ap, sym, ◌∙◌, arith}
-use Rattle.bsc_line_model.specs.declared.transmission.Speaker.{Speaker}
+use Rattle.bsc_bid.specs.declared.speaker.Speaker.{Speaker}
 use Rattle.bsc_line_model.specs.Transmission.{speaker_of}
 use Rattle.bsc_line_model.specs.Line.{LineValue, terminal_count}
 use Rattle.bsc_line.proofs.Carrying.{from_terminal, from_control, each_hears_own_item}
@@ -16,7 +16,7 @@ carry_down-requires g c =
 
 pub returns-in-Some-Terminal-clause-does : goal.returns-in-Some-Terminal-clause-does
 returns-in-Some-Terminal-clause-does g c = (
-  from_terminal c.args.self.now c.in-Some-Terminal.field-0-0
+  from_terminal c.args.self.now _
       (ap (λ (l : LineValue). speaker_of l.pending) (sym c.self.view_is) ∙ sym c.speaker.ensures
       ∙ c.in-Some-Terminal.is ∙ ap (λ (p : Speaker). Some p) c.in-Some-Terminal.field-0-is),
   refl,

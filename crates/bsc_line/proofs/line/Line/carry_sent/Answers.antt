@@ -1,6 +1,6 @@
 -- `carry_sent` does the event `CarrySent`.
 use Rattle.std.proofs.Common.{Some, sym, ◌∙◌, ap}
-use Rattle.bsc_line_model.specs.declared.transmission.Speaker.{Speaker}
+use Rattle.bsc_bid.specs.declared.speaker.Speaker.{Speaker}
 use Rattle.bsc_line_model.specs.declared.transmission.Transmission.{Transmission}
 use Rattle.bsc_line_model.specs.Transmission.{speaker_of}
 use Rattle.bsc_line_model.specs.Line.{LineValue}
@@ -19,7 +19,7 @@ carry_down_whole-requires g c =
 
 pub carry_up_whole-requires : goal.carry_up_whole-requires
 carry_up_whole-requires g c =
-    from_terminal c.args.self.now c.in-Some-Terminal.field-0-0
+    from_terminal c.args.self.now _
     (ap (λ (l : LineValue). speaker_of l.pending) (sym c.self.view_is) ∙ sym c.speaker.ensures
     ∙ c.in-Some-Terminal.is ∙ ap (λ (p : Speaker). Some p) c.in-Some-Terminal.field-0-is)
 
@@ -32,8 +32,7 @@ returns-in-Some-Control-clause-does g c =
 
 pub returns-in-Some-Terminal-clause-does : goal.returns-in-Some-Terminal-clause-does
 returns-in-Some-Terminal-clause-does g c =
-    control_hears_pending (λ (s : Transmission). Whole s.message) c.args.self.now c.carry_up_whole.new.self
-    c.in-Some-Terminal.field-0-0
+    control_hears_pending (λ (s : Transmission). Whole s.message) c.args.self.now c.carry_up_whole.new.self _
     (ap (λ (l : LineValue). speaker_of l.pending) (sym c.self.view_is) ∙ sym c.speaker.ensures
     ∙ c.in-Some-Terminal.is ∙ ap (λ (p : Speaker). Some p) c.in-Some-Terminal.field-0-is)
     c.carry_up_whole.ensures.does

@@ -2,7 +2,7 @@
 use Rattle.std.proofs.Common.{◌≡◌, Option, Some, refl, ◌∙◌, ap}
 use Rattle.bsc_frame.specs.declared.message.Message.{Message}
 use Rattle.bsc_control.specs.Kept.{IsHearing}
-use Rattle.bsc_line_model.specs.declared.transmission.Speaker.TheVariants.{Control}
+use Rattle.bsc_bid.specs.declared.speaker.Speaker.TheVariants.{Control}
 use Rattle.bsc_line_model.specs.Transmission.{sent_by}
 use Rattle.bsc_frame.specs.declared.message.Heard.TheVariants.{Whole}
 use Rattle.bsc_line_model.specs.declared.transmission.Transmission.{Transmission}

@@ -1,7 +1,7 @@
 -- `restart_control` lets the control station begin again, and keeps the line's invariant.
 use Rattle.std.proofs.Common.{subst}
 use Rattle.bsc_control.specs.Kept.{IsControl}
-use Rattle.bsc_line_model.specs.declared.transmission.Speaker.TheVariants.{Control}
+use Rattle.bsc_bid.specs.declared.speaker.Speaker.TheVariants.{Control}
 use Rattle.bsc_line_model.specs.Kept.{IsLine}
 use Rattle.bsc_line_model.specs.Line.{LineValue, line_of}
 use Rattle.bsc_line_model.specs.Restarts.{restarted}

@@ -2,7 +2,7 @@
 use Rattle.std.proofs.Common.{◌≡◌, ◌<◌, length, sym, ◌∙◌, ap, subst}
 use Rattle.bsc_tributary.specs.Tributary.{restarted as restarted_tributary}
 use Rattle.bsc_tributary.specs.Kept.{IsTributary}
-use Rattle.bsc_line_model.specs.declared.transmission.Speaker.TheVariants.{Terminal}
+use Rattle.bsc_bid.specs.declared.speaker.Speaker.TheVariants.{Terminal}
 use Rattle.bsc_line_model.specs.Kept.{IsLine}
 use Rattle.bsc_line_model.specs.Line.{LineValue, line_of, terminal_at, terminal_count}
 use Rattle.bsc_line_model.specs.Restarts.{restarted}

@@ -6,7 +6,5 @@ use Rattle.bsc_serving.proofs.serving.Serving.serve.Goals as goal
 
 pub returns : goal.returns
 returns g c =
-    turn_runs g.S.Station g.Q.Keeps.keeps g.Q.Keeps.keeps_offer g.Q.Keeps.has_kept g.Q.Keeps.prints
-    g.S.Forgets.forgets_sent g.S.Forgets.forgets_arrived g.S.Polls.polls g.S.Feeds.offered
-    g.S.Feeds.offers g.S.Feeds.releases g.S.Feeds.readies g.S.Feeds.urges g.V.Presences.shows
-    g.V.Presences.obeys _ _ _ _ _ _ _ _ c.serve_all_places.ensures (begins refl)
+    turn_runs g.S.Station g.S.LineStation g.Q.Keeps g.V.Presences.shows g.V.Presences.obeys _ _ _ _ _ _
+    _ c.serve_all_places.ensures (begins refl)

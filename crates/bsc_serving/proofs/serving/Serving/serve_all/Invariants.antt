@@ -1,13 +1,11 @@
 -- The station was asked only by steps of programs, and has not failed.
 use Rattle.std.proofs.Common.{None}
-use Rattle.bsc_feed.specs.Answering.{serving}
-use Rattle.bsc_feed.specs.Offering.{OffersBy}
+use Rattle.bsc_feed.specs.Answering.{serving_of}
 use Rattle.bsc_serving.specs.Serves.{IsServed}
 use Rattle.bsc_serving.proofs.serving.Serving.serve_all.Given as goal
 
 abbrev pub invariant-turns : goal.invariant-turns
 invariant-turns g l =
     let served = g.F.Served in
-    IsServed g.F.Party (serving (OffersBy served.offered served.is_kept served.offers) served.full
-    served.releases served.readies served.urges served.polls served.shows served.stops) g.F.Failing.fails l.initial.fed None
+    IsServed g.F.Party (serving_of served) g.F.Failing.fails l.initial.fed None
     l.fed

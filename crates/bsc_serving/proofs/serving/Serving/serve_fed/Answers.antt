@@ -4,18 +4,15 @@ use Rattle.bsc_serving.proofs.serving.Serving.serve_fed.Goals as goal
 
 pub returns-clause-same_station : goal.returns-clause-same_station
 returns-clause-same_station g c =
-    (asked_same _ g.S.Feeds.offered g.Q.Keeps.has_kept g.S.Feeds.offers g.Q.Keeps.keeps_offer _
-    g.S.Feeds.releases g.Q.Keeps.keeps g.S.Feeds.readies g.S.Feeds.urges g.V.Presences.shows
-    g.V.Presences.obeys c.serve_all.ensures.is_asked).station
+    (asked_same _ g.S.LineStation g.Q.Keeps g.V.Presences.shows g.V.Presences.obeys
+    c.serve_all.ensures.is_asked).station
 
 pub returns-clause-same_keeps : goal.returns-clause-same_keeps
 returns-clause-same_keeps g c =
-    (asked_same _ g.S.Feeds.offered g.Q.Keeps.has_kept g.S.Feeds.offers g.Q.Keeps.keeps_offer _
-    g.S.Feeds.releases g.Q.Keeps.keeps g.S.Feeds.readies g.S.Feeds.urges g.V.Presences.shows
-    g.V.Presences.obeys c.serve_all.ensures.is_asked).keeps
+    (asked_same _ g.S.LineStation g.Q.Keeps g.V.Presences.shows g.V.Presences.obeys
+    c.serve_all.ensures.is_asked).keeps
 
 pub returns-clause-same_watch : goal.returns-clause-same_watch
 returns-clause-same_watch g c =
-    (asked_same _ g.S.Feeds.offered g.Q.Keeps.has_kept g.S.Feeds.offers g.Q.Keeps.keeps_offer _
-    g.S.Feeds.releases g.Q.Keeps.keeps g.S.Feeds.readies g.S.Feeds.urges g.V.Presences.shows
-    g.V.Presences.obeys c.serve_all.ensures.is_asked).watch
+    (asked_same _ g.S.LineStation g.Q.Keeps g.V.Presences.shows g.V.Presences.obeys
+    c.serve_all.ensures.is_asked).watch

@@ -9,7 +9,7 @@ use Rattle.bsc_control.specs.Peer.{PeerValue, OutboundValue, no_outbound, no_pee
 use Rattle.bsc_control.specs.Peer.{outbound_at}
 use Rattle.bsc_bid.specs.declared.way.Way.{Way}
 use Rattle.bsc_bid.specs.declared.way.Way.TheVariants.{FromTerminal, ToTerminal}
-use Rattle.bsc_serving.specs.Feeding.{offered_control}
+use Rattle.bsc_station.specs.Feeding.{offered_control}
 
 module _ (c : ControlValue) (t s : ℕ) (codes : List ℕ) where
   -- the control station after a record was offered

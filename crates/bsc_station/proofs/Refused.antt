@@ -1,6 +1,6 @@
 -- A release that is refused changes nothing.
 use Rattle.std.proofs.Common.{◌≡◌, ◌∙◌, ◌+◌, ◌==◌, ◌||◌, ℕ, zero, suc, Bool, true, false, List, []}
-use Rattle.std.proofs.Common.{◌∷◌, Err, refl, ap, if◌then◌else◌}
+use Rattle.std.proofs.Common.{◌∷◌, Result, Ok, Err, OnErr, refl, sym, ap, if◌then◌else◌}
 use Rattle.std.specs.Prelude.{slice_index_or, slice_set}
 use Rattle.bsc_spool.specs.Queue.{QueueValue}
 use Rattle.bsc_bid.specs.Sender.{ReleaseStep, SenderValue, not_released, release_in, release_step}
@@ -55,6 +55,17 @@ refused_control c t s count error refused =
     ∙ ap (λ (os : List OutboundValue). with_peer c t (record (peer_at c t) { outbounds = os }))
     (set_itself (peer_at c t).outbounds s no_outbound)
     ∙ ap (λ (ps : List PeerValue). record c { peers = ps }) (set_itself c.peers t no_peer)
+
+pub control_unless_released : (old new : ControlValue) (t s count : ℕ)
+    (answer : Result (Unit {0}) ReleaseError)
+    → answer ≡ (release_step (outbound_of old t s).sender (outbound_of old t s).queue count).answer
+    → new
+    ≡ with_peer old t
+    (with_outbound (peer_at old t) s (outbound_released (outbound_of old t s) count))
+    → OnErr answer (new ≡ old)
+control_unless_released old new t s count (Ok released) is after = tt
+control_unless_released old new t s count (Err error) is after =
+    after ∙ refused_control old t s count error (sym is)
 
 pub refused_terminal : (l : LineTerminalValue) (count : ℕ) (error : ReleaseError)
     → (release_step l.tributary.sender l.tributary.queue count).answer ≡ Err error

@@ -1,6 +1,6 @@
 -- The loop invariant of `forget_known` of a control station.
 use Rattle.bsc_station.specs.Forgetting.{ForgetsSent}
-use Rattle.bsc_station.proofs.forgetting.ControlForgets.forget_known.Given as goal
+use Rattle.bsc_station.proofs.control_station.ControlLineStation.forget_known.Given as goal
 
 -- Records for some selection addresses are forgotten.
 abbrev pub invariant-terminals : goal.invariant-terminals

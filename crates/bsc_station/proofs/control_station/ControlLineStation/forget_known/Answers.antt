@@ -1,7 +1,7 @@
 -- Records for the selection addresses of one more terminal may be forgotten.
 use Rattle.bsc_station.specs.Forgetting.{nothing}
 use Rattle.bsc_station.proofs.Forgotten.{forgets_in_turn}
-use Rattle.bsc_station.proofs.forgetting.ControlForgets.forget_known.Goals as goal
+use Rattle.bsc_station.proofs.control_station.ControlLineStation.forget_known.Goals as goal
 
 pub terminals-init : goal.terminals-init
 terminals-init g c = nothing
