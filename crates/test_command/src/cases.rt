@@ -9,11 +9,14 @@ use std::io;
 use std::io::{BufWriter, ErrorKind, Read};
 
 /// Returns the name of the program and then the words of this text, which are divided by spaces.
+/// Two quotes are the empty word.
 pub(crate) fn words_of(alloc: Global, text: &str) -> Result<Vec<String>, AllocError> {
     let mut words = Vec::new(alloc);
     words.push(String::from_str(alloc, "bscline")?)?;
     for word in text.split(' ') {
-        if !word.is_empty() {
+        if word == "''" {
+            words.push(String::new(alloc))?;
+        } else if !word.is_empty() {
             words.push(String::from_str(alloc, word)?)?;
         }
     }

@@ -5,7 +5,8 @@ use crate::machine::Machine;
 use crate::pieces::Input;
 use bsc_chart::Traces;
 use bsc_text::{Files, InputError, Unreadable};
-use std::io::ErrorKind;
+use std::alloc::Global;
+use std::io::{ErrorKind, Write};
 use test_fixtures::configurations::{THREE_ADDRESSES, TWO_TERMINALS};
 
 /// A record is offered at terminal 0, which is then polled.
@@ -86,8 +87,22 @@ fn text_at(path: &str) -> Option<&'static str> {
     }
 }
 
+/// Returns the text of 10,000 records of seven characters.
+fn long_deck(alloc: Global) -> Result<Vec<u8>, InputError> {
+    let mut text = Vec::new(alloc);
+    for _ in 0..10_000 {
+        if text.write_all(b"AAAAAAA\n").is_err() {
+            return Err(InputError::Memory);
+        }
+    }
+    Ok(text)
+}
+
 impl Files for Machine<'_> {
     fn read_file(&mut self, path: &str) -> Result<Vec<u8>, InputError> {
+        if path == "deck.cards" {
+            return long_deck(self.alloc);
+        }
         let Some(text) = text_at(path) else {
             let why = match path {
                 "secret" => Unreadable::PermissionDenied,

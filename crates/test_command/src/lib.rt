@@ -32,6 +32,8 @@ mod kept;
 #[cfg(test)]
 mod machine;
 #[cfg(test)]
+mod opened;
+#[cfg(test)]
 mod pieces;
 #[cfg(test)]
 mod programs;
@@ -42,9 +44,13 @@ mod runs;
 #[cfg(test)]
 mod session;
 #[cfg(test)]
+mod sizes;
+#[cfg(test)]
 mod stations;
 #[cfg(test)]
 mod stores;
+#[cfg(test)]
+mod told;
 #[cfg(test)]
 mod wires;
 #[cfg(test)]

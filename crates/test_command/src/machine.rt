@@ -160,12 +160,18 @@ pub(crate) struct Scene {
     /// Those of another peer.
     pub(crate) later: &'static str,
 
+    /// Whether no connection is made before a peer connects later.
+    pub(crate) vacant: bool,
+
     /// The waits before them.
     pub(crate) steps: &'static str,
 
     /// What a program sends that feeds the station, or what a station says that is fed; a bar
     /// stands for a line feed.
     pub(crate) says: &'static str,
+
+    /// How many times the programs are asked for before that one connects.
+    pub(crate) late: usize,
 
     /// The number of the peer; 0 if its address is not known.
     pub(crate) peer: u8,
@@ -195,8 +201,10 @@ pub(crate) const SILENT: Scene = Scene {
     times: 1,
     others: None,
     later: "",
+    vacant: false,
     steps: "",
     says: "",
+    late: 0,
     peer: 0,
     unready: 0,
     input_fails: false,
@@ -368,7 +376,9 @@ impl<'a> Network for Machine<'a> {
         for _ in 0..last {
             connections.push(connection(record, others, 1))?;
         }
-        connections.push(connection(record, self.scene.hears, self.scene.times))?;
+        if !self.scene.vacant {
+            connections.push(connection(record, self.scene.hears, self.scene.times))?;
+        }
         Ok(Opened {
             waiter: Scripted {
                 steps: self.scene.steps.as_bytes(),
@@ -395,7 +405,7 @@ impl<'a> Network for Machine<'a> {
                 address: "p:1",
                 anyone: false,
             } => Ok(Reachable {
-                programs: self.feeders(self.scene.says),
+                programs: self.feeders(self.scene.says, self.scene.late),
                 descriptor: 9,
             }),
             _ => Err(ClientsError::InUse),

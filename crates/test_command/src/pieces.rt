@@ -48,13 +48,14 @@ fn part_of(name: &str) -> &'static [u8] {
 }
 
 /// Returns the transmissions of a list of names, one in each read, the list some times, and then
-/// the end of the stream.
+/// the end of the stream. At the name `reset` each read fails.
 #[derive(Drop)]
 pub(crate) struct Pieces {
     names: &'static str,
     times: usize,
     left: &'static str,
     piece: &'static [u8],
+    is_reset: bool,
 }
 
 impl Pieces {
@@ -64,6 +65,7 @@ impl Pieces {
             times,
             left: "",
             piece: b"",
+            is_reset: false,
         }
     }
 
@@ -81,6 +83,7 @@ impl Pieces {
             Some((name, rest)) => (name, rest),
             None => (left, ""),
         };
+        self.is_reset = name == "reset";
         self.piece = octets_of(name);
         self.left = rest;
     }
@@ -90,6 +93,9 @@ impl Read for Pieces {
     fn read(&mut self, buffer: &mut [u8]) -> io::Result<usize> {
         if self.piece.is_empty() {
             self.advance();
+        }
+        if self.is_reset {
+            return Err(io::Error::from(io::ErrorKind::ConnectionReset));
         }
         let count = self.piece.len().min(buffer.len());
         buffer[..count].copy_from_slice(&self.piece[..count]);

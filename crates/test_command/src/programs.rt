@@ -21,6 +21,9 @@ pub(crate) struct Feeders<'a> {
     /// Whether it is still to be told that it has connected.
     is_new: bool,
 
+    /// How many times they are asked for before it connects.
+    late: usize,
+
     record: &'a Record,
 }
 
@@ -50,12 +53,14 @@ fn octets_of(alloc: Global, text: &str) -> io::Result<VecDeque<u8>> {
 }
 
 impl<'a> Machine<'a> {
-    /// Returns the programs that reach a station: one that sends this.
-    pub(crate) fn feeders(&self, says: &'static str) -> Feeders<'a> {
+    /// Returns the programs that reach a station: one that sends this, and connects after they were
+    /// asked for this many times.
+    pub(crate) fn feeders(&self, says: &'static str, late: usize) -> Feeders<'a> {
         Feeders {
             alloc: self.alloc,
             waiting: Some(says),
             is_new: true,
+            late,
             record: self.record,
         }
     }
@@ -64,10 +69,12 @@ impl<'a> Machine<'a> {
 impl<'a> Programs for Feeders<'a> {
     type Stream = Feeding<'a>;
 
-    fn ask(&mut self) {}
+    fn ask(&mut self) {
+        self.late = self.late.saturating_sub(1);
+    }
 
     fn next(&mut self) -> Option<Called> {
-        if self.is_new {
+        if self.is_new && self.late == 0 {
             self.is_new = false;
             return Some(Called::Newcomer);
         }
@@ -75,6 +82,9 @@ impl<'a> Programs for Feeders<'a> {
     }
 
     fn accept(&mut self, _place: usize) -> Option<Feeding<'a>> {
+        if self.late > 0 {
+            return None;
+        }
         let says = self.waiting.take()?;
         let left = octets_of(self.alloc, says).ok()?;
         Some(Feeding {
@@ -115,10 +125,12 @@ impl<'a> Stations for Machine<'a> {
 
     type Said = Feeding<'a>;
 
-    /// A station that answers by the text of the scene serves at `p:1` only.
+    /// A station that answers by the text of the scene serves at `p:1` only; `p` is no address.
     fn reach(&mut self, address: &str) -> Result<Reached<Feeding<'a>, Feeding<'a>>, FeedError> {
-        if address != "p:1" {
-            return Err(FeedError::NobodyThere);
+        match address {
+            "p:1" => {}
+            "p" => return Err(FeedError::Address),
+            _ => return Err(FeedError::NobodyThere),
         }
         let record = self.record;
         let Ok(left) = octets_of(self.alloc, self.scene.says) else {

@@ -50,6 +50,11 @@ pub(crate) struct Record {
 
     /// What is kept in the stores of the machine, beyond the end of a command.
     pub(crate) memory: RefCell<Memory>,
+
+    /// How many records that were offered, and that arrived, the stores count on each channel
+    /// before those that they can give.
+    pub(crate) offered_before: Cell<u32>,
+    pub(crate) arrived_before: Cell<u32>,
 }
 
 impl Record {
@@ -66,6 +71,8 @@ impl Record {
             shown: Cell::new(None),
             wires: Wires::new(alloc),
             memory: RefCell::new(Memory::new(alloc)),
+            offered_before: Cell::new(0),
+            arrived_before: Cell::new(0),
         }
     }
 

@@ -15,15 +15,16 @@
 //! given; `polled` and `traced` are the output and the trace of the run of `polled.txt`.
 //!
 //! `offered`, `known`, `arrived` and `printed` say what the stores have of a channel, and `keeps`
-//! how many steps more they keep; `reads` is how many reads of the cable of a run succeed. `widest`
-//! gives the terminals of the widest line on standard input, and `fills` as many line feeds as it
-//! may have. All other marks set the scene, and `//` begins a comment.
+//! how many steps more they keep; `offered-before` and `arrived-before` are how many records they
+//! count on each channel before those that they can give. `reads` is how many reads of the cable of
+//! a run succeed. `widest` gives the terminals of the widest line on standard input, and `fills` as
+//! many line feeds as it may have. All other marks set the scene, and `//` begins a comment.
 
 use crate::cases::run_text;
 use crate::files::{POLLED_PRINTED, POLLED_TRACED};
 use crate::machine::{SILENT, Scene};
 use crate::record::{Record, has};
-use crate::stores::keep;
+use crate::stores::{count_of, keep};
 use bsc_sockets::SocketsError;
 use bsc_text::MAX_INPUT;
 use std::alloc::Global;
@@ -105,24 +106,29 @@ fn set(scene: &mut Scene, mark: &str, rest: &'static str) -> Result<(), Fail> {
         "times" => scene.times = number(rest)?,
         "others" => scene.others = Some(rest),
         "later" => scene.later = rest,
+        "vacant" => scene.vacant = true,
         "steps" => scene.steps = rest,
         "says" => scene.says = rest,
+        "late" => scene.late = number(rest)?,
         "peer-1" => scene.peer = 1,
-        "unready" => scene.unready = u32::try_from(number(rest)?).unwrap_or(u32::MAX),
+        "unready" => scene.unready = count_of(rest)?,
         "input-fails" => scene.input_fails = true,
         "output-fails" => scene.output_fails = true,
         "disk-fails" => scene.disk_fails = true,
         "trace-fails" => scene.trace_fails = true,
         "address-in-use" => scene.refusal = Some(SocketsError::AddressInUse),
         "nobody-there" => scene.refusal = Some(SocketsError::NobodyThere),
+        "no-address" => scene.refusal = Some(SocketsError::Address),
+        "cannot-listen" => scene.refusal = Some(SocketsError::CannotListen),
+        "nobody-connected" => scene.refusal = Some(SocketsError::NobodyConnected),
         _ => return Err("no such mark".into()),
     }
     Ok(())
 }
 
 /// Has the stores of a machine keep this many steps more and then fail.
-fn limit(record: &Record, steps: usize) -> Result<(), Fail> {
-    record.memory.try_borrow_mut()?.left = u32::try_from(steps).unwrap_or(u32::MAX);
+fn limit(record: &Record, steps: u32) -> Result<(), Fail> {
+    record.memory.try_borrow_mut()?.left = steps;
     Ok(())
 }
 
@@ -195,7 +201,9 @@ impl Step {
             "traced" => self.trace.push_str(POLLED_TRACED)?,
             "widest" => add(&mut self.input, WIDEST, 64, '\n')?,
             "fills" => self.fill_input()?,
-            "keeps" => limit(record, number(rest)?)?,
+            "keeps" => limit(record, count_of(rest)?)?,
+            "offered-before" => record.offered_before.set(count_of(rest)?),
+            "arrived-before" => record.arrived_before.set(count_of(rest)?),
             "reads" => record.wires.reads.set(number(rest)?),
             "offered" | "known" | "arrived" | "printed" => {
                 keep(self.alloc, record, mark, rest, times)?;

@@ -20,8 +20,8 @@ fn channel_of(way: &str, address: &str) -> Result<Channel, Fail> {
     }
 }
 
-/// Returns the number in this text.
-fn count_of(text: &str) -> Result<u32, Fail> {
+/// Returns the number in this text, or the greatest one of 32 bits.
+pub(crate) fn count_of(text: &str) -> Result<u32, Fail> {
     Ok(u32::try_from(number(text)?).unwrap_or(u32::MAX))
 }
 
@@ -100,10 +100,14 @@ impl Store for Lent<'_> {
     }
 
     fn progress(&mut self, channel: &Channel) -> Result<Progress, StoreFault> {
-        match self.record.memory.try_borrow_mut() {
-            Ok(mut memory) => memory.progress(channel),
-            Err(_) => Err(StoreFault::InUse),
-        }
+        let mut progress = match self.record.memory.try_borrow_mut() {
+            Ok(mut memory) => memory.progress(channel)?,
+            Err(_) => return Err(StoreFault::InUse),
+        };
+        let (offered, arrived) = (&self.record.offered_before, &self.record.arrived_before);
+        progress.offered = progress.offered.saturating_add(offered.get());
+        progress.arrived = progress.arrived.saturating_add(arrived.get());
+        Ok(progress)
     }
 
     fn offered(
@@ -113,7 +117,10 @@ impl Store for Lent<'_> {
         more: u32,
     ) -> Result<Option<Found>, StoreFault> {
         match self.record.memory.try_borrow_mut() {
-            Ok(mut memory) => memory.offered(channel, mark, more),
+            Ok(mut memory) => {
+                let before = self.record.offered_before.get();
+                memory.offered(channel, mark, more.saturating_sub(before))
+            }
             Err(_) => Err(StoreFault::InUse),
         }
     }
@@ -125,7 +132,10 @@ impl Store for Lent<'_> {
         more: u32,
     ) -> Result<Option<Found>, StoreFault> {
         match self.record.memory.try_borrow_mut() {
-            Ok(mut memory) => memory.arrived(channel, mark, more),
+            Ok(mut memory) => {
+                let before = self.record.arrived_before.get();
+                memory.arrived(channel, mark, more.saturating_sub(before))
+            }
             Err(_) => Err(StoreFault::InUse),
         }
     }
@@ -153,6 +163,7 @@ fn line_at(path: &str) -> Result<&'static str, StoreFault> {
         "three" => Ok(line_of!("terminal 0", "61 63")),
         "threes" => Ok(line_of!("control station", "61 63")),
         "busy" => Err(StoreFault::InUse),
+        "newer" => Err(StoreFault::Newer { version: 9 }),
         _ => Err(StoreFault::Missing),
     }
 }

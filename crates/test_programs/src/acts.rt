@@ -8,6 +8,7 @@
 //! | `connect N` | the first N programs have connected |
 //! | `say P X`, `often P N X` | program P says X, or says it N times |
 //! | `asks P X` | program P says X, and all are served 20 times |
+//! | `each N X` | the system tells of the first N programs, which say X |
 //! | `end P`, `reset P` | program P ends its side, or its connection is reset |
 //! | `piece P N` | a read or a write of P moves N octets at most from now on |
 //! | `room P N` | program P takes N octets more, and no others |
@@ -95,6 +96,12 @@ fn holds(
             let (program, octets) = split(rest);
             world.at(number(program)?)?.say(octets.as_bytes())?;
             return Ok(!is_stopped(serving, station, 20)?);
+        }
+        "each" => {
+            let (count, octets) = split(rest);
+            for program in 0..number(count)? {
+                world.at(program)?.say(octets.as_bytes())?;
+            }
         }
         _ => {
             let (program, rest) = split(rest);

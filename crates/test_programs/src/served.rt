@@ -53,6 +53,8 @@ to 1: offered 1, known 0\nok\n",
     "the half line of a program that has ended is not obeyed, and no more is read of it => \
     connect 1; say 0 offer to 0 A\noffer to 0 B\nstop; end 0; serve 4; told 0 ok 0\nok 1\n; \
     say 0 \n; serve 2; unread 0 1",
+    "of 64 programs of which the system tells at once the last one is heard => \
+    connect 64; serve 1; each 63; say 63 offer to 1 A\n; serve 1; told 63 ok 0\n",
     // One read, and two writes, the first of which is interrupted.
     "what would have to wait is not tried again before the system tells of the program => \
     connect 1; serve 3; moves 0 1; room 0 0; say 0 offer to 0 A\n; serve 1; told 0 ; moves 0 4; \
@@ -64,13 +66,18 @@ fn programs_are_served(rt: HostRuntime) -> Result<(), Fail> {
     play(rt.alloc(), SERVED)
 }
 
-/// The acts in which a record of 144 characters that are escaped arrives, and is told.
+/// The acts in which, after ten records, one of 144 characters that are escaped arrives, and is
+/// told.
 fn longest_line(alloc: Global) -> Result<String, AllocError> {
-    let mut acts = String::from_str(alloc, "connect 1; asks 0 follow from 0\n; arrive ")?;
+    let mut acts = String::new(alloc);
+    for _ in 0..10 {
+        acts.push_str("arrive OLD; ")?;
+    }
+    acts.push_str("connect 1; asks 0 follow from 0\n; arrive ")?;
     for _ in 0..144 {
         acts.push_str("\x07")?;
     }
-    acts.push_str("; serve 4; told 0 ok\narrived from 0 0 ")?;
+    acts.push_str("; serve 4; told 0 ok\narrived from 0 10 ")?;
     for _ in 0..144 {
         acts.push_str("\\x07")?;
     }
