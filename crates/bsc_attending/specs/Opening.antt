@@ -9,7 +9,7 @@ use Rattle.bsc_sockets.specs.declared.error.SocketsError.{SocketsError}
 use Rattle.bsc_attending.specs.Errors.{clients_cut, sockets_cut}
 use Rattle.bsc_attending.specs.Forgetting.{forgets_printed_in}
 use Rattle.bsc_attending.specs.Framings.{ends_with_vacant}
-use Rattle.bsc_attending.specs.Serving.{IsPlace, called_or}
+use Rattle.bsc_attending.specs.Serving.{IsPlace}
 use Rattle.bsc_attending.specs.Wanted.{WantedValue, is_traced}
 use Rattle.bsc_attending.specs.declared.cut_short.CutShort.{CutShort}
 use Rattle.bsc_attending.specs.declared.cut_short.CutShort.TheVariants as cut
@@ -60,12 +60,12 @@ SyncsIf syncs false old new = new ≡ old
 
 -- A station with these settings, that wants these connections, begins on a machine. `serves` says
 -- what it means that programs can reach it there, `connects` that connections are made, and `syncs`
--- that standard output is synced. `told` is a descriptor that ends a wait if no program can reach
--- the station.
+-- that standard output is synced. `prints` is the descriptor that tells when standard output takes
+-- more, if the station has a store.
 module _ {N R W F T P Z : Type 0}
     (serves : N → ServedAt → Bool → Result (Reachable P) ClientsError → N → Type 0)
     (connects : N → WantedValue → Result (Opened R W T) SocketsError → N → Type 0)
-    (syncs : N → N → Type 0) (settings : SettingsValue) (wanted : WantedValue) (told : Option ℤ)
+    (syncs : N → N → Type 0) (settings : SettingsValue) (wanted : WantedValue) (prints : Option ℤ)
   where
     -- The connections are made, and the station runs with them, or memory runs out; or they could
     -- not be made, as the error says.
@@ -78,14 +78,14 @@ module _ {N R W F T P Z : Type 0}
     RunsOver reachable (Err error) after result new =
         (result ≡ Err (sockets_cut error)) × (new ≡ after)
 
-    -- The machine is asked for the connections, once for all; the descriptor that ends a wait is
-    -- that of the programs, if any can reach the station.
+    -- The machine is asked for the connections, once for all. A wait ends also by the descriptor of
+    -- the programs, if any can reach the station, and by that of standard output.
     pub record ConnectsFor (reachable : Option (Reachable P)) (mid : N)
         (result : Result (Live R W F T P Z) CutShort) (new : N) : Type 0 where
       pub answer : Result (Opened R W T) SocketsError
       pub after : N
       pub connected : connects mid
-          (record wanted { serves = called_or (option_map (λ r. r.descriptor) reachable) told })
+          (record wanted { serves = option_map (λ r. r.descriptor) reachable; prints = prints })
           answer after
       pub runs : RunsOver reachable answer after result new
 

@@ -33,6 +33,7 @@ pub record WantedValue : Type 0 where
   pub line_time_out : ℕ
   pub trace : Bool
   pub serves : Option ℤ
+  pub prints : Option ℤ
 
 abbrev pub wanted_value : Wanted → WantedValue
 wanted_value w = record {
@@ -53,6 +54,7 @@ wanted_value w = record {
   line_time_out = w.line_time_out;
   trace = w.trace;
   serves = w.serves;
+  prints = w.prints;
 }
 
 -- Standard input, if the station is asked to end with it.
@@ -101,6 +103,7 @@ control_wants s allowed terminals tries = record {
   line_time_out = s.times.time_out;
   trace = is_traced s.printing.trace;
   serves = None;
+  prints = None;
 }
 
 -- A terminal asks for one connection.
@@ -123,6 +126,7 @@ terminal_wants s allowed = record {
   line_time_out = s.times.time_out;
   trace = is_traced s.printing.trace;
   serves = None;
+  prints = None;
 }
 
 -- What a station asks for that is prepared.

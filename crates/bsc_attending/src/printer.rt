@@ -192,8 +192,7 @@ impl<'a, W: Write, D: Write + Drop, R: Readiness + Drop> Prints for Printer<'a, 
         }
     }
 
-    /// If some are left, the station is called once standard output takes more, unless it serves
-    /// programs; then they are printed after the next step.
+    /// If some are left, the station is called once standard output takes more.
     fn print<P: Party>(&mut self, station: &P) {
         if self.has_unprinted(station) && self.print_turns(station) {
             self.readiness.call_when_ready();

@@ -2,7 +2,7 @@
 
 ghost use Rattle.std.specs.Prelude.{◌≡◌, IfOk, is_some, option_map};
 ghost use Rattle.bsc_attending.specs.Opening.{Reaches};
-ghost use Rattle.bsc_attending.specs.Serving.{IsPlace, called_or};
+ghost use Rattle.bsc_attending.specs.Serving.{IsPlace};
 ghost use Rattle.bsc_options.specs.Serves.{serves_value};
 
 use crate::{Network, Reachable};
@@ -40,17 +40,14 @@ pub(crate) fn reachable<H: Network>(
     }
 }
 
-/// Returns the descriptor that ends a wait of the station, beside those of its connections: that of
-/// its programs if they can reach it, or else this one.
-pub(crate) fn called_by<P: Drop>(
-    reachable: &Option<Reachable<P>>,
-    told: Option<RawFd>,
-) -> Option<RawFd>
-    ensures { result ≡ called_or (option_map (λ r. r.descriptor) reachable.now) told }
+/// Returns the descriptor that is readable when one of the programs that can reach the station may
+/// have to be served.
+pub(crate) fn called_by<P: Drop>(reachable: &Option<Reachable<P>>) -> Option<RawFd>
+    ensures { result ≡ option_map (λ r. r.descriptor) reachable.now }
 {
     match reachable {
         Some(reachable) => Some(reachable.descriptor),
-        None => told,
+        None => None,
     }
 }
 

@@ -194,26 +194,27 @@ impl Selected for Gaps {
     ghost is_raw = { true };
 }
 
-/// Makes the connections of a station, and lets programs reach it. `told` is a descriptor that ends
-/// a wait of the station if no program can reach it.
+/// Makes the connections of a station, and lets programs reach it. `prints` is the descriptor that
+/// tells when standard output takes more, if the station has a store.
 fn open<F: Selected + Drop, H: Network>(
     alloc: Global,
     options: &Options<'_>,
     prepared: &Prepared,
-    told: Option<RawFd>,
+    prints: Option<RawFd>,
     machine: &mut H,
 ) -> Result<Live<H::Reader, H::Writer, F, H::Waiter, H::Programs>, CutShort>
     ensures opens { Opens H.Network.serves H.Network.connects H.Network.syncs
         (settings_value options.now.settings)
         (wants (settings_value options.now.settings) options.now.admission.allowed prepared.now)
-        told machine.old result machine.new }
+        prints machine.old result machine.new }
     ensures fed { IfOk result (λ live.
         is_some live.programs ≡ is_some (settings_value options.now.settings).serves) }
 {
     let settings = &options.settings;
     let reachable = reachable(settings.serves, traces(settings.printing.trace), machine)?;
     let wanted = Wanted {
-        serves: called_by(&reachable, told),
+        serves: called_by(&reachable),
+        prints,
         ..wanted_by(options, prepared)
     };
     let opened = machine.open(&wanted)?;
@@ -241,7 +242,7 @@ fn attend_over<
     alloc: Global,
     options: &Options<'_>,
     prepared: &mut Prepared,
-    told: Option<RawFd>,
+    prints: Option<RawFd>,
     kept: &mut Q,
     machine: &mut H,
 ) -> Result<Left, CutShort>
@@ -253,7 +254,7 @@ fn attend_over<
         kept.new (IsErr result) }
 {
     let mut live: Live<H::Reader, H::Writer, F, H::Waiter, H::Programs> = open(
-        alloc, options, prepared, told, machine,
+        alloc, options, prepared, prints, machine,
     )?;
     let settings = &options.settings;
     let tracing = settings.printing.trace;
@@ -320,14 +321,14 @@ fn run_kept<H: Network, K: Store + Drop, W: Write>(
     let counts = printed_before(alloc, &keeper, channels_of(prepared))?;
     let lines = options.settings.printing.records;
     let readiness = machine.readiness();
-    let told = readiness.descriptor();
+    let prints = readiness.descriptor();
     let notices = machine.trace(false);
     let printer = Printer::new(alloc, lines, counts, out, readiness, notices);
     let mut stored = Stored { keeper, printer };
     let attended = if options.settings.raw {
-        attend_over::<Gaps, _, _>(alloc, options, prepared, told, &mut stored, machine)
+        attend_over::<Gaps, _, _>(alloc, options, prepared, prints, &mut stored, machine)
     } else {
-        attend_over::<SocketRecords, _, _>(alloc, options, prepared, told, &mut stored, machine)
+        attend_over::<SocketRecords, _, _>(alloc, options, prepared, prints, &mut stored, machine)
     };
     match attended {
         Ok(left) => {

@@ -79,9 +79,13 @@ pub struct Wanted<'a> {
     /// Whether what happens is traced.
     pub trace: bool,
 
-    /// A descriptor that is readable when there may be work beside the line: a program that feeds
-    /// the station is to be served, or standard output takes more; `None` if there is none.
+    /// A descriptor that is readable when a program that feeds the station may have to be served;
+    /// `None` if no program can reach it.
     pub serves: Option<RawFd>,
+
+    /// A descriptor that is readable when standard output takes more; `None` if nothing is left for
+    /// it.
+    pub prints: Option<RawFd>,
 }
 
 impl Wanted<'_> {
@@ -98,6 +102,7 @@ impl Wanted<'_> {
         ensures allowed { result.allowed ≡ self.now.allowed }
         ensures stops { result.stops_with ≡ input_if self.now.stops }
         ensures serves { result.serves ≡ self.now.serves }
+        ensures prints { result.prints ≡ self.now.prints }
     {
         ConnectionSettings {
             time_out: Duration::from_millis(self.time_out),
@@ -114,6 +119,7 @@ impl Wanted<'_> {
                 None
             },
             serves: self.serves,
+            prints: self.prints,
         }
     }
 
@@ -168,6 +174,7 @@ pub(crate) fn wanted_by_control<'a>(
         line_time_out: settings.times.time_out,
         trace: traces(settings.printing.trace),
         serves: None,
+        prints: None,
     }
 }
 
@@ -196,6 +203,7 @@ pub(crate) fn wanted_by_terminal<'a>(
         line_time_out: settings.times.time_out,
         trace: traces(settings.printing.trace),
         serves: None,
+        prints: None,
     }
 }
 

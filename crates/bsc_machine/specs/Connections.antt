@@ -39,3 +39,4 @@ pub record AreSettings (wanted : Wanted) (settings : ConnectionSettings) : Type 
   pub allowed : settings.allowed ≡ wanted.allowed
   pub stops : settings.stops_with ≡ input_if wanted.stops
   pub serves : settings.serves ≡ wanted.serves
+  pub prints : settings.prints ≡ wanted.prints

@@ -4,7 +4,7 @@ use Rattle.std.specs.Prelude.{if◌then◌else◌, not, filter}
 use Rattle.std.specs.List.{list_any}
 use Rattle.mio.specs.Event.{event_token}
 use Rattle.mio.specs.declared.event.event.Event.{Event}
-use Rattle.bsc_sockets.specs.declared.asking.TheConstants.{CLIENTS}
+use Rattle.bsc_sockets.specs.declared.asking.TheConstants.{WORK}
 use Rattle.bsc_sockets.specs.declared.stopping.TheConstants.{INPUT}
 
 -- These places, followed by this one unless it is one of them.
@@ -15,7 +15,7 @@ with_place places place =
 -- Whether an event with this token is of no connection and of no listener, but of the input or of
 -- the programs that the station serves.
 abbrev pub is_apart : ℕ → Bool
-is_apart token = (token == INPUT) || (token == CLIENTS)
+is_apart token = (token == INPUT) || (token == WORK)
 
 -- These places, followed by that of an event, if it has a place.
 abbrev pub with_event : List ℕ → ℕ → List ℕ

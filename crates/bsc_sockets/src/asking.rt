@@ -18,9 +18,10 @@ use std::net::Net;
 use std::os::fd::RawFd;
 use std::time::{Clock, Duration};
 
-/// The token of the descriptor that tells when a program may have to be served. It is after those
-/// of the connections and the listener, since there are fewer than 65,536 places.
-pub(crate) const CLIENTS: usize = usize::MAX - 1;
+/// The token of the descriptors that tell when there may be work beside the line: a program is to be
+/// served, or standard output takes more. It is after those of the connections and the listener,
+/// since there are fewer than 65,536 places.
+pub(crate) const WORK: usize = usize::MAX - 1;
 
 impl<'a, N: Net + Clock, A: Allocator + Copy> Sockets<'a, N, A> {
     /// Asks the system what has arrived, and waits until something has or the time has passed.
@@ -30,7 +31,7 @@ impl<'a, N: Net + Clock, A: Allocator + Copy> Sockets<'a, N, A> {
         ensures asked { self.new.stopping
             ≡ asked_if (is_closed_in INPUT self.new.events) self.old.stopping }
         ensures called { OnOk result (self.new.called
-            ≡ (self.old.called || is_reported_in CLIENTS self.new.events)) }
+            ≡ (self.old.called || is_reported_in WORK self.new.events)) }
         ensures reported { OnOk result
             (self.new.ready ≡ with_events self.old.ready (items self.new.events)) }
         ensures told { times_told self.new.stopping ≡ times_told self.old.stopping }
@@ -57,22 +58,22 @@ impl<'a, N: Net + Clock, A: Allocator + Copy> Sockets<'a, N, A> {
     }
 }
 
-/// Has the system report when this descriptor is readable, since a program may have to be served.
-/// Fails with `Sockets` if it does not.
-pub(crate) fn watch_programs(poll: &Poll, fd: RawFd) -> Result<(), SocketsError>
+/// Has the system report when this descriptor is readable, since there may be work beside the line
+/// then. Fails with `Sockets` if it does not.
+pub(crate) fn watch_work(poll: &Poll, fd: RawFd) -> Result<(), SocketsError>
     ensures { IfErr result (λ why. why ≡ SocketsError.Sockets) }
 {
     let mut source = SourceFd(&fd);
     poll.registry()
-        .register(&mut source, Token(CLIENTS), Interest::READABLE)?;
+        .register(&mut source, Token(WORK), Interest::READABLE)?;
     Ok(())
 }
 
-/// Whether one of these events is that a program may have to be served.
+/// Whether one of these events is that there may be work beside the line.
 fn is_called<A: Allocator>(events: &Events<A>) -> bool
-    ensures { result ≡ is_reported_in CLIENTS events.now }
+    ensures { result ≡ is_reported_in WORK events.now }
 {
-    events.iter().any(|event| event.token().0 == CLIENTS)
+    events.iter().any(|event| event.token().0 == WORK)
 }
 
 /// Records that something has arrived at the place of each event that has one.
@@ -89,7 +90,7 @@ fn set_all<A: Allocator, B: Allocator>(
 }
 
 /// Records that something has arrived at this place, unless it is none but the token of the input
-/// or of the programs.
+/// or of work beside the line.
 fn set_one<A: Allocator>(ready: &mut Ready<A>, place: usize) -> Result<(), AllocError>
     ensures { OnOk result (ready.new ≡ with_event ready.old place) }
 {
@@ -99,9 +100,9 @@ fn set_one<A: Allocator>(ready: &mut Ready<A>, place: usize) -> Result<(), Alloc
     ready.set(place)
 }
 
-/// Whether this token is that of the input or of the programs, and so no place.
+/// Whether this token is that of the input or of work beside the line, and so no place.
 fn is_apart(token: usize) -> bool
     ensures { result ≡ is_apart token }
 {
-    token == INPUT || token == CLIENTS
+    token == INPUT || token == WORK
 }

@@ -7,7 +7,7 @@ ghost use Rattle.bsc_sockets.specs.Stopping.{times_told};
 ghost use Rattle.bsc_sockets.specs.Times.{IsRest};
 
 use crate::Sockets;
-use crate::asking::CLIENTS;
+use crate::asking::WORK;
 use crate::time_limit::TimeLimit;
 use bsc_connections::LiveError;
 use std::alloc::Allocator;
@@ -32,7 +32,7 @@ impl<'a, N: Net + Clock, A: Allocator + Copy> Sockets<'a, N, A> {
         ensures rests { IfOk result (λ rest. IsRest self.old.settings.pause
             self.old.times.pause rest self.new.times.pause) }
         ensures calls { IfOk result (λ rest. Interrupts self.old.called
-            (is_reported_in CLIENTS self.new.events) (is_interrupted rest) self.new.called) }
+            (is_reported_in WORK self.new.events) (is_interrupted rest) self.new.called) }
         ensures failed { IfErr result IsWaitError }
         ensures settings { self.new.settings ≡ self.old.settings }
         ensures told { times_told self.new.stopping ≡ times_told self.old.stopping }
@@ -61,7 +61,7 @@ impl<'a, N: Net + Clock, A: Allocator + Copy> Sockets<'a, N, A> {
     /// passed or the station is asked to end, and returns false.
     fn is_interrupted(&mut self, limit: TimeLimit) -> Result<bool, LiveError>
         ensures calls { IfOk result (λ is_called. Interrupts self.old.called
-            (is_reported_in CLIENTS self.new.events) is_called self.new.called) }
+            (is_reported_in WORK self.new.events) is_called self.new.called) }
         ensures failed { IfErr result IsWaitError }
         ensures settings { self.new.settings ≡ self.old.settings }
         ensures told { times_told self.new.stopping ≡ times_told self.old.stopping }
@@ -89,7 +89,7 @@ impl<'a, N: Net + Clock, A: Allocator + Copy> Sockets<'a, N, A> {
     /// that, since something else has arrived.
     fn is_called_within(&mut self, time: Duration) -> Result<bool, LiveError>
         ensures calls { IfOk result (λ is_called. Interrupts self.old.called
-            (is_reported_in CLIENTS self.new.events) is_called self.new.called) }
+            (is_reported_in WORK self.new.events) is_called self.new.called) }
         ensures none { IfOk result (λ is_called. is_called ≡ false → self.new.called ≡ false) }
         ensures failed { IfErr result IsWaitError }
         ensures settings { self.new.settings ≡ self.old.settings }

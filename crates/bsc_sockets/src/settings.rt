@@ -46,4 +46,8 @@ pub struct ConnectionSettings {
     /// A descriptor that is readable when a program that the station serves may have to be served,
     /// such as that of another `Poll`. It is neither read nor closed.
     pub serves: Option<RawFd>,
+
+    /// A descriptor that is readable when standard output takes more, such as that of another
+    /// `Poll`. It is neither read nor closed.
+    pub prints: Option<RawFd>,
 }

@@ -11,7 +11,7 @@ ghost use Rattle.bsc_sockets.specs.Ready.{without_place};
 ghost use Rattle.bsc_sockets.specs.Standings.{after_joining, is_known, moves_time_out};
 ghost use Rattle.bsc_sockets.specs.Standings.{silence_of, standings_value};
 
-use crate::asking::watch_programs;
+use crate::asking::watch_work;
 use crate::directions::{Reading, Writing, directions};
 use crate::pausing::Rest;
 use crate::ready::Ready;
@@ -70,8 +70,8 @@ pub(crate) struct Peer {
 impl<'a, N: Net + Clock, A: Allocator + Copy> Sockets<'a, N, A> {
     /// Creates this many places, with no connection and no listener. Fails with `CannotWatchInput`
     /// if the system does not report the descriptor that asks the station to end, with `Sockets` if
-    /// it does not report that of the programs or refuses what else is needed, and with `Memory` if
-    /// memory cannot be allocated.
+    /// it does not report that of the programs or of standard output or refuses what else is needed,
+    /// and with `Memory` if memory cannot be allocated.
     pub(crate) fn new(
         runtime: &'a N,
         alloc: A,
@@ -97,13 +97,16 @@ impl<'a, N: Net + Clock, A: Allocator + Copy> Sockets<'a, N, A> {
             watch(&poll, fd)?;
         }
         if let Some(fd) = settings.serves {
-            watch_programs(&poll, fd)?;
+            watch_work(&poll, fd)?;
+        }
+        if let Some(fd) = settings.prints {
+            watch_work(&poll, fd)?;
         }
         Ok(Sockets {
             runtime,
             alloc,
             poll,
-            events: Events::with_capacity(alloc, places + 3)?,
+            events: Events::with_capacity(alloc, places + 4)?,
             ready: Ready::new(alloc, places + 1)?,
             places,
             listener: None,
@@ -283,7 +286,7 @@ impl<'a, N: Net + Clock, A: Allocator + Copy> Waiter<Reading, Writing<'a, N, A>>
     ghost use Rattle.bsc_sockets.specs.Standings.{standings_after, standings_value, time_after};
     ghost use Rattle.bsc_sockets.specs.Stopping.{StopRuns, stops_in, times_told};
     ghost use Rattle.bsc_sockets.specs.Times.{HasBegun, IsKept, Rests, RunGaps, pause_of};
-    ghost use Rattle.bsc_sockets.specs.declared.asking.TheConstants.{CLIENTS};
+    ghost use Rattle.bsc_sockets.specs.declared.asking.TheConstants.{WORK};
     ghost use Rattle.bsc_sockets.specs.declared.times.Time.TheVariants.{Anew};
 
     ghost waits = { λ before is_reached result after.
@@ -315,7 +318,7 @@ impl<'a, N: Net + Clock, A: Allocator + Copy> Waiter<Reading, Writing<'a, N, A>>
         × (after.listener ≡ before.listener)
         × (IsSome before.newcomer → after.newcomer ≡ before.newcomer)
         × (IfOk result (λ awaited. TellsCall before.called
-        (is_reported_in CLIENTS after.events) awaited after.called))
+        (is_reported_in WORK after.events) awaited after.called))
         × (OnOk result (times_told before.stopping ≡ 1 → IsSome after.times.pause
         → after.stopping ≡ before.stopping))
         × (OnOk result (times_told before.stopping ≡ 1 → times_told after.stopping ≡ 1

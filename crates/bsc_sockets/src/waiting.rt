@@ -13,7 +13,7 @@ ghost use Rattle.bsc_sockets.specs.Stopping.{stops_in, times_told};
 ghost use Rattle.bsc_sockets.specs.Times.{IsEnd, ended_gap, event_of, without_ended};
 
 use crate::Sockets;
-use crate::asking::CLIENTS;
+use crate::asking::WORK;
 use crate::time_limit::TimeLimit;
 use crate::times::End;
 use bsc_connections::{Awaited, LiveError};
@@ -65,7 +65,7 @@ impl<'a, N: Net + Clock, A: Allocator + Copy> Sockets<'a, N, A> {
         ensures since { times_told self.old.stopping ≡ 1
             → self.new.stopping ≡ self.old.stopping }
         ensures calls { IfOk result (λ awaited. TellsCall self.old.called
-            (is_reported_in CLIENTS self.new.events) awaited self.new.called) }
+            (is_reported_in WORK self.new.events) awaited self.new.called) }
         ensures sought { IfOk result (λ awaited.
             is_call awaited ≡ true → sought ≡ Sought.Anything) }
     {
@@ -98,7 +98,7 @@ impl<'a, N: Net + Clock, A: Allocator + Copy> Sockets<'a, N, A> {
         ensures since { times_told self.old.stopping ≡ 1
             → self.new.stopping ≡ self.old.stopping }
         ensures calls { IfOk result (λ awaited. TellsCall self.old.called
-            (is_reported_in CLIENTS self.new.events) awaited self.new.called) }
+            (is_reported_in WORK self.new.events) awaited self.new.called) }
         ensures sought { IfOk result (λ awaited. is_call awaited ≡ true
             → sought_in (as_nanos left == 0) ≡ Sought.Anything) }
     {
@@ -157,7 +157,7 @@ impl<'a, N: Net + Clock, A: Allocator + Copy> Sockets<'a, N, A> {
         ensures since { times_told self.old.stopping ≡ 1
             → self.new.stopping ≡ self.old.stopping }
         ensures calls { IfOk result (λ awaited. TellsCall self.old.called
-            (is_reported_in CLIENTS self.new.events) awaited self.new.called) }
+            (is_reported_in WORK self.new.events) awaited self.new.called) }
         ensures sought { IfOk result (λ awaited.
             is_call awaited ≡ true → sought ≡ Sought.Anything) }
     {
@@ -211,7 +211,7 @@ impl<'a, N: Net + Clock, A: Allocator + Copy> Sockets<'a, N, A> {
         ensures since { times_told self.old.stopping ≡ 1
             → self.new.stopping ≡ self.old.stopping }
         ensures calls { IfOk result (λ awaited. TellsCall self.old.called
-            (is_reported_in CLIENTS self.new.events) awaited self.new.called) }
+            (is_reported_in WORK self.new.events) awaited self.new.called) }
         ensures sought { IfOk result (λ awaited.
             is_call awaited ≡ true → sought ≡ Sought.Anything) }
     {

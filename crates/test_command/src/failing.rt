@@ -108,7 +108,7 @@ const UNREADY: &str = "\
 $ station line.toml --terminal 0 --connect h:1 --store kept
 hears call-a text call-a text
 unready 4294967295
-asks connect h:1 by 1, 3000/3000, gap 50, patience 3000, replace 9000, pause 20, called
+asks connect h:1 by 1, 3000/3000, gap 50, patience 3000, replace 9000, pause 20, prints
 > to 0: 4849|to 0: 4849|from 0: offered 0, known 0|to 0: spooled 2
 sent 28
 # connection 0 closed

@@ -290,6 +290,7 @@ impl Machine<'_> {
             (wanted.stops, ", stops"),
             (wanted.trace, ", traced"),
             (wanted.serves.is_some(), ", called"),
+            (wanted.prints.is_some(), ", prints"),
             (self.serves_traced, ", told in the trace"),
             (!allows(wanted, 1), ", without 1"),
             (!allows(wanted, 2), ", without 2"),

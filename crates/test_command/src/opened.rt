@@ -47,6 +47,11 @@ const ASKED: &[&str] = &[
         "--control --listen h:1 --raw --store control",
         "listen h:1 by 2, 15000/3000, gap 50, patience 3000, replace 9000, pause 20, raw, stays"
     ),
+    asks!(
+        "--terminal 0 --connect h:1 --serve p:1 --store kept\nunready 1",
+        "connect h:1 by 1, 3000/3000, gap 50, patience 3000, replace 9000, pause 100, called, \
+        prints"
+    ),
 ];
 
 #[test]

@@ -227,6 +227,7 @@ impl Times {
             allowed: Networks::new(),
             stops_with: None,
             serves: None,
+            prints: None,
         }
     }
 }

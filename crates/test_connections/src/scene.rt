@@ -361,12 +361,14 @@ fn first_wrong_at<N: Net + Clock>(
     Ok(first_wrong(scene, &mut begun.sockets, &mut begun.connections, script))
 }
 
-/// Whether a station ends when an input does, and whether it serves programs.
+/// What a station watches beside its peers: an input that asks it to end; the programs that it
+/// serves; or, in place of standard output, these, beside programs that never call.
 #[derive(Clone, Copy)]
 pub(crate) enum Besides {
     Nothing,
     Input,
     Programs,
+    Output,
 }
 
 /// Plays a script at a new station with these settings, which waits for this many peers, with the
@@ -413,6 +415,10 @@ pub(crate) fn play(
         Besides::Nothing => {}
         Besides::Input => settings.stops_with = Some(own.as_raw_fd()),
         Besides::Programs => settings.serves = Some(programs.descriptor()),
+        Besides::Output => {
+            settings.serves = Some(own.as_raw_fd());
+            settings.prints = Some(programs.descriptor());
+        }
     }
     play_with(rt, (count, settings), (&other, &programs), script)
 }

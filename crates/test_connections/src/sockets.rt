@@ -177,6 +177,7 @@ const STATIONS: &[(usize, Times, Besides, &[&str])] = &[
     (1, LISTENS_FIRST, Besides::Nothing, ALONE_AT_FIRST),
     (1, LONG_SKIPS, Besides::Nothing, ALONE_FOR_LONG),
     (1, SHORT, Besides::Programs, CALLS),
+    (1, SHORT, Besides::Output, CALLS),
     (1, LONG, Besides::Nothing, COURSES),
     (1, SLOW, Besides::Nothing, GAPS),
     (1, LONG_BEGIN, Besides::Nothing, BEGINNING),

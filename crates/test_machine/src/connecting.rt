@@ -24,6 +24,7 @@ pub(crate) fn wanted(place: Place<'_>) -> Wanted<'_> {
         allowed: Networks::new(),
         stops: false,
         serves: None,
+        prints: None,
         stays: false,
         begins: false,
         skips: false,

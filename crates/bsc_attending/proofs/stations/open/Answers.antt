@@ -25,8 +25,9 @@ pub returns-in_err-opened-clause-opens : goal.returns-in_err-opened-clause-opens
 returns-in_err-opened-clause-opens g c =
     let wanted = wants (settings_value c.args.options.now.settings)
     c.args.options.now.admission.allowed c.args.prepared.now in
-    let asked = ap (λ (v : WantedValue). record v { serves = c.called_by.result }) c.wanted_by.ensures
-    ∙ ap (λ s. record wanted { serves = s }) c.called_by.ensures in
+    let asked = ap (λ (v : WantedValue). record v { serves = c.called_by.result; prints = c.args.prints })
+    c.wanted_by.ensures
+    ∙ ap (λ s. record wanted { serves = s; prints = c.args.prints }) c.called_by.ensures in
     let why = c.in_err-opened.field-0.0 in
     let is_cut : c.from_residual-in_err-opened.result ≡ Err (sockets_cut why) = search rules in
     record {
@@ -51,8 +52,9 @@ pub returns-in_err-live-clause-opens : goal.returns-in_err-live-clause-opens
 returns-in_err-live-clause-opens g c =
     let wanted = wants (settings_value c.args.options.now.settings)
     c.args.options.now.admission.allowed c.args.prepared.now in
-    let asked = ap (λ (v : WantedValue). record v { serves = c.called_by.result }) c.wanted_by.ensures
-    ∙ ap (λ s. record wanted { serves = s }) c.called_by.ensures in
+    let asked = ap (λ (v : WantedValue). record v { serves = c.called_by.result; prints = c.args.prints })
+    c.wanted_by.ensures
+    ∙ ap (λ s. record wanted { serves = s; prints = c.args.prints }) c.called_by.ensures in
     record {
       answer = Ok c.in_ok-reachable.reachable;
       mid = c.reachable.new.machine;
@@ -77,8 +79,9 @@ pub returns-clause-opens : goal.returns-clause-opens
 returns-clause-opens g c =
     let wanted = wants (settings_value c.args.options.now.settings)
     c.args.options.now.admission.allowed c.args.prepared.now in
-    let asked = ap (λ (v : WantedValue). record v { serves = c.called_by.result }) c.wanted_by.ensures
-    ∙ ap (λ s. record wanted { serves = s }) c.called_by.ensures in
+    let asked = ap (λ (v : WantedValue). record v { serves = c.called_by.result; prints = c.args.prints })
+    c.wanted_by.ensures
+    ∙ ap (λ s. record wanted { serves = s; prints = c.args.prints }) c.called_by.ensures in
     record {
       answer = Ok c.in_ok-reachable.reachable;
       mid = c.reachable.new.machine;
