@@ -12,19 +12,20 @@ use Rattle.bsc_trace.specs.declared.ladder.row.Fate.TheVariants.{Heard, Turned, 
 use Rattle.bsc_text.specs.Names.{name_of, units_of}
 use Rattle.bsc_trace.specs.Lines.{TraceValue, transmission, silence, told}
 
--- What became of a transmission that was heard as a message, as failed or as noise: what is heard
--- otherwise than as a message has failed.
+-- A transmission that was heard, or that turned the line, and whose octets are no message, has
+-- failed.
 abbrev pub failed_fate : Fate → Fate
 failed_fate Heard = Failed
 failed_fate Turned = Failed
 failed_fate fate = fate
 
+-- What became of a transmission that is heard as this.
 abbrev pub seen_fate : HeardValue → Fate → Fate
 seen_fate (message.Whole m) fate = fate
 seen_fate message.Failed fate = failed_fate fate
 seen_fate message.Noise fate = failed_fate fate
 
--- The characters of a record after a bar.
+-- A bar, and the characters of a record.
 abbrev pub unit_note : TextUnit → List ℕ
 unit_note unit = codes "|" ++ unit.chars
 
@@ -32,8 +33,8 @@ unit_note unit = codes "|" ++ unit.chars
 abbrev pub note_of : HeardValue → List ℕ
 note_of h = flat_map unit_note (units_of h)
 
--- The row for a line: for a transmission one arrow, from who sent it to who heard it, with what
--- became of it, its name, and its records.
+-- The row for a line. For a transmission it is one arrow, with its time, from who sent it to who
+-- heard it, with what became of it, its name, its records and its octets.
 abbrev pub row_of : TraceValue → RowValue
 row_of (transmission time course fate octets) =
     row.arrow time course (seen_fate (heard octets) fate) (name_of (heard octets))

@@ -36,8 +36,8 @@ pub enum Awaited {
     /// when a time-out has passed since then.
     Stopped,
 
-    /// A program that the station serves beside its line may have to be served. Nothing has
-    /// happened on the line.
+    /// There may be work beside the line: a program that the station serves may have to be served,
+    /// or standard output takes more. Nothing has happened on the line.
     Client,
 }
 

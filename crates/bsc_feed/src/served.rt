@@ -1,7 +1,6 @@
 //! Stations that programs feed.
 
 ghost use Rattle.std.specs.Prelude.{◌≡◌, ◌<◌, ◌≤◌, ℕ, Bool, List, Option, Result, length};
-ghost use Rattle.bsc_block.specs.Format.{IsFormat};
 ghost use Rattle.bsc_bid.specs.declared.way.Way.{Way as WayValue};
 ghost use Rattle.bsc_feed.specs.declared.fault.Fault.{Fault as FaultValue};
 ghost use Rattle.bsc_station.specs.Offering.{IsSending, OffersBy};
@@ -15,13 +14,14 @@ use bsc_monitor::Presence;
 use bsc_station::Party;
 
 /// A station that is fed while it runs. Terminals are counted from 0 among those that the station
-/// knows. After a fault nothing of the station has changed that a program could see; after
-/// `NotKept` the station has to end.
+/// knows. After a fault nothing of the station has changed that a program could see, but for
+/// `NotKept`, after which the station has to end.
 pub trait Served: Party {
     /// The records that were offered on each channel on which the station sends, in order.
     ghost offered: { Self → ℕ → WayValue → List (List ℕ) };
 
-    /// The record of this number, counted from 0, is kept: with a store, on the disk.
+    /// The record of this number, counted from 0, is kept: with a store, on the disk. Without one it
+    /// is so of each.
     ghost is_kept: { Self → ℕ → WayValue → ℕ → Type 0 };
 
     /// What else an offer does: the station before, the terminal, the direction, the characters,
@@ -35,10 +35,11 @@ pub trait Served: Party {
     /// the station after.
     ghost releases: { Self → ℕ → WayValue → ℕ → Result (Unit {0}) FaultValue → Self → Type 0 };
 
-    /// What it does to accept selections, or to stop it.
+    /// What it does to accept selections, or to stop it: the station before, whether it accepts
+    /// them, the result, the station after.
     ghost readies: { Self → Bool → Result (Unit {0}) FaultValue → Self → Type 0 };
 
-    /// What it does to ask for the line.
+    /// What it does to ask for the line: the station before, the result, the station after.
     ghost urges: { Self → Result (Unit {0}) FaultValue → Self → Type 0 };
 
     /// What it does to call a terminal again, or to call it no more: the station before, the
@@ -48,7 +49,8 @@ pub trait Served: Party {
     /// What a control station knows of whether the terminal with this number is there.
     ghost shows: { Self → ℕ → Option PresenceValue };
 
-    /// What it does to end after the present visit.
+    /// What it does to end: a control station after the present visit, a terminal once it is
+    /// in control mode.
     ghost stops: { Self → Self → Type 0 };
 
     /// Returns the format of its blocks, which has the full length of a record.
@@ -90,7 +92,7 @@ pub trait Served: Party {
     fn presence(&self, terminal: usize) -> Option<Presence>
         ensures { result ≡ shows self.now terminal };
 
-    /// Ends the station after the present visit.
+    /// Ends a control station after the present visit, and a terminal once it is in control mode.
     fn stop(&mut self)
         ensures { stops self.old self.new };
 }

@@ -17,7 +17,7 @@ use Rattle.bsc_connections.specs.Connections.{ConnectionValue}
 use Rattle.bsc_connections.specs.Histories.{Happening}
 use Rattle.bsc_connections.specs.Parts.{SessionParts}
 
--- G holds of a station and itself, and of one that hears or acts and what it becomes
+-- G holds between a station and itself, and between one that hears or acts and what it becomes.
 module _ {S R W F M T : Type 0} (parts : SessionParts S R W F M T) (G : S → S → Type 0)
     (same : (station : S) → G station station)
     (hears : (old new : S) (heard : Heard) (sent : Option Message)

@@ -1,4 +1,4 @@
--- A record is offered at a terminal.
+-- Records are offered at a terminal or at the control station.
 use Rattle.std.proofs.Common.{◌≡◌, ℕ, ◌<◌, ◌≤◌, arith, refl, Bool, true, false, List, Option, None}
 use Rattle.std.proofs.Common.{Some, Result, Ok, Err, OnOk, OnErr, IfErr, length, position, nat_lt}
 use Rattle.std.proofs.Common.{not, if◌then◌else◌, sym, ◌∙◌, ap, subst}

@@ -69,7 +69,7 @@ impl<'a, N: Net + Clock, A: Allocator + Copy> Sockets<'a, N, A> {
     }
 
     /// Returns whether there is a peer that has connected and has no place yet, and keeps that
-    /// peer. Records whether the system refuses to accept one.
+    /// peer. If the system is asked for one, records whether it refuses.
     pub(crate) fn has_newcomer(&mut self) -> bool
         ensures answer { IsTrue result ↔ IsSome self.new.newcomer }
         ensures settings { self.new.settings ≡ self.old.settings }
@@ -105,8 +105,8 @@ impl<'a, N: Net + Clock, A: Allocator + Copy> Sockets<'a, N, A> {
         }
     }
 
-    /// Records why no peer could be accepted. If none is waiting, none is sought until the system
-    /// reports one.
+    /// Records why no peer could be accepted. If none is waiting, the listener, whose place is after
+    /// those of the connections, is not asked until the system reports one.
     fn not_taken(&mut self, why: NotTaken)
         ensures ready { self.new.ready ≡ sought_after why self.old.places self.old.ready }
         ensures refuses { self.new.refuses ≡ is_refused why }
@@ -122,7 +122,7 @@ impl<'a, N: Net + Clock, A: Allocator + Copy> Sockets<'a, N, A> {
     }
 }
 
-/// What it means that a peer cannot be accepted.
+/// Why no peer was accepted.
 #[derive(Clone, Copy)]
 pub(crate) enum NotTaken {
     /// There is no peer.
@@ -136,7 +136,7 @@ pub(crate) enum NotTaken {
     Refused,
 }
 
-/// Returns what an error of this kind means to a peer that is accepted.
+/// Returns why no peer was accepted, by the kind of the error.
 fn why_not_taken(kind: ErrorKind) -> NotTaken
     ensures { result ≡ not_taken_by kind }
 {

@@ -1,5 +1,6 @@
--- The output for lines.
-use Rattle.std.specs.Prelude.{◌≡◌, ℕ, ◌+◌, ◌-◌, ◌==◌, ◌&&◌, not, Bool, true, false, List, [], ◌∷◌}
+-- What `bscline` and `bscline show` print for the lines of their input, and `bscline name` for its
+-- text.
+use Rattle.std.specs.Prelude.{◌≡◌, ℕ, ◌-◌, ◌==◌, ◌&&◌, not, Bool, true, false, List, [], ◌∷◌}
 use Rattle.std.specs.Prelude.{◌++◌, ◌⊎◌, length, take, Option, Some, is_none}
 use Rattle.std.specs.Prelude.{if◌then◌else◌}
 use Rattle.std.specs.List.{flat_map}
@@ -42,13 +43,15 @@ given text = if is_blank text then [] else option_to_list (octets_of text)
 abbrev pub before_last : List ℕ → List ℕ
 before_last line = take (length line - length (last_part (parts_at 32 line)) - 1) line
 
--- The output for a line without octets. `show` keeps a line of a trace as it stands.
+-- The output for a line without octets. `bscline show` keeps a line as it stands if it is one of a
+-- trace, as the flag says.
 abbrev pub kept_line : Detail → Bool → List ℕ → List ℕ
 kept_line Units true line = line ++ 10 ∷ []
 kept_line _ _ line = []
 
--- The output for a line whose octets are heard as this. Of a line of a trace `show` keeps what is
--- before the octets, the time, the speaker and the name, and adds the units.
+-- The output for a line whose octets are heard as this. Of a line of a trace, as the flag says,
+-- `bscline show` keeps what is before the octets, the time, the speaker and the name, and adds the
+-- units.
 abbrev pub shown_line : Detail → Bool → List ℕ → Heard → List ℕ
 shown_line Units true line heard = before_last line ++ 10 ∷ flat_map unit_line (units_of heard)
 shown_line detail _ line heard = shown detail heard
@@ -78,7 +81,7 @@ pub record PrintsLines (detail : Detail) (lines : List (List ℕ)) (old new : Op
   pub shown : AreShown detail lines text
   pub appended : Appends old new text
 
--- A front of the output for some first of these lines was appended, and nothing else.
+-- A beginning of the output for the first lines, `place` of them, was appended, and nothing else.
 pub record PrintsLinesFront (detail : Detail) (lines : List (List ℕ)) (old new : Option (List ℕ))
     : Type 0 where
   pub place : ℕ

@@ -5,10 +5,6 @@ use Rattle.std.specs.declared.net.ip_addr.IpAddr.{IpAddr}
 use Rattle.bsc_trust.specs.declared.network.Network.{Network}
 use Rattle.bsc_trust.specs.Addresses.{agree, is_ipv4_number, number_of, width_of}
 
--- The network of this address and this many of its leading bits.
-abbrev pub network_of : IpAddr → ℕ → Network
-network_of address bits = record { address = address; bits = bits }
-
 -- How many leading bits of the number of an address are the same for all addresses of the network.
 -- For IPv4 the first 96 of 128 are those that all IPv4 addresses share.
 abbrev pub fixed_bits : Network → ℕ

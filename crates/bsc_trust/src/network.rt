@@ -5,7 +5,7 @@ ghost use Rattle.std.specs.Option.{SomeIff};
 ghost use Rattle.std.specs.Str.Parse.{IsNumeral, digits_value};
 ghost use Rattle.bsc_trust.specs.Addresses.{agree as agrees, is_ipv4_number};
 ghost use Rattle.bsc_trust.specs.Addresses.{number_of as number, width_of as width};
-ghost use Rattle.bsc_trust.specs.Networks.{contains as has, fixed_bits as fixed, network_of};
+ghost use Rattle.bsc_trust.specs.Networks.{contains as has, fixed_bits as fixed};
 ghost use Rattle.bsc_trust.specs.NetworkTexts.{Reads, address_part, bits_part};
 
 use std::net::{IpAddr, Ipv4Addr};
@@ -37,18 +37,6 @@ pub enum NetworkError {
 }
 
 impl Network {
-    /// Returns the network of the addresses that share this many leading bits of this one, which
-    /// are 0 to 32 for an IPv4 address and 0 to 128 for an IPv6 address; else `None`.
-    pub fn new(address: IpAddr, bits: u8) -> Option<Network>
-        ensures { SomeIff result (bits ≤ width address) (network_of address bits) }
-    {
-        if bits <= width_of(address) {
-            Some(Network { address, bits })
-        } else {
-            None
-        }
-    }
-
     /// Reads a network: an IP address, and then `/` and the number of leading bits in decimal
     /// digits, 0 to 32 for IPv4 and 0 to 128 for IPv6. Without `/` all bits count, so that the
     /// network is one address. Fails with `NoAddress` if there is no address, and with `NoBits` if
@@ -73,7 +61,8 @@ impl Network {
         }
     }
 
-    /// Returns the network of one address, that of no peer.
+    /// Returns a network for the places of a list that are not used: that of one address, which no
+    /// peer has.
     pub(crate) fn nobody() -> Network {
         Network {
             address: IpAddr::V4(Ipv4Addr::UNSPECIFIED),
@@ -81,8 +70,9 @@ impl Network {
         }
     }
 
-    /// Whether this address is in the network. An IPv4 address is in IPv4 networks, and in IPv6
-    /// networks of addresses to which IPv4 addresses are mapped.
+    /// Whether this address is in the network. An IPv4 address is only in networks of IPv4
+    /// addresses, and in networks of the IPv6 addresses to which they are mapped: `::/0` does not
+    /// contain it, and `::ffff:0:0/96` does.
     pub fn contains(&self, address: IpAddr) -> bool
         ensures { result ≡ has self.now address }
     {
@@ -136,7 +126,7 @@ fn agree(bits: u32, one: u128, other: u128) -> bool
     ensures { result ≡ agrees bits one other }
 {
     let rest = 128u32.saturating_sub(bits);
-    // A number has no bits left of its 128.
+    // For no bits the shift is by 128, for which `checked_shr` returns `None` for both numbers.
     one.checked_shr(rest) == other.checked_shr(rest)
 }
 

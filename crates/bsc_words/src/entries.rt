@@ -1,4 +1,6 @@
-//! Commands built from the rows of a table.
+//! The `clap` commands that are made of the tables of `bsc_options`. No argument is global, since
+//! the laws of `clap` cover only commands without global ones. What help says is in no contract.
+
 ghost use Rattle.std.specs.Prelude.{◌≡◌, IfOk, Some, map, false};
 ghost use Rattle.clap.specs.Words.{app_of, rule_of, shape_of, with_subcommand as with_shape};
 ghost use Rattle.clap.specs.declared.builder.command.Command.TheViews.{out-Command};
@@ -36,7 +38,7 @@ fn with_value<'a>(argument: Arg<'a>, entry: &'a Entry) -> Arg<'a>
     argument.long(entry.id).value_name(entry.value)
 }
 
-/// Adds these arguments and options to a command.
+/// Adds the arguments and options of these entries to a command.
 fn with_entries<'a>(
     alloc: Global,
     command: Command<'a>,

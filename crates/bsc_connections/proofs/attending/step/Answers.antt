@@ -1,6 +1,6 @@
--- `step` tells the monitor of a peer that the system could not accept, or that may not connect and is
--- turned away, or that the station is asked to end; it tells of a connection that is closed without
--- a wait; and if a program calls it tells nobody.
+-- `step` tells the monitor of a peer that the system could not accept, of one that may not connect,
+-- which is turned away, and of a station that is asked to end. It tells of a connection that is
+-- closed without a wait. It tells nobody if there may be work beside the line.
 use Rattle.std.proofs.Common.{◌≡◌, ℕ, Bool, Option, [], ◌∷◌, None, Some, Ok, inl, refl, sym, ◌∙◌, subst}
 use Rattle.bsc_connections.specs.declared.awaited.Awaited.{Awaited}
 use Rattle.bsc_connections.specs.declared.awaited.Awaited.TheVariants.{NotAccepted, NotAllowed, Octets}

@@ -1,4 +1,4 @@
--- `addressed_after` returns the channel that is addressed afterwards.
+-- `addressed_after` returns the channel that is addressed after the control station's transmission.
 use Rattle.std.proofs.Common.{sym, subst}
 use Rattle.bsc_control.specs.Control.{terminals}
 use Rattle.bsc_line_model.specs.Trust.{IsAddressedAfter}
