@@ -46,6 +46,16 @@ sought_after Nobody listener ready = without_place ready listener
 sought_after Gone listener ready = ready
 sought_after Refused listener ready = ready
 
+-- No peer was taken. If the station listens, as the flag says, one could not be accepted, and what
+-- follows from why is recorded: which places are ready, and whether the system refuses. Else the
+-- place of the listener is not ready.
+abbrev pub TakesNobody : Bool → ℕ → List ℕ → Bool → List ℕ → Bool → Type 0
+TakesNobody true listener ready refuses after refuses_after =
+    (why : NotTaken) × (after ≡ sought_after why listener ready)
+    × (refuses_after ≡ is_refused why)
+TakesNobody false listener ready refuses after refuses_after =
+    (after ≡ without_place ready listener) × (refuses_after ≡ refuses)
+
 -- Why the next peer is not taken, if waiting for it fails with this.
 abbrev pub peer_error : LiveError → SocketsError
 peer_error live.Memory = Memory

@@ -1,11 +1,11 @@
 //! Takes the peers that connect.
 
 ghost use Rattle.std.specs.Prelude.{◌≡◌, ◌↔◌, ◌&&◌, IfSome, IsNone, IsSome, IsTrue, None, false};
-ghost use Rattle.std.specs.Prelude.{not, true};
+ghost use Rattle.std.specs.Prelude.{is_some, not, true};
 ghost use Rattle.std.specs.Option.{option_map_or};
 ghost use Rattle.bsc_sockets.specs.Answers.{IsAnswer, listener_event as event_at, peer_event};
 ghost use Rattle.bsc_sockets.specs.Calls.{is_call};
-ghost use Rattle.bsc_sockets.specs.Listening.{is_refused, not_taken_by, sought_after};
+ghost use Rattle.bsc_sockets.specs.Listening.{TakesNobody, is_refused, not_taken_by, sought_after};
 ghost use Rattle.bsc_sockets.specs.Stopping.{stops_in};
 ghost use Rattle.bsc_sockets.specs.Times.{ended_gap};
 
@@ -82,6 +82,8 @@ impl<'a, N: Net + Clock, A: Allocator + Copy> Sockets<'a, N, A> {
         ensures was_there { IsSome self.old.newcomer → (result ≡ true)
             × (self.new.refuses ≡ self.old.refuses) }
         ensures accepted { IsNone self.old.newcomer → result ≡ true → self.new.refuses ≡ false }
+        ensures nobody { result ≡ false → TakesNobody (is_some self.old.listener) self.old.places
+            self.old.ready self.old.refuses self.new.ready self.new.refuses }
         ensures called { self.new.called ≡ self.old.called }
         ensures events { self.new.events ≡ self.old.events }
     {
