@@ -1,6 +1,6 @@
 //! The style of a picture, and the shapes of which it is made.
 
-/// The style, for light and for dark paper.
+/// The style, for light and for dark paper. A page takes its colours from here too.
 pub(crate) const STYLE: &[u8] = b"<style>\n\
 :root{--paper:#fff;--ink:#24292f;--soft:#6e7781;--rail:#afb8c1;--arrow:#0a4a9e;--bad:#b42318;\
 --good:#116329}\n\
@@ -30,8 +30,9 @@ g path,g use{stroke:var(--arrow);stroke-width:1.5px;fill:none}\n\
 .silence>path{stroke-dasharray:1 6;stroke-linecap:round}\n\
 </style>\n";
 
-/// The shapes: the heads of arrows away from the control station and to it, where those end that
-/// did not arrive, and the signs of marks.
+/// The shapes: the tail of an arrow, its heads away from the control station and to it, the ends of
+/// those that did not arrive, and the signs of marks. All but `tail` have the names that `fate_name`
+/// and `sign_name` return, with the side added to a head; rows have these names as classes.
 pub(crate) const SHAPES: &[u8] = b"<defs>\n\
 <circle id=\"tail\" r=\"2.5\" class=\"f\"/>\n\
 <path id=\"sent-r\" d=\"M-9-5L0 0L-9 5\"/>\n\

@@ -1,4 +1,4 @@
-//! The flags of a terminal, and the restart of the station.
+//! The flags that a control station has for a terminal, and the restart of the station.
 
 ghost use Rattle.bsc_embed.specs.ControlRunning.{SetsPolled, SetsUrgent, Restarts};
 
