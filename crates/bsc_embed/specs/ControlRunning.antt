@@ -1,5 +1,5 @@
--- Whether a control station asks a terminal for the line (by the reverse interrupt of GA27-3004) and
--- whether it polls it, and its restart. Both flags and the restart are this project's own.
+-- Whether a control station asks a terminal for the line (by the reverse interrupt of GA27-3004)
+-- and whether it polls it, and its restart. Both flags and the restart are this project's own.
 use Rattle.std.specs.Prelude.{◌≡◌, ◌⊎◌, ℕ, Bool, true, Result, Ok}
 use Rattle.bsc_control.specs.Control.{ControlValue, peer_at, restarted, with_peer}
 use Rattle.bsc_embed.specs.declared.interface.fault.Fault.{Fault}

@@ -20,8 +20,8 @@ pub trait Served: Party {
     /// The records that were offered on each channel on which the station sends, in order.
     ghost offered: { Self → ℕ → WayValue → List (List ℕ) };
 
-    /// The record of this number, counted from 0, is kept: with a store, on the disk. Without one it
-    /// is so of each.
+    /// The record of this number, counted from 0, is kept: with a store, on the disk. Without one
+    /// it is so of each.
     ghost is_kept: { Self → ℕ → WayValue → ℕ → Type 0 };
 
     /// What else an offer does: the station before, the terminal, the direction, the characters,

@@ -18,8 +18,8 @@ use std::net::Net;
 use std::os::fd::RawFd;
 use std::time::{Clock, Duration};
 
-/// The token of the descriptors that tell when there may be work beside the line: a program is to be
-/// served, or standard output takes more. It is after those of the connections and the listener,
+/// The token of the descriptors that tell when there may be work beside the line: a program is to
+/// be served, or standard output takes more. It is after those of the connections and the listener,
 /// since there are fewer than 65,536 places.
 pub(crate) const WORK: usize = usize::MAX - 1;
 

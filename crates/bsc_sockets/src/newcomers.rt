@@ -107,8 +107,8 @@ impl<'a, N: Net + Clock, A: Allocator + Copy> Sockets<'a, N, A> {
         }
     }
 
-    /// Records why no peer could be accepted. If none is waiting, the listener, whose place is after
-    /// those of the connections, is not asked until the system reports one.
+    /// Records why no peer could be accepted. If none is waiting, the listener, whose place is
+    /// after those of the connections, is not asked until the system reports one.
     fn not_taken(&mut self, why: NotTaken)
         ensures ready { self.new.ready ≡ sought_after why self.old.places self.old.ready }
         ensures refuses { self.new.refuses ≡ is_refused why }

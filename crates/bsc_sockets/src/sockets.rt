@@ -70,8 +70,8 @@ pub(crate) struct Peer {
 impl<'a, N: Net + Clock, A: Allocator + Copy> Sockets<'a, N, A> {
     /// Creates this many places, with no connection and no listener. Fails with `CannotWatchInput`
     /// if the system does not report the descriptor that asks the station to end, with `Sockets` if
-    /// it does not report that of the programs or of standard output or refuses what else is needed,
-    /// and with `Memory` if memory cannot be allocated.
+    /// it does not report that of the programs or of standard output or refuses what else is
+    /// needed, and with `Memory` if memory cannot be allocated.
     pub(crate) fn new(
         runtime: &'a N,
         alloc: A,

@@ -12,8 +12,8 @@ is_noise Failed = false
 is_noise Noise = true
 
 -- Whether the time that a message took as an answer counts, in milliseconds, for this time-out. A
--- terminal sends ENQ after its own time-out, so its time does not count; and one that gives up sends
--- EOT, whose time counts only up to the time-out (GA27-3004: time-outs).
+-- terminal sends ENQ after its own time-out, so its time does not count; and one that gives up
+-- sends EOT, whose time counts only up to the time-out (GA27-3004: time-outs).
 abbrev pub is_timed_message : Message → ℕ → ℕ → Bool
 is_timed_message Eot time time_out = nat_le time time_out
 is_timed_message (Call a) time time_out = true

@@ -31,8 +31,9 @@ g path,g use{stroke:var(--arrow);stroke-width:1.5px;fill:none}\n\
 </style>\n";
 
 /// The shapes: the tail of an arrow, its heads away from the control station and to it, the ends of
-/// those that did not arrive, and the signs of marks. All but `tail` have the names that `fate_name`
-/// and `sign_name` return, with the side added to a head; rows have these names as classes.
+/// those that did not arrive, and the signs of marks. All but `tail` have the names that
+/// `fate_name` and `sign_name` return, with the side added to a head; rows have these names as
+/// classes.
 pub(crate) const SHAPES: &[u8] = b"<defs>\n\
 <circle id=\"tail\" r=\"2.5\" class=\"f\"/>\n\
 <path id=\"sent-r\" d=\"M-9-5L0 0L-9 5\"/>\n\
