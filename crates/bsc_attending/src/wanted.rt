@@ -83,8 +83,8 @@ pub struct Wanted<'a> {
     /// `None` if no program can reach it.
     pub serves: Option<RawFd>,
 
-    /// A descriptor that is readable when standard output takes more; `None` if nothing is left for
-    /// it.
+    /// A descriptor that is readable when standard output takes more; `None` if the station has no
+    /// store, or if the system does not report standard output.
     pub prints: Option<RawFd>,
 }
 

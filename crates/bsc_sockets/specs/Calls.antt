@@ -1,4 +1,5 @@
--- Whether a program that the station serves has called, and when that is told.
+-- Whether there may be work beside the line, which is told as a call of a program, and when that is
+-- told.
 use Rattle.std.specs.Prelude.{◌≡◌, ℕ, ◌==◌, Bool, true, false}
 use Rattle.std.specs.List.{list_any}
 use Rattle.mio.specs.Event.{event_token}

@@ -13,7 +13,7 @@ with_place places place =
     if list_any (λ other. other == place) places then places else (places ++ place ∷ [])
 
 -- Whether an event with this token is of no connection and of no listener, but of the input or of
--- the programs that the station serves.
+-- work beside the line.
 abbrev pub is_apart : ℕ → Bool
 is_apart token = (token == INPUT) || (token == WORK)
 

@@ -8,9 +8,10 @@
 //!   peer with an address that is not allowed is turned away.
 //! - A descriptor such as that of standard input asks the station to end when its other end is
 //!   closed.
-//! - Another one, such as that of another `Poll`, tells when a program may have to be served that
-//!   the station serves beside its line. No program holds up the line: its time-outs and pauses end
-//!   in their time, and its connections are served in turn with the programs.
+//! - Two more, such as those of another `Poll`, tell when there may be work beside the line: a
+//!   program may have to be served, or standard output takes more. Both are told as a call of a
+//!   program. No call holds up the line: its time-outs and pauses end in their time, and its
+//!   connections are served in turn with the programs.
 //! - `Reading` and `Writing` are the two directions of a connection. A read does not wait, and a
 //!   write waits no longer than the time-out.
 //!

@@ -46,7 +46,7 @@ pub struct Sockets<'a, N: Net + Clock, A: Allocator> {
     pub(crate) settings: ConnectionSettings,
     /// Whether the station is asked to end.
     pub(crate) stopping: Stopping,
-    /// Whether a program has called that may have to be served, and that was not told yet.
+    /// Whether there may be work beside the line, and that was not told yet.
     pub(crate) called: bool,
     /// The peers, and how long nobody has answered at each place.
     pub(crate) standings: Standings<A>,

@@ -15,7 +15,7 @@ use std::os::fd::RawFd;
 use std::time::{Clock, Duration};
 
 /// The token of the descriptor that asks a station to end. It is after those of the connections and
-/// the listener, since there are fewer than 65,536 places, and after that of the programs.
+/// the listener, since there are fewer than 65,536 places, and after that of work beside the line.
 pub(crate) const INPUT: usize = usize::MAX;
 
 /// Whether a station is asked to end, and how often it was told so: once when it is asked, and a
