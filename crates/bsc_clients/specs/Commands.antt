@@ -1,6 +1,6 @@
 -- The commands that are sent to a station: those that the words ask for, and the lines of the
 -- input.
-use Rattle.std.specs.Prelude.{◌≡◌, ℕ, ◌==◌, ◌||◌, not, Bool, true, false, if◌then◌else◌}
+use Rattle.std.specs.Prelude.{◌≡◌, ℕ, ◌==◌, ◌&&◌, ◌||◌, not, Bool, true, false, if◌then◌else◌}
 use Rattle.std.specs.Prelude.{List, [], ◌∷◌, ◌++◌, map, filter, codes}
 use Rattle.std.specs.List.{flat_map, list_any}
 use Rattle.std.specs.Str.{bytes_eq}
@@ -17,10 +17,17 @@ joined (word ∷ words) = word ++ flat_map (λ next. 32 ∷ next) words
 abbrev pub has_feed : List ℕ → Bool
 has_feed text = list_any (λ octet. octet == 10) text
 
+-- Whether a command with this word offers a record.
+abbrev pub is_offer : List ℕ → Bool
+is_offer word = bytes_eq word (codes "offer") || bytes_eq word (codes "offer-hex")
+
+-- Whether a word begins the name of a channel.
+abbrev pub is_way : List ℕ → Bool
+is_way word = bytes_eq word (codes "to") || bytes_eq word (codes "from")
+
 -- Whether these words of a command offer a record on a channel, and there is no text after them.
 abbrev pub is_unfinished : List (List ℕ) → Bool
-is_unfinished (word ∷ way ∷ place ∷ []) =
-    bytes_eq word (codes "offer") || bytes_eq word (codes "offer-hex")
+is_unfinished (word ∷ way ∷ place ∷ []) = is_offer word && is_way way
 is_unfinished _ = false
 
 -- Whether the command offers a record on a channel, and has no text after the channel.

@@ -44,10 +44,12 @@ running_status_of running.BothStandardInput = 2
 running_status_of (running.Run error) = run_status_of error
 running_status_of _ = 1
 
--- The exit status of a failed station: 2 for wrong usage, 3 for records in doubt, 4 for undelivered
--- records, 5 for a line that is not trusted, 6 for records that arrived and could not be printed.
+-- The exit status of a failed station: 2 for wrong usage and a wrong configuration, which another
+-- start would find again, 3 for records in doubt, 4 for undelivered records, 5 for a line that is
+-- not trusted, 6 for records that arrived and could not be printed, 7 for what could not be kept.
 abbrev pub attending_status_of : AttendingError → ℕ
 attending_status_of (attending.Options error) = 2
+attending_status_of (attending.Config error) = 2
 attending_status_of attending.InDoubt = 3
 attending_status_of attending.Undelivered = 4
 attending_status_of attending.NotTrusted = 5

@@ -204,7 +204,8 @@ pub fn not_text(alloc: Global) -> Fault
     words_fault(alloc, Shown::Program, ErrorKind::InvalidValue, why)
 }
 
-/// Returns the exit status of the program: 2 for wrong usage; 3 if the line refused an event of a
+/// Returns the exit status of the program: 2 for wrong usage, and for a station also for a wrong
+/// configuration; 3 if the line refused an event of a
 /// script, a station ended in doubt, or a doubt was not released; 4 if a station ended with
 /// undelivered records; 5 if a control station ended and could not trust its line; 6 if a station
 /// could not print records that arrived; 7 if it could not keep what happened; 1 for every other
@@ -239,7 +240,7 @@ fn attending_status(error: &AttendingError) -> u8
     ensures { result ≡ attending_status_of error.now }
 {
     match error {
-        AttendingError::Options { .. } => 2,
+        AttendingError::Options { .. } | AttendingError::Config { .. } => 2,
         AttendingError::InDoubt => 3,
         AttendingError::Undelivered => 4,
         AttendingError::NotTrusted => 5,

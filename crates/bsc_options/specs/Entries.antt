@@ -126,6 +126,12 @@ station_table =
     ∷ row_with (codes "pause") (takes.Derived 0 hour) (codes "control" ∷ [])
     ∷ row_with (codes "rounds") (takes.Derived 1 most) (codes "control" ∷ [])
     ∷ row_with (codes "idle-rounds") (takes.Derived 1 most) (codes "control" ∷ [])
+    ∷ record {
+      id = codes "batch";
+      takes = takes.Flag;
+      needs = codes "control" ∷ [];
+      excludes = codes "idle-rounds" ∷ [];
+    }
     ∷ row_with (codes "absent-after") (takes.Number 0 most 2) (codes "control" ∷ [])
     ∷ row_with (codes "retry-absent") (takes.Number 1 3600 30) (codes "control" ∷ [])
     ∷ row (codes "until-input-ends") takes.Flag

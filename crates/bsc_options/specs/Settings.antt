@@ -125,10 +125,10 @@ rounds_in w =
       Ok (Some rounds))
     else Ok None
 
--- The number of idle rounds in a row unless it is given: two, and for a station that programs feed
--- the greatest number.
+-- The number of idle rounds in a row unless it is given: two for a station that ends once all is
+-- done, and otherwise the greatest number.
 abbrev pub absent_idle_rounds : Bool → ℕ
-absent_idle_rounds serves = if serves then 2 ^ 64 - 1 else 2
+absent_idle_rounds batch = if batch then 2 else 2 ^ 64 - 1
 
 -- The limits at which a control station ends that waits for this many terminals. Rounds count from
 -- the beginning if it waits for some, or connects to a peer.
@@ -136,7 +136,7 @@ abbrev pub limits_in : WordsValue → ℕ → Result Limits Refusal
 limits_in w begin_with = do
   rounds ← rounds_in w
   idle_rounds ← number_in (codes "idle-rounds") from_one 1 (2 ^ 64 - 1)
-      (absent_idle_rounds (is_given (codes "serve") w)) w
+      (absent_idle_rounds (is_given (codes "batch") w)) w
   Ok (record {
     rounds = rounds;
     idle_rounds = idle_rounds;

@@ -172,11 +172,11 @@ fn absent_pause(serves: bool, time_out: u64) -> u64
 }
 
 /// Returns the number of idle rounds in a row after which a control station ends, unless it is
-/// given, for a station that programs feed or not.
-fn absent_idle_rounds(serves: bool) -> u64
-    ensures { result ≡ absent_idle_rounds serves }
+/// given, for one that ends once all is done or not.
+fn absent_idle_rounds(is_batch: bool) -> u64
+    ensures { result ≡ absent_idle_rounds is_batch }
 {
-    if serves { u64::MAX } else { 2 }
+    if is_batch { 2 } else { u64::MAX }
 }
 
 /// Returns the times. With raw octets the gap has to be less than the time-out, and a pause that is
@@ -219,7 +219,7 @@ fn read_limits(words: &Words, begin_with: u64) -> Result<Limits, OptionError>
     ensures { GivesIt result (limits_in (words_value words.now) begin_with) }
 {
     let rounds = read_rounds(words)?;
-    let absent = absent_idle_rounds(words.is_given("serve"));
+    let absent = absent_idle_rounds(words.is_given("batch"));
     let idle_rounds = number_or(words, &IDLE_ROUNDS, absent)?;
     Ok(Limits {
         rounds,

@@ -12,8 +12,13 @@ use sqlite_std_file::open;
 use sqlite_store::Unopened;
 use sqlite_wal::PageSize;
 use std::alloc::Global;
+use std::fs::OpenOptions;
 use std::hash::{BuildHasher, RandomState};
+use std::os::unix::fs::OpenOptionsExt;
 use std::rt::HostRuntime;
+
+/// Only the user of a store reads and writes its file. The database gives its log the same mode.
+const MODE: u32 = 0o600;
 
 /// How many octets a page of a new store has.
 const PAGE_OCTETS: usize = 512;
@@ -42,6 +47,14 @@ fn make_in<D: Disk + Drop>(alloc: Global, files: Files<D>, seed: u64) -> Option<
     }
 }
 
+/// Makes an empty file at the path, for this user only, if there is none. Where that fails, an open
+/// of the file tells the fault.
+fn make_file(rt: &HostRuntime, path: &str) {
+    let mut options = OpenOptions::new();
+    options.write(true).create_new(true).mode(MODE);
+    drop(options.open(rt, path));
+}
+
 /// Makes an empty database at the path, if there is no file, an empty one, or one that was left
 /// when this was cut off. Returns `None` if it is not made; then a file that has something else is
 /// as it was, and an open of the file tells the fault.
@@ -53,6 +66,7 @@ pub(crate) fn make_empty(rt: &HostRuntime, path: &str) -> Option<FileStore<File>
         Ok(state) => state.hash_one(&0u8),
         Err(_) => return None,
     };
+    make_file(rt, path);
     match open(rt, path, Unknown) {
         Ok(files) => make_in(rt.alloc(), files, seed),
         Err(_) => None,

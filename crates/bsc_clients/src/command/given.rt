@@ -4,7 +4,8 @@ ghost use Rattle.std.specs.Prelude.{◌≡◌, ◌∷◌, ◌++◌, IfErr, IfOk,
 ghost use Rattle.std.specs.List.{flat_map};
 ghost use Rattle.bsc_clients.specs.Errors.{IsGivenError};
 ghost use Rattle.bsc_clients.specs.Commands.{IsGiven, is_follow as follows_channel};
-ghost use Rattle.bsc_clients.specs.Commands.{has_feed as feed_in, is_unsent as unsent, joined};
+ghost use Rattle.bsc_clients.specs.Commands.{has_feed as feed_in, is_offer, is_unsent as unsent};
+ghost use Rattle.bsc_clients.specs.Commands.{is_way, joined};
 ghost use Rattle.bsc_clients.specs.Commands.{takes_texts as texts_after};
 
 use crate::command::FeedError;
@@ -87,7 +88,7 @@ fn takes_texts(command: &[u8]) -> bool
     let Some(rest) = rest else {
         return false;
     };
-    let (_, rest) = split_word(rest);
+    let (way, rest) = split_word(rest);
     let Some(rest) = rest else {
         return false;
     };
@@ -95,7 +96,21 @@ fn takes_texts(command: &[u8]) -> bool
     if let Some(_) = rest {
         return false;
     }
+    is_offer(word) && is_way(way)
+}
+
+/// Whether a command with this word offers a record.
+fn is_offer(word: &[u8]) -> bool
+    ensures { result ≡ is_offer word.now }
+{
     spells(word, "offer") || spells(word, "offer-hex")
+}
+
+/// Whether a word begins the name of a channel.
+fn is_way(word: &[u8]) -> bool
+    ensures { result ≡ is_way word.now }
+{
+    spells(word, "to") || spells(word, "from")
 }
 
 /// Whether a line is not sent: a station skips it, and gives no answer.

@@ -116,8 +116,17 @@ pub(crate) const IDLE_ROUNDS: Entry = Entry {
     },
     value: "N",
     kind: "a number from 1 up",
-    help: "End after N idle rounds in a row, 2 unless given, with --serve no limit",
+    help: "End after N idle rounds in a row",
     needs: &["control"],
+    ..FLAG
+};
+
+/// `--batch`.
+const BATCH: Entry = Entry {
+    id: "batch",
+    help: "End once all is done, after 2 idle rounds in a row",
+    needs: &["control"],
+    excludes: &["idle-rounds"],
     ..FLAG
 };
 
@@ -240,6 +249,7 @@ pub const STATION: Subcommand = Subcommand {
         PAUSE,
         ROUNDS,
         IDLE_ROUNDS,
+        BATCH,
         ABSENT_AFTER,
         RETRY_ABSENT,
         Entry {
