@@ -121,7 +121,8 @@ unless given
       --pause <MS>          Pause after a round in which nothing got through, in milliseconds, \
 up to 20 unless given, with --serve 100
       --rounds <N>          End after N rounds of the poll list
-      --idle-rounds <N>     End after N idle rounds in a row, 2 unless given, with --serve no limit
+      --idle-rounds <N>     End after N idle rounds in a row
+      --batch               End once all is done, after 2 idle rounds in a row
       --absent-after <N>    Call a terminal less often after N visits without an answer, 2 unless \
 given; 0 for never
       --retry-absent <S>    Call it again after S seconds, 1 to 3600, 30 unless given
