@@ -10,6 +10,7 @@ use Rattle.bsc_clients.specs.declared.command.error.FeedError.TheVariants.{NotOn
 use Rattle.bsc_clients.specs.declared.command.error.FeedError.TheVariants.{Refused, TooLong, Input}
 use Rattle.bsc_clients.specs.declared.command.error.FeedError.TheVariants.{Output, Memory, Address}
 use Rattle.bsc_clients.specs.declared.command.error.FeedError.TheVariants.{NobodyThere, Sockets}
+use Rattle.bsc_clients.specs.declared.command.error.FeedError.TheVariants.{NotPermitted}
 
 -- The error for a line that is not printed.
 abbrev pub print_error : PrintError → FeedError
@@ -67,6 +68,7 @@ IsFeedError words error = IsLineError error
 -- A station could not be reached.
 abbrev pub IsReachError : FeedError → Type 0
 IsReachError Address = ⊤
+IsReachError NotPermitted = ⊤
 IsReachError NobodyThere = ⊤
 IsReachError Sockets = ⊤
 IsReachError Memory = ⊤

@@ -9,6 +9,8 @@ use Rattle.bsc_clients.specs.declared.error.ClientsError.{ClientsError}
 use Rattle.bsc_clients.specs.declared.error.ClientsError.TheVariants.{Address, NotLoopback, InUse}
 use Rattle.bsc_clients.specs.declared.error.ClientsError.TheVariants.{OtherFile, CannotListen}
 use Rattle.bsc_clients.specs.declared.error.ClientsError.TheVariants.{NobodyThere, Sockets, Memory}
+use Rattle.bsc_clients.specs.declared.error.ClientsError.TheVariants.{NotPermitted, NotHere}
+use Rattle.bsc_clients.specs.declared.error.ClientsError.TheVariants.{NoFolder, TooLong}
 use Rattle.bsc_clients.specs.declared.served_at.ServedAt.{ServedAt}
 use Rattle.bsc_clients.specs.declared.served_at.ServedAt.TheVariants as at
 
@@ -21,14 +23,24 @@ abbrev pub is_for_anyone : ServedAt → Bool
 is_for_anyone (at.Address address anyone) = anyone
 is_for_anyone (at.Path path) = false
 
--- Why an address or a path cannot be bound, by the kind of the error.
+-- Why an address cannot be bound, by the kind of the error.
 abbrev pub bind_error : ErrorKind → ClientsError
 bind_error kind.AddrInUse = InUse
+bind_error kind.PermissionDenied = NotPermitted
+bind_error kind.AddrNotAvailable = NotHere
 bind_error _ = CannotListen
+
+-- Why nothing is made at or beside a path, by the kind of the error.
+abbrev pub path_error : ErrorKind → ClientsError
+path_error kind.PermissionDenied = NotPermitted
+path_error kind.NotFound = NoFolder
+path_error kind.InvalidInput = TooLong
+path_error _ = CannotListen
 
 -- Why a socket does not get its name at a path, by the kind of the error.
 abbrev pub link_error : ErrorKind → ClientsError
 link_error kind.AlreadyExists = InUse
+link_error kind.PermissionDenied = NotPermitted
 link_error _ = CannotListen
 
 -- Why a socket file is not removed, by the kind of the error with which connecting to it fails; if
@@ -37,6 +49,7 @@ abbrev pub kept_by : ErrorKind → Option ClientsError
 kept_by kind.ConnectionRefused = None
 kept_by kind.NotFound = None
 kept_by kind.WouldBlock = Some InUse
+kept_by kind.PermissionDenied = Some NotPermitted
 kept_by _ = Some CannotListen
 
 -- The text is not an address, or memory is refused.
@@ -49,6 +62,8 @@ IsNameError _ = ⊥
 abbrev pub IsBindError : ClientsError → Type 0
 IsBindError Address = ⊤
 IsBindError InUse = ⊤
+IsBindError NotPermitted = ⊤
+IsBindError NotHere = ⊤
 IsBindError CannotListen = ⊤
 IsBindError _ = ⊥
 
@@ -58,6 +73,8 @@ abbrev pub IsAddressError : Bool → ClientsError → Type 0
 IsAddressError anyone NotLoopback = anyone ≡ false
 IsAddressError anyone Address = ⊤
 IsAddressError anyone InUse = ⊤
+IsAddressError anyone NotPermitted = ⊤
+IsAddressError anyone NotHere = ⊤
 IsAddressError anyone CannotListen = ⊤
 IsAddressError anyone Memory = ⊤
 IsAddressError anyone _ = ⊥
@@ -66,6 +83,9 @@ IsAddressError anyone _ = ⊥
 abbrev pub IsPathError : ClientsError → Type 0
 IsPathError InUse = ⊤
 IsPathError OtherFile = ⊤
+IsPathError NotPermitted = ⊤
+IsPathError NoFolder = ⊤
+IsPathError TooLong = ⊤
 IsPathError CannotListen = ⊤
 IsPathError Memory = ⊤
 IsPathError _ = ⊥
@@ -82,9 +102,15 @@ abbrev pub IsConnectError : ClientsError → Type 0
 IsConnectError NobodyThere = ⊤
 IsConnectError _ = ⊥
 
--- A program cannot connect there.
+-- Why a program cannot connect at a path, by the kind of the error.
+abbrev pub connect_error : ErrorKind → ClientsError
+connect_error kind.PermissionDenied = NotPermitted
+connect_error _ = NobodyThere
+
+-- A program cannot connect there: that it is not permitted is told of paths.
 abbrev pub IsReachError : ServedAt → ClientsError → Type 0
 IsReachError (at.Address address anyone) Address = ⊤
+IsReachError (at.Path path) NotPermitted = ⊤
 IsReachError place NobodyThere = ⊤
 IsReachError place Sockets = ⊤
 IsReachError place Memory = ⊤

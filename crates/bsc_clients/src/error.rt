@@ -25,7 +25,23 @@ pub enum ClientsError {
     #[error("the file at this path is not a socket")]
     OtherFile,
 
-    /// The system does not let this process listen at this address or path.
+    /// The user of this process may not listen, or connect, at this address or path.
+    #[error("cannot listen at this address: permission denied")]
+    NotPermitted,
+
+    /// No interface of this machine has this address.
+    #[error("cannot listen at this address: no interface of this machine has it")]
+    NotHere,
+
+    /// The folder of this path is not there.
+    #[error("cannot listen at this address: the folder of the path is not there")]
+    NoFolder,
+
+    /// The path is longer than that of a socket may be.
+    #[error("cannot listen at this address: the path is too long")]
+    TooLong,
+
+    /// The system does not let this process listen at this address or path, for another reason.
     #[error("cannot listen at this address")]
     CannotListen,
 

@@ -105,13 +105,15 @@ fn bind_first<N: Net>(
     Err(why)
 }
 
-/// Returns why an address or a path cannot be bound, if that fails with an error of this kind.
-pub(crate) fn unbound(kind: ErrorKind) -> ClientsError
+/// Returns why an address cannot be bound, if that fails with an error of this kind.
+fn unbound(kind: ErrorKind) -> ClientsError
     ensures error { result ≡ bind_error kind }
     ensures fault { IsBindError result }
 {
     match kind {
         ErrorKind::AddrInUse => ClientsError::InUse,
+        ErrorKind::PermissionDenied => ClientsError::NotPermitted,
+        ErrorKind::AddrNotAvailable => ClientsError::NotHere,
         _ => ClientsError::CannotListen,
     }
 }

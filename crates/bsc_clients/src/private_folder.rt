@@ -1,7 +1,7 @@
 //! A folder in which a socket is made before others can reach it.
 
-ghost use Rattle.std.specs.Prelude.{IfErr};
-ghost use Rattle.bsc_clients.specs.Listening.{IsPathError};
+ghost use Rattle.std.specs.Prelude.{◌≡◌, IfErr};
+ghost use Rattle.bsc_clients.specs.Listening.{IsPathError, path_error};
 
 use crate::ClientsError;
 use mio::net::UnixListener;
@@ -42,7 +42,7 @@ impl<'a, N: Files> PrivateFolder<'a, N> {
             match PrivateFolder::make(runtime, alloc, path, number)? {
                 Ok(folder) => return Ok(folder),
                 Err(error) if error.kind() == ErrorKind::AlreadyExists => {}
-                Err(_) => return Err(ClientsError::CannotListen),
+                Err(error) => return Err(unmade(error.kind())),
             }
         }
         Err(ClientsError::CannotListen)
@@ -85,7 +85,7 @@ impl<'a, N: Net + Files> PrivateFolder<'a, N> {
     {
         match self.try_listen() {
             Ok(listener) => Ok(listener),
-            Err(_) => Err(ClientsError::CannotListen),
+            Err(error) => Err(unmade(error.kind())),
         }
     }
 
@@ -98,6 +98,19 @@ impl<'a, N: Net + Files> PrivateFolder<'a, N> {
         let socket_mode = Permissions::from_mode(SOCKET_MODE);
         fs::set_permissions(self.runtime, self.socket.as_str(), socket_mode)?;
         Ok(listener)
+    }
+}
+
+/// Returns why nothing is made at or beside a path, if that fails with an error of this kind.
+pub(crate) fn unmade(kind: ErrorKind) -> ClientsError
+    ensures error { result ≡ path_error kind }
+    ensures fault { IsPathError result }
+{
+    match kind {
+        ErrorKind::PermissionDenied => ClientsError::NotPermitted,
+        ErrorKind::NotFound => ClientsError::NoFolder,
+        ErrorKind::InvalidInput => ClientsError::TooLong,
+        _ => ClientsError::CannotListen,
     }
 }
 

@@ -1,13 +1,13 @@
 //! The connection of a program to a station.
 
-ghost use Rattle.std.specs.Prelude.{IfErr};
-ghost use Rattle.bsc_clients.specs.Listening.{IsConnectError, IsReachError};
+ghost use Rattle.std.specs.Prelude.{◌≡◌, IfErr};
+ghost use Rattle.bsc_clients.specs.Listening.{IsConnectError, IsReachError, connect_error};
 
 use crate::listener::addresses;
 use crate::{ClientsError, ServedAt};
 use std::alloc::Global;
 use std::io;
-use std::io::{Read, Write};
+use std::io::{ErrorKind, Read, Write};
 use std::net::{Net, OpenStream, SocketAddr, TcpStream};
 use std::os::unix::net::UnixStream;
 use std::time::Duration;
@@ -62,8 +62,8 @@ impl<S: Write> Write for Direction<S> {
 /// Connects to the station that serves there; of a host with several addresses, to the first that
 /// answers within `patience`. Whether anyone may reach the station is not asked.
 ///
-/// Fails with `Address` if the text is not an address, with `NobodyThere` if no station answers,
-/// with `Sockets` if the system refuses what else is needed, and with `Memory` if memory cannot be
+/// Fails with `Address` if the text is not an address, with `NotPermitted` if the user of this
+/// process may not connect at the path, with `NobodyThere` if no station answers, with `Sockets` if the system refuses what else is needed, and with `Memory` if memory cannot be
 /// allocated.
 pub fn reach<N: Net>(
     runtime: &N,
@@ -85,8 +85,9 @@ pub fn reach<N: Net>(
             })
         }
         ServedAt::Path { path } => {
-            let Ok(heard) = UnixStream::connect(runtime, path) else {
-                return Err(ClientsError::NobodyThere);
+            let heard = match UnixStream::connect(runtime, path) {
+                Ok(heard) => heard,
+                Err(error) => return Err(unconnected(error.kind())),
             };
             let said = heard.try_clone()?;
             Ok(Reached {
@@ -94,6 +95,16 @@ pub fn reach<N: Net>(
                 said: Direction::Unix { stream: said },
             })
         }
+    }
+}
+
+/// Returns why a program cannot connect at a path, if that fails with an error of this kind.
+fn unconnected(kind: ErrorKind) -> ClientsError
+    ensures { result ≡ connect_error kind }
+{
+    match kind {
+        ErrorKind::PermissionDenied => ClientsError::NotPermitted,
+        _ => ClientsError::NobodyThere,
     }
 }
 

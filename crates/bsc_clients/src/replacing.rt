@@ -5,6 +5,7 @@ ghost use Rattle.bsc_clients.specs.Listening.{IsPathError};
 
 use crate::ClientsError;
 use crate::identity::Identity;
+use crate::private_folder::unmade;
 use std::alloc::Global;
 use std::fs;
 use std::fs::{File, Files, OpenOptions, TryLockError};
@@ -57,8 +58,9 @@ fn locked<N: Files<File = File>>(runtime: &N, path: &str) -> Result<File, Client
 {
     let mut options = OpenOptions::new();
     options.read(true).write(true).create(true).mode(MODE);
-    let Ok(file) = options.open(runtime, path) else {
-        return Err(ClientsError::CannotListen);
+    let file = match options.open(runtime, path) {
+        Ok(file) => file,
+        Err(error) => return Err(unmade(error.kind())),
     };
     match file.try_lock() {
         Ok(()) => Ok(file),

@@ -5,7 +5,7 @@ ghost use Rattle.bsc_clients.specs.Listening.{IsPathError, kept_by, link_error};
 
 use crate::ClientsError;
 use crate::identity::Identity;
-use crate::private_folder::PrivateFolder;
+use crate::private_folder::{PrivateFolder, unmade};
 use crate::replacing::Replacing;
 use mio::net::{UnixListener, UnixStream};
 use std::alloc::Global;
@@ -47,7 +47,7 @@ pub(crate) fn bind_path<'a, N: Net + Files<File = File>>(
 {
     // A name may be longer than the path at which a program can connect.
     if SocketAddr::from_pathname(path).is_err() {
-        return Err(ClientsError::CannotListen);
+        return Err(ClientsError::TooLong);
     }
     let folder = PrivateFolder::beside(runtime, alloc, path)?;
     let listener = folder.listen()?;
@@ -101,6 +101,7 @@ fn unlinked(kind: ErrorKind) -> ClientsError
 {
     match kind {
         ErrorKind::AlreadyExists => ClientsError::InUse,
+        ErrorKind::PermissionDenied => ClientsError::NotPermitted,
         _ => ClientsError::CannotListen,
     }
 }
@@ -112,7 +113,7 @@ fn remove<N: Files>(runtime: &N, path: &str) -> Result<(), ClientsError>
     match fs::remove_file(runtime, path) {
         Ok(()) => Ok(()),
         Err(error) if error.kind() == ErrorKind::NotFound => Ok(()),
-        Err(_) => Err(ClientsError::CannotListen),
+        Err(error) => Err(unmade(error.kind())),
     }
 }
 
@@ -144,6 +145,7 @@ fn kept_by(kind: ErrorKind) -> Option<ClientsError>
     match kind {
         ErrorKind::ConnectionRefused | ErrorKind::NotFound => None,
         ErrorKind::WouldBlock => Some(ClientsError::InUse),
+        ErrorKind::PermissionDenied => Some(ClientsError::NotPermitted),
         _ => Some(ClientsError::CannotListen),
     }
 }

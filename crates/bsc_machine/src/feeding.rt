@@ -20,6 +20,7 @@ fn unreached(error: ClientsError) -> FeedError
 {
     match error {
         ClientsError::Address => FeedError::Address,
+        ClientsError::NotPermitted => FeedError::NotPermitted,
         ClientsError::NobodyThere => FeedError::NobodyThere,
         ClientsError::Memory => FeedError::Memory,
         _ => FeedError::Sockets,

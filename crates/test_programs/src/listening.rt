@@ -13,7 +13,7 @@ const REFUSED: &[(&str, bool, ClientsError)] = &[
     ("[::]:0", false, ClientsError::NotLoopback),
     ("127.0.0.1", false, ClientsError::Address),
     ("", true, ClientsError::Address),
-    ("192.0.2.1:0", true, ClientsError::CannotListen),
+    ("192.0.2.1:0", true, ClientsError::NotHere),
 ];
 
 #[test]

@@ -123,9 +123,8 @@ fn one_station_at_a_time_replaces_a_socket_file(rt: HostRuntime) -> Result<(), F
 fn a_path_at_which_no_station_can_listen_is_told(rt: HostRuntime) -> Result<(), Fail> {
     assert!(rt; fault_at(&rt, &"0".repeat(rt.alloc(), 107)?) == None);
     let longer = "0".repeat(rt.alloc(), 108)?;
-    for path in [longer.as_str(), "nowhere/socket"] {
-        assert!(rt; fault_at(&rt, path) == Some(ClientsError::CannotListen));
-    }
+    assert!(rt; fault_at(&rt, &longer) == Some(ClientsError::TooLong));
+    assert!(rt; fault_at(&rt, "nowhere/socket") == Some(ClientsError::NoFolder));
     let nobody = ServedAt::Path { path: "nobody" };
     assert!(rt; unreached(&rt, nobody) == Some(ClientsError::NobodyThere));
     Ok(())

@@ -11,8 +11,13 @@ use thiserror::Error;
 pub enum FeedError {
     /// The address of the station is not one of a host and a port, or the name of the host is not
     /// known. What connects to the station tells it.
-    #[error("cannot read the address of the station")]
+    #[error("cannot read the address of the station: it is HOST:PORT or unix:PATH")]
     Address,
+
+    /// The user of this process may not connect to the station: its socket is for the user of the
+    /// station only. What connects to the station tells it.
+    #[error("no station serves there: permission denied")]
+    NotPermitted,
 
     /// No station answers at the address. What connects to the station tells it.
     #[error("no station serves there")]

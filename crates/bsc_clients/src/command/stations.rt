@@ -19,8 +19,9 @@ pub trait Stations {
     type Said: Write + Drop;
 
     /// Connects to the station that serves programs at this address, `HOST:PORT` or `unix:PATH`.
-    /// Fails with `Address` if it is not one, with `NobodyThere` if no station answers, and with
-    /// `Sockets` or `Memory` if the system refuses what is needed.
+    /// Fails with `Address` if it is not one, with `NotPermitted` if the user may not connect there,
+    /// with `NobodyThere` if no station answers, and with `Sockets` or `Memory` if the system
+    /// refuses what is needed.
     fn reach(&mut self, address: &str) -> Result<Reached<Self::Heard, Self::Said>, FeedError>
         ensures { IfErr result IsReachError };
 }
