@@ -10,7 +10,7 @@ use thiserror::Error;
 #[derive(Clone, Copy, Debug, PartialEq, Eq, Error)]
 pub enum ClientsError {
     /// The text is not an address of a host and a port, or the name of the host is not known.
-    #[error("cannot read the address")]
+    #[error("cannot read the address: it is HOST:PORT or unix:PATH")]
     Address,
 
     /// An address of the host is not a loopback address, and not anyone may reach the station.

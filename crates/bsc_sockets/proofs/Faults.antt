@@ -8,6 +8,8 @@ pub listen_by_peer : (watches : Bool) (error : SocketsError) → IsPeerError err
     → IsListenError watches error
 listen_by_peer watches fault.Address never = absurd never
 listen_by_peer watches fault.AddressInUse never = absurd never
+listen_by_peer watches fault.NotPermitted never = absurd never
+listen_by_peer watches fault.NotHere never = absurd never
 listen_by_peer watches fault.CannotListen never = absurd never
 listen_by_peer watches fault.NobodyThere never = absurd never
 listen_by_peer watches fault.NobodyConnected is = tt
@@ -20,6 +22,8 @@ pub connect_by_denial : (watches : Bool) (error : SocketsError) → IsDenied err
     → IsConnectError watches error
 connect_by_denial watches fault.Address never = absurd never
 connect_by_denial watches fault.AddressInUse never = absurd never
+connect_by_denial watches fault.NotPermitted never = absurd never
+connect_by_denial watches fault.NotHere never = absurd never
 connect_by_denial watches fault.CannotListen never = absurd never
 connect_by_denial watches fault.NobodyThere never = absurd never
 connect_by_denial watches fault.NobodyConnected never = absurd never
@@ -33,6 +37,8 @@ pub connect_unwatched : (watches : Bool) (error : SocketsError) → IsConnectErr
     → IsConnectError watches error
 connect_unwatched watches fault.Address never = absurd never
 connect_unwatched watches fault.AddressInUse never = absurd never
+connect_unwatched watches fault.NotPermitted never = absurd never
+connect_unwatched watches fault.NotHere never = absurd never
 connect_unwatched watches fault.CannotListen never = absurd never
 connect_unwatched watches fault.NobodyThere is = tt
 connect_unwatched watches fault.NobodyConnected never = absurd never

@@ -3,6 +3,7 @@ use Rattle.std.specs.Prelude.{⊤, ◌≡◌, Bool, true, false, ℕ, List}
 use Rattle.bsc_sockets.specs.Ready.{without_place}
 use Rattle.bsc_sockets.specs.declared.error.SocketsError.{SocketsError}
 use Rattle.bsc_sockets.specs.declared.error.SocketsError.TheVariants.{Address, AddressInUse}
+use Rattle.bsc_sockets.specs.declared.error.SocketsError.TheVariants.{NotPermitted, NotHere}
 use Rattle.bsc_sockets.specs.declared.error.SocketsError.TheVariants.{CannotListen, Memory}
 use Rattle.bsc_sockets.specs.declared.error.SocketsError.TheVariants.{CannotWatchInput}
 use Rattle.bsc_sockets.specs.declared.error.SocketsError.TheVariants.{NobodyConnected, NobodyThere}
@@ -18,12 +19,16 @@ use Rattle.std.specs.declared.io.ErrorKind.TheVariants as kind
 abbrev pub IsBindError : SocketsError → Type 0
 IsBindError Address = ⊤
 IsBindError AddressInUse = ⊤
+IsBindError NotPermitted = ⊤
+IsBindError NotHere = ⊤
 IsBindError CannotListen = ⊤
 IsBindError _ = ⊥
 
 -- Why an address cannot be bound, by the kind of the error.
 abbrev pub bind_error : ErrorKind → SocketsError
 bind_error kind.AddrInUse = AddressInUse
+bind_error kind.PermissionDenied = NotPermitted
+bind_error kind.AddrNotAvailable = NotHere
 bind_error _ = CannotListen
 
 -- What it means that a peer cannot be accepted, by the kind of the error.

@@ -17,7 +17,13 @@ pub enum SocketsError {
     /// Another process listens at this address.
     AddressInUse,
 
-    /// The system does not let this process listen at this address.
+    /// The user of this process may not listen at this address.
+    NotPermitted,
+
+    /// No interface of this machine has this address.
+    NotHere,
+
+    /// The system does not let this process listen at this address, for another reason.
     CannotListen,
 
     /// No peer listens at this address: it refused, cannot be reached, or did not answer in time.
@@ -45,8 +51,12 @@ impl SocketsError {
         ensures { result.now ≡ reason self }
     {
         match self {
-            SocketsError::Address => "cannot read the address",
+            SocketsError::Address => "cannot read the address: it is HOST:PORT",
             SocketsError::AddressInUse => "address in use",
+            SocketsError::NotPermitted => "cannot listen at this address: permission denied",
+            SocketsError::NotHere => {
+                "cannot listen at this address: no interface of this machine has it"
+            }
             SocketsError::CannotListen => "cannot listen at this address",
             SocketsError::NobodyThere => "nobody is there",
             SocketsError::NobodyConnected => "nobody has connected",

@@ -17,8 +17,9 @@ pub struct Listening {
 impl Listening {
     /// Listens at this address, a host and a port such as `127.0.0.1:2780`; of a host with several
     /// addresses, at the first that can be bound. With port 0 the system chooses a port. Fails with
-    /// `Address` if the text is not an address. If no address can be bound, fails with
-    /// `AddressInUse` if another process listens at the last of them, else with `CannotListen`.
+    /// `Address` if the text is not an address. If no address can be bound, what is told is why the
+    /// last of them cannot: `AddressInUse` if another process listens there, `NotPermitted` if this
+    /// user may not, `NotHere` if it is not of this machine, else `CannotListen`.
     pub fn bind<N: Net>(runtime: &N, address: &str) -> Result<Listening, SocketsError>
         ensures { IfErr result IsBindError }
     {
@@ -48,6 +49,8 @@ fn unbound(kind: ErrorKind) -> SocketsError
 {
     match kind {
         ErrorKind::AddrInUse => SocketsError::AddressInUse,
+        ErrorKind::PermissionDenied => SocketsError::NotPermitted,
+        ErrorKind::AddrNotAvailable => SocketsError::NotHere,
         _ => SocketsError::CannotListen,
     }
 }

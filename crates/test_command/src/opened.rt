@@ -67,7 +67,7 @@ fn each_option_is_asked_for_beside_others(rt: HostRuntime) -> Result<(), Fail> {
 const REFUSED: &str = "\
 $ station line.toml --terminal 0 --connect h
 no-address
-! bscline: cannot read the address
+! bscline: cannot read the address: it is HOST:PORT
 $ station line.toml --control --listen h:1
 cannot-listen
 ! bscline: cannot listen at this address
@@ -78,7 +78,7 @@ $ station line.toml --control --listen h:1 --store newer
 ! bscline: store: the store has version 9, which is newer than this program's
 asks nothing
 $ feed p status
-! bscline: cannot read the address of the station
+! bscline: cannot read the address of the station: it is HOST:PORT or unix:PATH
 $ station line.toml --terminal 0 --connect h:1 --time-out 5 --time-out 6
 usage the argument '--time-out <MS>' cannot be used multiple times
 $ station line.toml --terminal 0 --connect h:1 --offer ''

@@ -57,7 +57,7 @@ pub(crate) fn has_passed(rt: &HostRuntime, start: Instant, least: u128) -> Resul
 /// Addresses at which a program cannot listen, and the faults. No interface of this machine has the
 /// first one, which is reserved for documentation (RFC 5737).
 const NO_ADDRESSES: &[(&str, SocketsError)] = &[
-    ("192.0.2.1:0", SocketsError::CannotListen),
+    ("192.0.2.1:0", SocketsError::NotHere),
     ("127.0.0.1", SocketsError::Address),
     ("127.0.0.1:99999", SocketsError::Address),
     ("", SocketsError::Address),
@@ -255,6 +255,6 @@ fn the_last_address_tells_why_none_is_bound(rt: HostRuntime) -> Result<(), Fail>
     let (_taken, taken) = bound(&rt)?;
     let other = at(Ipv4Addr::new(192, 0, 2, 1));
     is_not_bound(&rt, &[other, other, taken], SocketsError::AddressInUse)?;
-    is_not_bound(&rt, &[taken, taken, other], SocketsError::CannotListen)?;
+    is_not_bound(&rt, &[taken, taken, other], SocketsError::NotHere)?;
     is_not_bound(&rt, &[], SocketsError::Address)
 }
