@@ -2,6 +2,7 @@
 use Rattle.std.specs.Prelude.{◌≡◌, ℕ, List, [], ◌∷◌, ◌++◌, map, length, codes, Option, Some}
 use Rattle.std.specs.Prelude.{None, Ok, Err, Result, IsSomeAnd, ℤ, pos, Bool, nat_lt, if◌then◌else◌}
 use Rattle.std.specs.Fmt.{decimal}
+use Rattle.std.specs.Str.{bytes_eq}
 use Rattle.std.specs.Str.Lines.{lines}
 use Rattle.std.specs.Io.KnownBytes.{Appends}
 use Rattle.bsc_spool.specs.declared.channel.Channel.{Channel}
@@ -29,6 +30,12 @@ use Rattle.bsc_storing.specs.Releases.{release_of}
 abbrev pub told : KeptLine → ChannelName → List ℕ → ℕ → List ℕ
 told line name what count =
     name_shown line name ++ codes ": " ++ what ++ codes " " ++ decimal count ++ codes "\n"
+
+-- The store at this path is not to be reconciled with itself, or that is refused.
+abbrev pub is_other : List ℕ → Work → Result (Unit {0}) StoringError
+is_other path (work.Reconcile other) =
+    if bytes_eq path other.now then Err storing.SameStore else Ok tt
+is_other path _ = Ok tt
 
 -- What is known of a store.
 module _ {S : Type 0} (store : store_of.Ghosts S) where

@@ -33,6 +33,10 @@ pub enum StoringError {
     #[error("the other store: {fault}")]
     Other { fault: StoreFault },
 
+    /// The store is to be reconciled with itself.
+    #[error("the other store: it is the same store")]
+    SameStore,
+
     /// A store is to be made for a terminal that is not in the configuration.
     #[error("--terminal names a terminal that is not in CONFIG")]
     NoTerminal,

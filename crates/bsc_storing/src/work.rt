@@ -3,10 +3,12 @@
 ghost use Rattle.std.specs.Prelude.{◌≡◌, codes, map, IfOk, OnOk, ok_or};
 ghost use Rattle.bsc_spool.specs.declared.change.Change.TheVariants.{Offered};
 ghost use Rattle.std.specs.Io.KnownBytes.{Appends};
+ghost use Rattle.std.specs.Str.{bytes_eq};
 ghost use Rattle.std.specs.Str.Lines.{lines};
 ghost use Rattle.bsc_storing.specs.declared.error.StoringError.TheVariants.{NoChannel};
 ghost use Rattle.bsc_storing.specs.Names.{named_at};
-ghost use Rattle.bsc_storing.specs.Works.{Does, EndsDoubt, EndsOne, OffersAll, PrintsArrived, told};
+ghost use Rattle.bsc_storing.specs.Works.{Does, EndsDoubt, EndsOne, OffersAll, PrintsArrived};
+ghost use Rattle.bsc_storing.specs.Works.{is_other, told};
 
 use crate::arrived::write_arrived;
 use crate::error::{StoringError, of_other, of_store};
@@ -285,6 +287,23 @@ fn reconcile_with<M: StoreFiles, W: Write>(
     done
 }
 
+/// Fails if the store at this path is to be reconciled with itself.
+fn check_other(path: &str, work: &Work<'_>) -> Result<(), StoringError>
+    ensures { result ≡ is_other path.now work.now }
+{
+    match work {
+        Work::Reconcile { other } if are_same(path, *other) => Err(StoringError::SameStore),
+        _ => Ok(()),
+    }
+}
+
+/// Whether two texts are the same.
+fn are_same(one: &str, other: &str) -> bool
+    ensures { result ≡ bytes_eq one.now other.now }
+{
+    one == other
+}
+
 /// Does what is to be done with the store at a path, and says what it did. All that can be refused
 /// is found before anything is kept. After `Output` what was to be kept is kept; after a fault of
 /// the store, `Unreachable`, `Full` or `OutOfMemory`, it may be; after any other error the store
@@ -296,6 +315,7 @@ pub fn do_work<M: StoreFiles, W: Write>(
     machine: &mut M,
     out: &mut W,
 ) -> Result<(), StoringError> {
+    check_other(path, &work)?;
     let mut one = machine.open_kept(path).map_err(of_store)?;
     let done = match work {
         Work::Reconcile { other } => reconcile_with(alloc, &mut one, other, machine, out),

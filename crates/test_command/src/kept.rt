@@ -36,6 +36,8 @@ status 2
 status 3
 & store kept reconcile other
 ! bscline: the stores are not of two ends of one line
+& store kept reconcile kept
+! bscline: the other store: it is the same store
 ";
 
 #[test]
