@@ -89,15 +89,16 @@ macro_rules! rounds {
     };
 }
 
-/// Without limits there are two idle rounds. Each call has eleven octets; the answer to the one
-/// after the last round is heard.
+/// A batch ends after two idle rounds, and without a limit there is no end to them. Each call has
+/// eleven octets; the answer to the one after the last round is heard.
 const ROUNDS: &[&str] = &[
-    rounds!("", "55"),
+    rounds!("--batch", "55"),
+    rounds!("--rounds 1 --batch", "33"),
     rounds!("--rounds 1", "33"),
     rounds!("--idle-rounds 1", "33"),
     rounds!("--rounds 2 --idle-rounds 3", "55"),
     rounds!("--rounds 9 --idle-rounds 3", "77"),
-    rounds!("--rounds 300 --idle-rounds 18446744073709551615", "6611"),
+    rounds!("--rounds 300", "6611"),
     rounds!("--rounds 18446744073709551615 --idle-rounds 300", "6611"),
 ];
 

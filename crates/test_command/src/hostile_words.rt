@@ -142,6 +142,7 @@ const KEY: &str = "\
 $ station - --terminal 0 --connect h:1
 < \"evil\\u001b[31m\\nbscline: forged\" = 1
 ! bscline: config: unknown key evil\\x1b[31m\\nbscline: forged
+status 2
 asks nothing
 ";
 
