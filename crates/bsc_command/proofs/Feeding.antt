@@ -67,6 +67,7 @@ fed_error_kept : (e : FeedError) (a b c : Option (List ℕ))
     → HasFailedFeed (fault.Feeding e) a b → Keeps b c → HasFailedFeed (fault.Feeding e) a c
 fed_error_kept feed.Refused a b c p k = ends_in_fault_kept a b c p k
 fed_error_kept feed.Address a b c p k = tt
+fed_error_kept feed.NotPermitted a b c p k = tt
 fed_error_kept feed.NobodyThere a b c p k = tt
 fed_error_kept feed.Sockets a b c p k = tt
 fed_error_kept feed.NotOneLine a b c p k = tt
@@ -96,6 +97,7 @@ feed_failed feed.NotOneLine fault.OutOfMemory a b p q = tt
 feed_failed feed.NotOneLine f a b p q = absurd p
 feed_failed feed.Refused f a b p q = subst (λ x. HasFailedFeed x a b) (sym p) (q refl)
 feed_failed feed.Address f a b p q = subst (λ x. HasFailedFeed x a b) (sym p) tt
+feed_failed feed.NotPermitted f a b p q = subst (λ x. HasFailedFeed x a b) (sym p) tt
 feed_failed feed.NobodyThere f a b p q = subst (λ x. HasFailedFeed x a b) (sym p) tt
 feed_failed feed.Sockets f a b p q = subst (λ x. HasFailedFeed x a b) (sym p) tt
 feed_failed feed.Closed f a b p q = subst (λ x. HasFailedFeed x a b) (sym p) tt

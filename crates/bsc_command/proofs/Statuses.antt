@@ -25,6 +25,7 @@ running_told _ is = absurd (let e = is in cc)
 
 attending_told : (e : AttendingError) → attending_status_of e ≡ 0 → ⊥
 attending_told (attending.Options error) is = absurd (let e = is in cc)
+attending_told (attending.Config error) is = absurd (let e = is in cc)
 attending_told attending.InDoubt is = absurd (let e = is in cc)
 attending_told attending.Undelivered is = absurd (let e = is in cc)
 attending_told attending.NotTrusted is = absurd (let e = is in cc)
