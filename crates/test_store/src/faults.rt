@@ -3,6 +3,7 @@
 use crate::files::{LINE, Task, create, delete, is_in_use, resumed, within};
 use bsc_spool::StoreFault;
 use std::fs;
+use std::os::unix::fs::PermissionsExt;
 use std::rt::HostRuntime;
 use std::test::Fail;
 
@@ -57,6 +58,19 @@ fn first_accepted(rt: &HostRuntime) -> Option<&'static str> {
         }
     }
     None
+}
+
+/// So is the log of a new store.
+#[test]
+fn a_new_store_is_for_its_user_only(rt: HostRuntime) -> Result<(), Fail> {
+    delete(&rt, "store_own");
+    create(&rt, "store_own")?;
+    for path in ["store_own", "store_own-wal"] {
+        let mode = fs::metadata(&rt, path)?.permissions().mode();
+        assert!(rt; mode & 0o777 == 0o600, "{path}");
+    }
+    delete(&rt, "store_own");
+    Ok(())
 }
 
 #[test]
