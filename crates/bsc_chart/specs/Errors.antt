@@ -5,7 +5,7 @@ use Rattle.bsc_text.specs.declared.input.InputError.TheVariants as input
 use Rattle.bsc_text.specs.declared.error.PrintError.{PrintError}
 use Rattle.bsc_text.specs.declared.error.PrintError.TheVariants as print
 use Rattle.bsc_chart.specs.declared.error.ChartError.{ChartError}
-use Rattle.bsc_chart.specs.declared.error.ChartError.TheVariants.{NotATraceAt, TooLongAt, Width}
+use Rattle.bsc_chart.specs.declared.error.ChartError.TheVariants.{TooLongAt, Width}
 use Rattle.bsc_chart.specs.declared.error.ChartError.TheVariants.{Forms, Lines, TooMany}
 use Rattle.bsc_chart.specs.declared.error.ChartError.TheVariants.{Input, Output, Memory}
 
@@ -32,14 +32,6 @@ IsDrawError TooMany = Unit {0}
 IsDrawError Output = Unit {0}
 IsDrawError Memory = Unit {0}
 IsDrawError _ = ⊥
-
--- The errors of drawing one of many lines.
-abbrev pub IsWrongOrPrintError : ChartError → Type 0
-IsWrongOrPrintError (NotATraceAt line) = Unit {0}
-IsWrongOrPrintError TooMany = Unit {0}
-IsWrongOrPrintError Output = Unit {0}
-IsWrongOrPrintError Memory = Unit {0}
-IsWrongOrPrintError _ = ⊥
 
 -- The error for the line with this number if it could not be read.
 abbrev pub input_error : ℕ → InputError → ChartError
