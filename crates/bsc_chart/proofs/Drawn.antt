@@ -2,11 +2,12 @@
 use Rattle.std.proofs.Common.{◌≡◌, ◌<◌, ◌≤◌, ℕ, ◌+◌, cond, map, List, [], ◌∷◌, ◌++◌, Bool, suc}
 use Rattle.std.proofs.Common.{true, false, Option, Some, None, count_by, length, refl, sym, ap}
 use Rattle.std.proofs.Common.{subst, ◌∙◌, append_assoc, append-nil, length-append, arith, take}
-use Rattle.std.proofs.KnownBytes.{Appends-trans}
+use Rattle.std.proofs.KnownBytes.{Appends-kept, Appends-trans}
 use Rattle.std.proofs.Math.Seq.{take-append_seam}
 use Rattle.std.proofs.lemmas.Bool.Decides.{nat_tests}
 use Rattle.std.proofs.lemmas.List.{take-map}
 use Rattle.std.proofs.lemmas.List.Sums.{sum_by-append}
+use Rattle.std.specs.Io.KnownBytes.{Keeps}
 use Rattle.std.specs.Prelude.{IfSome}
 use Rattle.std.specs.Str.Lines.{strip_carriage_return}
 use Rattle.bsc_text.specs.InputLines.{lines_of, parts_of}
@@ -21,8 +22,10 @@ use Rattle.bsc_trace.specs.Texts.{Writes}
 use Rattle.bsc_trace.specs.Inputs.{is_too_long}
 use Rattle.bsc_trace.proofs.Lists.{NonePasses, NonePasses-more, position-append, position_none}
 use Rattle.bsc_trace.specs.Lines.{TraceValue}
+use Rattle.bsc_trace.specs.declared.waiting.LineError.{LineError}
+use Rattle.bsc_trace.specs.declared.waiting.LineError.TheVariants as waiting
 use Rattle.bsc_chart.specs.Counts.{one_if}
-use Rattle.bsc_chart.specs.Errors.{IsDrawError, input_error}
+use Rattle.bsc_chart.specs.Errors.{IsDrawError, input_error, line_error}
 use Rattle.bsc_chart.specs.Inputs.{DrawsFirst, DrawsInput, HasStopped, ReadsInput, StopsAt}
 use Rattle.bsc_chart.specs.Inputs.{StopsFull, is_passed, passed_in, values_at, values_of}
 use Rattle.bsc_chart.specs.Pages.{IsEarlyOf, IsEarlyText, IsLateText, PageValue, blank_page, drawn_at}
@@ -125,6 +128,26 @@ drawn_none (Some all) drawing a = record {
   kept = refl;
   drawn = early_none drawing.form a;
   counted = refl;
+}
+
+-- it stays so while the writer keeps its contents
+pub first_kept : (given left : Option (List ℕ)) (drawing : Drawing) (n : ℕ) (k : PageValue) (m : ℕ)
+    (a b c : Option (List ℕ)) → HasDrawnOf given left drawing n k m a b → Keeps b c
+    → HasDrawnOf given left drawing n k m a c
+first_kept None left drawing n k m a b c h kept = tt
+first_kept (Some all) None drawing n k m a b c h kept = absurd h
+first_kept (Some all) (Some left) drawing n k m a b c h kept = record {
+  done = h.done;
+  whole = h.whole;
+  count = h.count;
+  right = h.right;
+  kept = h.kept;
+  drawn = record {
+    text = h.drawn.text;
+    kind = h.drawn.kind;
+    appended = Appends-kept a b c h.drawn.text h.drawn.appended kept;
+  };
+  counted = h.counted;
 }
 
 first_lines : (octets : List ℕ) (done left : List (List ℕ)) → parts_of octets ≡ done ++ left
@@ -283,7 +306,7 @@ module _ (drawing : Drawing) (n : ℕ) (k : PageValue) (m : ℕ) (a b c : Option
   stopped_first (Some all) None h = absurd h
   stopped_first (Some all) (Some old) h = has_drawn_first all (parts_of old) h
 
-  pub stopped_read : (given left : Option (List ℕ)) (e : InputError)
+  stopped_read : (given left : Option (List ℕ)) (e : InputError)
       → HasDrawnOf given left drawing n k m a b
       → (e ≡ input.TooLong → IfSome left (λ octets. 1048576 < length (before_octet 10 octets)))
       → IfSome given (λ octets. HasStopped drawing (input_error n e) octets a b)
@@ -291,6 +314,17 @@ module _ (drawing : Drawing) (n : ℕ) (k : PageValue) (m : ℕ) (a b c : Option
   stopped_read given left (input.Device why) h more = stopped_first given left h
   stopped_read None left input.Memory h more = tt
   stopped_read (Some all) left input.Memory h more = tt
+
+  -- it was not read, or the rows before it were not flushed
+  pub stopped_next : (given left : Option (List ℕ)) (e : LineError)
+      → HasDrawnOf given left drawing n k m a b
+      → (e ≡ waiting.Input input.TooLong
+      → IfSome left (λ octets. 1048576 < length (before_octet 10 octets)))
+      → IfSome given (λ octets. HasStopped drawing (line_error n e) octets a b)
+  stopped_next given left (waiting.Input e) h more =
+      stopped_read given left e h (λ is. more (ap waiting.Input is))
+  stopped_next None left waiting.Output h more = tt
+  stopped_next (Some all) left waiting.Output h more = tt
 
   -- the page is full
   stopped_full : (given left : Option (List ℕ)) → HasDrawnOf given left drawing n k m a b

@@ -4,8 +4,10 @@ use Rattle.std.specs.Prelude.{IfSome}
 use Rattle.bsc_text.specs.declared.input.InputError.{InputError}
 use Rattle.bsc_text.specs.declared.input.InputError.TheVariants as input
 use Rattle.bsc_trace.specs.Texts.{Writes}
+use Rattle.bsc_trace.specs.declared.waiting.LineError.{LineError}
+use Rattle.bsc_trace.specs.declared.waiting.LineError.TheVariants as waiting
 use Rattle.bsc_chart.specs.Asked.{IsEarly}
-use Rattle.bsc_chart.specs.Errors.{IsDrawError, IsEndError, IsLineError, input_error}
+use Rattle.bsc_chart.specs.Errors.{IsDrawError, IsEndError, IsLineError, input_error, line_error}
 use Rattle.bsc_chart.specs.Inputs.{DrawsInput, HasStopped, ReadsInput, passed_in}
 use Rattle.bsc_chart.specs.Pages.{IsLateText, PageValue}
 use Rattle.bsc_chart.specs.declared.drawing.Drawing.{Drawing}
@@ -24,10 +26,14 @@ late (chart.Input why) is early = early
 late chart.Output is early = early
 late chart.Memory is early = early
 
-pub read_fault : (n : ℕ) (e : InputError) → IsLineError (input_error n e)
-read_fault n input.TooLong = tt
-read_fault n (input.Device why) = tt
-read_fault n input.Memory = tt
+input_fault : (n : ℕ) (e : InputError) → IsLineError (input_error n e)
+input_fault n input.TooLong = tt
+input_fault n (input.Device why) = tt
+input_fault n input.Memory = tt
+
+pub read_fault : (n : ℕ) (e : LineError) → IsLineError (line_error n e)
+read_fault n (waiting.Input e) = input_fault n e
+read_fault n waiting.Output = tt
 
 pub draw_fault : (e : ChartError) → IsDrawError e → IsLineError e
 draw_fault (chart.TooLongAt n) is = tt

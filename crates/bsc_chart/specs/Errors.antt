@@ -4,6 +4,8 @@ use Rattle.bsc_text.specs.declared.input.InputError.{InputError}
 use Rattle.bsc_text.specs.declared.input.InputError.TheVariants as input
 use Rattle.bsc_text.specs.declared.error.PrintError.{PrintError}
 use Rattle.bsc_text.specs.declared.error.PrintError.TheVariants as print
+use Rattle.bsc_trace.specs.declared.waiting.LineError.{LineError}
+use Rattle.bsc_trace.specs.declared.waiting.LineError.TheVariants as waiting
 use Rattle.bsc_chart.specs.declared.error.ChartError.{ChartError}
 use Rattle.bsc_chart.specs.declared.error.ChartError.TheVariants.{TooLongAt, Width}
 use Rattle.bsc_chart.specs.declared.error.ChartError.TheVariants.{Forms, Lines, TooMany}
@@ -38,6 +40,11 @@ abbrev pub input_error : ℕ → InputError → ChartError
 input_error number input.TooLong = TooLongAt number
 input_error number (input.Device why) = Input why
 input_error number input.Memory = Memory
+
+-- The same, or if the rows before it could not be flushed.
+abbrev pub line_error : ℕ → LineError → ChartError
+line_error number (waiting.Input error) = input_error number error
+line_error number waiting.Output = Output
 
 -- The errors of drawing many lines.
 abbrev pub IsLineError : ChartError → Type 0

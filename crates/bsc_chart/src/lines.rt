@@ -5,7 +5,7 @@ ghost use Rattle.std.specs.Str.{bytes_eq};
 ghost use Rattle.bsc_trace.specs.Texts.{Writes};
 ghost use Rattle.bsc_trace.specs.Lines.{value_in};
 ghost use Rattle.bsc_chart.specs.Counts.{one_if};
-ghost use Rattle.bsc_chart.specs.Errors.{IsDrawError, IsEndError, IsLineError, input_error};
+ghost use Rattle.bsc_chart.specs.Errors.{IsDrawError, IsEndError, IsLineError, line_error};
 ghost use Rattle.bsc_chart.specs.Inputs.{DrawsInput, HasStopped, ReadsInput, is_passed, passed_in};
 ghost use Rattle.bsc_chart.specs.Inputs.{values_at};
 ghost use Rattle.bsc_chart.specs.Inputs.{is_skipped as is_skipped_line, tells_fault as is_fault};
@@ -19,9 +19,9 @@ use crate::summary::write_html;
 use crate::text::write_line;
 use crate::{ChartError, Drawing, Form, Range};
 use bsc_text::{
-    InputError, LineEnd, Unreadable, is_blank, read_line, split_at_first, without_return,
+    InputError, LineEnd, Unreadable, is_blank, split_at_first, without_return,
 };
-use bsc_trace::{TraceLine, read_trace_line};
+use bsc_trace::{LineError, TraceLine, next_line, read_trace_line};
 use std::alloc::Allocator;
 use std::io::{BufRead, BufReader, Read, Write};
 
@@ -31,7 +31,8 @@ use std::io::{BufRead, BufReader, Read, Write};
 /// in the range or not. All lines count for the numbers of the range. Stops at a line of more than
 /// `MAX_INPUT` octets, whether it is in the range or not; the rows of a text for the lines before
 /// it stay written. The input may have any length: for a text one line of it is kept at a time, for
-/// a picture the rows of the range. The error is `TooMany` if these are too many.
+/// a picture the rows of the range. The error is `TooMany` if these are too many. Before a read that
+/// may wait, `out` is flushed.
 pub fn chart<A: Allocator + Copy, R: Read, W: Write>(
     alloc: A,
     drawing: Drawing,
@@ -150,8 +151,9 @@ fn read_lines<A: Allocator + Copy, B: BufRead, W: Write>(
     let mut line = Vec::new(alloc);
     let mut page = Page::new(alloc);
     let mut passed = 0;
+    let mut is_begun = false;
     'lines: for number in 1..u64::MAX {
-        let end = match read_line(reader, &mut line) {
+        let end = match next_line(reader, &mut is_begun, &mut line, out) {
             Ok(end) => end,
             Err(error) => return Err(read_error(number, error)),
         };
@@ -168,9 +170,13 @@ fn read_lines<A: Allocator + Copy, B: BufRead, W: Write>(
 }
 
 /// Returns the error for a line with this number that could not be read.
-fn read_error(number: u64, error: InputError) -> ChartError
-    ensures { result ≡ input_error number error }
+fn read_error(number: u64, error: LineError) -> ChartError
+    ensures { result ≡ line_error number error }
 {
+    let error = match error {
+        LineError::Input { error } => error,
+        LineError::Output => return ChartError::Output,
+    };
     match error {
         InputError::TooLong => ChartError::TooLongAt { line: number },
         InputError::Device { why } => ChartError::Input { why },
