@@ -1,11 +1,13 @@
 -- The ladder of the lines of an input so far.
-use Rattle.std.proofs.Common.{◌≡◌, ◌<◌, ◌≤◌, ℕ, ◌+◌, ◌||◌, ◌&&◌, not, map, List, [], ◌∷◌, ◌++◌, Bool, suc}
-use Rattle.std.proofs.Common.{true, false, Option, Some, None, length, refl, sym, ap}
-use Rattle.std.proofs.Common.{subst, ◌∙◌, append_assoc, append-nil, length-append, arith, get_or, take}
-use Rattle.std.proofs.KnownBytes.{Appends-trans}
+use Rattle.std.proofs.Common.{◌≡◌, ◌<◌, ◌≤◌, ℕ, ◌+◌, cond, map, List, [], ◌∷◌, ◌++◌, Bool, suc}
+use Rattle.std.proofs.Common.{true, false, Option, Some, None, count_by, length, refl, sym, ap}
+use Rattle.std.proofs.Common.{subst, ◌∙◌, append_assoc, append-nil, length-append, arith, take}
+use Rattle.std.proofs.KnownBytes.{Appends-kept, Appends-trans}
 use Rattle.std.proofs.Math.Seq.{take-append_seam}
 use Rattle.std.proofs.lemmas.Bool.Decides.{nat_tests}
 use Rattle.std.proofs.lemmas.List.{take-map}
+use Rattle.std.proofs.lemmas.List.Sums.{sum_by-append}
+use Rattle.std.specs.Io.KnownBytes.{Keeps}
 use Rattle.std.specs.Prelude.{IfSome}
 use Rattle.std.specs.Str.Lines.{strip_carriage_return}
 use Rattle.bsc_text.specs.InputLines.{lines_of, parts_of}
@@ -20,10 +22,12 @@ use Rattle.bsc_trace.specs.Texts.{Writes}
 use Rattle.bsc_trace.specs.Inputs.{is_too_long}
 use Rattle.bsc_trace.proofs.Lists.{NonePasses, NonePasses-more, position-append, position_none}
 use Rattle.bsc_trace.specs.Lines.{TraceValue}
-use Rattle.bsc_chart.specs.Errors.{IsWrongOrPrintError, input_error}
+use Rattle.bsc_trace.specs.declared.waiting.LineError.{LineError}
+use Rattle.bsc_trace.specs.declared.waiting.LineError.TheVariants as waiting
+use Rattle.bsc_chart.specs.Counts.{one_if}
+use Rattle.bsc_chart.specs.Errors.{IsDrawError, input_error, line_error}
 use Rattle.bsc_chart.specs.Inputs.{DrawsFirst, DrawsInput, HasStopped, ReadsInput, StopsAt}
-use Rattle.bsc_chart.specs.Inputs.{StopsFull, is_misspelt}
-use Rattle.bsc_chart.specs.Inputs.{is_refused, is_wrong, values_at, values_of}
+use Rattle.bsc_chart.specs.Inputs.{StopsFull, is_passed, passed_in, values_at, values_of}
 use Rattle.bsc_chart.specs.Pages.{IsEarlyOf, IsEarlyText, IsLateText, PageValue, blank_page, drawn_at}
 use Rattle.bsc_chart.specs.Pages.{drawn_from, drawn_of, is_full, page_by, page_of}
 use Rattle.bsc_chart.specs.Pages.{page_with}
@@ -66,27 +70,55 @@ values_more [] part = refl
 values_more (x ∷ xs) part =
     ap (λ l. values_at (strip_carriage_return x) ∷ l) (values_more xs part)
 
--- the first lines, of which the next one has this number, are not refused and their ladder was
--- written; the others are left
+-- how many parts are passed over
+abbrev passed_of : List (List ℕ) → ℕ
+passed_of parts = count_by is_passed (map strip_carriage_return parts)
+
+map_more : (parts : List (List ℕ)) (part : List ℕ) → map strip_carriage_return (parts ++ part ∷ [])
+    ≡ map strip_carriage_return parts ++ strip_carriage_return part ∷ []
+map_more [] part = refl
+map_more (x ∷ xs) part = ap (λ lines. strip_carriage_return x ∷ lines) (map_more xs part)
+
+passed_more : (parts : List (List ℕ)) (part line : List ℕ) → line ≡ strip_carriage_return part
+    → passed_of parts + one_if (is_passed line) ≡ passed_of (parts ++ part ∷ [])
+passed_more parts part line same =
+    let one : List ℕ → ℕ = λ l. cond (is_passed l) 1 0 in
+    let before = map strip_carriage_return parts in
+    let last = strip_carriage_return part in
+    let added = sum_by-append one before (last ∷ []) in
+    let whole : passed_of (parts ++ part ∷ []) ≡ count_by is_passed (before ++ last ∷ []) =
+    ap (count_by is_passed) (map_more parts part) in
+    let here : one_if (is_passed line) ≡ one last = ap (λ l. one_if (is_passed l)) same in
+    omega (arith, added, whole, here)
+
+-- one more line counts at most one
+pub counted_below : (number passed count : ℕ) (is_passed : Bool) → passed < number
+    → count ≡ passed + one_if is_passed → count < number + 1
+counted_below number passed count true h e = omega (arith, h, e)
+counted_below number passed count false h e = omega (arith, h, e)
+
+-- the first lines, of which the next one has this number, are not too long and their ladder was
+-- written; so many of them were passed over; the others are left
 pub record HasDrawn (drawing : Drawing) (all left : List (List ℕ)) (number : ℕ)
-    (page : PageValue) (old new : Option (List ℕ)) : Type 0 where
+    (page : PageValue) (passed : ℕ) (old new : Option (List ℕ)) : Type 0 where
   pub done : List (List ℕ)
   pub whole : all ≡ done ++ left
   pub count : length done + 1 ≡ number
-  pub right : NonePasses is_refused done
+  pub right : NonePasses is_too_long done
   pub kept : page ≡ page_of drawing (values_in done)
   pub drawn : Writes (IsEarlyText drawing (values_in done)) old new
+  pub counted : passed ≡ passed_of done
 
 -- the same of the lines of what a reader had and of what it has left, where these are known
-abbrev pub HasDrawnOf : Option (List ℕ) → Option (List ℕ) → Drawing → ℕ → PageValue
+abbrev pub HasDrawnOf : Option (List ℕ) → Option (List ℕ) → Drawing → ℕ → PageValue → ℕ
     → Option (List ℕ) → Option (List ℕ) → Type 0
-HasDrawnOf None left drawing number page old new = Unit {0}
-HasDrawnOf (Some all) None drawing number page old new = ⊥
-HasDrawnOf (Some all) (Some left) drawing number page old new =
-    HasDrawn drawing (parts_of all) (parts_of left) number page old new
+HasDrawnOf None left drawing number page passed old new = Unit {0}
+HasDrawnOf (Some all) None drawing number page passed old new = ⊥
+HasDrawnOf (Some all) (Some left) drawing number page passed old new =
+    HasDrawn drawing (parts_of all) (parts_of left) number page passed old new
 
 pub drawn_none : (all : Option (List ℕ)) (drawing : Drawing) (a : Option (List ℕ))
-    → HasDrawnOf all all drawing 1 blank_page a a
+    → HasDrawnOf all all drawing 1 blank_page 0 a a
 drawn_none None drawing a = tt
 drawn_none (Some all) drawing a = record {
   done = [];
@@ -95,12 +127,28 @@ drawn_none (Some all) drawing a = record {
   right = tt;
   kept = refl;
   drawn = early_none drawing.form a;
+  counted = refl;
 }
 
-get_or_seam : {X : Type 0} (xs : List X) (y : X) (ys : List X) (d : X)
-    → get_or (xs ++ y ∷ ys) (length xs) d ≡ y
-get_or_seam [] y ys d = refl
-get_or_seam (x ∷ xs) y ys d = get_or_seam xs y ys d
+-- it stays so while the writer keeps its contents
+pub first_kept : (given left : Option (List ℕ)) (drawing : Drawing) (n : ℕ) (k : PageValue) (m : ℕ)
+    (a b c : Option (List ℕ)) → HasDrawnOf given left drawing n k m a b → Keeps b c
+    → HasDrawnOf given left drawing n k m a c
+first_kept None left drawing n k m a b c h kept = tt
+first_kept (Some all) None drawing n k m a b c h kept = absurd h
+first_kept (Some all) (Some left) drawing n k m a b c h kept = record {
+  done = h.done;
+  whole = h.whole;
+  count = h.count;
+  right = h.right;
+  kept = h.kept;
+  drawn = record {
+    text = h.drawn.text;
+    kind = h.drawn.kind;
+    appended = Appends-kept a b c h.drawn.text h.drawn.appended kept;
+  };
+  counted = h.counted;
+}
 
 first_lines : (octets : List ℕ) (done left : List (List ℕ)) → parts_of octets ≡ done ++ left
     → take (length done) (lines_of octets) ≡ map strip_carriage_return done
@@ -110,33 +158,21 @@ first_lines octets done left e =
     ∙ ap (map strip_carriage_return) (take-append_seam done left)
 
 -- lines by their length
-fits_by : (b : Bool) (wrong : Bool) → b ≡ false → wrong ≡ false → (b || wrong) ≡ false
-fits_by true wrong e f = cc
-fits_by false wrong e f = f
-
-long_by : (b : Bool) (wrong : Bool) → b ≡ true → (b || wrong) ≡ true
-long_by true wrong e = refl
-long_by false wrong e = cc
-
-wrong_by : (b : Bool) (wrong : Bool) → b ≡ false → wrong ≡ true
-    → ((b || wrong) ≡ true) × ((not b && wrong) ≡ true)
-wrong_by true wrong e f = cc
-wrong_by false wrong e f = (f, f)
-
 not_long : (part : List ℕ) → length part ≤ 1048576 → is_too_long part ≡ false
 not_long part h = grind (arith, nat_tests)
 
 long : (part : List ℕ) → 1048576 < length part → is_too_long part ≡ true
 long part h = grind (arith, nat_tests)
 
-module _ {drawing : Drawing} {n : ℕ} {k : PageValue} {a b : Option (List ℕ)} where
+module _ {drawing : Drawing} {n : ℕ} {k : PageValue} {m : ℕ} {a b : Option (List ℕ)} where
   has_drawn_more : (all : List (List ℕ)) (part line : List ℕ) (left : List (List ℕ))
-      (more : PageValue) (c : Option (List ℕ)) → HasDrawn drawing all (part ∷ left) n k a b
-      → length part ≤ 1048576 → line ≡ strip_carriage_return part → is_wrong line ≡ false
+      (more : PageValue) (count : ℕ) (c : Option (List ℕ))
+      → HasDrawn drawing all (part ∷ left) n k m a b
+      → length part ≤ 1048576 → line ≡ strip_carriage_return part
       → more ≡ page_by drawing.form k (drawn_at drawing.range n (values_at line))
       → Writes (IsEarlyOf drawing.form (drawn_at drawing.range n (values_at line))) b c
-      → HasDrawn drawing all left (n + 1) more a c
-  has_drawn_more all part line left more c h fits same right grown p =
+      → count ≡ m + one_if (is_passed line) → HasDrawn drawing all left (n + 1) more count a c
+  has_drawn_more all part line left more count c h fits same grown p told =
       let before = values_in h.done in
       let now = values_at line in
       let here = drawn_at drawing.range n now in
@@ -151,10 +187,7 @@ module _ {drawing : Drawing} {n : ℕ} {k : PageValue} {a b : Option (List ℕ)}
         done = h.done ++ part ∷ [];
         whole = h.whole ∙ sym (append_assoc h.done (part ∷ []) left);
         count = omega (arith, length-append h.done (part ∷ []), h.count);
-        right =
-            NonePasses-more is_refused h.done part h.right
-            (fits_by (is_too_long part) (is_wrong (strip_carriage_return part))
-            (not_long part fits) (rw same at right));
+        right = NonePasses-more is_too_long h.done part h.right (not_long part fits);
         kept =
             grown ∙ ap (λ q. page_by drawing.form q here) h.kept
             ∙ sym (page_append drawing.form blank_page (drawn_of drawing before) here)
@@ -162,40 +195,41 @@ module _ {drawing : Drawing} {n : ℕ} {k : PageValue} {a b : Option (List ℕ)}
         drawn =
             subst (λ vs. Writes (IsEarlyOf drawing.form vs) a c) (sym all_drawn)
             (early_trans drawing.form (drawn_of drawing before) here a b c h.drawn p);
+        counted =
+            told ∙ ap (λ passed. passed + one_if (is_passed line)) h.counted
+            ∙ passed_more h.done part line same;
       }
 
-  -- the next line is refused
-  has_drawn_stop : (is_fault : List ℕ → Bool) (octets part : List ℕ) (left : List (List ℕ))
-      → HasDrawn drawing (parts_of octets) (part ∷ left) n k a b → is_refused part ≡ true
-      → is_fault part ≡ true → StopsAt is_fault drawing n octets a b
-  has_drawn_stop is_fault octets part left h refused fault = record {
+  -- the next line is too long
+  has_drawn_stop : (octets part : List ℕ) (left : List (List ℕ))
+      → HasDrawn drawing (parts_of octets) (part ∷ left) n k m a b → is_too_long part ≡ true
+      → StopsAt drawing n octets a b
+  has_drawn_stop octets part left h too_long = record {
     place = length h.done;
     counted = sym h.count;
-    first = rw h.whole (position-append is_refused h.done part left h.right refused);
-    reason =
-        ap (λ parts. is_fault (get_or parts (length h.done) [])) h.whole
-        ∙ ap is_fault (get_or_seam h.done part left []) ∙ fault;
+    first = rw h.whole (position-append is_too_long h.done part left h.right too_long);
     before =
         subst (λ lines. Writes (IsEarlyText drawing (values_of lines)) a b)
         (sym (first_lines octets h.done (part ∷ left) h.whole)) h.drawn;
   }
 
   -- no line is left
-  has_drawn_all : (octets : List ℕ) → HasDrawn drawing (parts_of octets) [] n k a b
-      → ReadsInput drawing octets k a b
+  has_drawn_all : (octets : List ℕ) → HasDrawn drawing (parts_of octets) [] n k m a b
+      → ReadsInput drawing octets k m a b
   has_drawn_all octets h =
       let all_done : parts_of octets ≡ h.done = h.whole ∙ append-nil h.done in
       record {
-        right = rw all_done (position_none is_refused h.done h.right);
+        right = rw all_done (position_none is_too_long h.done h.right);
         kept = h.kept ∙ ap (λ parts. page_of drawing (values_in parts)) (sym all_done);
         drawn =
             subst (λ parts. Writes (IsEarlyText drawing (values_in parts)) a b)
             (sym all_done) h.drawn;
+        counted = h.counted ∙ ap passed_of (sym all_done);
       }
 
   -- the page is full
   has_drawn_full : (octets : List ℕ) (left : List (List ℕ))
-      → HasDrawn drawing (parts_of octets) left n k a b → is_full k ≡ true
+      → HasDrawn drawing (parts_of octets) left n k m a b → is_full k ≡ true
       → StopsFull drawing octets a b
   has_drawn_full octets left h full =
       let first = sym (first_lines octets h.done left h.whole) in
@@ -209,7 +243,7 @@ module _ {drawing : Drawing} {n : ℕ} {k : PageValue} {a b : Option (List ℕ)}
       }
 
   has_drawn_first : (octets : List ℕ) (left : List (List ℕ))
-      → HasDrawn drawing (parts_of octets) left n k a b → DrawsFirst drawing octets a b
+      → HasDrawn drawing (parts_of octets) left n k m a b → DrawsFirst drawing octets a b
   has_drawn_first octets left h = record {
     place = length h.done;
     before =
@@ -217,85 +251,63 @@ module _ {drawing : Drawing} {n : ℕ} {k : PageValue} {a b : Option (List ℕ)}
         (sym (first_lines octets h.done left h.whole)) h.drawn;
   }
 
--- the part is what was read of the lines that were left, and others may be left
-part_left : (old new : List ℕ) (end : LineEnd) (part : List ℕ)
-    → ReadsLine (Some old) (Some new) end part
-    → (left : List (List ℕ)) × (parts_of old ≡ part ∷ left)
-part_left old new LineFeed part e = (parts_of new, e)
-part_left old new InputEnd part e = ([], e.0)
-
-module _ (drawing : Drawing) (n : ℕ) (k : PageValue) (a b c : Option (List ℕ)) where
+module _ (drawing : Drawing) (n : ℕ) (k : PageValue) (m : ℕ) (a b c : Option (List ℕ)) where
   -- a line that ends with a line feed was drawn
   pub drawn_line : (given left next : Option (List ℕ)) (part line : List ℕ) (more : PageValue)
-      → HasDrawnOf given left drawing n k a b → ReadsLine left next LineFeed part
-      → length part ≤ 1048576 → line ≡ strip_carriage_return part → is_wrong line ≡ false
+      (count : ℕ) → HasDrawnOf given left drawing n k m a b → ReadsLine left next LineFeed part
+      → length part ≤ 1048576 → line ≡ strip_carriage_return part
       → more ≡ page_by drawing.form k (drawn_at drawing.range n (values_at line))
       → Writes (IsEarlyOf drawing.form (drawn_at drawing.range n (values_at line))) b c
-      → HasDrawnOf given next drawing (n + 1) more a c
-  drawn_line None left next part line more h read fits same right grown p = tt
-  drawn_line (Some all) None next part line more h read fits same right grown p = absurd h
-  drawn_line (Some all) (Some old) None part line more h read fits same right grown p =
+      → count ≡ m + one_if (is_passed line)
+      → HasDrawnOf given next drawing (n + 1) more count a c
+  drawn_line None left next part line more count h read fits same grown p told = tt
+  drawn_line (Some all) None next part line more count h read fits same grown p told = absurd h
+  drawn_line (Some all) (Some old) None part line more count h read fits same grown p told =
       absurd read
-  drawn_line (Some all) (Some old) (Some new) part line more h read fits same right grown p =
-      has_drawn_more (parts_of all) part line (parts_of new) more c
-      (subst (λ parts. HasDrawn drawing (parts_of all) parts n k a b) read h) fits same right
-      grown p
+  drawn_line (Some all) (Some old) (Some new) part line more count h read fits same grown p told =
+      has_drawn_more (parts_of all) part line (parts_of new) more count c
+      (subst (λ parts. HasDrawn drawing (parts_of all) parts n k m a b) read h) fits same grown p
+      told
 
   -- the last line was drawn
   pub drawn_last : (given left next : Option (List ℕ)) (part line : List ℕ) (more : PageValue)
-      → HasDrawnOf given left drawing n k a b → ReadsLine left next InputEnd part
-      → length part ≤ 1048576 → line ≡ strip_carriage_return part → is_wrong line ≡ false
+      (count : ℕ) → HasDrawnOf given left drawing n k m a b → ReadsLine left next InputEnd part
+      → length part ≤ 1048576 → line ≡ strip_carriage_return part
       → more ≡ page_by drawing.form k (drawn_at drawing.range n (values_at line))
       → Writes (IsEarlyOf drawing.form (drawn_at drawing.range n (values_at line))) b c
-      → IfSome given (λ octets. ReadsInput drawing octets more a c)
-  drawn_last None left next part line more h read fits same right grown p = tt
-  drawn_last (Some all) None next part line more h read fits same right grown p = absurd h
-  drawn_last (Some all) (Some old) None part line more h read fits same right grown p =
+      → count ≡ m + one_if (is_passed line)
+      → IfSome given (λ octets. ReadsInput drawing octets more count a c)
+  drawn_last None left next part line more count h read fits same grown p told = tt
+  drawn_last (Some all) None next part line more count h read fits same grown p told = absurd h
+  drawn_last (Some all) (Some old) None part line more count h read fits same grown p told =
       absurd read
-  drawn_last (Some all) (Some old) (Some new) part line more h read fits same right grown p =
-      has_drawn_all all (has_drawn_more (parts_of all) part line [] more c
-      (subst (λ parts. HasDrawn drawing (parts_of all) parts n k a b) read.0 h) fits same right
-      grown p)
-
-  -- a wrong line was not drawn
-  stopped_wrong : (given left next : Option (List ℕ)) (end : LineEnd) (part line : List ℕ)
-      → HasDrawnOf given left drawing n k a b → ReadsLine left next end part
-      → length part ≤ 1048576 → line ≡ strip_carriage_return part → is_wrong line ≡ true
-      → IfSome given (λ octets. StopsAt is_misspelt drawing n octets a b)
-  stopped_wrong None left next end part line h read fits same wrong = tt
-  stopped_wrong (Some all) None next end part line h read fits same wrong = absurd h
-  stopped_wrong (Some all) (Some old) None end part line h read fits same wrong = absurd read
-  stopped_wrong (Some all) (Some old) (Some new) end part line h read fits same wrong =
-      let found = part_left old new end part read in
-      let both =
-      wrong_by (is_too_long part) (is_wrong (strip_carriage_return part)) (not_long part fits)
-      (rw same at wrong) in
-      has_drawn_stop is_misspelt all part found.0
-      (subst (λ parts. HasDrawn drawing (parts_of all) parts n k a b) found.1 h) both.0 both.1
+  drawn_last (Some all) (Some old) (Some new) part line more count h read fits same grown p told =
+      has_drawn_all all (has_drawn_more (parts_of all) part line [] more count c
+      (subst (λ parts. HasDrawn drawing (parts_of all) parts n k m a b) read.0 h) fits same grown p
+      told)
 
   -- the next line is too long
-  stopped_long : (given left : Option (List ℕ)) → HasDrawnOf given left drawing n k a b
+  stopped_long : (given left : Option (List ℕ)) → HasDrawnOf given left drawing n k m a b
       → IfSome left (λ octets. 1048576 < length (before_octet 10 octets))
-      → IfSome given (λ octets. StopsAt is_too_long drawing n octets a b)
+      → IfSome given (λ octets. StopsAt drawing n octets a b)
   stopped_long None left h more = tt
   stopped_long (Some all) None h more = absurd h
   stopped_long (Some all) (Some old) h more =
       let found = first_part old in
       let part = before_octet 10 old in
-      has_drawn_stop is_too_long all part found.0
-      (subst (λ parts. HasDrawn drawing (parts_of all) parts n k a b) found.1 h)
-      (long_by (is_too_long part) (is_wrong (strip_carriage_return part)) (long part more))
+      has_drawn_stop all part found.0
+      (subst (λ parts. HasDrawn drawing (parts_of all) parts n k m a b) found.1 h)
       (long part more)
 
   -- the next line was not read
-  pub stopped_first : (given left : Option (List ℕ)) → HasDrawnOf given left drawing n k a b
+  pub stopped_first : (given left : Option (List ℕ)) → HasDrawnOf given left drawing n k m a b
       → IfSome given (λ octets. DrawsFirst drawing octets a b)
   stopped_first None left h = tt
   stopped_first (Some all) None h = absurd h
   stopped_first (Some all) (Some old) h = has_drawn_first all (parts_of old) h
 
-  pub stopped_read : (given left : Option (List ℕ)) (e : InputError)
-      → HasDrawnOf given left drawing n k a b
+  stopped_read : (given left : Option (List ℕ)) (e : InputError)
+      → HasDrawnOf given left drawing n k m a b
       → (e ≡ input.TooLong → IfSome left (λ octets. 1048576 < length (before_octet 10 octets)))
       → IfSome given (λ octets. HasStopped drawing (input_error n e) octets a b)
   stopped_read given left input.TooLong h more = stopped_long given left h (more refl)
@@ -303,40 +315,45 @@ module _ (drawing : Drawing) (n : ℕ) (k : PageValue) (a b c : Option (List ℕ
   stopped_read None left input.Memory h more = tt
   stopped_read (Some all) left input.Memory h more = tt
 
+  -- it was not read, or the rows before it were not flushed
+  pub stopped_next : (given left : Option (List ℕ)) (e : LineError)
+      → HasDrawnOf given left drawing n k m a b
+      → (e ≡ waiting.Input input.TooLong
+      → IfSome left (λ octets. 1048576 < length (before_octet 10 octets)))
+      → IfSome given (λ octets. HasStopped drawing (line_error n e) octets a b)
+  stopped_next given left (waiting.Input e) h more =
+      stopped_read given left e h (λ is. more (ap waiting.Input is))
+  stopped_next None left waiting.Output h more = tt
+  stopped_next (Some all) left waiting.Output h more = tt
+
   -- the page is full
-  stopped_full : (given left : Option (List ℕ)) → HasDrawnOf given left drawing n k a b
+  stopped_full : (given left : Option (List ℕ)) → HasDrawnOf given left drawing n k m a b
       → is_full k ≡ true → IfSome given (λ octets. StopsFull drawing octets a b)
   stopped_full None left h full = tt
   stopped_full (Some all) None h full = absurd h
   stopped_full (Some all) (Some old) h full = has_drawn_full all (parts_of old) h full
 
   -- the line that was read was not drawn, or in part
-  pub stopped_write : (given left next : Option (List ℕ)) (end : LineEnd) (part line : List ℕ)
-      (e : ChartError) → HasDrawnOf given left drawing n k a b → ReadsLine left next end part
-      → length part ≤ 1048576 → line ≡ strip_carriage_return part
-      → ((m : ℕ) → e ≡ chart.NotATraceAt m
-      → (m ≡ n) × (is_wrong line ≡ true) × (c ≡ b))
+  pub stopped_write : (given left : Option (List ℕ)) (e : ChartError)
+      → HasDrawnOf given left drawing n k m a b
       → (e ≡ chart.TooMany → (is_full k ≡ true) × (c ≡ b))
-      → IsWrongOrPrintError e → IfSome given (λ octets. HasStopped drawing e octets a c)
-  stopped_write given left next end part line (chart.NotATraceAt m) h read fits same wrong full kind =
-      let told = wrong m refl in
-      rw (told.0, told.2) (stopped_wrong given left next end part line h read fits same told.1)
-  stopped_write given left next end part line chart.TooMany h read fits same wrong full kind =
+      → IsDrawError e → IfSome given (λ octets. HasStopped drawing e octets a c)
+  stopped_write given left chart.TooMany h full kind =
       let told = full refl in rw told.1 (stopped_full given left h told.0)
-  stopped_write None left next end part line e h read fits same wrong full kind = tt
-  stopped_write (Some all) left next end part line (chart.TooLongAt m) h read fits same wrong full kind = absurd kind
-  stopped_write (Some all) left next end part line chart.Width h read fits same wrong full kind = tt
-  stopped_write (Some all) left next end part line chart.Forms h read fits same wrong full kind = tt
-  stopped_write (Some all) left next end part line chart.Lines h read fits same wrong full kind = tt
-  stopped_write (Some all) left next end part line (chart.Input why) h read fits same wrong full kind = absurd kind
-  stopped_write (Some all) left next end part line chart.Output h read fits same wrong full kind = tt
-  stopped_write (Some all) left next end part line chart.Memory h read fits same wrong full kind = tt
+  stopped_write None left e h full kind = tt
+  stopped_write (Some all) left (chart.TooLongAt number) h full kind = absurd kind
+  stopped_write (Some all) left chart.Width h full kind = tt
+  stopped_write (Some all) left chart.Forms h full kind = tt
+  stopped_write (Some all) left chart.Lines h full kind = tt
+  stopped_write (Some all) left (chart.Input why) h full kind = absurd kind
+  stopped_write (Some all) left chart.Output h full kind = tt
+  stopped_write (Some all) left chart.Memory h full kind = tt
 
 -- the rows of a text were written, and then the picture, if it is one
-pub drawn_end : (drawing : Drawing) (octets : List ℕ) (k : PageValue) (a b c : Option (List ℕ))
-    → ReadsInput drawing octets k a b → Writes (IsLateText drawing.form k) b c
+pub drawn_end : (drawing : Drawing) (octets : List ℕ) (k : PageValue) (m : ℕ)
+    (a b c : Option (List ℕ)) → ReadsInput drawing octets k m a b → Writes (IsLateText drawing.form k) b c
     → DrawsInput drawing octets a c
-drawn_end drawing octets k a b c h p = record {
+drawn_end drawing octets k m a b c h p = record {
   right = h.right;
   drawn = record {
     text = h.drawn.text ++ p.text;

@@ -1,22 +1,24 @@
 -- What an error of drawing says of the trace that is named.
 use Rattle.std.proofs.Common.{◌≡◌, ℕ, List, [], Option, None, Some, Result, Ok, Err, refl, sym, ap, ◌∙◌, subst}
 use Rattle.std.proofs.Common.{inr}
-use Rattle.std.specs.Prelude.{IfErr, IfSome, OnOk}
+use Rattle.std.specs.Prelude.{IfErr, IfOk, IfSome, OnOk}
+use Rattle.std.specs.Io.KnownBytes.{Keeps}
 use Rattle.bsc_options.specs.ChartWords.{AskedChart}
 use Rattle.bsc_text.specs.declared.unreadable.Unreadable.{Unreadable}
 use Rattle.bsc_chart.specs.Asked.{drawing_of}
 use Rattle.bsc_chart.specs.Errors.{IsLineError}
 use Rattle.bsc_chart.specs.Inputs.{HasStopped}
 use Rattle.bsc_chart.specs.Named.{HasFailedAs, HasFailedFile, HasFailedInput, HasFailedTrace}
-use Rattle.bsc_chart.specs.Named.{HoldsOf, IsCharted, IsDrawn, IsEarlyTrace, IsFileError}
-use Rattle.bsc_chart.specs.Named.{ChartsNamed, DrawsNamed, FailsAs, FailsAt, FailsChart, FailsNamed}
-use Rattle.bsc_chart.specs.Named.{IsLateTrace, IsUnread, SaysOf, file_of}
+use Rattle.bsc_chart.specs.Named.{HasPassed, HoldsOf, IsCharted, IsDrawn, IsEarlyTrace, IsFileError}
+use Rattle.bsc_chart.specs.Named.{ChartsNamed, DrawsNamed, DrawsTold, FailsAs, FailsAt, FailsChart}
+use Rattle.bsc_chart.specs.Named.{FailsNamed, IsLateTrace, IsUnread, SaysOf, file_of, told_for}
 use Rattle.bsc_chart.specs.declared.drawing.Drawing.{Drawing}
 use Rattle.bsc_chart.specs.declared.error.ChartError.{ChartError}
 use Rattle.bsc_chart.specs.declared.error.ChartError.TheVariants as chart
 use Rattle.bsc_chart.specs.declared.named.TraceError.{TraceError}
 use Rattle.bsc_chart.specs.declared.named.TraceError.TheVariants.{CannotRead, Chart}
 use Rattle.bsc_chart.proofs.Ends.{late}
+use Rattle.bsc_chart.proofs.Kept.{kept_Appends}
 use Rattle.bsc_chart.proofs.Ladders.{early_none}
 
 pub none_some : {X : Type 0} (o : Option X) (x : X) → None ≡ o → o ≡ Some x → ⊥
@@ -25,16 +27,18 @@ none_some (Some y) x a b = cc
 
 -- what was read from a file was drawn
 pub opened_read : {F : Type 0} (opens : List ℕ → F → Type 0) (remaining : F → Option (List ℕ))
-    (path : List ℕ) (d : Drawing) (r : Result (Unit {0}) TraceError) (file : F)
-    (a b : Option (List ℕ)) → opens path file → OnOk r (IsDrawn (Ok d) a b (remaining file))
-    → OnOk r ((file : F) × opens path file × IsDrawn (Ok d) a b (remaining file))
-opened_read opens remaining path d (Ok done) file a b o p = (file, o, p)
-opened_read opens remaining path d (Err error) file a b o p = tt
+    (path : List ℕ) (d : Drawing) (r : Result ℕ TraceError) (file : F) (a b : Option (List ℕ))
+    → opens path file → OnOk r (IsDrawn (Ok d) a b (remaining file))
+    → IfOk r (λ count. HasPassed count (remaining file))
+    → IfOk r (λ count. (file : F) × opens path file × IsDrawn (Ok d) a b (remaining file)
+    × HasPassed count (remaining file))
+opened_read opens remaining path d (Ok count) file a b o p q = (file, o, p, q)
+opened_read opens remaining path d (Err error) file a b o p q = tt
 
 -- it was not
 pub opened_unread : {F : Type 0} (opens : List ℕ → F → Type 0)
     (refuses : List ℕ → Unreadable → Type 0) (remaining : F → Option (List ℕ)) (path : List ℕ)
-    (d : Drawing) (r : Result (Unit {0}) TraceError) (file : F) (a b : Option (List ℕ))
+    (d : Drawing) (r : Result ℕ TraceError) (file : F) (a b : Option (List ℕ))
     → opens path file → IfErr r (λ error. HasFailedFile path d error (remaining file) a b)
     → IfErr r (λ error. FailsAt opens refuses remaining path d error a b)
 opened_unread opens refuses remaining path d (Ok done) file a b o p = tt
@@ -42,23 +46,26 @@ opened_unread opens refuses remaining path d (Err error) file a b o p = inr (fil
 
 -- a file is named, or none
 pub names_input : {F : Type 0} (opens : List ℕ → F → Type 0) (remaining : F → Option (List ℕ))
-    (named : Option (List ℕ)) (d : Drawing) (r : Result (Unit {0}) TraceError)
+    (named : Option (List ℕ)) (d : Drawing) (r : Result ℕ TraceError)
     (input a b : Option (List ℕ)) → None ≡ named → OnOk r (IsDrawn (Ok d) a b input)
-    → OnOk r (DrawsNamed opens remaining named (Ok d) input a b)
-names_input opens remaining named d r input a b e p =
-    subst (λ n. OnOk r (DrawsNamed opens remaining n (Ok d) input a b)) e p
+    → IfOk r (λ count. HasPassed count input)
+    → IfOk r (DrawsNamed opens remaining named (Ok d) input a b)
+names_input opens remaining named d (Err error) input a b e p q = tt
+names_input opens remaining named d (Ok count) input a b e p q =
+    subst (λ n. DrawsNamed opens remaining n (Ok d) input a b count) e (p, q)
 
 pub names_file : {F : Type 0} (opens : List ℕ → F → Type 0) (remaining : F → Option (List ℕ))
-    (named : Option (List ℕ)) (path : List ℕ) (d : Drawing) (r : Result (Unit {0}) TraceError)
+    (named : Option (List ℕ)) (path : List ℕ) (d : Drawing) (r : Result ℕ TraceError)
     (input a b : Option (List ℕ)) → Some path ≡ named
-    → OnOk r ((file : F) × opens path file × IsDrawn (Ok d) a b (remaining file))
-    → OnOk r (DrawsNamed opens remaining named (Ok d) input a b)
+    → IfOk r (λ count. (file : F) × opens path file × IsDrawn (Ok d) a b (remaining file)
+    × HasPassed count (remaining file))
+    → IfOk r (DrawsNamed opens remaining named (Ok d) input a b)
 names_file opens remaining named path d r input a b e p =
-    subst (λ n. OnOk r (DrawsNamed opens remaining n (Ok d) input a b)) e p
+    subst (λ n. IfOk r (DrawsNamed opens remaining n (Ok d) input a b)) e p
 
 pub fails_input : {F : Type 0} (opens : List ℕ → F → Type 0)
     (refuses : List ℕ → Unreadable → Type 0) (remaining : F → Option (List ℕ))
-    (named : Option (List ℕ)) (d : Drawing) (r : Result (Unit {0}) TraceError)
+    (named : Option (List ℕ)) (d : Drawing) (r : Result ℕ TraceError)
     (input a b : Option (List ℕ)) → None ≡ named
     → IfErr r (λ error. HasFailedInput d error input a b)
     → IfErr r (λ error. FailsNamed opens refuses remaining named d error input a b)
@@ -67,7 +74,7 @@ fails_input opens refuses remaining named d r input a b e p =
 
 pub fails_file : {F : Type 0} (opens : List ℕ → F → Type 0)
     (refuses : List ℕ → Unreadable → Type 0) (remaining : F → Option (List ℕ))
-    (named : Option (List ℕ)) (path : List ℕ) (d : Drawing) (r : Result (Unit {0}) TraceError)
+    (named : Option (List ℕ)) (path : List ℕ) (d : Drawing) (r : Result ℕ TraceError)
     (input a b : Option (List ℕ)) → Some path ≡ named
     → IfErr r (λ error. FailsAt opens refuses remaining path d error a b)
     → IfErr r (λ error. FailsNamed opens refuses remaining named d error input a b)
@@ -78,12 +85,20 @@ fails_file opens refuses remaining named path d r input a b e p =
 pub named_charted : {F : Type 0} (tells : Option (List ℕ) → Type 0)
     (opens : List ℕ → F → Type 0) (remaining : F → Option (List ℕ)) (words : AskedChart)
     (columns : Option (List ℕ)) (d : Drawing) (r : Result (Unit {0}) TraceError)
-    (input a b : Option (List ℕ)) → tells columns → Ok d ≡ drawing_of columns words
-    → OnOk r (DrawsNamed opens remaining (file_of words.file) (Ok d) input a b)
-    → OnOk r (ChartsNamed tells opens remaining words input a b)
-named_charted tells opens remaining words columns d (Ok done) input a b t e p =
-    (columns, t, subst (λ s. DrawsNamed opens remaining (file_of words.file) s input a b) e p)
-named_charted tells opens remaining words columns d (Err error) input a b t e p = tt
+    (input a b x y z : Option (List ℕ)) → tells columns → Ok d ≡ drawing_of columns words
+    → Keeps x y → OnOk r (DrawsTold opens remaining (file_of words.file) (Ok d) input a b y z)
+    → OnOk r (ChartsNamed tells opens remaining words input a b x z)
+named_charted tells opens remaining words columns d (Ok done) input a b x y z t e k p = (
+  columns,
+  t,
+  record {
+    count = p.count;
+    drawn =
+        subst (λ s. DrawsNamed opens remaining (file_of words.file) s input a b p.count) e p.drawn;
+    told = kept_Appends x y z (told_for p.count) k p.told;
+  },
+)
+named_charted tells opens remaining words columns d (Err error) input a b x y z t e k p = tt
 
 pub named_failed : {F : Type 0} (tells : Option (List ℕ) → Type 0)
     (opens : List ℕ → F → Type 0) (refuses : List ℕ → Unreadable → Type 0)
@@ -161,13 +176,13 @@ module _ (words : AskedChart) (input a b : Option (List ℕ)) where
 
   module _ (d : Drawing) where
     -- the trace is on standard input
-    pub input_drawn : (r : Result (Unit {0}) TraceError)
+    pub input_drawn : (r : Result ℕ TraceError)
         → OnOk r (IsDrawn (Ok d) a b input)
         → OnOk r (HoldsOf words input (IsDrawn (Ok d) a b))
     input_drawn (Err error) p = tt
     input_drawn (Ok done) p = record { trace = input; named = λ _. refl; holds = p }
 
-    pub input_failed : (r : Result (Unit {0}) TraceError)
+    pub input_failed : (r : Result ℕ TraceError)
         → IfErr r (λ error. HasFailedInput d error input a b)
         → IfErr r (λ error. HasFailedAs words (Ok d) error input a b)
     input_failed (Ok done) p = tt
@@ -184,7 +199,7 @@ module _ (words : AskedChart) (input a b : Option (List ℕ)) where
       holds = p;
     }
 
-    pub file_drawn : (path : List ℕ) (r : Result (Unit {0}) TraceError)
+    pub file_drawn : (path : List ℕ) (r : Result ℕ TraceError)
         → Some path ≡ file_of words.file
         → OnOk r ((trace : Option (List ℕ)) × IsDrawn (Ok d) a b trace)
         → OnOk r (HoldsOf words input (IsDrawn (Ok d) a b))
@@ -203,8 +218,6 @@ module _ (words : AskedChart) (input a b : Option (List ℕ)) where
     file_says path (CannotRead p why) trace e q =
         (sym e ∙ ap Some (sym q.0), said path (chart.Input why) trace e q.1)
     file_says path (Chart (chart.Input why)) trace e q = absurd q
-    file_says path (Chart (chart.NotATraceAt n)) trace e q =
-        said path (chart.NotATraceAt n) trace e q
     file_says path (Chart (chart.TooLongAt n)) trace e q = said path (chart.TooLongAt n) trace e q
     file_says path (Chart chart.Forms) trace e q = said path chart.Forms trace e q
     file_says path (Chart chart.Width) trace e q = said path chart.Width trace e q
@@ -213,7 +226,7 @@ module _ (words : AskedChart) (input a b : Option (List ℕ)) where
     file_says path (Chart chart.Output) trace e q = said path chart.Output trace e q
     file_says path (Chart chart.Memory) trace e q = said path chart.Memory trace e q
 
-    pub file_failed : (path : List ℕ) (r : Result (Unit {0}) TraceError)
+    pub file_failed : (path : List ℕ) (r : Result ℕ TraceError)
         → Some path ≡ file_of words.file
         → IfErr r (λ error. (trace : Option (List ℕ)) × HasFailedFile path d error trace a b)
         → IfErr r (λ error. HasFailedAs words (Ok d) error input a b)
@@ -238,8 +251,6 @@ module _ (d : Drawing) (path : List ℕ) where
       → IsFileError path error told → IfSome trace (λ octets. HasStopped d error octets a b)
       → HasFailedFile path d told trace a b
   read_says (chart.Input why) told trace a b is q = unread_says why told trace a b is q
-  read_says (chart.NotATraceAt n) told trace a b is q =
-      subst (λ t. HasFailedFile path d t trace a b) (sym is) q
   read_says (chart.TooLongAt n) told trace a b is q =
       subst (λ t. HasFailedFile path d t trace a b) (sym is) q
   read_says chart.Forms told trace a b is q =
@@ -268,7 +279,6 @@ module _ (d : Drawing) (path : List ℕ) where
   pub read_late : (error : ChartError) (told : TraceError) → IsFileError path error told
       → IsLineError error → IsLateTrace told
   read_late (chart.Input why) told is line = unread_late why told is
-  read_late (chart.NotATraceAt n) told is line = subst IsLateTrace (sym is) tt
   read_late (chart.TooLongAt n) told is line = subst IsLateTrace (sym is) tt
   read_late chart.Forms told is line = absurd line
   read_late chart.Width told is line = absurd line
@@ -277,13 +287,13 @@ module _ (d : Drawing) (path : List ℕ) where
   read_late chart.Output told is line = subst IsLateTrace (sym is) tt
   read_late chart.Memory told is line = subst IsLateTrace (sym is) tt
 
-  pub opened_drawn : (r : Result (Unit {0}) TraceError) (trace a b : Option (List ℕ))
+  pub opened_drawn : (r : Result ℕ TraceError) (trace a b : Option (List ℕ))
       → OnOk r (IsDrawn (Ok d) a b trace)
       → OnOk r ((trace : Option (List ℕ)) × IsDrawn (Ok d) a b trace)
   opened_drawn (Ok done) trace a b p = (trace, p)
   opened_drawn (Err error) trace a b p = tt
 
-  pub opened_failed : (r : Result (Unit {0}) TraceError) (trace a b : Option (List ℕ))
+  pub opened_failed : (r : Result ℕ TraceError) (trace a b : Option (List ℕ))
       → IfErr r (λ error. HasFailedFile path d error trace a b)
       → IfErr r (λ error. (trace : Option (List ℕ)) × HasFailedFile path d error trace a b)
   opened_failed (Ok done) trace a b p = tt

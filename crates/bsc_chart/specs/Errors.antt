@@ -4,8 +4,10 @@ use Rattle.bsc_text.specs.declared.input.InputError.{InputError}
 use Rattle.bsc_text.specs.declared.input.InputError.TheVariants as input
 use Rattle.bsc_text.specs.declared.error.PrintError.{PrintError}
 use Rattle.bsc_text.specs.declared.error.PrintError.TheVariants as print
+use Rattle.bsc_trace.specs.declared.waiting.LineError.{LineError}
+use Rattle.bsc_trace.specs.declared.waiting.LineError.TheVariants as waiting
 use Rattle.bsc_chart.specs.declared.error.ChartError.{ChartError}
-use Rattle.bsc_chart.specs.declared.error.ChartError.TheVariants.{NotATraceAt, TooLongAt, Width}
+use Rattle.bsc_chart.specs.declared.error.ChartError.TheVariants.{TooLongAt, Width}
 use Rattle.bsc_chart.specs.declared.error.ChartError.TheVariants.{Forms, Lines, TooMany}
 use Rattle.bsc_chart.specs.declared.error.ChartError.TheVariants.{Input, Output, Memory}
 
@@ -33,19 +35,16 @@ IsDrawError Output = Unit {0}
 IsDrawError Memory = Unit {0}
 IsDrawError _ = ⊥
 
--- The errors of drawing one of many lines.
-abbrev pub IsWrongOrPrintError : ChartError → Type 0
-IsWrongOrPrintError (NotATraceAt line) = Unit {0}
-IsWrongOrPrintError TooMany = Unit {0}
-IsWrongOrPrintError Output = Unit {0}
-IsWrongOrPrintError Memory = Unit {0}
-IsWrongOrPrintError _ = ⊥
-
 -- The error for the line with this number if it could not be read.
 abbrev pub input_error : ℕ → InputError → ChartError
 input_error number input.TooLong = TooLongAt number
 input_error number (input.Device why) = Input why
 input_error number input.Memory = Memory
+
+-- The same, or if the rows before it could not be flushed.
+abbrev pub line_error : ℕ → LineError → ChartError
+line_error number (waiting.Input error) = input_error number error
+line_error number waiting.Output = Output
 
 -- The errors of drawing many lines.
 abbrev pub IsLineError : ChartError → Type 0

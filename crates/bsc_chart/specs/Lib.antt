@@ -15,3 +15,4 @@ pub mod Pages
 pub mod Inputs
 pub mod Asked
 pub mod Named
+pub mod Notices

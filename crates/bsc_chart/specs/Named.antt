@@ -1,13 +1,14 @@
 -- The ladder of the trace that the words name: a file, or standard input.
-use Rattle.std.specs.Prelude.{◌≡◌, ◌⊎◌, ℕ, List, Option, Some, None, IfSome, IsOkAnd, Result, Ok}
-use Rattle.std.specs.Prelude.{Err, codes}
+use Rattle.std.specs.Prelude.{◌≡◌, ◌⊎◌, ◌==◌, ℕ, List, [], ◌∷◌, Option, Some, None, IfSome}
+use Rattle.std.specs.Prelude.{IsOkAnd, Result, Ok, Err, codes}
 use Rattle.std.specs.Prelude.{if◌then◌else◌, string_bytes}
+use Rattle.std.specs.Io.KnownBytes.{Appends}
 use Rattle.std.specs.Str.{bytes_eq}
 use Rattle.bsc_options.specs.ChartWords.{AskedChart}
 use Rattle.bsc_text.specs.declared.unreadable.Unreadable.{Unreadable}
 use Rattle.bsc_chart.specs.Asked.{HasFailed, IsEarly, drawing_of}
 use Rattle.bsc_chart.specs.Errors.{IsLineError}
-use Rattle.bsc_chart.specs.Inputs.{DrawsInput, HasStopped}
+use Rattle.bsc_chart.specs.Inputs.{DrawsInput, HasStopped, passed_in}
 use Rattle.bsc_chart.specs.declared.drawing.Drawing.{Drawing}
 use Rattle.bsc_chart.specs.declared.error.ChartError.{ChartError}
 use Rattle.bsc_chart.specs.declared.error.ChartError.TheVariants.{Input, Memory}
@@ -60,6 +61,14 @@ abbrev pub IsDrawn : Result Drawing ChartError → Option (List ℕ) → Option 
 IsDrawn drawing old new trace =
     IfSome trace (λ octets. IsOkAnd drawing (λ d. DrawsInput d octets old new))
 
+-- So many lines of the trace were passed over.
+abbrev pub HasPassed : ℕ → Option (List ℕ) → Type 0
+HasPassed count trace = IfSome trace (λ octets. count ≡ passed_in octets)
+
+-- What a machine is told if so many lines were passed over: the number, if it is not 0.
+abbrev pub told_for : ℕ → List ℕ
+told_for count = if count == 0 then [] else count ∷ []
+
 -- What an error of the words, of the trace or of the output says of these.
 abbrev pub SaysOf : Result Drawing ChartError → ChartError → Option (List ℕ) → Option (List ℕ)
     → Option (List ℕ) → Type 0
@@ -78,24 +87,36 @@ HasFailedAs words drawing (Chart error) input old new =
 
 -- Of a machine, `tells` is what it may tell of the width of its terminal, `opens` which file it may
 -- open at a path, `refuses` why it may open none there, and `remaining` what is left to read from a
--- file.
+-- file. `before` and `after` are the numbers of lines that it was told as passed over before and
+-- after the work, where they are known.
 
--- The ladder was written of the trace that is named: that of a file that the machine opened at the
--- path, or, if none is named, that on standard input.
+-- The ladder of the trace that is named was written, and so many of its lines were passed over:
+-- that of a file that the machine opened at the path, or, if none is named, that on standard input.
 abbrev pub DrawsNamed : {F : Type 0} → (List ℕ → F → Type 0) → (F → Option (List ℕ))
     → Option (List ℕ) → Result Drawing ChartError → Option (List ℕ) → Option (List ℕ)
-    → Option (List ℕ) → Type 0
-DrawsNamed opens remaining None drawing input old new = IsDrawn drawing old new input
-DrawsNamed {F} opens remaining (Some path) drawing input old new =
+    → Option (List ℕ) → ℕ → Type 0
+DrawsNamed opens remaining None drawing input old new count =
+    IsDrawn drawing old new input × HasPassed count input
+DrawsNamed {F} opens remaining (Some path) drawing input old new count =
     (file : F) × opens path file × IsDrawn drawing old new (remaining file)
+    × HasPassed count (remaining file)
+
+-- The same, and the machine was told this number, unless it is 0.
+pub record DrawsTold {F : Type 0} (opens : List ℕ → F → Type 0) (remaining : F → Option (List ℕ))
+    (file : Option (List ℕ)) (drawing : Result Drawing ChartError)
+    (input old new before after : Option (List ℕ)) : Type 0 where
+  pub count : ℕ
+  pub drawn : DrawsNamed opens remaining file drawing input old new count
+  pub told : Appends before after (told_for count)
 
 -- The same, as the words ask to draw on a terminal of which the machine tells the width.
 abbrev pub ChartsNamed : {F : Type 0} → (Option (List ℕ) → Type 0) → (List ℕ → F → Type 0)
     → (F → Option (List ℕ)) → AskedChart → Option (List ℕ) → Option (List ℕ) → Option (List ℕ)
-    → Type 0
-ChartsNamed tells opens remaining words input old new =
+    → Option (List ℕ) → Option (List ℕ) → Type 0
+ChartsNamed tells opens remaining words input old new before after =
     (columns : Option (List ℕ)) × tells columns
-    × DrawsNamed opens remaining (file_of words.file) (drawing_of columns words) input old new
+    × DrawsTold opens remaining (file_of words.file) (drawing_of columns words) input old new
+    before after
 
 -- The machine did not open a file at this path, for the reason that the error tells unless memory
 -- ran out, and nothing was written.

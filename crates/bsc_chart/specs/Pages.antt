@@ -97,7 +97,8 @@ abbrev pub page_by : Form → PageValue → List TraceValue → PageValue
 page_by form page [] = page
 page_by form page (value ∷ values) = page_by form (page_with form page value) values
 
--- The values of a line with this number, if it is drawn. A line has no value if it is skipped.
+-- The values of a line with this number, if it is drawn. A line has no value if it is skipped or
+-- passed over.
 abbrev pub drawn_at : Range → ℕ → List TraceValue → List TraceValue
 drawn_at range number values = filter (is_drawn range number) values
 

@@ -8,11 +8,6 @@ use thiserror::Error;
 /// The reason why not all of a trace was drawn.
 #[derive(Clone, Copy, Debug, PartialEq, Eq, Error)]
 pub enum ChartError {
-    /// The line with this number, counted from 1, is the first that is neither skipped nor a line
-    /// of a trace.
-    #[error("line {line}: not a line of a trace")]
-    NotATraceAt { line: u64 },
-
     /// The line with this number, counted from 1, has more than
     /// [`MAX_INPUT`](bsc_text::MAX_INPUT) octets. A carriage return at its end counts, its line
     /// feed does not.

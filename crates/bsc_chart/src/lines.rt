@@ -1,12 +1,13 @@
 //! Draws the ladder of a trace, line by line as it is read.
-ghost use Rattle.std.specs.Prelude.{◌≡◌, ◌≤◌, ℕ, length, Err, false, true, OnOk, IfErr, IfOk};
+ghost use Rattle.std.specs.Prelude.{◌≡◌, ◌≤◌, ◌<◌, ◌+◌, length, Err, true, OnOk, IfErr, IfOk};
 ghost use Rattle.std.specs.Prelude.{IfSome, ◌&&◌, ◌∷◌, [], nat_le};
 ghost use Rattle.std.specs.Str.{bytes_eq};
 ghost use Rattle.bsc_trace.specs.Texts.{Writes};
 ghost use Rattle.bsc_trace.specs.Lines.{value_in};
-ghost use Rattle.bsc_chart.specs.Errors.{IsDrawError, IsEndError, IsLineError};
-ghost use Rattle.bsc_chart.specs.Errors.{IsWrongOrPrintError, input_error};
-ghost use Rattle.bsc_chart.specs.Inputs.{DrawsInput, HasStopped, ReadsInput, is_wrong, values_at};
+ghost use Rattle.bsc_chart.specs.Counts.{one_if};
+ghost use Rattle.bsc_chart.specs.Errors.{IsDrawError, IsEndError, IsLineError, line_error};
+ghost use Rattle.bsc_chart.specs.Inputs.{DrawsInput, HasStopped, ReadsInput, is_passed, passed_in};
+ghost use Rattle.bsc_chart.specs.Inputs.{values_at};
 ghost use Rattle.bsc_chart.specs.Inputs.{is_skipped as is_skipped_line, tells_fault as is_fault};
 ghost use Rattle.bsc_chart.specs.Ladders.{IsLadder};
 ghost use Rattle.bsc_chart.specs.Pages.{IsEarlyOf, IsLateText, drawn_at, is_drawn, is_full};
@@ -18,26 +19,30 @@ use crate::summary::write_html;
 use crate::text::write_line;
 use crate::{ChartError, Drawing, Form, Range};
 use bsc_text::{
-    InputError, LineEnd, Unreadable, is_blank, read_line, split_at_first, without_return,
+    InputError, LineEnd, Unreadable, is_blank, split_at_first, without_return,
 };
-use bsc_trace::{TraceLine, read_trace_line};
+use bsc_trace::{LineError, TraceLine, next_line, read_trace_line};
 use std::alloc::Allocator;
 use std::io::{BufRead, BufReader, Read, Write};
 
 /// Draws the ladder of the trace in the input: a row for each line of the range, in order. Blank
-/// lines, and lines whose first word is `bscline:`, the fault with which the program ended, are
-/// skipped and counted. Stops at the first other line that is no line of a trace, and at a line of
-/// more than `MAX_INPUT` octets, whether they are in the range or not; the rows of a text for the
-/// lines before it stay written. The input may have any length: for a text one line of it is kept
-/// at a time, for a picture the rows of the range. The error is `TooMany` if these are too many.
+/// lines, and lines whose first word is `bscline:`, which the program tells beside its trace, are
+/// skipped. Any other line that is no line of a trace is passed over; returns how many these are,
+/// in the range or not. All lines count for the numbers of the range. Stops at a line of more than
+/// `MAX_INPUT` octets, whether it is in the range or not; the rows of a text for the lines before
+/// it stay written. The input may have any length: for a text one line of it is kept at a time, for
+/// a picture the rows of the range. The error is `TooMany` if these are too many. Before a read that
+/// may wait, `out` is flushed.
 pub fn chart<A: Allocator + Copy, R: Read, W: Write>(
     alloc: A,
     drawing: Drawing,
     input: &mut R,
     out: &mut W,
-) -> Result<(), ChartError>
+) -> Result<u64, ChartError>
     ensures ok { OnOk result (IfSome (R.remaining input.old) (λ octets.
         DrawsInput drawing octets (W.contents out.old) (W.contents out.new))) }
+    ensures passed { IfOk result (λ count. IfSome (R.remaining input.old) (λ octets.
+        count ≡ passed_in octets)) }
     ensures stopped { IfErr result (λ error. IfSome (R.remaining input.old) (λ octets.
         HasStopped drawing error octets (W.contents out.old) (W.contents out.new))) }
     ensures faults { IfErr result IsLineError }
@@ -48,21 +53,26 @@ pub fn chart<A: Allocator + Copy, R: Read, W: Write>(
     }
 }
 
-/// Draws the lines that the reader has left.
+/// Draws the lines that the reader has left. Returns how many were passed over.
 fn draw_lines<A: Allocator + Copy, B: BufRead, W: Write>(
     alloc: A,
     drawing: Drawing,
     reader: &mut B,
     out: &mut W,
-) -> Result<(), ChartError>
+) -> Result<u64, ChartError>
     ensures ok { OnOk result (IfSome (B.remaining reader.old) (λ octets.
         DrawsInput drawing octets (W.contents out.old) (W.contents out.new))) }
+    ensures passed { IfOk result (λ count. IfSome (B.remaining reader.old) (λ octets.
+        count ≡ passed_in octets)) }
     ensures stopped { IfErr result (λ error. IfSome (B.remaining reader.old) (λ octets.
         HasStopped drawing error octets (W.contents out.old) (W.contents out.new))) }
     ensures faults { IfErr result IsLineError }
 {
     match read_lines(alloc, drawing, reader, out) {
-        Ok(page) => finish(alloc, drawing.form, &page, out),
+        Ok(ended) => match finish(alloc, drawing.form, &ended.page, out) {
+            Ok(()) => Ok(ended.passed),
+            Err(error) => Err(error),
+        },
         Err(error) => Err(error),
     }
 }
@@ -105,32 +115,53 @@ fn finish<A: Allocator + Copy, W: Write>(
     }
 }
 
-/// Reads the lines that the reader has left, and writes the rows of a text. Returns what was kept
-/// of them.
+/// What is known after the last line of a trace.
+#[derive(Drop)]
+struct Ended<A: Allocator> {
+    /// What was kept of the lines.
+    page: Page<A>,
+
+    /// How many of them were passed over.
+    passed: u64,
+}
+
+/// Returns how many lines were passed over after one more, which was or was not.
+fn counted(passed: u64, is_passed: bool) -> u64
+    requires { passed < 18446744073709551615 }
+    ensures { result ≡ passed + one_if is_passed }
+{
+    if is_passed { passed + 1 } else { passed }
+}
+
+/// Reads the lines that the reader has left, and writes the rows of a text.
 fn read_lines<A: Allocator + Copy, B: BufRead, W: Write>(
     alloc: A,
     drawing: Drawing,
     reader: &mut B,
     out: &mut W,
-) -> Result<Page<A>, ChartError>
-    ensures ok { IfOk result (λ page. IfSome (B.remaining reader.old) (λ octets.
-        ReadsInput drawing octets (page_in page) (W.contents out.old) (W.contents out.new))) }
-    ensures fits { IfOk result (λ page. length page.rows.items ≤ 20000) }
+) -> Result<Ended<A>, ChartError>
+    ensures ok { IfOk result (λ ended. IfSome (B.remaining reader.old) (λ octets.
+        ReadsInput drawing octets (page_in ended.page) ended.passed (W.contents out.old)
+        (W.contents out.new))) }
+    ensures fits { IfOk result (λ ended. length ended.page.rows.items ≤ 20000) }
     ensures stopped { IfErr result (λ error. IfSome (B.remaining reader.old) (λ octets.
         HasStopped drawing error octets (W.contents out.old) (W.contents out.new))) }
     ensures faults { IfErr result IsLineError }
 {
     let mut line = Vec::new(alloc);
     let mut page = Page::new(alloc);
+    let mut passed = 0;
+    let mut is_begun = false;
     'lines: for number in 1..u64::MAX {
-        let end = match read_line(reader, &mut line) {
+        let end = match next_line(reader, &mut is_begun, &mut line, out) {
             Ok(end) => end,
             Err(error) => return Err(read_error(number, error)),
         };
         let pen = Pen { drawing, number };
-        draw_line(alloc, pen, &mut page, without_return(&line), out)?;
+        let is_passed = draw_line(alloc, pen, &mut page, without_return(&line), out)?;
+        passed = counted(passed, is_passed);
         match end {
-            LineEnd::InputEnd => return Ok(page),
+            LineEnd::InputEnd => return Ok(Ended { page, passed }),
             LineEnd::LineFeed => {}
         }
     }
@@ -139,9 +170,13 @@ fn read_lines<A: Allocator + Copy, B: BufRead, W: Write>(
 }
 
 /// Returns the error for a line with this number that could not be read.
-fn read_error(number: u64, error: InputError) -> ChartError
-    ensures { result ≡ input_error number error }
+fn read_error(number: u64, error: LineError) -> ChartError
+    ensures { result ≡ line_error number error }
 {
+    let error = match error {
+        LineError::Input { error } => error,
+        LineError::Output => return ChartError::Output,
+    };
     match error {
         InputError::TooLong => ChartError::TooLongAt { line: number },
         InputError::Device { why } => ChartError::Input { why },
@@ -159,7 +194,7 @@ struct Pen {
     number: u64,
 }
 
-/// The first word of a fault that the program told.
+/// The first word of what the program told beside the trace.
 const FAULT: &str = "bscline:";
 
 /// Whether two texts are the same.
@@ -183,15 +218,15 @@ fn is_skipped(line: &[u8]) -> bool
     is_blank(line) || tells_fault(line)
 }
 
-/// Draws a line, or keeps its row for a picture.
+/// Draws a line, or keeps its row for a picture. Returns whether it is passed over.
 fn draw_line<A: Allocator + Copy, W: Write>(
     alloc: A,
     pen: Pen,
     page: &mut Page<A>,
     line: &[u8],
     out: &mut W,
-) -> Result<(), ChartError>
-    ensures right { OnOk result (is_wrong line.now ≡ false) }
+) -> Result<bool, ChartError>
+    ensures passed { IfOk result (λ told. told ≡ is_passed line.now) }
     ensures page { OnOk result (page_in page.new ≡ page_by pen.drawing.form (page_in page.old)
         (drawn_at pen.drawing.range pen.number (values_at line.now))) }
     ensures fits { OnOk result
@@ -199,18 +234,19 @@ fn draw_line<A: Allocator + Copy, W: Write>(
     ensures drawn { OnOk result (Writes (IsEarlyOf pen.drawing.form
         (drawn_at pen.drawing.range pen.number (values_at line.now)))
         (W.contents out.old) (W.contents out.new)) }
-    ensures wrong { (n : ℕ) → result ≡ Err (ChartError.NotATraceAt n) →
-        (n ≡ pen.number) × (is_wrong line.now ≡ true) × (out.new ≡ out.old) }
     ensures full { result ≡ Err ChartError.TooMany →
         (is_full (page_in page.old) ≡ true) × (out.new ≡ out.old) }
-    ensures faults { IfErr result IsWrongOrPrintError }
+    ensures faults { IfErr result IsDrawError }
 {
     if is_skipped(line) {
-        return Ok(());
+        return Ok(false);
     }
     match read_trace_line(alloc, line)? {
-        Some(value) => draw_value(alloc, pen, page, &value, out),
-        None => Err(ChartError::NotATraceAt { line: pen.number }),
+        Some(value) => {
+            draw_value(alloc, pen, page, &value, out)?;
+            Ok(false)
+        }
+        None => Ok(true),
     }
 }
 

@@ -1,9 +1,10 @@
 //! The ladder that the words of the command ask for.
-ghost use Rattle.std.specs.Prelude.{◌≡◌, OnOk, IfErr, IfSome, IsOkAnd, option_map, string_bytes};
+ghost use Rattle.std.specs.Prelude.{◌≡◌, OnOk, IfErr, IfOk, IfSome, IsOkAnd, option_map};
+ghost use Rattle.std.specs.Prelude.{string_bytes};
 ghost use Rattle.bsc_options.specs.ChartWords.{chart_given};
 ghost use Rattle.bsc_chart.specs.Asked.{HasFailed, IsEarly, drawing_of, drawing_with, form_of};
 ghost use Rattle.bsc_chart.specs.Asked.{line_of, range_of, style_of, width_of, width_on};
-ghost use Rattle.bsc_chart.specs.Inputs.{DrawsInput};
+ghost use Rattle.bsc_chart.specs.Inputs.{DrawsInput, passed_in};
 
 use crate::{ChartError, Drawing, Form, Range, chart};
 use bsc_options::{Words, number_within};
@@ -23,10 +24,12 @@ pub fn draw<A: Allocator + Copy, R: Read, W: Write>(
     columns: Option<&str>,
     input: &mut R,
     out: &mut W,
-) -> Result<(), ChartError>
+) -> Result<u64, ChartError>
     ensures ok { OnOk result (IfSome (R.remaining input.old) (λ octets.
         IsOkAnd (drawing_of (option_map (λ w. w.now) columns.entry) (chart_given words.now))
         (λ drawing. DrawsInput drawing octets (W.contents out.old) (W.contents out.new)))) }
+    ensures passed { IfOk result (λ count. IfSome (R.remaining input.old) (λ octets.
+        count ≡ passed_in octets)) }
     ensures failed { IfErr result (λ error. IfSome (R.remaining input.old) (λ octets.
         HasFailed (drawing_of (option_map (λ w. w.now) columns.entry) (chart_given words.now)) error
         octets (W.contents out.old) (W.contents out.new))) }

@@ -1,26 +1,26 @@
 -- Work that succeeded, or that failed, stays so while the writer keeps its contents.
 use Rattle.std.proofs.Common.{ℕ, List, ◌++◌, Bool, true, false, Option, None, Some, Result, Ok, Err}
-use Rattle.std.proofs.Common.{IsOkAnd, IsSomeAnd, inl, inr, take}
+use Rattle.std.proofs.Common.{IsSomeAnd, inl, inr, take}
 use Rattle.std.specs.Io.KnownBytes.{Keeps}
 use Rattle.std.proofs.KnownBytes.{Appends-kept, Keeps-trans}
 use Rattle.clap.specs.Words.{Text}
 use Rattle.bsc_options.specs.ChartWords.{AskedChart}
 use Rattle.bsc_options.specs.Asked.{AskedValue, names, name, show, chart, run, station, feed, store}
 use Rattle.bsc_chart.specs.Asked.{HasFailed as HasFailedDrawing, drawing_of}
-use Rattle.bsc_chart.specs.Inputs.{DrawsInput, HasStopped as HasStoppedDrawing}
-use Rattle.bsc_chart.specs.Inputs.{StopsAt as StopsDrawingAt, is_misspelt as is_misread, values_of}
-use Rattle.bsc_chart.specs.Pages.{IsChart, IsEarlyText}
+use Rattle.bsc_chart.specs.Inputs.{HasStopped as HasStoppedDrawing, StopsAt as StopsDrawingAt}
+use Rattle.bsc_chart.specs.Inputs.{values_of}
+use Rattle.bsc_chart.specs.Pages.{IsEarlyText}
+use Rattle.bsc_chart.proofs.Kept.{drawn_kept, writes_kept}
 use Rattle.bsc_chart.specs.declared.error.ChartError.{ChartError}
 use Rattle.bsc_chart.specs.declared.error.ChartError.TheVariants as drawing
 use Rattle.bsc_chart.specs.declared.drawing.Drawing.{Drawing}
 use Rattle.bsc_chart.specs.declared.named.TraceError.{TraceError}
 use Rattle.bsc_chart.specs.declared.named.TraceError.TheVariants as trace
-use Rattle.bsc_chart.specs.Named.{HasFailedAs as HasFailedDrawingAs, HoldsOf, IsCharted, IsDrawn}
+use Rattle.bsc_chart.specs.Named.{HasFailedAs as HasFailedDrawingAs, HoldsOf, IsCharted}
 use Rattle.bsc_chart.specs.Named.{SaysOf}
 use Rattle.bsc_frame.specs.declared.message.Heard.{Heard}
 use Rattle.bsc_text.specs.Hexadecimal.{octets_of}
 use Rattle.bsc_text.specs.InputLines.{lines_of}
-use Rattle.bsc_trace.specs.Texts.{Writes}
 use Rattle.bsc_text.specs.Fronts.{AppendsFront}
 use Rattle.bsc_text.specs.Names.{Prints, name_line}
 use Rattle.bsc_text.specs.declared.printed.Detail.{Detail}
@@ -132,32 +132,6 @@ lines_kept fault.Output detail given a b c p k = tt
 lines_kept fault.OutOfMemory detail given a b c p k = tt
 lines_kept (fault.Usage error) detail given a b c p k = tt
 
-writes_kept : (IsKind : List ℕ → Type 0) (a b c : Option (List ℕ)) → Writes IsKind a b
-    → Keeps b c → Writes IsKind a c
-writes_kept IsKind a b c p k = record {
-  text = p.text;
-  kind = p.kind;
-  appended = Appends-kept a b c p.text p.appended k;
-}
-
-draws_kept : (d : Drawing) (octets : List ℕ) (a b c : Option (List ℕ))
-    → DrawsInput d octets a b → Keeps b c → DrawsInput d octets a c
-draws_kept d octets a b c p k = record {
-  right = p.right;
-  drawn = writes_kept (IsChart d (values_of (lines_of octets))) a b c p.drawn k;
-}
-
-drawing_kept : (d : Result Drawing ChartError) (octets : List ℕ) (a b c : Option (List ℕ))
-    → IsOkAnd d (λ d. DrawsInput d octets a b) → Keeps b c
-    → IsOkAnd d (λ d. DrawsInput d octets a c)
-drawing_kept (Err error) octets a b c p k = absurd p
-drawing_kept (Ok d) octets a b c p k = draws_kept d octets a b c p k
-
-drawn_kept : (d : Result Drawing ChartError) (a b c trace : Option (List ℕ))
-    → IsDrawn d a b trace → Keeps b c → IsDrawn d a c trace
-drawn_kept d a b c None p k = tt
-drawn_kept d a b c (Some octets) p k = drawing_kept d octets a b c p k
-
 charted_kept : (words : AskedChart) (input a b c : Option (List ℕ))
     → IsCharted words input a b → Keeps b c → IsCharted words input a c
 charted_kept words input a b c p k = record {
@@ -169,24 +143,20 @@ charted_kept words input a b c p k = record {
   };
 }
 
-drawing_stop_kept : (is_fault : List ℕ → Bool) (d : Drawing) (n : ℕ) (octets : List ℕ)
-    (a b c : Option (List ℕ)) → StopsDrawingAt is_fault d n octets a b → Keeps b c
-    → StopsDrawingAt is_fault d n octets a c
-drawing_stop_kept is_fault d n octets a b c p k = record {
+drawing_stop_kept : (d : Drawing) (n : ℕ) (octets : List ℕ) (a b c : Option (List ℕ))
+    → StopsDrawingAt d n octets a b → Keeps b c → StopsDrawingAt d n octets a c
+drawing_stop_kept d n octets a b c p k = record {
   place = p.place;
   counted = p.counted;
   first = p.first;
-  reason = p.reason;
   before =
       writes_kept (IsEarlyText d (values_of (take p.place (lines_of octets)))) a b c p.before k;
 }
 
 drawing_stopped_kept : (e : ChartError) (d : Drawing) (octets : List ℕ) (a b c : Option (List ℕ))
     → HasStoppedDrawing d e octets a b → Keeps b c → HasStoppedDrawing d e octets a c
-drawing_stopped_kept (drawing.NotATraceAt n) d octets a b c p k =
-    drawing_stop_kept is_misread d n octets a b c p k
 drawing_stopped_kept (drawing.TooLongAt n) d octets a b c p k =
-    drawing_stop_kept is_too_long d n octets a b c p k
+    drawing_stop_kept d n octets a b c p k
 drawing_stopped_kept drawing.Forms d octets a b c p k = tt
 drawing_stopped_kept drawing.Width d octets a b c p k = tt
 drawing_stopped_kept drawing.Lines d octets a b c p k = tt

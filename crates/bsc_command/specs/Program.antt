@@ -1,6 +1,7 @@
 -- The output of the program for its work.
 use Rattle.std.specs.Prelude.{◌≡◌, ◌⊎◌, ℕ, Bool, List, [], Option, None, IfSome, IsSomeAnd}
 use Rattle.std.specs.Prelude.{Ok, Err, Some, true}
+use Rattle.std.specs.Io.KnownBytes.{Keeps}
 use Rattle.clap.specs.Words.{HasKind, Text as WordText, kind_of}
 use Rattle.clap.specs.declared.error.Error.{Error}
 use Rattle.bsc_options.specs.ChartWords.{AskedChart}
@@ -83,9 +84,9 @@ HasFailedStore (Usage error) words =
     (why : OptionError) × (kind_of error ≡ options_kind why) × (work_in words ≡ Err (refusal why))
 HasFailedStore fault words = Unit {0}
 
--- What a fault of drawing a trace says: the line with this number is the first that is wrong or
--- too long, and of the lines before it the rows of a text were written, and nothing of a picture;
--- or the page is full; or the file that is named could not be read.
+-- What a fault of drawing a trace says: the line with this number is the first that is too long,
+-- and of the lines before it the rows of a text were written, and nothing of a picture; or the page
+-- is full; or the file that is named could not be read.
 abbrev pub HasFailedChart : Fault → AskedChart → Option (List ℕ) → Option (List ℕ)
     → Option (List ℕ) → Type 0
 HasFailedChart (Charting error) words input old new = HasFailedTrace words error input old new
@@ -93,25 +94,29 @@ HasFailedChart fault words input old new = Unit {0}
 
 -- Of the machine on which a trace is drawn, `tells` is what it may tell of the width of its
 -- terminal, `opens` which file it may open at a path, `refuses` why it may open none there, and
--- `remaining` what is left to read from a file.
+-- `remaining` what is left to read from a file. `before` and `after` are the numbers of lines that
+-- it was told as passed over before and after the work, where they are known.
 
 -- If this work draws a trace, it was drawn as it is asked for on that machine: the trace of
--- standard input, or that of the file that was opened at its path.
+-- standard input, or that of the file that was opened at its path. The machine was told how many of
+-- its lines were passed over, unless it is none.
 abbrev pub IsChartedOn : {F : Type 0} → (Option (List ℕ) → Type 0) → (List ℕ → F → Type 0)
     → (F → Option (List ℕ)) → AskedValue → Option (List ℕ) → Option (List ℕ)
-    → Option (List ℕ) → Type 0
-IsChartedOn tells opens remaining (chart words) input old new =
-    ChartsNamed tells opens remaining words input old new
-IsChartedOn tells opens remaining asked input old new = Unit {0}
+    → Option (List ℕ) → Option (List ℕ) → Option (List ℕ) → Type 0
+IsChartedOn tells opens remaining (chart words) input old new before after =
+    ChartsNamed tells opens remaining words input old new before after
+IsChartedOn tells opens remaining asked input old new before after = Unit {0}
 
--- If this work draws a trace, the fault is that of an error that says what it does of that machine.
+-- If this work draws a trace, the fault is that of an error that says what it does of that machine,
+-- and the machine was told nothing.
 abbrev pub HasFailedOn : {F : Type 0} → (Option (List ℕ) → Type 0) → (List ℕ → F → Type 0)
     → (List ℕ → Unreadable → Type 0) → (F → Option (List ℕ)) → AskedValue → Fault
-    → Option (List ℕ) → Option (List ℕ) → Option (List ℕ) → Type 0
-HasFailedOn tells opens refuses remaining (chart words) fault input old new =
+    → Option (List ℕ) → Option (List ℕ) → Option (List ℕ) → Option (List ℕ) → Option (List ℕ)
+    → Type 0
+HasFailedOn tells opens refuses remaining (chart words) fault input old new before after =
     (error : TraceError) × IsTraceFault error fault
-    × FailsChart tells opens refuses remaining words error input old new
-HasFailedOn tells opens refuses remaining asked fault input old new = Unit {0}
+    × FailsChart tells opens refuses remaining words error input old new × Keeps before after
+HasFailedOn tells opens refuses remaining asked fault input old new before after = Unit {0}
 
 -- This holds, if the work draws the trace in a file.
 abbrev pub IfNamed : AskedValue → Type 0 → Type 0

@@ -1,6 +1,7 @@
 //! The work of the program, over any reader, writer and machine.
 ghost use Rattle.std.specs.Prelude.{◌≡◌, ℕ, Bool, OnOk, IfErr, List};
 ghost use Rattle.std.specs.Prelude.{IsTrue, Some, map, string_bytes, true};
+ghost use Rattle.std.specs.Io.KnownBytes.{Keeps};
 ghost use Rattle.bsc_options.specs.Asked.{asked as asked_now, name as name_asked};
 ghost use Rattle.bsc_options.specs.Asked.{run as run_asked, run_in};
 ghost use Rattle.bsc_options.specs.ChartWords.{chart_given};
@@ -56,10 +57,10 @@ pub fn perform<
         fault (R.remaining input.old) out.new) }
     ensures charted { OnOk result (IsChartedOn H.tells H.opens H.File.remaining
         (asked_now asked.now) (R.remaining input.old) (W.contents out.old)
-        (W.contents out.new)) }
+        (W.contents out.new) (H.told machine.old) (H.told machine.new)) }
     ensures uncharted { IfErr result (λ fault. HasFailedOn H.tells H.opens H.refuses
         H.File.remaining (asked_now asked.now) fault (R.remaining input.old)
-        (W.contents out.old) (W.contents out.new)) }
+        (W.contents out.old) (W.contents out.new) (H.told machine.old) (H.told machine.new)) }
     ensures named { IfNamed (asked_now asked.now) (input.new ≡ input.old) }
     ensures early { IfErr result (λ fault. IsEarly fault → out.new ≡ out.old) }
     ensures unasked { (text : List ℕ) → asked_now asked.now ≡ name_asked text →
@@ -184,11 +185,12 @@ fn draw_chart<R: Read, T: Traces, W: Write>(
     ensures failed { IfErr result (λ fault. HasFailedChart fault (chart_given words.now)
         (R.remaining input.old) (W.contents out.old) (W.contents out.new)) }
     ensures drawn { OnOk result (ChartsNamed T.tells T.opens T.File.remaining
-        (chart_given words.now) (R.remaining input.old) (W.contents out.old)
-        (W.contents out.new)) }
+        (chart_given words.now) (R.remaining input.old) (W.contents out.old) (W.contents out.new)
+        (T.told machine.old) (T.told machine.new)) }
     ensures undrawn { IfErr result (λ fault. (error : TraceError) × IsTraceFault error fault
         × FailsChart T.tells T.opens T.refuses T.File.remaining (chart_given words.now) error
-        (R.remaining input.old) (W.contents out.old) (W.contents out.new)) }
+        (R.remaining input.old) (W.contents out.old) (W.contents out.new)
+        × Keeps (T.told machine.old) (T.told machine.new)) }
     ensures unasked { (path : List ℕ) → file_of (chart_given words.now).file ≡ Some path
         → input.new ≡ input.old }
     ensures early { IfErr result (λ fault. IsEarly fault → out.new ≡ out.old) }

@@ -3,10 +3,11 @@
 ghost use Rattle.std.specs.Prelude.{◌≡◌};
 ghost use Rattle.bsc_machine.specs.Showing.{IsOf, is_shown, shows};
 
+use crate::errors::Errors;
 use crate::screen::{Progress, Screen, progress};
 use bsc_carrier::Cable;
 use bsc_carrier::loopback::{LoopbackError, connect};
-use bsc_chart::Traces;
+use bsc_chart::{Traces, write_passed_over};
 use bsc_run::Cables;
 use bsc_text::progress::Work;
 use bsc_text::{Files, InputError, Unreadable, read_input};
@@ -44,7 +45,7 @@ impl<R: AllocGlobal + Filing> Files for Machine<'_, R> {
     }
 }
 
-impl<R: AllocGlobal + Env + Filing> Traces for Machine<'_, R> {
+impl<R: AllocGlobal + Env + Eprint + Filing + Net> Traces for Machine<'_, R> {
     type File = R::File;
 
     ghost tells = { λ _. Unit {0} };
@@ -65,6 +66,12 @@ impl<R: AllocGlobal + Env + Filing> Traces for Machine<'_, R> {
             Ok(text) => Some(text),
             Err(_) => None,
         }
+    }
+
+    /// Tells it on standard error. What standard error does not take at once is lost.
+    fn passed_over(&mut self, count: u64) {
+        let mut errors = Errors::new(self.runtime, self.screen, false);
+        let _ = write_passed_over(count, &mut errors);
     }
 }
 

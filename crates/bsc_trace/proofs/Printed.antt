@@ -2,10 +2,12 @@
 use Rattle.std.proofs.Common.{◌≡◌, ◌<◌, ◌≤◌, ℕ, ◌+◌, ◌||◌, ◌&&◌, not, map, List, [], ◌∷◌, ◌++◌, Bool}
 use Rattle.std.proofs.Common.{true, false, Option, Some, None, Result, Ok, Err, length, refl, sym, ap}
 use Rattle.std.proofs.Common.{zero, suc, subst, ◌∙◌, append_assoc, append-nil, length-append, arith, get_or, take}
+use Rattle.std.proofs.KnownBytes.{Appends-kept}
 use Rattle.std.proofs.Math.Seq.{take-append_seam}
 use Rattle.std.proofs.lemmas.Bool.{or_from, or_left}
 use Rattle.std.proofs.lemmas.Bool.Decides.{nat_tests}
 use Rattle.std.proofs.lemmas.List.{map-append, take-map}
+use Rattle.std.specs.Io.KnownBytes.{Keeps}
 use Rattle.std.specs.Prelude.{IfErr, IfSome, OnOk, slice_index_or}
 use Rattle.std.specs.Str.Lines.{strip_carriage_return}
 use Rattle.bsc_text.specs.InputLines.{lines_of, parts_of}
@@ -16,15 +18,17 @@ use Rattle.bsc_text.specs.declared.input.InputError.TheVariants as input
 use Rattle.bsc_text.specs.declared.reading.LineEnd.{LineEnd}
 use Rattle.bsc_text.specs.declared.reading.LineEnd.TheVariants.{LineFeed, InputEnd}
 use Rattle.bsc_text.proofs.LineParts.{first_part}
-use Rattle.bsc_text.specs.Fronts.{AppendsFront}
+use Rattle.bsc_text.specs.Fronts.{AppendsFront, Extends}
 use Rattle.bsc_text.specs.declared.printed.Detail.{Detail}
 use Rattle.bsc_text.proofs.Fronts.{front_after, front_all}
-use Rattle.bsc_trace.specs.Errors.{IsLineError, IsWrongOrPrintError, input_error}
+use Rattle.bsc_trace.specs.Errors.{IsLineError, IsWrongOrPrintError, input_error, line_error}
 use Rattle.bsc_trace.specs.Inputs.{HasStopped, PrintsFirst, PrintsInput, StopsAt}
 use Rattle.bsc_trace.specs.Inputs.{is_misspelt, is_refused, is_too_long}
 use Rattle.bsc_trace.specs.NamingLines.{AreShown, PrintsLines, PrintsLinesFront, is_wrong}
 use Rattle.bsc_trace.specs.declared.naming.error.NamingError.{NamingError}
 use Rattle.bsc_trace.specs.declared.naming.error.NamingError.TheVariants as naming
+use Rattle.bsc_trace.specs.declared.waiting.LineError.{LineError}
+use Rattle.bsc_trace.specs.declared.waiting.LineError.TheVariants as waiting
 use Rattle.bsc_trace.proofs.Lines.{are_shown_append, lines_front_none, prints_lines_append, prints_lines_nil}
 use Rattle.bsc_trace.proofs.Lists.{NonePasses, NonePasses-more, position-append, position_none}
 
@@ -55,6 +59,30 @@ printed_none (Some all) detail a = record {
   count = refl;
   right = tt;
   printed = prints_lines_nil detail a;
+}
+
+-- it stays so while the writer keeps its contents
+pub printed_kept : (given left : Option (List ℕ)) (detail : Detail) (n : ℕ)
+    (a b c : Option (List ℕ)) → HasPrintedOf given left detail n a b → Keeps b c
+    → HasPrintedOf given left detail n a c
+printed_kept None left detail n a b c h k = tt
+printed_kept (Some all) None detail n a b c h k = absurd h
+printed_kept (Some all) (Some left) detail n a b c h k = record {
+  done = h.done;
+  whole = h.whole;
+  count = h.count;
+  right = h.right;
+  printed = record {
+    text = h.printed.text;
+    shown = h.printed.shown;
+    appended = Appends-kept a b c h.printed.text h.printed.appended k;
+  };
+}
+
+pub extends_kept : (a b c : Option (List ℕ)) → Extends a b → Keeps b c → Extends a c
+extends_kept a b c h k = record {
+  text = h.text;
+  appended = Appends-kept a b c h.text h.appended k;
 }
 
 get_or_seam : {X : Type 0} (xs : List X) (y : X) (ys : List X) (d : X)
@@ -259,7 +287,7 @@ module _ (detail : Detail) (n : ℕ) (a b c : Option (List ℕ)) where
   stopped_first (Some all) None h = absurd h
   stopped_first (Some all) (Some old) h = has_printed_first all (parts_of old) h
 
-  pub stopped_read : (given left : Option (List ℕ)) (e : InputError)
+  stopped_read : (given left : Option (List ℕ)) (e : InputError)
       → HasPrintedOf given left detail n a b
       → (e ≡ input.TooLong → IfSome left (λ octets. 1048576 < length (before_octet 10 octets)))
       → IfSome given (λ octets. HasStopped detail (input_error n e) octets a b)
@@ -268,6 +296,18 @@ module _ (detail : Detail) (n : ℕ) (a b c : Option (List ℕ)) where
   stopped_read None left input.Memory h more = tt
   stopped_read (Some all) None input.Memory h more = absurd h
   stopped_read (Some all) (Some old) input.Memory h more = has_printed_whole all (parts_of old) h
+
+  -- it was not read, or the output before it was not flushed
+  pub stopped_next : (given left : Option (List ℕ)) (e : LineError)
+      → HasPrintedOf given left detail n a b
+      → (e ≡ waiting.Input input.TooLong
+      → IfSome left (λ octets. 1048576 < length (before_octet 10 octets)))
+      → IfSome given (λ octets. HasStopped detail (line_error n e) octets a b)
+  stopped_next given left (waiting.Input e) h more =
+      stopped_read given left e h (λ is. more (ap waiting.Input is))
+  stopped_next None left waiting.Output h more = tt
+  stopped_next (Some all) None waiting.Output h more = absurd h
+  stopped_next (Some all) (Some old) waiting.Output h more = has_printed_whole all (parts_of old) h
 
   -- a front of the output for the next line was printed
   stopped_part : (given left next : Option (List ℕ)) (end : LineEnd) (part line : List ℕ)

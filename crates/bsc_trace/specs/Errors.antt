@@ -4,6 +4,8 @@ use Rattle.bsc_text.specs.declared.input.InputError.{InputError}
 use Rattle.bsc_text.specs.declared.input.InputError.TheVariants as input
 use Rattle.bsc_text.specs.declared.error.PrintError.{PrintError}
 use Rattle.bsc_text.specs.declared.error.PrintError.TheVariants as print
+use Rattle.bsc_trace.specs.declared.waiting.LineError.{LineError}
+use Rattle.bsc_trace.specs.declared.waiting.LineError.TheVariants as waiting
 use Rattle.bsc_trace.specs.declared.naming.error.NamingError.{NamingError}
 use Rattle.bsc_trace.specs.declared.naming.error.NamingError.TheVariants.{NotHexadecimal}
 use Rattle.bsc_trace.specs.declared.naming.error.NamingError.TheVariants.{NotHexadecimalAt}
@@ -36,6 +38,11 @@ abbrev pub input_error : ℕ → InputError → NamingError
 input_error number input.TooLong = TooLongAt number
 input_error number (input.Device why) = Input
 input_error number input.Memory = Memory
+
+-- The same, or if the output before it could not be flushed.
+abbrev pub line_error : ℕ → LineError → NamingError
+line_error number (waiting.Input error) = input_error number error
+line_error number waiting.Output = Output
 
 -- The errors of naming many lines.
 abbrev pub IsLineError : NamingError → Type 0

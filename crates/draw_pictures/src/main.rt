@@ -61,7 +61,7 @@ fn draw_section<W: Write>(alloc: Global, section: &[u8], out: &mut W) -> Result<
     out.write_all(b"\n")?;
     let words = words(alloc, name.ends_with(b".html"))?;
     match draw(alloc, &words, None, &mut trace, out) {
-        Ok(()) => Ok(()),
+        Ok(_) => Ok(()),
         Err(_) => bail!("a trace is not drawn"),
     }
 }

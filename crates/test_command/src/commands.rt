@@ -35,9 +35,20 @@ $
 output-fails
 ! bscline: output fault
 $ chart --ascii
+status 0
 < +5 control sent EOT 1604|+6 gone|7 silence|+8 silence
 >     time control            0|       5 *- EOT ------------)|       6 = gone
-! bscline: line 3: not a line of a trace
+>        8 :. silence ........:
+! bscline: 1 line is no line of a trace and was passed over
+$ chart --ascii --from 4
+status 0
+< +5 silence|HI|bscline: input fault|+8 silence||from 0: HI
+>     time control            0|       8 :. silence ........:
+! bscline: 2 lines are no lines of a trace and were passed over
+$ chart
+< HI
+output-fails
+! bscline: output fault
 $ chart
 $ run none.toml script.txt
 ! bscline: cannot read none.toml: no such file

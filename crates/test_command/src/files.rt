@@ -3,7 +3,8 @@
 
 use crate::machine::Machine;
 use crate::pieces::Input;
-use bsc_chart::Traces;
+use crate::record::Sink;
+use bsc_chart::{Traces, write_passed_over};
 use bsc_text::{Files, InputError, Unreadable};
 use std::alloc::Global;
 use std::io::{ErrorKind, Write};
@@ -154,5 +155,9 @@ impl Traces for Machine<'_> {
             Ok(text) => Some(text),
             Err(_) => None,
         }
+    }
+
+    fn passed_over(&mut self, count: u64) {
+        let _ = write_passed_over(count, &mut Sink::new(&self.record.errors, false));
     }
 }

@@ -90,6 +90,27 @@ fn traces_are_opened(rt: HostRuntime) -> Result<(), Fail> {
     Ok(())
 }
 
+/// How many lines are passed over, and what is told of them on standard error.
+const PASSED: &[(u64, &str)] = &[
+    (
+        1,
+        "bscline: 1 line is no line of a trace and was passed over\n",
+    ),
+    (
+        3,
+        "bscline: 3 lines are no lines of a trace and were passed over\n",
+    ),
+];
+
+#[test]
+fn lines_that_were_passed_over_are_told(rt: HostRuntime) {
+    for (count, text) in PASSED {
+        let (fake, streams) = (Fake::new(&rt, NO_FILE), Streams::new(false));
+        streams.machine(&fake).passed_over(*count);
+        assert!(rt; fake.has_told(text), "{count}");
+    }
+}
+
 /// Whether this width is told.
 fn is_width(told: Option<String>, width: Option<&str>) -> bool {
     match told {

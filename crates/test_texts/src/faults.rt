@@ -11,23 +11,23 @@ use std::test::Fail;
 use test_alloc::{Refusal, Refusing};
 use test_fixtures::Full;
 
-/// How a trace is drawn, and how many octets are written of it if its third line is none: the row
-/// before it, or nothing of a picture or a page.
-const WRONG: &[(&str, bool)] = &[("", true), ("svg", false), ("html", false)];
+/// Two lines of a trace among others: one that is skipped, and two that are passed over.
+const JOURNAL: &str = "\n+7 silence\n+8\n+9 silence\nfrom 0: HI";
 
-/// Whether the third line of a trace is told as wrong, and whether anything was written before.
-fn tells_third(alloc: Global, asked: &str, writes: bool) -> bool {
-    let mut out = Vec::new(alloc);
-    let answer = drawn(alloc, "\n+7 silence\n+8\n+9 silence\n", asked, &mut out);
-    matches!(answer, Err(ChartError::NotATraceAt { line: 3 })) && out.is_empty() != writes
+/// Whether as many lines of a text are passed over, and the same is drawn of the others.
+fn are_passed(alloc: Global, asked: &str, count: u64) -> Result<bool, ChartError> {
+    let (mut out, mut plain) = (Vec::new(alloc), Vec::new(alloc));
+    drawn(alloc, "+7 silence\n+9 silence", asked, &mut plain)?;
+    let passed = drawn(alloc, JOURNAL, asked, &mut out)?;
+    Ok(passed == count && out.as_slice() == plain.as_slice())
 }
 
-/// The rows before a wrong line stay, and blank lines are counted.
 #[test]
-fn first_wrong_line_is_told(rt: HostRuntime) {
-    for (asked, writes) in WRONG {
-        assert!(rt; tells_third(rt.alloc(), asked, *writes));
+fn other_lines_are_passed_over(rt: HostRuntime) -> Result<(), Fail> {
+    for asked in FORMS {
+        assert!(rt; are_passed(rt.alloc(), asked, 2)?, "{asked}");
     }
+    Ok(())
 }
 
 /// Words, and whether they are taken: widths at their bounds, a width that the terminal tells and
@@ -50,7 +50,7 @@ const WORDS: &[(&str, bool)] = &[
 fn are_taken(alloc: Global, asked: &str) -> Result<bool, ChartError> {
     let mut out = Vec::new(alloc);
     match drawn(alloc, "+7 silence", asked, &mut out) {
-        Ok(()) => Ok(true),
+        Ok(_) => Ok(true),
         Err(ChartError::Width | ChartError::Forms | ChartError::Lines) => Ok(!out.is_empty()),
         Err(error) => Err(error),
     }
@@ -135,7 +135,7 @@ fn is_due(alloc: Global, asked: &str, refusing: &Refusing<Global>) -> bool {
     let answer = draw(refusing, &words, None, &mut TRACE.as_bytes(), &mut out);
     let is_refused = refusing.refused() > 0;
     match answer {
-        Ok(()) => !is_refused,
+        Ok(_) => !is_refused,
         Err(ChartError::Memory) => is_refused,
         Err(_) => false,
     }
@@ -169,7 +169,7 @@ fn longest(alloc: Global, front: &str, end: &str) -> Result<String, AllocError> 
 /// Whether a line is drawn; if not, whether it is too long.
 fn is_drawn(alloc: Global, line: &str, asked: &str) -> Result<bool, ChartError> {
     match drawn(alloc, line, asked, &mut Vec::new(alloc)) {
-        Ok(()) => Ok(true),
+        Ok(_) => Ok(true),
         Err(ChartError::TooLongAt { line: 1 } | ChartError::TooMany) => Ok(false),
         Err(error) => Err(error),
     }

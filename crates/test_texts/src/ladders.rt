@@ -255,7 +255,7 @@ pub(crate) fn drawn(
     trace: &str,
     asked: &str,
     out: &mut Vec<u8>,
-) -> Result<(), ChartError> {
+) -> Result<u64, ChartError> {
     let words = words_of(alloc, asked)?;
     let told = value_of(alloc, asked, "columns=")?;
     let columns = match &told {

@@ -6,7 +6,7 @@ use std::alloc::Global;
 use std::test::Fail;
 
 /// Draws a picture of this many arrows.
-fn drawn_arrows(alloc: Global, count: usize, asked: &str) -> Result<(), ChartError> {
+fn drawn_arrows(alloc: Global, count: usize, asked: &str) -> Result<u64, ChartError> {
     let trace = "+1 control sent EOT 161604ff\n".repeat(alloc, count)?;
     drawn(alloc, &trace, asked, &mut Vec::new(alloc))
 }

@@ -12,14 +12,15 @@ ghost use Rattle.bsc_trace.specs.Inputs.{HasStopped, PrintsInput};
 ghost use Rattle.bsc_trace.specs.NamingLines.{PrintsLines, PrintsLinesFront, PrintsNameFront};
 ghost use Rattle.bsc_trace.specs.NamingLines.{is_traced, is_wrong, kept_line, last_part};
 ghost use Rattle.bsc_trace.specs.NamingLines.{before_last as text_before_last, shown_line};
-ghost use Rattle.bsc_trace.specs.Errors.{IsLineError, IsNameError, IsPrintError, input_error};
+ghost use Rattle.bsc_trace.specs.Errors.{IsLineError, IsNameError, IsPrintError, line_error};
 ghost use Rattle.bsc_trace.specs.Errors.{IsWrongOrPrintError};
 
 use crate::naming::NamingError;
+use crate::{LineError, next_line};
 use bsc_frame::{TextBuffer, decode};
 use bsc_text::{
-    Detail, InputError, LineEnd, is_blank, put, read_line, read_octets, split_at_first,
-    without_return, write_shown, write_units,
+    Detail, InputError, LineEnd, is_blank, put, read_octets, split_at_first, without_return,
+    write_shown, write_units,
 };
 use std::alloc::Allocator;
 use std::io::{BufRead, BufReader, Read, Write};
@@ -53,7 +54,7 @@ pub fn name<A: Allocator + Copy, W: Write>(
 /// any other line that is not hexadecimal text, and at a line of more than `MAX_INPUT` octets; the
 /// names of the lines before it stay printed. After an output fault or out of memory a front of the
 /// output has been printed. What was written before stays. The input may have any length: one line
-/// of it is kept at a time.
+/// of it is kept at a time. Before a read that may wait, `out` is flushed.
 pub fn names<A: Allocator + Copy, R: Read, W: Write>(
     alloc: A,
     input: &mut R,
@@ -122,8 +123,9 @@ fn write_lines<A: Allocator + Copy, B: BufRead, W: Write>(
     ensures faults { IfErr result IsLineError }
 {
     let mut line = Vec::new(alloc);
+    let mut is_begun = false;
     'lines: for number in 1..u64::MAX {
-        let end = match read_line(reader, &mut line) {
+        let end = match next_line(reader, &mut is_begun, &mut line, out) {
             Ok(end) => end,
             Err(error) => return Err(read_error(number, error)),
         };
@@ -137,9 +139,13 @@ fn write_lines<A: Allocator + Copy, B: BufRead, W: Write>(
 }
 
 /// Returns the error for a line with this number that could not be read.
-fn read_error(number: u64, error: InputError) -> NamingError
-    ensures { result ≡ input_error number error }
+fn read_error(number: u64, error: LineError) -> NamingError
+    ensures { result ≡ line_error number error }
 {
+    let error = match error {
+        LineError::Input { error } => error,
+        LineError::Output => return NamingError::Output,
+    };
     match error {
         InputError::TooLong => NamingError::TooLongAt { line: number },
         InputError::Device { .. } => NamingError::Input,

@@ -15,6 +15,7 @@ returns-in-Ok-clause-read g c =
     opened_read g.T.Traces.opens g.T.File.Read.remaining c.args.path.now c.args.drawing
     c.draw_opened.result c.in-Ok.file (g.W.Write.contents c.args.out.now)
     (g.W.Write.contents c.draw_opened.new.out) c.in-Ok.ensures.opened c.draw_opened.ensures.ok
+    c.draw_opened.ensures.passed
 
 pub returns-in-Ok-clause-unread : goal.returns-in-Ok-clause-unread
 returns-in-Ok-clause-unread g c =

@@ -24,6 +24,7 @@ returns-in-None-clause-drawn g c =
     (file_of (chart_given c.args.words.now).file) c.args.drawing c.draw_input.result
     (g.R.Read.remaining c.args.input.now) (g.W.Write.contents c.args.out.now)
     (g.W.Write.contents c.draw_input.new.out) c.in-None.ensures c.draw_input.ensures.ok
+    c.draw_input.ensures.passed
 
 pub returns-in-None-clause-undrawn : goal.returns-in-None-clause-undrawn
 returns-in-None-clause-undrawn g c =

@@ -7,7 +7,7 @@ use Rattle.bsc_chart.specs.declared.error.ChartError.{ChartError}
 use Rattle.bsc_chart.proofs.Ends.{late}
 use Rattle.bsc_chart.proofs.words.draw.Goals as goal
 
-late_result : (P : Type 0) (r : Result (Unit {0}) ChartError) → IfErr r IsLineError
+late_result : {X : Type 0} (P : Type 0) (r : Result X ChartError) → IfErr r IsLineError
     → IfErr r (λ error. IsEarly error → P)
 late_result P (Ok done) is = tt
 late_result P (Err error) is = λ early. absurd (late error is early)

@@ -20,4 +20,4 @@ returns-in-Err-clause-early g c = λ early.
 
 pub returns-in-Err-clause-undrawn : goal.returns-in-Err-clause-undrawn
 returns-in-Err-clause-undrawn g c =
-    (c.in-Err.error, c.trace_fault.ensures, c.in-Err.ensures.undrawn)
+    (c.in-Err.error, c.trace_fault.ensures, c.in-Err.ensures.undrawn, c.in-Err.ensures.untold)
