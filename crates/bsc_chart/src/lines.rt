@@ -18,9 +18,7 @@ use crate::picture::{Picture, write_svg};
 use crate::summary::write_html;
 use crate::text::write_line;
 use crate::{ChartError, Drawing, Form, Range};
-use bsc_text::{
-    InputError, LineEnd, Unreadable, is_blank, split_at_first, without_return,
-};
+use bsc_text::{InputError, LineEnd, Unreadable, is_blank, split_at_first, without_return};
 use bsc_trace::{LineError, TraceLine, next_line, read_trace_line};
 use std::alloc::Allocator;
 use std::io::{BufRead, BufReader, Read, Write};

@@ -1,5 +1,6 @@
 //! Reads an input line by line, and flushes what was written before a read that may wait.
-ghost use Rattle.std.specs.Prelude.{◌≡◌, ◌<◌, ◌≤◌, length, IfErr, IfOk, IfSome, IsErrOf, Ok, OnOk, true};
+ghost use Rattle.std.specs.Prelude.{◌≡◌, ◌<◌, ◌≤◌, length, true};
+ghost use Rattle.std.specs.Prelude.{IfErr, IfOk, IfSome, IsErrOf, Ok, OnOk};
 ghost use Rattle.std.specs.Io.KnownBytes.{IsAtEnd, Keeps};
 ghost use Rattle.bsc_text.specs.Parts.{before_octet};
 ghost use Rattle.bsc_text.specs.Reading.{ReadsLine};
@@ -95,8 +96,8 @@ fn goes_on(ahead: Ahead) -> bool {
 
 /// Reads the next line as [`read_line`](bsc_text::read_line) does. Before each read of the input
 /// that may wait, `out` is flushed, so that what was written for the lines before is there by then.
-/// `is_begun` is whether the reader holds a part of the line that comes next: false before the first
-/// line, and then what the last call has left there. The error is `Output` if a flush fails.
+/// `is_begun` is whether the reader holds a part of the line that comes next: false before the
+/// first line, and then what the last call has left there. The error is `Output` if a flush fails.
 pub fn next_line<B: BufRead, A: Allocator, W: Write>(
     reader: &mut B,
     is_begun: &mut bool,
