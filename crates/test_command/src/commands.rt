@@ -46,7 +46,7 @@ status 0
 >     time control            0|       8 :. silence ........:
 ! bscline: 2 lines are no lines of a trace and were passed over
 $ chart
-< HI
+< +5 silence|HI
 output-fails
 ! bscline: output fault
 $ chart
