@@ -41,6 +41,10 @@ impl Write for Shown<'_> {
 #[derive(Drop)]
 struct Typed<'a> {
     pieces: &'static [&'static str],
+
+    /// The number of pieces that were given.
+    given: usize,
+
     screen: &'a Screen,
     seen: Vec<usize>,
 }
@@ -48,10 +52,10 @@ struct Typed<'a> {
 impl Read for Typed<'_> {
     fn read(&mut self, buffer: &mut [u8]) -> io::Result<usize> {
         self.seen.push(self.screen.flushed.get())?;
-        let Some((piece, pieces)) = self.pieces.split_first() else {
+        let Some(piece) = self.pieces.get(self.given) else {
             return Ok(0);
         };
-        self.pieces = pieces;
+        self.given = self.given.saturating_add(1);
         piece.as_bytes().read(buffer)
     }
 }
@@ -64,26 +68,39 @@ enum Call {
     Chart,
 }
 
-/// Returns how much was flushed before each read of an input in these pieces.
-fn flushed(alloc: Global, call: Call, pieces: &'static [&'static str]) -> Result<Vec<usize>, Fail> {
-    let screen = Screen {
-        written: Cell::new(0),
-        flushed: Cell::new(0),
-    };
-    let mut input = Typed {
-        pieces,
-        screen: &screen,
-        seen: Vec::new(alloc),
-    };
-    let mut out = Shown { screen: &screen };
+/// Prints what a command prints for the lines of an input.
+fn prints<R: Read, W: Write>(
+    alloc: Global,
+    call: Call,
+    input: &mut R,
+    out: &mut W,
+) -> Result<(), Fail> {
     match call {
-        Call::Names => names(alloc, &mut input, &mut out)?,
-        Call::Show => show(alloc, &mut input, &mut out)?,
+        Call::Names => Ok(names(alloc, input, out)?),
+        Call::Show => Ok(show(alloc, input, out)?),
         Call::Chart => {
             let words = words_of(alloc, "ascii")?;
-            draw(alloc, &words, None, &mut input, &mut out)?;
+            draw(alloc, &words, None, input, out)?;
+            Ok(())
         }
     }
+}
+
+/// Returns how much was flushed on a screen before each read of an input in these pieces.
+fn flushed(
+    alloc: Global,
+    call: Call,
+    pieces: &'static [&'static str],
+    screen: &Screen,
+) -> Result<Vec<usize>, Fail> {
+    let mut input = Typed {
+        pieces,
+        given: 0,
+        screen,
+        seen: Vec::new(alloc),
+    };
+    let mut out = Shown { screen };
+    prints(alloc, call, &mut input, &mut out)?;
     Ok(input.seen)
 }
 
@@ -102,7 +119,11 @@ const FLUSHED: &[(Call, &[&str], &[usize])] = &[
 #[test]
 fn lines_are_flushed_before_a_read(rt: HostRuntime) -> Result<(), Fail> {
     for (call, pieces, seen) in FLUSHED {
-        let flushed = flushed(rt.alloc(), *call, *pieces)?;
+        let screen = Screen {
+            written: Cell::new(0),
+            flushed: Cell::new(0),
+        };
+        let flushed = flushed(rt.alloc(), *call, *pieces, &screen)?;
         assert!(rt; flushed.as_slice() == *seen, "{call:?} {flushed:?}");
     }
     Ok(())
